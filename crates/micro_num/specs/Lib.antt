@@ -1,0 +1,3 @@
+pub mod Numeral
+pub mod Micrometres
+pub mod Bounds

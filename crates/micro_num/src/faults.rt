@@ -1,0 +1,15 @@
+use thiserror::Error;
+
+/// Why a word is no coordinate.
+#[derive(Clone, Copy, Debug, PartialEq, Eq, Error)]
+pub enum NumFault {
+    /// The word is outside the grammar of numbers.
+    #[error("not a number")]
+    NotNumber = 1,
+    /// The word has more than 255 bytes.
+    #[error("too long")]
+    TooLong = 2,
+    /// The rounded value is more than 128,000,000 micrometres from 0.
+    #[error("out of range")]
+    OutOfRange = 3,
+}

@@ -1,0 +1,14 @@
+//! Decimal texts read as whole micrometres, and the exact integers that the other crates count with.
+#![tactic(auto)]
+
+mod division;
+mod faults;
+mod reading;
+mod spelling;
+mod units;
+
+pub use division::ceil_div;
+pub use faults::NumFault;
+pub use reading::read_micro;
+pub use spelling::one_spelling;
+pub use units::Unit;
