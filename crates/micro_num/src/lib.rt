@@ -3,12 +3,10 @@
 
 mod division;
 mod faults;
-mod reading;
 mod spelling;
 mod units;
 
 pub use division::ceil_div;
 pub use faults::NumFault;
-pub use reading::read_micro;
 pub use spelling::one_spelling;
 pub use units::Unit;

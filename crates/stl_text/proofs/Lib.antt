@@ -1,0 +1,8 @@
+pub mod Parts
+pub mod Meshes
+mod Rows
+mod Texts
+pub mod Determined
+pub mod OneReading
+pub mod OneFault
+pub mod Either

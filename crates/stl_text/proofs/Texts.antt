@@ -1,0 +1,270 @@
+-- Worked texts: what they read as, and their faults.
+use Rattle.std.proofs.Common.{◌≡◌, ℕ, List, [], ◌∷◌, ◌++◌, refl, length, lit≤, drop, take, replicate, ◌<◌, arith}
+use Rattle.std.specs.Prelude.{pos, negsuc, codes, false}
+use Rattle.micro_num.specs.declared.units.Unit.TheVariants.{Millimetre}
+use Rattle.micro_num.specs.declared.faults.NumFault.TheVariants.{NotNumber, TooLong, OutOfRange}
+use Rattle.micro_num.specs.Micrometres.{magnitude}
+use Rattle.stl_text.specs.declared.words.Word.TheVariants.{EndFacet, FacetOrEnd, Loop, Solid}
+use Rattle.stl_text.specs.declared.faults.StlFault.TheVariants as fault
+use Rattle.stl_text.proofs.Meshes.{at, cube, file_text}
+use Rattle.stl_text.specs.Triangle.{Triangle, triangle}
+use Rattle.stl_text.specs.Text
+
+box_file_length : length (file_text (cube 0 2)) ≡ 1483
+box_file_length = refl
+
+box_file : Text.Reads 1048576 Millimetre (file_text (cube 0 2)) (cube 0 2)
+unfolding magnitude
+box_file =
+    record { solids = cube 0 2 ∷ []; some = lit≤ tt; each = refl; few = lit≤ tt; rest = codes "\n"; spelled = refl; whole = refl }
+
+no_facets : Text.Reads 12 Millimetre (codes "solid facet normal\nENDSOLID") []
+no_facets =
+    record { solids = [] ∷ []; some = lit≤ tt; each = refl; few = lit≤ tt; rest = []; spelled = refl; whole = refl }
+
+odd_name : Text.Reads 12 Millimetre (codes "solid" ++ 32 ∷ 0 ∷ 255 ∷ 10 ∷ codes "endsolid solid\n") []
+odd_name =
+    record { solids = [] ∷ []; some = lit≤ tt; each = refl; few = lit≤ tt; rest = codes "\n"; spelled = refl; whole = refl }
+
+empty_input : Text.IsFaultOf 12 Millimetre [] (fault.Ended Solid)
+empty_input =
+    record {
+      piece = Text.keyword Solid (codes "solid");
+      begun = 0;
+      wants = record {
+        solids = [] ∷ [];
+        front = [];
+        more = Text.rest_of_line ∷ Text.end_word ∷ Text.rest_of_line ∷ [];
+        cut = refl;
+        count = refl;
+        few = lit≤ tt;
+        rest = [];
+        spelled = refl;
+        place = refl;
+        stands = refl;
+      };
+      kind_is = refl;
+      no_solid = λ _. refl;
+    }
+
+-- a triangle that stands for what was not read
+abbrev some_triangle : Triangle
+some_triangle = triangle (at (pos 0) (pos 0) (pos 0)) (at (pos 0) (pos 0) (pos 0)) (at (pos 0) (pos 0) (pos 0))
+
+abbrev pieces : List Text.Piece
+pieces = Text.solid_pieces (some_triangle ∷ [])
+
+misspelled : Text.IsFaultOf 12 Millimetre (codes "solid\nfacet normal 0 0 1\nouter lop") (fault.Expected Loop 31)
+misspelled =
+    record {
+      piece = Text.keyword Loop (codes "loop");
+      begun = 1;
+      word = codes "lop";
+      wants = record {
+        solids = (some_triangle ∷ []) ∷ [];
+        front = take 8 pieces;
+        more = drop 9 pieces;
+        cut = refl;
+        count = refl;
+        few = lit≤ tt;
+        rest = codes " lop";
+        spelled = refl;
+        place = refl;
+        stands = refl;
+      };
+      kind_is = refl;
+      keyword_wanted = λ e. cc;
+      stands = lit≤ tt;
+      other = refl;
+    }
+
+row_18 : List ℕ
+row_18 = codes "solid\nfacet normal 0 0 1\nouter loop\nvertex 1 x 3"
+
+abbrev one_read : Triangle
+one_read = triangle (at (pos 1000) (pos 0) (pos 0)) (at (pos 0) (pos 0) (pos 0)) (at (pos 0) (pos 0) (pos 0))
+
+bad_number : Text.IsFaultOf 12 Millimetre row_18 (fault.Number NotNumber 45)
+unfolding magnitude row_18
+bad_number =
+    record {
+      z = pos 0;
+      begun = 1;
+      word = codes "x";
+      wants = record {
+        solids = (one_read ∷ []) ∷ [];
+        front = take 11 (Text.solid_pieces (one_read ∷ []));
+        more = drop 12 (Text.solid_pieces (one_read ∷ []));
+        cut = refl;
+        count = refl;
+        few = lit≤ tt;
+        rest = codes " x 3";
+        spelled = refl;
+        place = refl;
+        stands = refl;
+      };
+      stands = lit≤ tt;
+      refused = refl;
+    }
+
+-- the third facet of the box's file, where two may stand
+too_many : Text.IsFaultOf 2 Millimetre (file_text (cube 0 2)) (fault.TooMany 252)
+unfolding magnitude
+too_many =
+    record {
+      word = codes "facet";
+      wants = record {
+        solids = cube 0 2 ∷ [];
+        front = take 44 (Text.solid_pieces (cube 0 2));
+        more = drop 45 (Text.solid_pieces (cube 0 2));
+        cut = refl;
+        count = refl;
+        few = lit≤ tt;
+        rest = drop 251 (file_text (cube 0 2));
+        spelled = refl;
+        place = refl;
+        stands = refl;
+      };
+      facet = refl;
+    }
+
+-- two solids in capitals, with CR LF, words for normals, and names
+abbrev capitals : Triangle → List ℕ → List ℕ
+capitals t name =
+    codes "SOLID" ++ name ++ codes "\r\nFACET NORMAL nan nan nan\r\nOUTER LOOP\r\nVERTEX 1E-3 +0 -.002 VERTEX 0 0 0\r\nVertex 0 .001e0 0\r\nENDLOOP\r\n  endFacet\r\nENDSOLID it is\r\n"
+
+abbrev small : Triangle
+small = triangle (at (pos 1) (pos 0) (negsuc 1)) (at (pos 0) (pos 0) (pos 0)) (at (pos 0) (pos 1) (pos 0))
+
+two_solids : Text.Reads 12 Millimetre (capitals small (codes " endsolid") ++ capitals small []) (small ∷ small ∷ [])
+unfolding magnitude
+two_solids =
+    record { solids = (small ∷ []) ∷ (small ∷ []) ∷ []; some = lit≤ tt; each = refl; few = lit≤ tt; rest = codes "\r\n"; spelled = refl; whole = refl }
+
+-- another word in front of the first solid
+no_solid_at : (bytes : List ℕ) → 0 < length (Text.first_word bytes) → Text.is_wanted Solid (Text.first_word bytes) ≡ false
+    → length (Text.after_space bytes) ≡ length bytes → Text.IsFaultOf 12 Millimetre bytes (fault.Expected Solid 0)
+no_solid_at bytes some other front =
+    record {
+      piece = Text.keyword Solid (codes "solid");
+      begun = 0;
+      word = Text.first_word bytes;
+      wants = record {
+        solids = [] ∷ [];
+        front = [];
+        more = Text.rest_of_line ∷ Text.end_word ∷ Text.rest_of_line ∷ [];
+        cut = refl;
+        count = refl;
+        few = lit≤ tt;
+        rest = bytes;
+        spelled = refl;
+        place = omega (arith, front);
+        stands = refl;
+      };
+      kind_is = refl;
+      keyword_wanted = λ e. cc;
+      stands = some;
+      other = other;
+    }
+
+byte_order_mark : Text.IsFaultOf 12 Millimetre (0xEF ∷ 0xBB ∷ 0xBF ∷ file_text (cube 0 2)) (fault.Expected Solid 0)
+byte_order_mark = no_solid_at (0xEF ∷ 0xBB ∷ 0xBF ∷ file_text (cube 0 2)) (lit≤ tt) refl refl
+
+longer_word : Text.IsFaultOf 12 Millimetre (codes "solidx") (fault.Expected Solid 0)
+longer_word = no_solid_at (codes "solidx") (lit≤ tt) refl refl
+
+odd_byte : Text.IsFaultOf 12 Millimetre (codes "solid\n" ++ 255 ∷ []) (fault.Expected FacetOrEnd 6)
+odd_byte =
+    record {
+      piece = Text.end_word;
+      begun = 0;
+      word = 255 ∷ [];
+      wants = record {
+        solids = [] ∷ [];
+        front = take 2 (Text.solid_pieces []);
+        more = Text.rest_of_line ∷ [];
+        cut = refl;
+        count = refl;
+        few = lit≤ tt;
+        rest = codes "\n" ++ 255 ∷ [];
+        spelled = refl;
+        place = refl;
+        stands = refl;
+      };
+      kind_is = refl;
+      keyword_wanted = λ e. cc;
+      stands = lit≤ tt;
+      other = refl;
+    }
+
+-- the box's file up to its first `endloop`
+cut_short : Text.IsFaultOf 12 Millimetre (take 120 (file_text (cube 0 2))) (fault.Ended EndFacet)
+unfolding magnitude
+cut_short =
+    record {
+      piece = Text.keyword EndFacet (codes "endfacet");
+      begun = 1;
+      wants = record {
+        solids = cube 0 2 ∷ [];
+        front = take 22 (Text.solid_pieces (cube 0 2));
+        more = drop 23 (Text.solid_pieces (cube 0 2));
+        cut = refl;
+        count = refl;
+        few = lit≤ tt;
+        rest = [];
+        spelled = refl;
+        place = refl;
+        stands = refl;
+      };
+      kind_is = refl;
+      no_solid = λ e. cc;
+    }
+
+abbrev row_18_with : List ℕ → List ℕ
+row_18_with word = codes "solid\nfacet normal 0 0 1\nouter loop\nvertex 1 " ++ word ++ codes " 3"
+
+number_too_long : Text.IsFaultOf 12 Millimetre (row_18_with (replicate 256 48)) (fault.Number TooLong 45)
+unfolding magnitude
+number_too_long =
+    record {
+      z = pos 0;
+      begun = 1;
+      word = replicate 256 48;
+      wants = record {
+        solids = (one_read ∷ []) ∷ [];
+        front = take 11 (Text.solid_pieces (one_read ∷ []));
+        more = drop 12 (Text.solid_pieces (one_read ∷ []));
+        cut = refl;
+        count = refl;
+        few = lit≤ tt;
+        rest = codes " " ++ replicate 256 48 ++ codes " 3";
+        spelled = refl;
+        place = refl;
+        stands = refl;
+      };
+      stands = lit≤ tt;
+      refused = refl;
+    }
+
+number_out_of_range : Text.IsFaultOf 12 Millimetre (row_18_with (codes "1e9")) (fault.Number OutOfRange 45)
+unfolding magnitude
+number_out_of_range =
+    record {
+      z = pos 0;
+      begun = 1;
+      word = codes "1e9";
+      wants = record {
+        solids = (one_read ∷ []) ∷ [];
+        front = take 11 (Text.solid_pieces (one_read ∷ []));
+        more = drop 12 (Text.solid_pieces (one_read ∷ []));
+        cut = refl;
+        count = refl;
+        few = lit≤ tt;
+        rest = codes " 1e9 3";
+        spelled = refl;
+        place = refl;
+        stands = refl;
+      };
+      stands = lit≤ tt;
+      refused = refl;
+    }

@@ -1,0 +1,6 @@
+pub mod Position
+pub mod Triangle
+pub mod Extent
+pub mod Winding
+pub mod Touch
+pub mod Text

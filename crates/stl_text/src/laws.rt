@@ -1,0 +1,17 @@
+ghost use Rattle.std.specs.Prelude.{◌≡◌, ◌⊎◌, List, ℕ};
+ghost use Rattle.micro_num.specs.declared.units.Unit.{Unit as LengthUnit};
+ghost use Rattle.stl_text.specs.declared.faults.StlFault.{StlFault};
+ghost use Rattle.stl_text.specs.Text.{IsFaultOf, Reads};
+ghost use Rattle.stl_text.specs.Triangle.{Triangle};
+
+/// A text reads as facets in one way, or has one fault.
+pub fn one_outcome()
+    ensures reading { (limit : ℕ) (unit : LengthUnit) (bytes : List ℕ) (facets others : List Triangle)
+        → Reads limit unit bytes facets → Reads limit unit bytes others → facets ≡ others }
+    ensures fault { (limit : ℕ) (unit : LengthUnit) (bytes : List ℕ) (fault other : StlFault)
+        → IsFaultOf limit unit bytes fault → IsFaultOf limit unit bytes other → fault ≡ other }
+    ensures not_both { (limit : ℕ) (unit : LengthUnit) (bytes : List ℕ) (facets : List Triangle) (fault : StlFault)
+        → Reads limit unit bytes facets → IsFaultOf limit unit bytes fault → ⊥ }
+    ensures either { (limit : ℕ) (unit : LengthUnit) (bytes : List ℕ)
+        → ((facets : List Triangle) × Reads limit unit bytes facets) ⊎ ((fault : StlFault) × IsFaultOf limit unit bytes fault) }
+{}

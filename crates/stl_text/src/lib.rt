@@ -1,0 +1,14 @@
+//! Triangle meshes from ASCII STL: points, facets, and the reader of texts.
+#![tactic(auto)]
+
+mod faults;
+mod laws;
+mod points;
+mod reader;
+mod words;
+
+pub use faults::StlFault;
+pub use laws::one_outcome;
+pub use points::{Facet, Point};
+pub use reader::{FACET_LIMIT, read_stl, read_stl_at_most};
+pub use words::Word;
