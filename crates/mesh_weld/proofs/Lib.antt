@@ -1,0 +1,2 @@
+pub mod Edges
+mod Closed

@@ -1,0 +1,3 @@
+pub mod Balance
+pub mod Mesh
+pub mod Welding

@@ -1,0 +1,10 @@
+//! Closed meshes: facets welded at their corners, each directed edge balanced by the edge back.
+#![tactic(auto)]
+
+mod faults;
+mod solid;
+mod welding;
+
+pub use faults::WeldFault;
+pub use solid::Solid;
+pub use welding::weld;
