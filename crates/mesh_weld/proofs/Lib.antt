@@ -1,2 +1,4 @@
 pub mod Edges
 mod Closed
+pub mod Turning
+pub mod Flat
