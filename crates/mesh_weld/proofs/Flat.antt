@@ -87,7 +87,7 @@ own_count t u v = count_by (λ e. same e.from u && same e.to v) (sides t)
 one_if : Position → Position → Position → Position → ℕ
 one_if u v p q = cond (same p u && same q v) 1 0
 
-and_swap : (a b : Bool) → (a && b) ≡ (b && a)
+pub and_swap : (a b : Bool) → (a && b) ≡ (b && a)
 and_swap true true = refl
 and_swap true false = refl
 and_swap false true = refl

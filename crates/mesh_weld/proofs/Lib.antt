@@ -2,3 +2,4 @@ pub mod Edges
 mod Closed
 pub mod Turning
 pub mod Flat
+pub mod Sums
