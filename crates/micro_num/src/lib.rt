@@ -1,9 +1,13 @@
 //! Decimal texts read as whole micrometres, and the exact integers that the other crates count with.
 #![tactic(auto)]
 
+mod digits;
 mod division;
 mod faults;
+mod lengths;
+mod mantissa;
 mod reading;
+mod scaling;
 mod spelling;
 mod units;
 
