@@ -67,6 +67,13 @@ joins plan id v other w s kept at apart there =
           (join id other v w (record { two = apart; there = at; other_there = other_was s.views id other (both_hands v w) w apart there; becomes = refl }));
     }
 
+-- what a hand has found, and for how many it stands, once it has taken in another
+pub taken_found : (now mine : Me (Unit {0}) Hand) (theirs : Hand) (found : List ℕ) → now ≡ (both_hands mine.0 theirs, mine.1) → theirs.found ≡ found → now.0.found ≡ mine.0.found ++ found
+taken_found now mine theirs found is same = ap (λ (m : Me (Unit {0}) Hand). m.0.found) is ∙ ap (λ l. mine.0.found ++ l) same
+
+pub taken_parts : (now mine : Me (Unit {0}) Hand) (theirs : Hand) → now ≡ (both_hands mine.0 theirs, mine.1) → now.0.stands_for ≡ mine.0.stands_for + theirs.stands_for
+taken_parts now mine theirs is = ap (λ (m : Me (Unit {0}) Hand). m.0.stands_for) is
+
 -- What the last moment tells of a hand.
 pub record Closed (plan : Plan) (h : Hand) (word : ℕ) : Type 0 where
   pub once : (x : ℕ) → times x h.found ≤ once_below x word
