@@ -1,7 +1,7 @@
 //! What threads do with the claims.
 ghost use Rattle.std.specs.Prelude.{◌≡◌, ◌+◌, ◌<◌, ◌≤◌, ℕ, [], ◌∷◌, ◌++◌, length, All, Any, IfOk, IfSome, IfNone, None, Some, true, false, if◌then◌else◌, is_none, nat_lt};
-ghost use Rattle.layer_pool.specs.Machine.{times, once_below, IsEachOnce, given, hand, one_less};
-ghost use Rattle.layer_pool.specs.Passes.{found_by_all, IsOwned, IsFresh};
+ghost use Rattle.layer_pool.specs.Machine.{times, once_below, IsEachOnce, given, hand, one_less, moment, Reached};
+ghost use Rattle.layer_pool.specs.Passes.{found_by_all, plan_of, IsOwned, IsFresh, IsEnd, HasReached};
 
 use crate::claims::{Claims, Pass};
 use crate::machine::{Cuts, Draws, Hand, Joins, Plan};
@@ -104,6 +104,7 @@ impl<A: Allocator + Copy> Claims<A> {
     /// all numbers below `stripes`, each once.
     pub fn close(self, passes: Vec<Pass, A>) -> u64
         requires { All (IsOwned self) passes.items }
+        ensures machine { IsEnd self passes.items result }
         ensures once { (x : ℕ) → times x (found_by_all passes.items) ≤ once_below x result }
         ensures count { length (found_by_all passes.items) ≤ result }
         ensures ended { Any (λ p. p.has_ended ≡ true) passes.items → self.stripes < result }
@@ -140,6 +141,7 @@ impl<A: Allocator + Copy> Claims<A> {
     // The last word, where the seat has the last say.
     fn word_with(self, seat: Seat<(), Hand>) -> u64
         requires { seat.table_id ≡ self.name }
+        ensures machine { HasReached self seat.me.0 result }
         ensures once { (x : ℕ) → times x seat.me.0.found ≤ once_below x result }
         ensures count { length seat.me.0.found ≤ result }
         ensures most { result ≤ self.stripes + self.passes }
@@ -153,7 +155,9 @@ impl<A: Allocator + Copy> Claims<A> {
         word
     }
 
+    // The last word, where no pass was handed in.
     fn word(self) -> u64
+        ensures machine { IsEnd self [] result }
         ensures most { result ≤ self.stripes + self.passes }
         ensures some { 0 < self.passes }
     {

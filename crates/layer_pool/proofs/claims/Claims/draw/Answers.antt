@@ -16,7 +16,7 @@ fetch_add-number-requires g c =
     let found : pass.seat.me.0.found ≡ c.args.pass.now.found = ap (λ (p : PassView). p.found) c.pass.view_is in
     let going : c.args.pass.now.has_ended ≡ false = sym (ap (λ (p : PassView). p.has_ended) c.pass.view_is) ∙ c.if-pass.false in
     let on : late plan.stripes pass.seat.me.0.found ≡ 0 =
-      ap (λ n. late n pass.seat.me.0.found) stripes ∙ ap (late c.args.self.now.stripes) found ∙ not_late c.args.self.now c.args.pass.now c.requires going in
+    ap (λ n. late n pass.seat.me.0.found) stripes ∙ ap (late c.args.self.now.stripes) found ∙ not_late c.args.self.now c.args.pass.now c.requires going in
     let one = c.pass.invariant.1 in
     let few = bound.3 in
     let same = bound.2 in
