@@ -2,9 +2,11 @@
 #![tactic(auto)]
 
 mod faults;
+mod laws;
 mod solid;
 mod welding;
 
 pub use faults::WeldFault;
+pub use laws::hold_mesh_laws;
 pub use solid::Solid;
 pub use welding::weld;
