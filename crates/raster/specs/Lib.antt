@@ -1,1 +1,4 @@
 pub mod Devices
+pub mod Lattice
+pub mod Fill
+pub mod Picture

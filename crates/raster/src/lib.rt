@@ -2,9 +2,13 @@
 #![tactic(auto)]
 
 mod devices;
+mod grid;
 mod grid_faults;
 mod rules;
+mod spans;
 
 pub use devices::{Counted, Failed, Failures, Sink, Source};
+pub use grid::Grid;
 pub use grid_faults::GridFault;
 pub use rules::Rule;
+pub use spans::{Span, area};
