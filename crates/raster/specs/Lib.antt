@@ -2,3 +2,4 @@ pub mod Devices
 pub mod Lattice
 pub mod Fill
 pub mod Picture
+pub mod Bits

@@ -1,6 +1,7 @@
 //! Images of layers, and the devices that they are written to.
 #![tactic(auto)]
 
+mod bits;
 mod devices;
 mod grid;
 mod grid_faults;
