@@ -18,4 +18,4 @@ pub use spelling::one_spelling;
 pub use units::Unit;
 
 #[cfg(test)]
-mod tests;
+mod worked_texts;
