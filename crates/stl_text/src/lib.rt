@@ -5,6 +5,7 @@ mod faults;
 mod laws;
 mod points;
 mod reader;
+mod scanning;
 mod words;
 
 pub use faults::StlFault;

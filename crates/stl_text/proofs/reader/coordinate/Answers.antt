@@ -1,0 +1,4 @@
+use Rattle.stl_text.proofs.reader.coordinate.Goals as goal
+
+pub returns : goal.returns
+returns c = ?
