@@ -1,4 +1,4 @@
-use Rattle.std.proofs.Common.{◌≡◌, ℕ, Bool, true, false, refl, sym, arith}
+use Rattle.std.proofs.Common.{◌≡◌, Bool, true, false, refl, sym, arith}
 use Rattle.std.proofs.lemmas.List.Sums.{position_or_len_is}
 use Rattle.stl_text.specs.Text.{is_line_end}
 use Rattle.stl_text.proofs.scanning.line_len.Goals as goal

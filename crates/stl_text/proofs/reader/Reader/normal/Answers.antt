@@ -1,10 +1,8 @@
-use Rattle.std.proofs.Common.{[], ◌∷◌, ◌++◌, pos, refl}
+use Rattle.std.proofs.Common.{[], ◌∷◌, refl}
 use Rattle.std.specs.Prelude.{codes}
 use Rattle.std.proofs.lemmas.Result.{IfErr-weaker, err_from_is_err_and}
-use Rattle.stl_text.specs.declared.words.Word.TheVariants.{EndFacet, EndLoop, Loop, Normal, Outer, Vertex}
-use Rattle.stl_text.specs.Position.{origin}
-use Rattle.stl_text.specs.Text.{coordinate, keyword, loop_pieces, normal_part, normal_pieces, vertex_pieces}
-use Rattle.stl_text.specs.Triangle.{triangle}
+use Rattle.stl_text.specs.declared.words.Word.TheVariants.{Normal}
+use Rattle.stl_text.specs.Text.{keyword, normal_part}
 use Rattle.stl_text.proofs.Steps.{breaks_first, breaks_within, spells_then}
 use Rattle.stl_text.proofs.reader.Reader.normal.Goals as goal
 
@@ -29,7 +27,7 @@ returns-in_err-normal_part-2-clause-fault c =
 pub returns-clause-fault : goal.returns-clause-fault
 returns-clause-fault c =
     let two = spells_then (keyword Normal (codes "normal") ∷ normal_part ∷ []) (normal_part ∷ [])
-        (spells_then (keyword Normal (codes "normal") ∷ []) (normal_part ∷ []) c.in_ok-keyword.ensures.read c.in_ok-normal_part.ensures.read) c.in_ok-normal_part-2.ensures.read in
+    (spells_then (keyword Normal (codes "normal") ∷ []) (normal_part ∷ []) c.in_ok-keyword.ensures.read c.in_ok-normal_part.ensures.read) c.in_ok-normal_part-2.ensures.read in
     IfErr-weaker c.normal_part-3.result _ _
     (λ fault. breaks_within (keyword Normal (codes "normal") ∷ normal_part ∷ normal_part ∷ []) (normal_part ∷ []) [] refl two)
     c.normal_part-3.ensures.fault
