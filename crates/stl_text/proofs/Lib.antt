@@ -1,4 +1,5 @@
 pub mod Parts
+pub mod Ranges
 pub mod Meshes
 mod Rows
 mod Texts

@@ -1,0 +1,5 @@
+pub mod Edges
+mod Closed
+pub mod Turning
+pub mod Flat
+pub mod Sums

@@ -1,0 +1,4 @@
+pub mod Balance
+pub mod Mesh
+pub mod Welding
+pub mod MeshLaws

@@ -1,0 +1,12 @@
+//! Closed meshes: facets welded at their corners, each directed edge balanced by the edge back.
+#![tactic(auto)]
+
+mod faults;
+mod laws;
+mod solid;
+mod welding;
+
+pub use faults::WeldFault;
+pub use laws::hold_mesh_laws;
+pub use solid::Solid;
+pub use welding::weld;

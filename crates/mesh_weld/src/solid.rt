@@ -1,0 +1,80 @@
+ghost use Rattle.std.specs.Prelude.{◌≡◌, ◌<◌, ◌≤◌, Some, length, slice_get};
+ghost use Rattle.mesh_weld.specs.Balance.{IsBalanced};
+ghost use Rattle.mesh_weld.specs.Mesh.{IsByHeight, triples, vertices};
+
+use std::alloc::Allocator;
+use std::marker::Model;
+use stl_text::{Facet, Point};
+
+/// The kept facets of a closed mesh: those with three distinct corners.
+#[derive(Drop)]
+pub struct Solid<A: Allocator> {
+    facets: Vec<Facet, A>,
+    points: Vec<Point, A>,
+    numbers: Vec<[u32; 3], A>,
+    order: Vec<u32, A>,
+    dropped: u32,
+}
+
+impl<A: Allocator> Model for Solid<A> {
+    ghost use Rattle.std.specs.Prelude.{◌≡◌, ◌≤◌, length};
+    ghost use Rattle.mesh_weld.specs.Balance.{IsBalanced};
+    ghost use Rattle.mesh_weld.specs.Mesh.{Mesh, IsByHeight, triples, vertices};
+
+    ghost Value = { Mesh };
+
+    ghost view = { λ s. record { facets = s.facets.items; dropped = s.dropped } };
+
+    ghost invariant = { λ s. IsBalanced s.facets.items
+        × (s.points.items ≡ vertices s.facets.items)
+        × (s.numbers.items ≡ triples s.facets.items)
+        × IsByHeight s.facets.items s.order.items
+        × (length s.facets.items ≤ 1048576) };
+}
+
+impl<A: Allocator> Solid<A> {
+    /// How many facets were dropped, since two of their corners are equal.
+    pub fn dropped(&self) -> u32
+        ensures { result ≡ self.now.dropped }
+    {
+        self.dropped
+    }
+
+    /// The distinct corners of the kept facets, in ascending order.
+    pub fn vertices(&self) -> &[Point]
+        ensures { result.now ≡ vertices self.now.facets }
+    {
+        self.points.as_slice()
+    }
+
+    /// The kept facets in file order, each by the numbers of its corners among the vertices.
+    pub fn triples(&self) -> &[[u32; 3]]
+        ensures { result.now ≡ triples self.now.facets }
+    {
+        self.numbers.as_slice()
+    }
+
+    /// The numbers of the kept facets by ascending least height, of two as low by number.
+    pub fn by_height(&self) -> &[u32]
+        ensures { IsByHeight self.now.facets result.now }
+    {
+        self.order.as_slice()
+    }
+
+    /// How many facets are kept. Each solid is closed.
+    pub fn count(&self) -> usize
+        ensures count { result ≡ length self.now.facets }
+        ensures few { length self.now.facets ≤ 1048576 }
+        ensures closed { IsBalanced self.now.facets }
+    {
+        self.facets.len()
+    }
+
+    /// The kept facet with this number.
+    pub fn facet(&self, number: u32) -> Facet
+        requires { number < length self.now.facets }
+        ensures { slice_get self.now.facets number ≡ Some result }
+    {
+        self.facets[number as usize]
+    }
+}

@@ -1,0 +1,5 @@
+pub mod Devices
+pub mod Lattice
+pub mod Fill
+pub mod Picture
+pub mod Bits
