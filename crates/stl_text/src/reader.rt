@@ -1,7 +1,6 @@
 ghost use Rattle.std.specs.Prelude.{◌≡◌, ◌≢◌, ◌+◌, ◌-◌, ◌<◌, ◌≤◌, ◌↔◌, ℕ, ℤ, [], ◌∷◌, ◌++◌, length, flat_map, codes, IfErr, IfOk, IsTrue, List, MatchResult, Some, vec_len};
 ghost use Rattle.std.specs.Bool.{MatchBool};
 ghost use Rattle.micro_num.specs.Bounds.{IsAtMost};
-ghost use Rattle.micro_num.specs.Micrometres.{coordinate_of};
 ghost use Rattle.stl_text.specs.declared.faults.StlFault.TheVariants.{Ended, Memory};
 ghost use Rattle.stl_text.specs.declared.words.Word.TheVariants.{Solid};
 ghost use Rattle.stl_text.specs.Position.{Position};
@@ -13,19 +12,12 @@ use crate::faults::StlFault;
 use crate::points::{Facet, Point};
 use crate::scanning::{is_keyword, skip_line, skip_space, split_word};
 use crate::words::Word;
-use micro_num::{NumFault, Unit};
+use micro_num::{NumFault, Unit, read_micro};
 use std::alloc::Allocator;
 use std::marker::Model;
 
 /// How many facets are read at most.
 pub const FACET_LIMIT: u32 = 1_048_576;
-
-/// The coordinate that a word stands for, in whole micrometres.
-fn coordinate(word: &[u8], unit: Unit) -> Result<i32, NumFault>
-    ensures { result ≡ coordinate_of unit word.now }
-{
-    Err(NumFault::NotNumber)
-}
 
 /// A text that is read from the left, word by word.
 #[derive(Drop)]
@@ -150,7 +142,7 @@ impl<'t> Reader<'t> {
         ensures fault { IfErr result (λ fault. (z : ℤ) × Breaks (coordinate z ∷ []) self.old fault) }
     {
         let word = self.next_word();
-        match coordinate(word, self.unit) {
+        match read_micro(word, self.unit) {
             Ok(z) => Ok(z),
             Err(cause) => Err(self.number_fault(word, cause)),
         }
