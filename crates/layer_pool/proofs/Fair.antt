@@ -1,5 +1,5 @@
 -- However hands draw, split and join, the lists are fair at every moment.
-use Rattle.std.proofs.Common.{◌≡◌, ◌≢◌, ℕ, zero, suc, ◌+◌, ◌-◌, ◌<◌, ◌≤◌, List, [], ◌∷◌, ◌++◌, length, set, sum_by, All, nat_le, length-append, zero-add, refl, sym, ap, ◌∙◌, subst, ⊎_elim, arith}
+use Rattle.std.proofs.Common.{◌≡◌, ◌≢◌, ℕ, zero, suc, ◌+◌, ◌<◌, ◌≤◌, List, [], ◌∷◌, ◌++◌, length, set, sum_by, All, nat_le, length-append, zero-add, refl, sym, ap, ◌∙◌, subst, ⊎_elim, arith}
 use Rattle.std.specs.Prelude.{◌==◌}
 use Rattle.std.proofs.lemmas.List.Sums.{sum_by-append, sum_by_push}
 use Rattle.std.proofs.lemmas.Bool.Decides.{nat_tests}
@@ -8,7 +8,7 @@ use lib.ListN.{get_elem?}
 use Rattle.atomic_table.proofs.Lists.{at_set, at_snoc}
 use Rattle.layer_pool.specs.declared.machine.Hand.{Hand}
 use Rattle.layer_pool.specs.declared.machine.Plan.{Plan}
-use Rattle.layer_pool.specs.Machine.{one_if, times, once_below, late, hand, all_found, Moment, moment, start, IsDraw, IsSplit, IsJoin, both_hands, nobody, Step, Step.draw, Step.split, Step.join, Reached, Reached.first, Reached.next, IsFair, NeverTwice, EndsLast}
+use Rattle.layer_pool.specs.Machine.{one_if, times, once_below, late, hand, all_found, Moment, start, IsDraw, IsSplit, IsJoin, both_hands, nobody, Step, Step.draw, Step.split, Step.join, Reached, Reached.first, Reached.next, IsFair, NeverTwice, EndsLast}
 use Rattle.layer_pool.proofs.Counts.{sum_by-two-le, once_at_most, once_when, late_below, sum_by-set, sum_by-one-le, sum_by-all, length-all, below-all, once_more, sum_by-below}
 
 -- a fact of each hand, after one has changed

@@ -1,7 +1,7 @@
 //! Stripes that threads claim without a lock. One claim is one `fetch_add` on the one word of a table.
 ghost use Rattle.std.specs.Prelude.{◌≡◌, ◌+◌, ◌<◌, ◌≤◌, ℕ, [], ◌∷◌, ◌++◌, length, All, Any, IfOk, IfSome, IfNone, None, Some, true, false, if◌then◌else◌, is_none, nat_lt};
-ghost use Rattle.layer_pool.specs.Machine.{times, once_below, IsEachOnce, given, hand, one_less, moment, Reached};
-ghost use Rattle.layer_pool.specs.Passes.{found_by_all, plan_of, IsOwned, IsFresh, IsEnd, HasReached};
+ghost use Rattle.layer_pool.specs.Machine.{times, once_below, IsEachOnce, given, hand, one_less};
+ghost use Rattle.layer_pool.specs.Passes.{found_by_all, IsOwned, IsFresh, IsEnd, HasReached};
 
 use crate::machine::{Cuts, Draws, Hand, Joins, Machine, Plan};
 use atomic_table::{Seat, Table};
@@ -16,8 +16,7 @@ pub struct Claims<A: Allocator> {
 }
 
 impl<A: Allocator> Model for Claims<A> {
-    ghost use Rattle.std.specs.Prelude.{◌≡◌, ◌≤◌};
-    ghost use Rattle.layer_pool.specs.Passes.{ClaimsView, claims_code};
+    ghost use Rattle.layer_pool.specs.Passes.{ClaimsView, claims_code, IsSound};
 
     ghost Value = { ClaimsView };
 
@@ -25,7 +24,7 @@ impl<A: Allocator> Model for Claims<A> {
 
     ghost view = { λ c. record { stripes = c.stripes; passes = c.table.shared.key.passes; name = c.table.shared.table_id } };
 
-    ghost invariant = { λ c. (c.table.shared.table_id.words ≡ 1) × (c.table.shared.table_id.slots ≡ 0) × (c.table.shared.key.stripes ≡ c.stripes) × (c.stripes ≤ 8192) × (1 ≤ c.table.shared.key.passes) × (c.table.shared.key.passes ≤ 64) };
+    ghost invariant = { λ c. IsSound c.table.shared.key c.table.shared.table_id c.stripes };
 }
 
 /// What one thread draws with. It is of no use with the claims of another `open`.
