@@ -18,3 +18,6 @@ pub use running::run;
 pub use task::{Given, Task};
 pub use word_faults::{Wanted, WordFault};
 pub use words::read_words;
+
+#[cfg(test)]
+mod tests;

@@ -1,4 +1,4 @@
-ghost use Rattle.std.specs.Prelude.{◌≡◌, ◌≢◌, ◌⊎◌, Err, IfErr, IfOk, IfSome, List, Ok, OnOk, string_bytes, ℕ};
+ghost use Rattle.std.specs.Prelude.{◌≡◌, ◌≢◌, ◌⊎◌, Err, IfErr, IfOk, IfSome, List, Ok, OnOk, string_bytes, true, ℕ};
 ghost use Rattle.std.specs.Io.KnownBytes.{Appends, IsAtEnd, Keeps};
 ghost use Rattle.raster.specs.Devices.{AppendsFirst, HasFailed};
 ghost use Rattle.stlslice.specs.Program.{IsOutcome};
@@ -31,8 +31,9 @@ pub fn run<R: Threads + Wait + Sync, A: Allocator + Copy + Send + Sync, I: Sourc
     sink: &mut O,
 ) -> Result<(), RunFault>
     requires { IsInRange task.now }
-    // All was read, and just the text of the outcome was written.
+    // All was read, and just the text of the outcome was written and flushed.
     ensures whole { OnOk result (IsAtEnd (I.remaining source.new)) }
+    ensures flushed { OnOk result (O.is_settled sink.new ≡ true) }
     ensures ok { OnOk result (IfSome (I.remaining source.old) (λ input.
         (text : List ℕ) × IsOutcome task.now input (Ok text)
         × Appends (O.contents sink.old) (O.contents sink.new) text)) }
