@@ -1,2 +1,5 @@
 pub mod Edges
+pub mod Order
+pub mod InOrder
+pub mod Points
 mod Closed

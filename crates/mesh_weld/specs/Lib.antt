@@ -1,3 +1,4 @@
 pub mod Balance
 pub mod Mesh
+pub mod Entries
 pub mod Welding

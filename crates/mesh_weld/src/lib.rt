@@ -1,7 +1,9 @@
 //! Closed meshes: facets welded at their corners, each directed edge balanced by the edge back.
 #![tactic(auto)]
 
+mod corners;
 mod faults;
+mod sides;
 mod solid;
 mod welding;
 
