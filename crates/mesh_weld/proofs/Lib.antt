@@ -2,4 +2,5 @@ pub mod Edges
 pub mod Order
 pub mod InOrder
 pub mod Points
+pub mod Pairs
 mod Closed

@@ -1,7 +1,7 @@
 ghost use Rattle.std.specs.Prelude.{◌≡◌, ◌≤◌, ◌<◌, ◌*◌, IfOk, OnOk, ◌++◌, ◌∷◌, [], length, vec_len, map, flat_map};
 ghost use Rattle.std.specs.List.Sorted.{IsPermutation};
 ghost use Rattle.stl_text.specs.Triangle.{corners};
-ghost use Rattle.mesh_weld.specs.Entries.{corners_from, NeverFalls, IsAdded};
+ghost use Rattle.mesh_weld.specs.Entries.{corners_from, NeverFalls, IsAdded, threes};
 ghost use Rattle.mesh_weld.specs.Mesh.{number_of, vertices};
 
 use std::alloc::{AllocError, Allocator};
@@ -38,9 +38,9 @@ fn push_corner<A: Allocator>(list: &mut Vec<Corner, A>, point: Point) -> Result<
 }
 
 /// Sorts corners by their points.
-fn sort_corners(list: &mut [Corner])
-    ensures all { IsPermutation list.old list.new }
-    ensures ascending { NeverFalls list.new }
+fn sort_corners<A: Allocator>(list: &mut Vec<Corner, A>)
+    ensures all { IsPermutation list.old.items list.new.items }
+    ensures ascending { NeverFalls list.new.items }
 {
     list.sort_unstable_by_key(|corner| (corner.point.x(), corner.point.y(), corner.point.z()));
 }
@@ -78,4 +78,27 @@ fn add_point<A: Allocator>(points: &mut Vec<Point, A>, point: Point) -> Result<(
     }
     points.push(point)?;
     Ok(())
+}
+
+/// The distinct corners of facets in ascending order, and each corner's number among them.
+pub fn number_corners<A: Allocator + Copy>(alloc: A, facets: &[Facet]) -> Result<Welded<A>, AllocError>
+    requires { length facets.now ≤ 1048576 }
+    ensures points { IfOk result (λ welded. welded.points.items ≡ vertices facets.now) }
+    ensures numbers { IfOk result (λ welded. welded.numbers.items ≡ map (number_of (vertices facets.now)) (flat_map corners facets.now)) }
+{
+    let mut sorted = list_corners(alloc, facets)?;
+    sort_corners(&mut sorted);
+    join_corners(alloc, facets, sorted.as_slice())
+}
+
+/// Numbers in groups of three, as each facet has three corners and three edges.
+pub fn in_threes<A: Allocator + Copy>(alloc: A, numbers: &[u32]) -> Result<Vec<[u32; 3], A>, AllocError>
+    ensures { IfOk result (λ list. list.items ≡ threes numbers.now) }
+{
+    let mut list = Vec::with_capacity(alloc, numbers.len() / 3)?;
+    for group in 0..numbers.len() / 3 {
+        let first = 3 * group;
+        list.push([numbers[first], numbers[first + 1], numbers[first + 2]])?;
+    }
+    Ok(list)
 }
