@@ -48,10 +48,10 @@ none-or_some {X} p q (x ∷ xs) h = at_head (none-or_some p q xs parts.1) (p x) 
     at_head tail true passes = inr (x, passes, parts.0)
     at_head tail false fails = at_tail fails tail
 
-abbrev runs : Position → Position → Edge → Bool
+abbrev pub runs : Position → Position → Edge → Bool
 runs u v e = same e.from u && same e.to v
 
-runs-is : (u v : Position) (e : Edge) → runs u v e ≡ true → e ≡ edge u v
+pub runs-is : (u v : Position) (e : Edge) → runs u v e ≡ true → e ≡ edge u v
 runs-is u v e h =
     let parts : (same e.from u ≡ true) × (same e.to v ≡ true) = and_parts _ _ h in
     λ i. record { from = same-is e.from u parts.0 i; to = same-is e.to v parts.1 i }

@@ -4,3 +4,7 @@ pub mod InOrder
 pub mod Points
 pub mod Pairs
 mod Closed
+pub mod Turning
+pub mod Flat
+pub mod Sums
+pub mod Probing

@@ -2,3 +2,5 @@ pub mod Balance
 pub mod Mesh
 pub mod Entries
 pub mod Welding
+pub mod Probing
+pub mod MeshLaws

@@ -3,10 +3,15 @@
 
 mod corners;
 mod faults;
+mod heights;
+mod laws;
+mod rays;
 mod sides;
 mod solid;
 mod welding;
 
 pub use faults::WeldFault;
+pub use laws::hold_mesh_laws;
+pub use rays::{probe, step};
 pub use solid::Solid;
 pub use welding::weld;

@@ -1,4 +1,5 @@
 pub mod Parts
+pub mod Ranges
 pub mod Meshes
 mod Rows
 mod Texts
@@ -6,3 +7,5 @@ pub mod Determined
 pub mod OneReading
 pub mod OneFault
 pub mod Either
+pub mod Steps
+pub mod Solids

@@ -1,12 +1,15 @@
 //! Triangle meshes from ASCII STL: points, facets, and the reader of texts.
 #![tactic(auto)]
 
+mod boxes;
 mod faults;
 mod laws;
 mod points;
 mod reader;
+mod scanning;
 mod words;
 
+pub use boxes::extent;
 pub use faults::StlFault;
 pub use laws::one_outcome;
 pub use points::{Facet, Point};

@@ -1,0 +1,9 @@
+pub mod Cut
+pub mod CornerTurns
+pub mod Place
+pub mod Seen
+pub mod Cutting
+pub mod Sections
+pub mod Crossed
+pub mod Columns
+pub mod WindLaws

@@ -1,0 +1,22 @@
+-- How an edge turns, along x and along y: an edge taken back turns back.
+use Rattle.std.proofs.Common.{◌≡◌, [], ◌∷◌, ℤ, neg_ℤ, refl, ◌∙◌, ap, arith}
+use Rattle.std.proofs.lemmas.Int.{ints}
+use Rattle.micro_num.proofs.Identity.{reads, identity}
+use Rattle.stl_text.specs.Position.{Position}
+use Rattle.stl_text.specs.Winding.{left, turn_of, turn, left_x, turn_x}
+
+turn_of-opposite : (u v z l : ℤ) → turn_of v u z (neg_ℤ l) ≡ neg_ℤ (turn_of u v z l)
+unfolding turn_of
+turn_of-opposite u v z l = grind (arith, ints)
+
+left-opposite : (u v : Position) (y z : ℤ) → left v u y z ≡ neg_ℤ (left u v y z)
+left-opposite u v y z = identity (u.y ∷ u.z ∷ v.y ∷ v.z ∷ y ∷ z ∷ []) (search reads depth 40) refl
+
+left_x-opposite : (u v : Position) (x z : ℤ) → left_x v u x z ≡ neg_ℤ (left_x u v x z)
+left_x-opposite u v x z = identity (u.x ∷ u.z ∷ v.x ∷ v.z ∷ x ∷ z ∷ []) (search reads depth 40) refl
+
+pub turn-opposite : (u v : Position) (y z : ℤ) → turn v u y z ≡ neg_ℤ (turn u v y z)
+turn-opposite u v y z = ap (turn_of v.z u.z z) (left-opposite u v y z) ∙ turn_of-opposite u.z v.z z (left u v y z)
+
+pub turn_x-opposite : (u v : Position) (x z : ℤ) → turn_x v u x z ≡ neg_ℤ (turn_x u v x z)
+turn_x-opposite u v x z = ap (turn_of v.z u.z z) (left_x-opposite u v x z) ∙ turn_of-opposite u.z v.z z (left_x u v x z)

@@ -1,0 +1,24 @@
+-- What a device's calls do to the count of its failures, and to the bytes that it holds.
+use Rattle.std.specs.Prelude.{◌≡◌, ℕ, ◌+◌, ◌-◌, ◌^◌, min, ◌<◌, ◌⊎◌, List, take, Option}
+use Rattle.std.specs.Io.KnownBytes.{Appends}
+
+-- a count that stays once it is at the end of its range
+abbrev pub greatest_count : ℕ
+greatest_count = 2 ^ 64 - 1
+
+-- one more failure
+abbrev pub Fails : ℕ → ℕ → Type 0
+Fails old new = new ≡ min (old + 1) greatest_count
+
+-- a call failed in between; a count at the end of its range passes for grown
+abbrev pub HasFailed : ℕ → ℕ → Type 0
+HasFailed old new = (old < new) ⊎ (new ≡ greatest_count)
+
+-- the first so many bytes of a text went out
+abbrev pub AppendsFirst : Option (List ℕ) → Option (List ℕ) → ℕ → List ℕ → Type 0
+AppendsFirst old new written text = Appends old new (take written text)
+
+-- a device, and how many of its calls have failed
+pub record Tallied (T : Type 0) : Type 0 where
+  pub device : T
+  pub count : ℕ

@@ -1,0 +1,6 @@
+pub mod Devices
+pub mod Lattice
+pub mod Fill
+pub mod Picture
+pub mod Bits
+pub mod Rows

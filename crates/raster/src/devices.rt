@@ -1,0 +1,145 @@
+ghost use Rattle.std.specs.Prelude.{◌≡◌, ◌≤◌, ◌<◌, IfOk, List, OnErr, OnOk, Ok, Option, length, take, ℕ};
+ghost use Rattle.std.specs.Io.KnownBytes.{Appends, Consumes, IsAtEnd, Keeps};
+ghost use Rattle.raster.specs.Devices.{Fails};
+
+use std::io::{Read, Write};
+use std::marker::Model;
+use thiserror::Error;
+
+/// A device answered an error.
+#[derive(Clone, Copy, Debug, PartialEq, Eq, Error)]
+#[error("a device failed")]
+pub struct Failed;
+
+/// What counts its own failed calls.
+pub trait Failures {
+    ghost failure_count: { Self → ℕ };
+
+    /// How many calls of this device have answered an error. A count at 2^64 - 1 stays.
+    fn failures(&self) -> u64
+        ensures { result ≡ failure_count self.now };
+}
+
+/// Where bytes come from. Each call is tried once: an interruption is an error too.
+pub trait Source: Failures {
+    /// The bytes to come, where they are known.
+    ghost remaining: { Self → Option (List ℕ) };
+
+    /// Puts bytes into the front of `buf` and answers how many; 0 only at the end, or where `buf` is empty.
+    fn pull(&mut self, buf: &mut [u8]) -> Result<usize, Failed>
+        ensures length { length buf.new ≡ length buf.old }
+        ensures within { IfOk result (λ n. n ≤ length buf.old) }
+        ensures taken { IfOk result (λ n. Consumes (remaining self.old) (remaining self.new) (take n buf.new)) }
+        ensures end { result ≡ Ok 0 → 0 < length buf.old → IsAtEnd (remaining self.new) }
+        ensures ok { OnOk result (Self.Failures.failure_count self.new ≡ Self.Failures.failure_count self.old) }
+        ensures err { OnErr result (Fails (Self.Failures.failure_count self.old) (Self.Failures.failure_count self.new)) };
+}
+
+/// Where bytes go. Each call is tried once: an interruption is an error too.
+pub trait Sink: Failures {
+    /// The bytes that went out, where they are known.
+    ghost contents: { Self → Option (List ℕ) };
+
+    /// Takes bytes from the front of `piece` and answers how many: at least one, unless `piece` is empty. An error
+    /// took none.
+    fn put(&mut self, piece: &[u8]) -> Result<usize, Failed>
+        ensures within { IfOk result (λ n. n ≤ length piece.now) }
+        ensures some { IfOk result (λ n. 0 < length piece.now → 0 < n) }
+        ensures out { IfOk result (λ n. Appends (contents self.old) (contents self.new) (take n piece.now)) }
+        ensures none { OnErr result (Keeps (contents self.old) (contents self.new)) }
+        ensures ok { OnOk result (Self.Failures.failure_count self.new ≡ Self.Failures.failure_count self.old) }
+        ensures err { OnErr result (Fails (Self.Failures.failure_count self.old) (Self.Failures.failure_count self.new)) };
+
+    /// Flushes what was taken. It takes no byte itself.
+    fn settle(&mut self) -> Result<(), Failed>
+        ensures none { Keeps (contents self.old) (contents self.new) }
+        ensures ok { OnOk result (Self.Failures.failure_count self.new ≡ Self.Failures.failure_count self.old) }
+        ensures err { OnErr result (Fails (Self.Failures.failure_count self.old) (Self.Failures.failure_count self.new)) };
+}
+
+/// A source over any reader, and a sink over any writer, which counts the calls that answered an error. That a
+/// writer takes 0 bytes of a piece that isn't empty is an error.
+#[derive(Drop)]
+pub struct Counted<T> {
+    inner: T,
+    failures: u64,
+}
+
+impl<T> Model for Counted<T> {
+    ghost use Rattle.raster.specs.Devices.{Tallied};
+
+    ghost Value = { Tallied T };
+
+    ghost view = { λ counted. record { device = counted.inner; count = counted.failures } };
+}
+
+impl<T> Counted<T> {
+    /// Over a reader or a writer, with no failure yet.
+    pub fn new(inner: T) -> Counted<T>
+        ensures { result ≡ record { device = inner; count = 0 } }
+    {
+        Counted { inner, failures: 0 }
+    }
+
+    /// The reader or writer.
+    pub fn inner(&self) -> &T
+        ensures { result.now ≡ self.now.device }
+    {
+        &self.inner
+    }
+
+    /// Gives the reader or writer back.
+    pub fn into_inner(self) -> T
+        ensures { result ≡ self.device }
+    {
+        let Counted { inner, failures: _ } = self;
+        inner
+    }
+
+    /// Counts a failure.
+    fn fail(&mut self) -> Failed
+        ensures device { self.new.device ≡ self.old.device }
+        ensures count { Fails self.old.count self.new.count }
+    {
+        self.failures = self.failures.saturating_add(1);
+        Failed
+    }
+}
+
+impl<T> Failures for Counted<T> {
+    ghost failure_count = { λ counted. counted.count };
+
+    fn failures(&self) -> u64 {
+        self.failures
+    }
+}
+
+impl<T: Read> Source for Counted<T> {
+    ghost remaining = { λ counted. T.remaining counted.device };
+
+    fn pull(&mut self, buf: &mut [u8]) -> Result<usize, Failed> {
+        match self.inner.read(buf) {
+            Ok(count) => Ok(count),
+            Err(_) => Err(self.fail()),
+        }
+    }
+}
+
+impl<T: Write> Sink for Counted<T> {
+    ghost contents = { λ counted. T.contents counted.device };
+
+    fn put(&mut self, piece: &[u8]) -> Result<usize, Failed> {
+        match self.inner.write(piece) {
+            Ok(0) if !piece.is_empty() => Err(self.fail()),
+            Ok(count) => Ok(count),
+            Err(_) => Err(self.fail()),
+        }
+    }
+
+    fn settle(&mut self) -> Result<(), Failed> {
+        match self.inner.flush() {
+            Ok(()) => Ok(()),
+            Err(_) => Err(self.fail()),
+        }
+    }
+}
