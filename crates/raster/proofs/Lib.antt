@@ -2,3 +2,5 @@ pub mod Areas
 pub mod Masks
 pub mod Packing
 pub mod Ordered
+pub mod Decimals
+pub mod Sent
