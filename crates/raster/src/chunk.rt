@@ -1,4 +1,4 @@
-ghost use Rattle.std.specs.Prelude.{◌≡◌, ◌<◌, ◌≤◌, ◌+◌, [], ◌∷◌, ◌++◌, decimal, length, OnOk, OnErr, IfErr, true};
+ghost use Rattle.std.specs.Prelude.{◌≡◌, ◌<◌, ◌≤◌, ◌+◌, ◌-◌, ◌^◌, [], ◌∷◌, ◌++◌, decimal, drop, length, OnOk, OnErr, IfErr, IfOk, true};
 ghost use Rattle.std.specs.Int.{div_ceil};
 ghost use Rattle.std.specs.Io.KnownBytes.{Appends};
 ghost use Rattle.raster.specs.Devices.{AppendsFirst, HasFailed};
@@ -105,18 +105,56 @@ impl Chunk {
         self.filled = end;
     }
 
-    /// Writes the bytes out; on success it is empty.
-    pub(crate) fn send<W: Sink>(&mut self, w: &mut W) -> Result<(), WriteFault>
-        ensures emptied { OnOk result (self.new ≡ []) }
-        ensures ok { OnOk result (Appends (W.contents w.old) (W.contents w.new) self.old) }
+    /// Writes the bytes out where it has no room for this many more, after `before` bytes of a text; answers how many
+    /// bytes of the text are out then.
+    pub(crate) fn make_room<W: Sink>(
+        &mut self,
+        needed: usize,
+        w: &mut W,
+        before: u64,
+    ) -> Result<u64, WriteFault>
+        requires needed { needed ≤ 16384 }
+        requires before { before ≤ 2 ^ 32 }
+        ensures room { OnOk result (length self.new + needed ≤ 16384) }
+        ensures kept { IfOk result (λ total. self.new ≡ drop (total - before) self.old) }
+        ensures ok { IfOk result (λ total. AppendsFirst (W.contents w.old) (W.contents w.new) (total - before) self.old) }
+        ensures low { IfOk result (λ total. before ≤ total) }
+        ensures high { IfOk result (λ total. total ≤ before + length self.old) }
         ensures same { OnOk result (W.Failures.failure_count w.new ≡ W.Failures.failure_count w.old) }
-        ensures written { IfErr result (λ fault. AppendsFirst (W.contents w.old) (W.contents w.new) fault.written self.old) }
-        ensures within { IfErr result (λ fault. fault.written < length self.old) }
+        ensures written { IfErr result (λ fault. AppendsFirst (W.contents w.old) (W.contents w.new) (fault.written - before) self.old) }
+        ensures some { IfErr result (λ fault. before ≤ fault.written) }
+        ensures within { IfErr result (λ fault. fault.written < before + length self.old) }
         ensures failed { OnErr result (HasFailed (W.Failures.failure_count w.old) (W.Failures.failure_count w.new)) }
     {
-        put_all(w, &self.bytes[..self.filled])?;
-        self.filled = 0;
-        Ok(())
+        if self.room() < needed {
+            self.send(w, before)
+        } else {
+            Ok(before)
+        }
+    }
+
+    /// Writes the bytes out, after `before` bytes of a text; answers how many bytes of the text are out then.
+    pub(crate) fn send<W: Sink>(&mut self, w: &mut W, before: u64) -> Result<u64, WriteFault>
+        requires { before ≤ 2 ^ 32 }
+        ensures emptied { OnOk result (self.new ≡ []) }
+        ensures ok { OnOk result (Appends (W.contents w.old) (W.contents w.new) self.old) }
+        ensures total { IfOk result (λ total. total ≡ before + length self.old) }
+        ensures same { OnOk result (W.Failures.failure_count w.new ≡ W.Failures.failure_count w.old) }
+        ensures written { IfErr result (λ fault. AppendsFirst (W.contents w.old) (W.contents w.new) (fault.written - before) self.old) }
+        ensures some { IfErr result (λ fault. before ≤ fault.written) }
+        ensures within { IfErr result (λ fault. fault.written < before + length self.old) }
+        ensures failed { OnErr result (HasFailed (W.Failures.failure_count w.old) (W.Failures.failure_count w.new)) }
+    {
+        let filled = self.filled;
+        match put_all(w, &self.bytes[..filled]) {
+            Ok(()) => {
+                self.filled = 0;
+                Ok(before + filled as u64)
+            }
+            Err(fault) => Err(WriteFault {
+                written: before + fault.written,
+            }),
+        }
     }
 }
 

@@ -13,8 +13,8 @@ loop-written-preserved g c =
     record {
       within = omega (arith, within, length-drop c.loop-written.written c.args.piece.now);
       out = rw (take-add c.loop-written.written c.in-Ok.taken c.args.piece.now)
-        (appends-after (g.W.Sink.contents c.args.w.now) (g.W.Sink.contents c.loop-written.w) (g.W.Sink.contents c.put.new.self)
-            (take c.loop-written.written c.args.piece.now) (take c.in-Ok.taken (drop c.loop-written.written c.args.piece.now))
-            c.loop-written.invariant.out out);
-      same = c.in-Ok.ensures.ok ∙ c.loop-written.invariant.same
+          (appends-after (g.W.Sink.contents c.args.w.now) (g.W.Sink.contents c.loop-written.w) (g.W.Sink.contents c.put.new.self)
+          (take c.loop-written.written c.args.piece.now) (take c.in-Ok.taken (drop c.loop-written.written c.args.piece.now))
+          c.loop-written.invariant.out out);
+      same = c.in-Ok.ensures.ok ∙ c.loop-written.invariant.same;
     }

@@ -7,7 +7,7 @@ invariant-loop-written g l =
     record {
       within : l.written ≤ length l.piece;
       out : Appends (g.W.Sink.contents l.initial.w) (g.W.Sink.contents l.w) (take l.written l.piece);
-      same : g.W.Failures.failure_count l.w ≡ g.W.Failures.failure_count l.initial.w
+      same : g.W.Failures.failure_count l.w ≡ g.W.Failures.failure_count l.initial.w;
     }
 
 abbrev pub decreases-loop-written : goal.decreases-loop-written
