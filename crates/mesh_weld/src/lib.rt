@@ -3,7 +3,6 @@
 
 mod corners;
 mod faults;
-mod heights;
 mod laws;
 mod rays;
 mod sides;
