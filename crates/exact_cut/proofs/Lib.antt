@@ -7,6 +7,7 @@ pub mod Settle
 pub mod Least
 pub mod Sliding
 pub mod Scanlines
+pub mod Courses
 pub mod Rounding
 pub mod Hitting
 pub mod Shifts

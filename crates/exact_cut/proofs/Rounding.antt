@@ -5,7 +5,9 @@ use Rattle.std.proofs.Math.Nat.{mul-le-mul}
 use Rattle.micro_num.specs.Bounds.{IsAtMost}
 use Rattle.micro_num.proofs.Identity.{reads, identity}
 use Rattle.micro_num.proofs.Signs.{at_most_or_above}
-use Rattle.exact_cut.specs.Slides.{ArePartsOf}
+use Rattle.exact_cut.specs.Slides.{ArePartsOf, IsSlide}
+use Rattle.exact_cut.specs.declared.slides.Parts.{Parts}
+use Rattle.exact_cut.specs.declared.slides.Slide.{Slide}
 
 -- w is the ceiling of n / u
 module _ (n u w : ℤ) (h : (q : ℤ) → (w ≤ℤ q) ↔ (n ≤ℤ (q *ℤ u))) where
@@ -58,3 +60,23 @@ module _ (n u w : ℤ) (h : (q : ℤ) → (w ≤ℤ q) ↔ (n ≤ℤ (q *ℤ u))
     not_negative = lack_not_negative;
     below = lack_below;
   }
+
+-- ---- a slide of two numbers over one unit
+abbrev pub slide_of : ℤ → Parts → Parts → Slide
+slide_of u p q = record { unit = u; whole = p.whole; lack = p.lack; pace = q.whole; pace_lack = q.lack }
+
+pub IsSlide-of : (n m u : ℤ) (p q : Parts) → ArePartsOf n u p → ArePartsOf m u q → IsAtMost 31000000000000000000000000000000 u → IsAtMost 59000000000000000000000000000000 q.whole → IsSlide (slide_of u p q)
+IsSlide-of n m u p q a b c d = record {
+  unit_in = c;
+  pace_in = d;
+  not_negative = a.not_negative;
+  below = a.below;
+  pace_not_negative = b.not_negative;
+  pace_below = b.below;
+}
+
+pub whole_within : {a b : ℕ} (m : ℕ) (n u w : ℤ) → unsigned_abs w ≤ unsigned_abs n + unsigned_abs u → IsAtMost a n → IsAtMost b u → a + b ≤ m → IsAtMost m w
+whole_within {a} {b} m n u w h k l s = record { at_most = by (unsigned_abs w) (unsigned_abs n) (unsigned_abs u) a b m h k.at_most l.at_most s }
+  where
+    by : (w n u a b m : ℕ) → w ≤ n + u → n ≤ a → u ≤ b → a + b ≤ m → w ≤ m
+    by w n u a b m h k l s = omega arith
