@@ -11,6 +11,7 @@ use Rattle.exact_cut.specs.Crossed.{Crosses}
 use Rattle.exact_cut.specs.Lattices.{row_y, pixel, IsCrossedAt, IsCourse, IsUncrossed}
 use Rattle.exact_cut.specs.Sections.{IsSection, slope_between, num_between, den_between}
 use Rattle.exact_cut.specs.Slides.{IsSlide, columns_along, place_of, pace_of}
+use Rattle.exact_cut.specs.WindLaws.{CrossingsSplitRows}
 use Rattle.exact_cut.specs.declared.fractions.CutPoint.{CutPoint}
 use Rattle.exact_cut.specs.declared.fractions.Section.{Section}
 use Rattle.exact_cut.specs.declared.lattice.Lattice.{Lattice}
@@ -43,16 +44,13 @@ module _ (p q : CutPoint) (l : Lattice) (row : ℕ) (s : Slide) (h : IsSlide s)
       (ceiling_by (num_between p q (row_y l (row + n))) (den_between p q) l.x2 (pos l.step) (ceiling_of (after n s) (IsSlide-after n s h)) (place-after n) ((Moved-after n s).unit ∙ unit)))
 
 -- ---- one row
--- the rays from the columns before the crossing's hit, and no other
-pub crossed_at : (t : Triangle) (z : ℤ) (l : Lattice) (sign : ℤ) (j column : ℕ) (num den : ℤ) → Crosses t (row_y l j) z sign num den → IsLeastColumn num den l.x2 l.step l.columns column → IsCrossedAt t z l sign j column
-crossed_at t z l sign j column num den c k = record {
-  num = num;
-  den = den;
-  crosses = c;
-  least = k;
-  ahead = λ i b. hit-wind t (pixel l z i j) ((c.ahead_of (centre_x l.x2 l.step i)).0 (k.before_left i b)) ∙ sym c.sign_is;
-  passed = λ i b e. hit-zero t (pixel l z i j) (not_above (wind t (row_y l j) z *ℤ volume t (pixel l z i j)) (λ a. clash num (centre_x l.x2 l.step i *ℤ den) (not_before num den l.x2 l.step l.columns column i c.den_positive k b e) ((c.ahead_of (centre_x l.x2 l.step i)).1 a)));
-}
+pub splits : CrossingsSplitRows
+splits t y z sign num den first step columns column c k = (
+  λ i b. hit-wind t (record { x = centre_x first step i; y = y; z = z }) ((c.ahead_of (centre_x first step i)).0 (k.before_left i b)) ∙ sym c.sign_is,
+  λ i b e.
+      hit-zero t (record { x = centre_x first step i; y = y; z = z })
+      (not_above (wind t y z *ℤ volume t (record { x = centre_x first step i; y = y; z = z })) (λ a. clash num (centre_x first step i *ℤ den) (not_before num den first step columns column i c.den_positive k b e) ((c.ahead_of (centre_x first step i)).1 a))),
+)
   where
     not_above : (x : ℤ) → (pos 0 <ℤ x → ⊥) → x ≤ℤ pos 0
     not_above x h = by (at_most_or_above x (pos 0))
@@ -63,6 +61,11 @@ crossed_at t z l sign j column num den c k = record {
 
     clash : (a b : ℤ) → a ≤ℤ b → b <ℤ a → ⊥
     clash a b h k = omega (arith, ints)
+
+pub crossed_at : (t : Triangle) (z : ℤ) (l : Lattice) (sign : ℤ) (j column : ℕ) (num den : ℤ) → Crosses t (row_y l j) z sign num den → IsLeastColumn num den l.x2 l.step l.columns column → IsCrossedAt t z l sign j column
+crossed_at t z l sign j column num den c k =
+    let h = splits t (row_y l j) z sign num den l.x2 l.step l.columns column c k in
+    record { num = num; den = den; crosses = c; least = k; ahead = h.0; passed = h.1 }
 
 -- ---- all rows
 abbrev with_columns : ℕ → ℤ → List ℕ → Course
