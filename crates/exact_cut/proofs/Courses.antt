@@ -1,5 +1,5 @@
 -- A walk's columns are those of the facet's crossings, row by row.
-use Rattle.std.proofs.Common.{◌≡◌, ◌↔◌, ◌⊎◌, inl, inr, ℕ, ◌+◌, ◌-◌, ◌<◌, ◌≤◌, [], ◌∷◌, List, length, slice_index, ℤ, pos, negsuc, ◌+ℤ◌, ◌-ℤ◌, ◌*ℤ◌, ◌≤ℤ◌, ◌<ℤ◌, refl, sym, ◌∙◌, ap, subst, arith}
+use Rattle.std.proofs.Common.{◌≡◌, ◌↔◌, ◌⊎◌, inl, inr, ℕ, zero, suc, ◌+◌, ◌-◌, ◌<◌, ◌≤◌, [], ◌∷◌, List, length, slice_index, ℤ, pos, negsuc, ◌+ℤ◌, ◌-ℤ◌, ◌*ℤ◌, ◌≤ℤ◌, ◌<ℤ◌, refl, sym, ◌∙◌, ap, subst, arith}
 use Rattle.std.proofs.lemmas.Int.{ints}
 use Rattle.micro_num.proofs.Identity.{reads, identity}
 use Rattle.micro_num.proofs.Signs.{at_most_or_above}
@@ -30,18 +30,22 @@ grown a d k x y s r n = identity (a ∷ d ∷ k ∷ x ∷ y ∷ s ∷ r ∷ n �
 module _ (p q : CutPoint) (l : Lattice) (row : ℕ) (s : Slide) (h : IsSlide s)
     (unit : s.unit ≡ pos 2 *ℤ pos l.step *ℤ den_between p q)
     (place : place_of s ≡ num_between p q (row_y l row) -ℤ l.x2 *ℤ den_between p q)
-    (pace : pace_of s ≡ pos 2 *ℤ pos l.step *ℤ slope_between p q) where
-  place-after : (n : ℕ) → place_of (after n s) ≡ num_between p q (row_y l (row + n)) -ℤ l.x2 *ℤ den_between p q
-  place-after n =
-      (Moved-after n s).place ∙ (λ i. place i +ℤ pos n *ℤ pace i)
-      ∙ grown (p.x *ℤ q.y -ℤ p.y *ℤ q.x) (den_between p q) (slope_between p q) l.x2 l.y2 (pos l.step) (pos row) (pos n)
+    (left : ℕ) (pace : 1 < left → pace_of s ≡ pos 2 *ℤ pos l.step *ℤ slope_between p q) where
+  place-after : (n : ℕ) → n < left → place_of (after n s) ≡ num_between p q (row_y l (row + n)) -ℤ l.x2 *ℤ den_between p q
+  place-after zero b = subst (λ r. place_of s ≡ num_between p q (row_y l r) -ℤ l.x2 *ℤ den_between p q) same_row place
+    where
+      same_row : row ≡ row + zero
+      same_row = omega arith
+  place-after (suc n) b = let e = pace (omega arith) in
+      (Moved-after (suc n) s).place ∙ (λ i. place i +ℤ pos (suc n) *ℤ e i)
+      ∙ grown (p.x *ℤ q.y -ℤ p.y *ℤ q.x) (den_between p q) (slope_between p q) l.x2 l.y2 (pos l.step) (pos row) (pos (suc n))
 
-  pub columns-least : (left n : ℕ) → n < left
+  pub columns-least : (n : ℕ) → n < left
       → IsLeastColumn (num_between p q (row_y l (row + n))) (den_between p q) l.x2 l.step l.columns (slice_index (columns_along left l.columns s) n)
-  columns-least left n b =
+  columns-least n b =
       subst (IsLeastColumn (num_between p q (row_y l (row + n))) (den_between p q) l.x2 l.step l.columns) (sym (column-after left n l.columns s b))
       (least_clamp (after n s).whole (num_between p q (row_y l (row + n))) (den_between p q) l.x2 l.step l.columns
-      (ceiling_by (num_between p q (row_y l (row + n))) (den_between p q) l.x2 (pos l.step) (ceiling_of (after n s) (IsSlide-after n s h)) (place-after n) ((Moved-after n s).unit ∙ unit)))
+      (ceiling_by (num_between p q (row_y l (row + n))) (den_between p q) l.x2 (pos l.step) (ceiling_of (after n s) (IsSlide-after n s h)) (place-after n b) ((Moved-after n s).unit ∙ unit)))
 
 -- ---- one row
 pub splits : CrossingsSplitRows

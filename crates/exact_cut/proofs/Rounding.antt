@@ -65,14 +65,14 @@ module _ (n u w : ℤ) (h : (q : ℤ) → (w ≤ℤ q) ↔ (n ≤ℤ (q *ℤ u))
 abbrev pub slide_of : ℤ → Parts → Parts → Slide
 slide_of u p q = record { unit = u; whole = p.whole; lack = p.lack; pace = q.whole; pace_lack = q.lack }
 
-pub IsSlide-of : (n m u : ℤ) (p q : Parts) → ArePartsOf n u p → ArePartsOf m u q → IsAtMost 31000000000000000000000000000000 u → IsAtMost 59000000000000000000000000000000 q.whole → IsSlide (slide_of u p q)
-IsSlide-of n m u p q a b c d = record {
+pub IsSlide-of : (n u : ℤ) (p q : Parts) → ArePartsOf n u p → pos 0 ≤ℤ q.lack → q.lack <ℤ u → IsAtMost 31000000000000000000000000000000 u → IsAtMost 59000000000000000000000000000000 q.whole → IsSlide (slide_of u p q)
+IsSlide-of n u p q a b e c d = record {
   unit_in = c;
   pace_in = d;
   not_negative = a.not_negative;
   below = a.below;
-  pace_not_negative = b.not_negative;
-  pace_below = b.below;
+  pace_not_negative = b;
+  pace_below = e;
 }
 
 pub whole_within : {a b : ℕ} (m : ℕ) (n u w : ℤ) → unsigned_abs w ≤ unsigned_abs n + unsigned_abs u → IsAtMost a n → IsAtMost b u → a + b ≤ m → IsAtMost m w

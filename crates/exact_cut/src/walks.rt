@@ -13,7 +13,7 @@ use crate::fractions::CutPoint;
 use crate::lattice::Lattice;
 use crate::rows::{row_of, scanline};
 use crate::slides::Slide;
-use crate::units::in_units;
+use crate::units::{in_units, pace_in_units};
 use std::marker::Model;
 use stl_text::Facet;
 
@@ -81,7 +81,7 @@ impl Walk {
             left: end - row,
             sign,
             columns: lattice.columns,
-            slide: slide_between(near, far, lattice, row),
+            slide: slide_between(near, far, lattice, row, end - row),
         }
     }
 
@@ -132,21 +132,22 @@ fn slope(near: &CutPoint, far: &CutPoint) -> i128
 }
 
 /// Where the line through two cut points crosses a row, counted from the first column's centre,
-/// and by how much that grows at each row. Its unit is the way from a column to the next.
-fn slide_between(near: &CutPoint, far: &CutPoint, lattice: &Lattice, row: u32) -> Slide
+/// and by how much that grows at each further row of so many. Its unit is the way from a column to
+/// the next.
+fn slide_between(near: &CutPoint, far: &CutPoint, lattice: &Lattice, row: u32, rows: u32) -> Slide
     requires row_in { row < lattice.now.rows }
     requires den_positive { pos 0 <ℤ den_between near.now far.now }
     ensures slide { IsSlide result }
     ensures unit { result.unit ≡ pos 2 *ℤ pos lattice.now.step *ℤ den_between near.now far.now }
     ensures place { place_of result ≡ num_between near.now far.now (row_y lattice.now row) -ℤ lattice.now.x2 *ℤ den_between near.now far.now }
-    ensures pace { pace_of result ≡ pos 2 *ℤ pos lattice.now.step *ℤ slope_between near.now far.now }
+    ensures pace { 1 < rows → pace_of result ≡ pos 2 *ℤ pos lattice.now.step *ℤ slope_between near.now far.now }
     ensures whole_in { IsAtMost 300000000000000000000000000000000000 result.whole }
 {
     let (num, den) = meet(near, far, scanline(lattice, row));
     let step2 = 2 * (lattice.step as i128);
     let unit = step2 * den;
     let place = in_units(num - (lattice.x2 as i128) * den, unit);
-    let pace = in_units(step2 * slope(near, far), unit);
+    let pace = pace_in_units(step2 * slope(near, far), unit, rows);
     Slide {
         unit,
         whole: place.whole,

@@ -80,16 +80,16 @@ overflow_mul-step2-2 c =
     let s_in = cast_in w128 l.step 100000 l.step_in in
     fits w128 (search (sizes, s_in, c.slope.ensures.within) depth 40) refl
 
-pub in_units-pace-requires-clause-n_in : goal.in_units-pace-requires-clause-n_in
-in_units-pace-requires-clause-n_in c =
+pub pace_in_units-pace-requires-clause-n_in : goal.pace_in_units-pace-requires-clause-n_in
+pace_in_units-pace-requires-clause-n_in c =
     let l = c.args.lattice.now in
     let num_in = c.meet-num.ensures.num_in in
     let den_in = c.meet-num.ensures.den_in in
     let s_in = cast_in w128 l.step 100000 l.step_in in
     is_at_most 200000000000000000000000000000000000 (search (sizes, s_in, c.slope.ensures.within) depth 40) refl
 
-pub in_units-pace-requires-clause-unit_in : goal.in_units-pace-requires-clause-unit_in
-in_units-pace-requires-clause-unit_in c =
+pub pace_in_units-pace-requires-clause-unit_in : goal.pace_in_units-pace-requires-clause-unit_in
+pace_in_units-pace-requires-clause-unit_in c =
     let l = c.args.lattice.now in
     let num_in = c.meet-num.ensures.num_in in
     let den_in = c.meet-num.ensures.den_in in
@@ -119,19 +119,19 @@ returns-clause-slide c =
     let f9 : FitsSigned w128 slope = fits w128 (search (sizes, slope_in)) refl in
     let f10 : FitsSigned w128 (pos 2 *ℤ s *ℤ slope) = fits w128 (search (sizes, s_in, slope_in)) refl in
     let p = c.in_units-place.result in
-    let q = c.in_units-pace.result in
+    let q = c.pace_in_units-pace.result in
     let unit_in : IsAtMost 30948500982134506872478105400000 (pos 2 *ℤ s *ℤ den) = is_at_most 30948500982134506872478105400000 (search (sizes, s_in, den_in) depth 40) refl in
     let p_in : IsAtMost 300000000000000000000000000000000000 p.whole = whole_within {a = 200000000000000000000000000000000000} 300000000000000000000000000000000000 (num -ℤ l.x2 *ℤ den) (pos 2 *ℤ s *ℤ den) p.whole (simp to_z-of_z at c.in_units-place.ensures.whole_in) (is_at_most 200000000000000000000000000000000000 (search (sizes, l.x_in, num_in, den_in) depth 40) refl) unit_in (lit≤ tt) in
-    let q_in : IsAtMost 59000000000000000000000000000000 q.whole = whole_within {a = 26843545600000000000000000000000} 59000000000000000000000000000000 (pos 2 *ℤ s *ℤ slope) (pos 2 *ℤ s *ℤ den) q.whole (simp to_z-of_z at c.in_units-pace.ensures.whole_in) (is_at_most 26843545600000000000000000000000 (search (sizes, s_in, slope_in) depth 40) refl) unit_in (lit≤ tt) in
+    let q_in : IsAtMost 59000000000000000000000000000000 q.whole = whole_within {a = 26843545600000000000000000000000} 59000000000000000000000000000000 (pos 2 *ℤ s *ℤ slope) (pos 2 *ℤ s *ℤ den) q.whole (simp to_z-of_z at c.pace_in_units-pace.ensures.whole_in) (is_at_most 26843545600000000000000000000000 (search (sizes, s_in, slope_in) depth 40) refl) unit_in (lit≤ tt) in
     let p_parts : ArePartsOf (num -ℤ l.x2 *ℤ den) (pos 2 *ℤ s *ℤ den) p = simp to_z-of_z at c.in_units-place.ensures.parts in
-    let q_parts : ArePartsOf (pos 2 *ℤ s *ℤ slope) (pos 2 *ℤ s *ℤ den) q = simp to_z-of_z at c.in_units-pace.ensures.parts in
+    let q_below : q.lack <ℤ (pos 2 *ℤ s *ℤ den) = simp to_z-of_z at c.pace_in_units-pace.ensures.below in
     let p_lack = lack_in p.lack (pos 2 *ℤ s *ℤ den) p_parts.not_negative p_parts.below unit_in in
-    let q_lack = lack_in q.lack (pos 2 *ℤ s *ℤ den) q_parts.not_negative q_parts.below unit_in in
+    let q_lack = lack_in q.lack (pos 2 *ℤ s *ℤ den) c.pace_in_units-pace.ensures.not_negative q_below unit_in in
     let f11 : FitsSigned w128 p.whole = fits w128 (search (sizes, p_in)) refl in
     let f12 : FitsSigned w128 p.lack = fits w128 (search (sizes, p_lack)) refl in
     let f13 : FitsSigned w128 q.whole = fits w128 (search (sizes, q_in)) refl in
     let f14 : FitsSigned w128 q.lack = fits w128 (search (sizes, q_lack)) refl in
-    simp to_z-of_z (IsSlide-of (num -ℤ l.x2 *ℤ den) (pos 2 *ℤ s *ℤ slope) (pos 2 *ℤ s *ℤ den) p q p_parts q_parts (is_at_most 31000000000000000000000000000000 (search (sizes, s_in, den_in) depth 40) refl) q_in)
+    simp to_z-of_z (IsSlide-of (num -ℤ l.x2 *ℤ den) (pos 2 *ℤ s *ℤ den) p q p_parts c.pace_in_units-pace.ensures.not_negative q_below (is_at_most 31000000000000000000000000000000 (search (sizes, s_in, den_in) depth 40) refl) q_in)
 
 pub returns-clause-unit : goal.returns-clause-unit
 returns-clause-unit c =
@@ -176,14 +176,14 @@ returns-clause-place c =
     let f9 : FitsSigned w128 slope = fits w128 (search (sizes, slope_in)) refl in
     let f10 : FitsSigned w128 (pos 2 *ℤ s *ℤ slope) = fits w128 (search (sizes, s_in, slope_in)) refl in
     let p = c.in_units-place.result in
-    let q = c.in_units-pace.result in
+    let q = c.pace_in_units-pace.result in
     let unit_in : IsAtMost 30948500982134506872478105400000 (pos 2 *ℤ s *ℤ den) = is_at_most 30948500982134506872478105400000 (search (sizes, s_in, den_in) depth 40) refl in
     let p_in : IsAtMost 300000000000000000000000000000000000 p.whole = whole_within {a = 200000000000000000000000000000000000} 300000000000000000000000000000000000 (num -ℤ l.x2 *ℤ den) (pos 2 *ℤ s *ℤ den) p.whole (simp to_z-of_z at c.in_units-place.ensures.whole_in) (is_at_most 200000000000000000000000000000000000 (search (sizes, l.x_in, num_in, den_in) depth 40) refl) unit_in (lit≤ tt) in
-    let q_in : IsAtMost 59000000000000000000000000000000 q.whole = whole_within {a = 26843545600000000000000000000000} 59000000000000000000000000000000 (pos 2 *ℤ s *ℤ slope) (pos 2 *ℤ s *ℤ den) q.whole (simp to_z-of_z at c.in_units-pace.ensures.whole_in) (is_at_most 26843545600000000000000000000000 (search (sizes, s_in, slope_in) depth 40) refl) unit_in (lit≤ tt) in
+    let q_in : IsAtMost 59000000000000000000000000000000 q.whole = whole_within {a = 26843545600000000000000000000000} 59000000000000000000000000000000 (pos 2 *ℤ s *ℤ slope) (pos 2 *ℤ s *ℤ den) q.whole (simp to_z-of_z at c.pace_in_units-pace.ensures.whole_in) (is_at_most 26843545600000000000000000000000 (search (sizes, s_in, slope_in) depth 40) refl) unit_in (lit≤ tt) in
     let p_parts : ArePartsOf (num -ℤ l.x2 *ℤ den) (pos 2 *ℤ s *ℤ den) p = simp to_z-of_z at c.in_units-place.ensures.parts in
-    let q_parts : ArePartsOf (pos 2 *ℤ s *ℤ slope) (pos 2 *ℤ s *ℤ den) q = simp to_z-of_z at c.in_units-pace.ensures.parts in
+    let q_below : q.lack <ℤ (pos 2 *ℤ s *ℤ den) = simp to_z-of_z at c.pace_in_units-pace.ensures.below in
     let p_lack = lack_in p.lack (pos 2 *ℤ s *ℤ den) p_parts.not_negative p_parts.below unit_in in
-    let q_lack = lack_in q.lack (pos 2 *ℤ s *ℤ den) q_parts.not_negative q_parts.below unit_in in
+    let q_lack = lack_in q.lack (pos 2 *ℤ s *ℤ den) c.pace_in_units-pace.ensures.not_negative q_below unit_in in
     let f11 : FitsSigned w128 p.whole = fits w128 (search (sizes, p_in)) refl in
     let f12 : FitsSigned w128 p.lack = fits w128 (search (sizes, p_lack)) refl in
     let f13 : FitsSigned w128 q.whole = fits w128 (search (sizes, q_in)) refl in
@@ -215,18 +215,19 @@ returns-clause-pace c =
     let f9 : FitsSigned w128 slope = fits w128 (search (sizes, slope_in)) refl in
     let f10 : FitsSigned w128 (pos 2 *ℤ s *ℤ slope) = fits w128 (search (sizes, s_in, slope_in)) refl in
     let p = c.in_units-place.result in
-    let q = c.in_units-pace.result in
+    let q = c.pace_in_units-pace.result in
     let unit_in : IsAtMost 30948500982134506872478105400000 (pos 2 *ℤ s *ℤ den) = is_at_most 30948500982134506872478105400000 (search (sizes, s_in, den_in) depth 40) refl in
     let p_in : IsAtMost 300000000000000000000000000000000000 p.whole = whole_within {a = 200000000000000000000000000000000000} 300000000000000000000000000000000000 (num -ℤ l.x2 *ℤ den) (pos 2 *ℤ s *ℤ den) p.whole (simp to_z-of_z at c.in_units-place.ensures.whole_in) (is_at_most 200000000000000000000000000000000000 (search (sizes, l.x_in, num_in, den_in) depth 40) refl) unit_in (lit≤ tt) in
-    let q_in : IsAtMost 59000000000000000000000000000000 q.whole = whole_within {a = 26843545600000000000000000000000} 59000000000000000000000000000000 (pos 2 *ℤ s *ℤ slope) (pos 2 *ℤ s *ℤ den) q.whole (simp to_z-of_z at c.in_units-pace.ensures.whole_in) (is_at_most 26843545600000000000000000000000 (search (sizes, s_in, slope_in) depth 40) refl) unit_in (lit≤ tt) in
+    let q_in : IsAtMost 59000000000000000000000000000000 q.whole = whole_within {a = 26843545600000000000000000000000} 59000000000000000000000000000000 (pos 2 *ℤ s *ℤ slope) (pos 2 *ℤ s *ℤ den) q.whole (simp to_z-of_z at c.pace_in_units-pace.ensures.whole_in) (is_at_most 26843545600000000000000000000000 (search (sizes, s_in, slope_in) depth 40) refl) unit_in (lit≤ tt) in
     let p_parts : ArePartsOf (num -ℤ l.x2 *ℤ den) (pos 2 *ℤ s *ℤ den) p = simp to_z-of_z at c.in_units-place.ensures.parts in
-    let q_parts : ArePartsOf (pos 2 *ℤ s *ℤ slope) (pos 2 *ℤ s *ℤ den) q = simp to_z-of_z at c.in_units-pace.ensures.parts in
+    let q_below : q.lack <ℤ (pos 2 *ℤ s *ℤ den) = simp to_z-of_z at c.pace_in_units-pace.ensures.below in
     let p_lack = lack_in p.lack (pos 2 *ℤ s *ℤ den) p_parts.not_negative p_parts.below unit_in in
-    let q_lack = lack_in q.lack (pos 2 *ℤ s *ℤ den) q_parts.not_negative q_parts.below unit_in in
+    let q_lack = lack_in q.lack (pos 2 *ℤ s *ℤ den) c.pace_in_units-pace.ensures.not_negative q_below unit_in in
     let f11 : FitsSigned w128 p.whole = fits w128 (search (sizes, p_in)) refl in
     let f12 : FitsSigned w128 p.lack = fits w128 (search (sizes, p_lack)) refl in
     let f13 : FitsSigned w128 q.whole = fits w128 (search (sizes, q_in)) refl in
     let f14 : FitsSigned w128 q.lack = fits w128 (search (sizes, q_lack)) refl in
+    λ some. let q_parts : ArePartsOf (pos 2 *ℤ s *ℤ slope) (pos 2 *ℤ s *ℤ den) q = simp to_z-of_z at (c.pace_in_units-pace.ensures.parts some) in
     simp to_z-of_z (sym q_parts.value ∙ (λ i. pos 2 *ℤ step i *ℤ c.slope.ensures.value i))
 
 pub returns-clause-whole_in : goal.returns-clause-whole_in
@@ -252,14 +253,14 @@ returns-clause-whole_in c =
     let f9 : FitsSigned w128 slope = fits w128 (search (sizes, slope_in)) refl in
     let f10 : FitsSigned w128 (pos 2 *ℤ s *ℤ slope) = fits w128 (search (sizes, s_in, slope_in)) refl in
     let p = c.in_units-place.result in
-    let q = c.in_units-pace.result in
+    let q = c.pace_in_units-pace.result in
     let unit_in : IsAtMost 30948500982134506872478105400000 (pos 2 *ℤ s *ℤ den) = is_at_most 30948500982134506872478105400000 (search (sizes, s_in, den_in) depth 40) refl in
     let p_in : IsAtMost 300000000000000000000000000000000000 p.whole = whole_within {a = 200000000000000000000000000000000000} 300000000000000000000000000000000000 (num -ℤ l.x2 *ℤ den) (pos 2 *ℤ s *ℤ den) p.whole (simp to_z-of_z at c.in_units-place.ensures.whole_in) (is_at_most 200000000000000000000000000000000000 (search (sizes, l.x_in, num_in, den_in) depth 40) refl) unit_in (lit≤ tt) in
-    let q_in : IsAtMost 59000000000000000000000000000000 q.whole = whole_within {a = 26843545600000000000000000000000} 59000000000000000000000000000000 (pos 2 *ℤ s *ℤ slope) (pos 2 *ℤ s *ℤ den) q.whole (simp to_z-of_z at c.in_units-pace.ensures.whole_in) (is_at_most 26843545600000000000000000000000 (search (sizes, s_in, slope_in) depth 40) refl) unit_in (lit≤ tt) in
+    let q_in : IsAtMost 59000000000000000000000000000000 q.whole = whole_within {a = 26843545600000000000000000000000} 59000000000000000000000000000000 (pos 2 *ℤ s *ℤ slope) (pos 2 *ℤ s *ℤ den) q.whole (simp to_z-of_z at c.pace_in_units-pace.ensures.whole_in) (is_at_most 26843545600000000000000000000000 (search (sizes, s_in, slope_in) depth 40) refl) unit_in (lit≤ tt) in
     let p_parts : ArePartsOf (num -ℤ l.x2 *ℤ den) (pos 2 *ℤ s *ℤ den) p = simp to_z-of_z at c.in_units-place.ensures.parts in
-    let q_parts : ArePartsOf (pos 2 *ℤ s *ℤ slope) (pos 2 *ℤ s *ℤ den) q = simp to_z-of_z at c.in_units-pace.ensures.parts in
+    let q_below : q.lack <ℤ (pos 2 *ℤ s *ℤ den) = simp to_z-of_z at c.pace_in_units-pace.ensures.below in
     let p_lack = lack_in p.lack (pos 2 *ℤ s *ℤ den) p_parts.not_negative p_parts.below unit_in in
-    let q_lack = lack_in q.lack (pos 2 *ℤ s *ℤ den) q_parts.not_negative q_parts.below unit_in in
+    let q_lack = lack_in q.lack (pos 2 *ℤ s *ℤ den) c.pace_in_units-pace.ensures.not_negative q_below unit_in in
     let f11 : FitsSigned w128 p.whole = fits w128 (search (sizes, p_in)) refl in
     let f12 : FitsSigned w128 p.lack = fits w128 (search (sizes, p_lack)) refl in
     let f13 : FitsSigned w128 q.whole = fits w128 (search (sizes, q_in)) refl in

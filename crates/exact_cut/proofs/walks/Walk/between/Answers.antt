@@ -9,4 +9,4 @@ returns-clause-length c = length-columns_along (c.args.end - c.args.row) c.args.
 pub returns-clause-columns : goal.returns-clause-columns
 returns-clause-columns c =
     let s = c.slide_between in
-    columns-least c.args.near.now c.args.far.now c.args.lattice.now c.args.row s.result s.ensures.slide s.ensures.unit s.ensures.place s.ensures.pace (c.args.end - c.args.row)
+    columns-least c.args.near.now c.args.far.now c.args.lattice.now c.args.row s.result s.ensures.slide s.ensures.unit s.ensures.place (c.args.end - c.args.row) s.ensures.pace
