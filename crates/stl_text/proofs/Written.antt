@@ -195,10 +195,10 @@ solid_read unit facets text space more w white =
       white = white_behind w.remark_end w.behind w.remark_ends w.behind_is;
       spelled = ap (λ bs. rest_behind unit (solid_pieces facets) (space ++ bs)) whole
           ∙ spelled-append unit ((keyword Solid (codes "solid") ∷ rest_of_line ∷ []) ++ flat_map facet_pieces facets) (end_word ∷ rest_of_line ∷ [])
-              (space ++ (w.opening ++ (w.name ++ (w.name_end ∷ body)))) (read.space ++ closing) (w.remark_end ∷ last)
-              (spelled-append unit (keyword Solid (codes "solid") ∷ rest_of_line ∷ []) (flat_map facet_pieces facets)
-              (space ++ (w.opening ++ (w.name ++ (w.name_end ∷ body)))) (w.name_end ∷ body) (read.space ++ closing) opened read.spelled)
-              closed;
+          (space ++ (w.opening ++ (w.name ++ (w.name_end ∷ body)))) (read.space ++ closing) (w.remark_end ∷ last)
+          (spelled-append unit (keyword Solid (codes "solid") ∷ rest_of_line ∷ []) (flat_map facet_pieces facets)
+          (space ++ (w.opening ++ (w.name ++ (w.name_end ∷ body)))) (w.name_end ∷ body) (read.space ++ closing) opened read.spelled)
+          closed;
     }
 
 solids_read : (unit : LengthUnit) (solids : List (List Triangle)) (texts : List (List ℕ)) (space : List ℕ) → AreWrittenSolids unit solids texts
