@@ -1,5 +1,5 @@
 -- What callers know of the claims and of a pass.
-use Rattle.std.specs.Prelude.{◌≡◌, ℕ, ◌<◌, Bool, false, List, [], length, flat_map, nat_lt, refl}
+use Rattle.std.specs.Prelude.{◌≡◌, ℕ, ◌<◌, ◌≤◌, Bool, false, List, [], length, flat_map, nat_lt, refl}
 use Rattle.std.specs.Coded.{Coded, code_by, coded×, coded_ℕ, coded_bool, coded_list}
 use Rattle.atomic_table.specs.Seated.{TableId, table_id_coded}
 use mathlib.Core.Option.{some}
@@ -18,6 +18,15 @@ abbrev pub claims_code : Coded ClaimsView
 claims_code =
     code_by (ℕ × (ℕ × TableId)) (coded× coded_ℕ (coded× coded_ℕ table_id_coded)) (λ c. (c.stripes, (c.passes, c.name)))
     (λ t. record { stripes = t.0; passes = t.1.0; name = t.1.1 }) (λ _. refl)
+
+-- What holds inside claims: the table has one word and no slot, its plan is of these stripes, and the plan is in range.
+pub record IsSound (plan : Plan) (table : TableId) (stripes : ℕ) : Type 0 where
+  pub one_word : table.words ≡ 1
+  pub no_slots : table.slots ≡ 0
+  pub same : plan.stripes ≡ stripes
+  pub few_stripes : stripes ≤ 8192
+  pub some_passes : 1 ≤ plan.passes
+  pub few_passes : plan.passes ≤ 64
 
 -- the claims that the pass was opened with, the numbers that it has found, in order, and whether its last draw gave none
 pub record PassView : Type 0 where

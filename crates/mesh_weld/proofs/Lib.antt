@@ -3,3 +3,4 @@ mod Closed
 pub mod Turning
 pub mod Flat
 pub mod Sums
+pub mod Probing

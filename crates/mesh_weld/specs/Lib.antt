@@ -1,4 +1,5 @@
 pub mod Balance
 pub mod Mesh
 pub mod Welding
+pub mod Probing
 pub mod MeshLaws

@@ -3,10 +3,12 @@
 
 mod faults;
 mod laws;
+mod rays;
 mod solid;
 mod welding;
 
 pub use faults::WeldFault;
 pub use laws::hold_mesh_laws;
+pub use rays::{probe, step};
 pub use solid::Solid;
 pub use welding::weld;

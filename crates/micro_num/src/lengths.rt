@@ -8,7 +8,7 @@ use crate::mantissa::Mantissa;
 use crate::scaling::{carried, scaled};
 use crate::units::Unit;
 
-/// 254 times the leading digits, with what the digits behind them add to that.
+/// 254 times the leading digits, with what the digits behind them add to that: as far as they carry into it.
 fn in_inches(mantissa: &Mantissa<'_>) -> u64
     requires leads { IsLeading mantissa.now.leading.value mantissa.now.leading.dropped
         (digits_value (mantissa.now.whole.now ++ mantissa.now.fraction.now)) }
@@ -28,7 +28,7 @@ fn in_inches(mantissa: &Mantissa<'_>) -> u64
     254 * mantissa.leading.value + carried(before, carried(last, 0))
 }
 
-/// The leading digits in hundredths of a thousandth of an inch's millimetres, or as they are.
+/// The leading digits times the unit's factor, with what the digits behind them add to that.
 fn in_unit(mantissa: &Mantissa<'_>, unit: Unit) -> u64
     requires leads { IsLeading mantissa.now.leading.value mantissa.now.leading.dropped
         (digits_value (mantissa.now.whole.now ++ mantissa.now.fraction.now)) }
@@ -44,7 +44,7 @@ fn in_unit(mantissa: &Mantissa<'_>, unit: Unit) -> u64
     }
 }
 
-/// How many powers of ten a unit's factor leaves.
+/// How many powers of ten come on top of the unit's factor.
 fn power_in(unit: Unit) -> i64
     ensures { result ≡ pos (unit_power unit) }
 {

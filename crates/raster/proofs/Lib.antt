@@ -1,2 +1,4 @@
 pub mod Areas
 pub mod Masks
+pub mod Packing
+pub mod Ordered

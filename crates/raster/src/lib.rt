@@ -5,6 +5,7 @@ mod bits;
 mod devices;
 mod grid;
 mod grid_faults;
+mod rows;
 mod rules;
 mod spans;
 

@@ -4,3 +4,4 @@ pub mod Extent
 pub mod Winding
 pub mod Touch
 pub mod Text
+pub mod Reading

@@ -6,6 +6,7 @@ mod faults;
 mod laws;
 mod points;
 mod reader;
+mod scanning;
 mod words;
 
 pub use boxes::extent;
