@@ -4,7 +4,7 @@
 --     follower list s       the segment behind s: at its end node, of those that start there, the one in the place
 --                           that s has among those that end there
 --     loops list            the cycles, each from its least facet, in order of these
-use Rattle.std.specs.Prelude.{◌≡◌, ℕ, ◌-◌, take, drop, zero, suc, Bool, true, ◌&&◌, List, [], ◌∷◌, length, map, Option, Some, None, filter, filter_map, find, slice_get, min, max, ℤ, pos, ◌*ℤ◌, ◌==◌, nat_le, int_le, int_lt, if◌then◌else◌, flat_map, count_by}
+use Rattle.std.specs.Prelude.{◌≡◌, ℕ, ◌-◌, take, drop, zero, suc, Bool, true, ◌&&◌, List, [], ◌∷◌, length, map, Option, Some, None, filter, filter_map, find, slice_index_or, slice_get, min, max, ℤ, pos, ◌*ℤ◌, ◌==◌, nat_le, int_le, int_lt, if◌then◌else◌, flat_map, count_by}
 use Rattle.std.specs.Int.{int_max}
 use Rattle.std.specs.List.{enumerate_from, list_all, list_any, position_or_len, AllByRecursion}
 use Rattle.std.specs.List.Sorted.{IsStrictlyIncreasing}
@@ -35,11 +35,17 @@ both_of f (Some a) None = None
 both_of f (Some a) (Some b) = Some (f a b)
 
 -- an edge without direction, by the numbers of its ends
+abbrev pub between : ℕ → ℕ → Node
+between m n = record { low = min m n; high = max m n }
+
 abbrev pub node_of : List Position → Edge → Node
-node_of points e =
-    let m : ℕ = number_of points e.from in
-    let n : ℕ = number_of points e.to in
-    record { low = min m n; high = max m n }
+node_of points e = between (number_of points e.from) (number_of points e.to)
+
+-- the node of edge 0, 1 or 2 of a facet by the numbers of its corners
+abbrev pub edge_node : List ℕ → ℕ → Node
+edge_node numbers zero = between (slice_index_or numbers 0 0) (slice_index_or numbers 1 0)
+edge_node numbers (suc zero) = between (slice_index_or numbers 1 0) (slice_index_or numbers 2 0)
+edge_node numbers (suc (suc n)) = between (slice_index_or numbers 2 0) (slice_index_or numbers 0 0)
 
 abbrev pub segment_of : List Position → ℤ → ℕ × Triangle → Option Segment
 segment_of points z numbered =

@@ -1,4 +1,5 @@
-ghost use Rattle.std.specs.Prelude.{◌≡◌, max, min};
+ghost use Rattle.std.specs.Prelude.{◌≡◌};
+ghost use Rattle.contour.specs.Contour.{between};
 
 /// An edge without direction, by the numbers of its vertices, `low` before `high`.
 #[derive(Clone, Copy, Debug, PartialEq, Eq)]
@@ -10,7 +11,7 @@ pub struct Node {
 impl Node {
     /// The node of the edge between two vertices.
     pub fn between(a: u32, b: u32) -> Node
-        ensures { result ≡ record { low = min a b; high = max a b } }
+        ensures { result ≡ between a b }
     {
         Node {
             low: a.min(b),

@@ -1,5 +1,7 @@
 ghost use Rattle.std.specs.Prelude.{◌≡◌, ◌<◌, IfOk, IfSome, All, length};
 ghost use Rattle.micro_num.specs.Bounds.{IsAtMost};
+ghost use Rattle.mesh_weld.specs.Mesh.{facet_at, vertices};
+ghost use Rattle.contour.specs.Contour.{edge_node, segment_of, segments};
 
 use crate::nodes::{Node, Segment};
 use exact_cut::cuts;
@@ -11,7 +13,7 @@ use std::alloc::{AllocError, Allocator};
 pub fn segment_at<A: Allocator>(s: &Solid<A>, facet: u32, z2: i64) -> Option<Segment>
     requires facet { facet < length s.now.facets }
     requires height { IsAtMost 256200000 z2 }
-    ensures facet { IfSome result (λ segment. segment.facet ≡ facet) }
+    ensures { result ≡ segment_of (vertices s.now.facets) z2 (record { 0 = facet; 1 = facet_at s.now.facets facet }) }
 {
     let cut = cuts(&s.facet(facet), z2)?;
     let corners = s.triples()[facet as usize];
@@ -24,7 +26,8 @@ pub fn segment_at<A: Allocator>(s: &Solid<A>, facet: u32, z2: i64) -> Option<Seg
 
 /// The node of a facet's edge with this number.
 fn edge_node(corners: &[u32; 3], edge: usize) -> Node
-    requires { edge < 3 }
+    requires edge { edge < 3 }
+    ensures { result ≡ edge_node corners.now edge }
 {
     match edge {
         0 => Node::between(corners[0], corners[1]),
@@ -41,7 +44,7 @@ pub fn segments<A: Allocator + Copy + Send + Sync>(
     z2: i64,
 ) -> Result<Vec<Segment, A>, AllocError>
     requires { IsAtMost 256200000 z2 }
-    ensures { IfOk result (λ list. All (λ segment. segment.facet < length s.now.facets) list.items) }
+    ensures { IfOk result (λ list. list.items ≡ segments s.now.facets z2) }
 {
     let mut list = Vec::new(alloc);
     for facet in 0..s.count() as u32 {
