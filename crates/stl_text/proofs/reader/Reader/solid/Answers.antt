@@ -28,10 +28,13 @@ returns-in_err-facet-clause-fault g c =
     let count : c.len.result ≡ length c.facets.facets.items = c.len.ensures ∙ c.facets.facets.ok.0 in
     let room = c.in_ok-begins_facet.ensures.room c.if-branch.true in
     let e = c.in_err-facet.ensures.fault in
+    let first : Spells (facet_word ∷ []) c.facets.self c.begins_facet.new.self =
+    when_true (Spells (facet_word ∷ []) c.facets.self c.begins_facet.new.self) (Spells (end_word ∷ []) c.facets.self c.begins_facet.new.self)
+    c.if-branch.true c.in_ok-begins_facet.ensures.read in
     rw (p.1, p.2)
     (λ _. rw had.ok.0
     (no_facet c.args.limit c.args.self.now c.facets.self c.begins_facet.new.self had.items c.facets.facets.items e.0 c.in_err-facet.field-0.0
-    c.facets.invariant.is_open (omega (arith, room, count)) (when_true _ _ c.if-branch.true c.in_ok-begins_facet.ensures.read) e.1))
+    c.facets.invariant.is_open (omega (arith, room, count)) first e.1))
 
 pub facets-smaller : goal.facets-smaller
 facets-smaller g c =
