@@ -1,6 +1,6 @@
 -- A text has one fault at most, and none where it reads as facets.
 use Rattle.std.proofs.Common.{◌≡◌, ◌≢◌, ℕ, ◌+◌, ◌<◌, ◌≤◌, Bool, true, false, cond, ◌&&◌, List, [], ◌∷◌, ◌++◌, length, refl, sym, ◌∙◌, ap, subst, inl, inr, arith, ◌⊎◌, append-nil, lit≤, length-append}
-use Rattle.std.specs.Prelude.{Option, Some, None, Ok, Err, Result, ℤ, if◌then◌else◌, codes, flat_map, count_by, nat_lt}
+use Rattle.std.specs.Prelude.{Option, Some, None, Ok, Err, Result, ℤ, if◌then◌else◌, codes, flat_map, nat_lt}
 use Rattle.std.specs.Str.{bytes_eq, str_to_ascii_lowercase}
 use Rattle.std.specs.List.{list_all, before_first}
 use Rattle.std.proofs.lemmas.List.Folds.{list_all-append}
