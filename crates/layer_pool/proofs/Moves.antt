@@ -1,13 +1,13 @@
 -- Each step that the code takes on the table is a step of the claims machine.
-use Rattle.std.proofs.Common.{◌≡◌, ◌≢◌, ℕ, ◌+◌, ◌-◌, ◌%◌, ◌^◌, ◌<◌, ◌≤◌, Bool, false, List, [], ◌∷◌, ◌++◌, length, set, sum_by, All, false, ltb-false, mod-eq_of_lt, refl, sym, ap, ◌∙◌, subst, ⊎_elim, arith}
+use Rattle.std.proofs.Common.{◌≡◌, ◌≢◌, ℕ, ◌+◌, ◌-◌, ◌%◌, ◌^◌, ◌<◌, ◌≤◌, false, List, [], ◌∷◌, ◌++◌, length, set, false, ltb-false, mod-eq_of_lt, refl, sym, ap, ◌∙◌, subst, ⊎_elim, arith}
 use Rattle.std.specs.Prelude.{slice_index, ◌==◌}
-use mathlib.Core.Option.{some, some-ne-none, some-injective}
+use mathlib.Core.Option.{some, some-injective}
 use lib.ListN.{get_elem?}
 use Rattle.atomic_table.specs.Table.{State, Step as TableStep, Me, keeps, opening, Allows, Splits, Joins, Final, Seen}
 use Rattle.atomic_table.proofs.Lists.{at_set}
 use Rattle.layer_pool.specs.declared.machine.Hand.{Hand}
 use Rattle.layer_pool.specs.declared.machine.Plan.{Plan}
-use Rattle.layer_pool.specs.Machine.{one_if, times, once_below, IsEachOnce, late, hand, Moment, moment, IsDraw, IsSplit, IsJoin, Step.draw, Step.split, Step.join, Reached, Reached.first, Reached.next, IsKept, Appends, one_less, new_pass, both_hands, nobody}
+use Rattle.layer_pool.specs.Machine.{one_if, times, once_below, IsEachOnce, late, hand, Moment, moment, Step.draw, Step.split, Step.join, Reached, Reached.first, Reached.next, IsKept, Appends, one_less, new_pass, both_hands, nobody}
 use Rattle.layer_pool.specs.Passes.{ClaimsView, PassView, IsOwned, plan_of, IsEnd, HasReached}
 use Rattle.layer_pool.proofs.Counts.{sum_by-one-le, sum_by-only, sum_by-all, length-all}
 use Rattle.layer_pool.proofs.Fair.{always_fair, most_drawn, found_below}

@@ -1,6 +1,6 @@
 -- The coordinate that a word stands for, from the size that its text has.
 use Rattle.std.proofs.Common.{◌≡◌, ◌≢◌, ◌↔◌, ◌⊎◌, inl, inr, ℕ, zero, suc, ◌+◌, ◌*◌, ◌<◌, ◌≤◌, Bool, true, false, List, ◌++◌, length, length-append, ℤ, pos, negsuc, neg_ℤ, ◌+ℤ◌, ◌-ℤ◌, arith, ap, subst, sym, ◌∙◌, refl}
-use Rattle.std.specs.Prelude.{Option, Some, None, Result, Ok, Err, ◌&&◌, nat_lt, nat_le, if◌then◌else◌}
+use Rattle.std.specs.Prelude.{Option, Some, None, Result, Ok, Err, unsigned_abs, ◌&&◌, nat_lt, nat_le, if◌then◌else◌}
 use Rattle.std.specs.Char.{is_ascii_digit}
 use Rattle.std.specs.List.{list_all, before_first}
 use Rattle.std.proofs.lemmas.Bool.{cases_lt, lt-ltb, le-ltb, lt-leb, le-leb}
@@ -157,3 +157,27 @@ module _ (unit : LengthUnit) (word : List ℕ) where
       forth (inr short) e None is = let other = short_coordinate short ∙ ap (numeral_coordinate unit) is in cc
       forth (inr short) e (Some n) is =
           absurd (is_size (micro unit n) (sym (short_coordinate short ∙ ap (numeral_coordinate unit) is) ∙ e))
+
+  pub out_of_range : (coordinate_of unit word ≡ Err OutOfRange)
+      ↔ ((n : Numeral) × IsNumeral n × (word ≡ numeral_text n) × (length word ≤ 255) × (128000000 < unsigned_abs (micro unit n)))
+  out_of_range = (λ e. forth (cases_lt 255 (length word)) e (numeral_of word) refl, λ h. back h.0 h.1 h.2 h.3 h.4)
+    where
+      beyond : (z : ℤ) → coordinate_or_fault z ≡ Err OutOfRange → (128000000 < unsigned_abs z) ⊎ (unsigned_abs z ≤ 128000000) → 128000000 < unsigned_abs z
+      beyond z e (inl far) = far
+      beyond z e (inr near) =
+          let other : coordinate_or_fault z ≡ Ok z = ap (λ b. if b then Ok z else Err OutOfRange) (le-leb (unsigned_abs z) 128000000 near) in
+          cc
+
+      forth : (255 < length word) ⊎ (length word ≤ 255) → coordinate_of unit word ≡ Err OutOfRange → (o : Option Numeral) → numeral_of word ≡ o
+          → (n : Numeral) × IsNumeral n × (word ≡ numeral_text n) × (length word ≤ 255) × (128000000 < unsigned_abs (micro unit n))
+      forth (inl long) e o is = let other = long_coordinate long in cc
+      forth (inr short) e None is = let other = short_coordinate short ∙ ap (numeral_coordinate unit) is in cc
+      forth (inr short) e (Some n) is =
+          let read : IsNumeral n × (word ≡ numeral_text n) = numeral_of-is word n is in
+          let far : coordinate_or_fault (micro unit n) ≡ Err OutOfRange = sym (short_coordinate short ∙ ap (numeral_coordinate unit) is) ∙ e in
+          (n, read.0, read.1, short, beyond (micro unit n) far (cases_lt 128000000 (unsigned_abs (micro unit n))))
+
+      back : (n : Numeral) → IsNumeral n → word ≡ numeral_text n → length word ≤ 255 → 128000000 < unsigned_abs (micro unit n) → coordinate_of unit word ≡ Err OutOfRange
+      back n is spelled short far =
+          spelled_coordinate n is spelled short
+          ∙ ap (λ b. if b then Ok (micro unit n) else Err OutOfRange) (lt-leb (unsigned_abs (micro unit n)) 128000000 far)

@@ -16,3 +16,6 @@ pub use faults::NumFault;
 pub use reading::read_micro;
 pub use spelling::one_spelling;
 pub use units::Unit;
+
+#[cfg(test)]
+mod worked_texts;

@@ -1,8 +1,8 @@
-ghost use Rattle.std.specs.Prelude.{◌≡◌, ◌≤◌, ◌<◌, ◌↔◌, ◌≤ℤ◌, Err, IfOk, List, length, ℕ, pos};
+ghost use Rattle.std.specs.Prelude.{◌≡◌, ◌≤◌, ◌<◌, ◌↔◌, ◌≤ℤ◌, Err, IfOk, List, length, ℕ, pos, unsigned_abs};
 ghost use Rattle.micro_num.specs.Scan.{size_of};
 ghost use Rattle.micro_num.specs.Numeral.{Numeral, IsNumeral, IsSpelled, numeral_text};
 ghost use Rattle.micro_num.specs.Micrometres.{coordinate_of, coordinate_or_fault, micro};
-ghost use Rattle.micro_num.specs.declared.faults.NumFault.TheVariants.{NotNumber, TooLong};
+ghost use Rattle.micro_num.specs.declared.faults.NumFault.TheVariants.{NotNumber, OutOfRange, TooLong};
 
 use crate::faults::NumFault;
 use crate::lengths::size_in;
@@ -11,17 +11,26 @@ use crate::scaling::LIMIT;
 use crate::units::Unit;
 
 /// The whole micrometres that a word stands for, rounded to the nearest, halves away from zero.
+///
+/// A word is a number where it is a sign or none, then digits with at most one point before, among or behind them and
+/// at least one digit, then nothing, or `e` or `E`, a sign or none and at least one digit.
+///
+/// # Errors
+/// `TooLong` where the word has more than 255 bytes, else `NotNumber` where it is no number, else `OutOfRange` where
+/// the rounded value is more than 128,000,000 micrometres from 0.
 pub fn read_micro(word: &[u8], unit: Unit) -> Result<i32, NumFault>
     ensures exact { result ≡ coordinate_of unit word.now }
     ensures spelled { (n : Numeral) → IsNumeral n → word.now ≡ numeral_text n → length word.now ≤ 255
         → result ≡ coordinate_or_fault (micro unit n) }
     ensures not_number { (result ≡ Err NotNumber) ↔ ((length word.now ≤ 255) × (IsSpelled word.now → ⊥)) }
     ensures too_long { (result ≡ Err TooLong) ↔ (255 < length word.now) }
+    ensures out_of_range { (result ≡ Err OutOfRange) ↔ ((n : Numeral) × IsNumeral n × (word.now ≡ numeral_text n)
+        × (length word.now ≤ 255) × (128000000 < unsigned_abs (micro unit n))) }
 {
     read_word(word, unit)
 }
 
-/// The same, by how the parts of a word follow one another.
+/// The coordinate of a word, from its sign and the text behind that.
 fn read_word(word: &[u8], unit: Unit) -> Result<i32, NumFault>
     ensures { result ≡ coordinate_of unit word.now }
 {
@@ -51,20 +60,5 @@ fn read_unsigned(text: &[u8], unit: Unit) -> Result<i32, NumFault>
         Err(NumFault::OutOfRange)
     } else {
         Ok(size as i32)
-    }
-}
-
-#[cfg(test)]
-mod tests {
-    use super::*;
-
-    #[test]
-    fn quick(rt: HostRuntime) {
-        assert!(rt; read_micro(b"0.0005", Unit::Millimetre) == Ok(1));
-        assert!(rt; read_micro(b"-0.0005", Unit::Millimetre) == Ok(-1));
-        assert!(rt; read_micro(b"2.648000e-002", Unit::Millimetre) == Ok(26));
-        assert!(rt; read_micro(b"5039.37008", Unit::Inch) == Ok(128_000_000));
-        assert!(rt; read_micro(b"0.0024999999999999999999999", Unit::Inch) == Ok(63));
-        assert!(rt; read_micro(b"0.002500000000000000000000", Unit::Inch) == Ok(64));
     }
 }

@@ -3,3 +3,4 @@ pub mod Lattice
 pub mod Fill
 pub mod Picture
 pub mod Bits
+pub mod Rows

@@ -1,8 +1,6 @@
-use Rattle.std.proofs.Common.{rules, ◌≡◌, ◌+◌, List, [], ◌∷◌, ◌++◌, length, arith, ap, sym, subst, ◌∙◌, length-append}
+use Rattle.std.proofs.Common.{rules, ◌≡◌, ◌+◌, List, [], ◌∷◌, length, arith, ap, sym, ◌∙◌, length-append}
 use Rattle.std.specs.Prelude.{ℕ, ◌==◌}
 use Rattle.std.proofs.lemmas.List.Sums.{sum_by-append}
-use Rattle.atomic_table.specs.Table.{Me}
-use Rattle.layer_pool.specs.declared.machine.Hand.{Hand}
 use Rattle.layer_pool.specs.Machine.{one_if, times}
 use Rattle.layer_pool.specs.Passes.{ClaimsView, PassView, IsOwned}
 use Rattle.layer_pool.proofs.Gathers.{all_last, all_front, times_pop, length_pop}

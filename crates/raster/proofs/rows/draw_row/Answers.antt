@@ -1,0 +1,15 @@
+use Rattle.std.proofs.Common.{◌≡◌, ◌∙◌, ◌&&◌, Bool, ℕ, ap, length, List}
+use Rattle.std.specs.Prelude.{nat_lt}
+use Rattle.std.proofs.lemmas.List.{take_all}
+use Rattle.raster.specs.declared.spans.Span.{Span}
+use Rattle.raster.specs.Rows.{crosses}
+use Rattle.raster.proofs.Packing.{indicator, row-is}
+use Rattle.raster.proofs.Ordered.{within-crosses}
+use Rattle.raster.proofs.rows.draw_row.Goals as goal
+
+pub returns : goal.returns
+returns c =
+    row-is c.args.width c.loop-span.row (crosses c.args.spans.now)
+    (c.loop-span.auto.row ∙ c.fill.ensures.len ∙ c.requires.size)
+    c.loop-span.invariant.bytes
+    (λ i. c.loop-span.invariant.drawn i ∙ ap (λ (spans : List Span). indicator (crosses spans i)) (take_all c.loop-span.span-index c.args.spans.now c.loop-span-test.false) ∙ ap indicator (within-crosses c.args.width c.args.spans.now i c.requires.within))
