@@ -10,7 +10,7 @@ use Rattle.stl_text.specs.Winding.{left, turn, wind, volume, normal_x, normal_y,
 use Rattle.exact_cut.specs.CornerTurns.{Meets}
 use Rattle.exact_cut.specs.Cutting.{IsBetween}
 use Rattle.exact_cut.specs.Crossed.{Winding, Crosses}
-use Rattle.exact_cut.specs.Cut.{CutIs, start, finish, Rises, cut_x, cut_y, cut_d}
+use Rattle.exact_cut.specs.Cut.{CutIs, start, finish, Rises, cut_y, cut_d}
 use Rattle.exact_cut.proofs.Turns.{turn_of-up, turn_of-down, turn_of-below, turn_of-above}
 use Rattle.exact_cut.proofs.Winds.{Passes, passes, den_of, num_of}
 

@@ -168,7 +168,7 @@ weights_in w lu ld yu yd (winds_down e a b) f g =
     at_most a h = omega (arith, ints)
 weights_in w lu ld yu yd (winds_not e) f g = inl e
 
-no_hit : (t : Triangle) (p : Position) → wind t p.y p.z ≡ pos 0 → hit t p ≡ pos 0
+pub no_hit : (t : Triangle) (p : Position) → wind t p.y p.z ≡ pos 0 → hit t p ≡ pos 0
 no_hit t p e = hit-taken t p ∙ taken_none (wind t p.y p.z) (volume t p) e
 
 -- between is the same both ways
