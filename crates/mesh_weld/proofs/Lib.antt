@@ -3,6 +3,9 @@ pub mod Order
 pub mod InOrder
 pub mod Points
 pub mod Pairs
+pub mod Lows
+pub mod Transfer
+pub mod Named
 mod Closed
 pub mod Turning
 pub mod Flat
