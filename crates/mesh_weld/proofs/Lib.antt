@@ -6,6 +6,7 @@ pub mod Pairs
 pub mod Lows
 pub mod Transfer
 pub mod Named
+pub mod Welds
 mod Closed
 pub mod Turning
 pub mod Flat

@@ -1,0 +1,1 @@
+use Rattle.mesh_weld.proofs.welding.weld.Goals as goal
