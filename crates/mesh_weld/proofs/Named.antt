@@ -141,5 +141,5 @@ module _ (fs : List Triangle) (few : length (vertices fs) ≤ 2 ^ 32) (flat : Li
       backward f s g t l m p q e =
           at_number f s l m
           ∙ (h.shared (3 * f + s) (3 * g + t) nowhere (omega (arith, size, l, m)) (omega (arith, size, p, q))).1
-            (key_of f s l m ∙ same_key (edge_of fs f s) (edge_of fs g t) e ∙ sym (key_of g t p q))
+          (key_of f s l m ∙ same_key (edge_of fs f s) (edge_of fs g t) e ∙ sym (key_of g t p q))
           ∙ sym (at_number g t p q)

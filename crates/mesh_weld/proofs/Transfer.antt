@@ -225,15 +225,16 @@ module _ (fs : List Triangle) where
 
     -- all numbers are those of vertices
     idle_past : (i j : ℕ) → length (vertices fs) ≤ j → (between i j (sides_from 0 (triples fs)) ≡ 0) × (between j i (sides_from 0 (triples fs)) ≡ 0)
-    idle_past i j past =
-        (between_numbers (number_of (vertices fs)) i j 0 fs
-        ∙ count_none (λ (e : Edge). number_of (vertices fs) e.from == i && number_of (vertices fs) e.to == j) (edges fs)
-        (All-weaker (HasEnds (vertices fs)) (λ (e : Edge). (number_of (vertices fs) e.from == i && number_of (vertices fs) e.to == j) ≡ false)
-        (λ e k. and_false_right (number_of (vertices fs) e.from == i) (number_of (vertices fs) e.to == j) (other (number_of (vertices fs) e.to) (number_found e.to (vertices fs) k.1).0)) (edges fs) (ends_are_vertices fs)),
-        between_numbers (number_of (vertices fs)) j i 0 fs
-        ∙ count_none (λ (e : Edge). number_of (vertices fs) e.from == j && number_of (vertices fs) e.to == i) (edges fs)
-        (All-weaker (HasEnds (vertices fs)) (λ (e : Edge). (number_of (vertices fs) e.from == j && number_of (vertices fs) e.to == i) ≡ false)
-        (λ e k. and_false_left (number_of (vertices fs) e.from == j) (number_of (vertices fs) e.to == i) (other (number_of (vertices fs) e.from) (number_found e.from (vertices fs) k.0).0)) (edges fs) (ends_are_vertices fs)))
+    idle_past i j past = (
+      between_numbers (number_of (vertices fs)) i j 0 fs
+          ∙ count_none (λ (e : Edge). number_of (vertices fs) e.from == i && number_of (vertices fs) e.to == j) (edges fs)
+          (All-weaker (HasEnds (vertices fs)) (λ (e : Edge). (number_of (vertices fs) e.from == i && number_of (vertices fs) e.to == j) ≡ false)
+          (λ e k. and_false_right (number_of (vertices fs) e.from == i) (number_of (vertices fs) e.to == j) (other (number_of (vertices fs) e.to) (number_found e.to (vertices fs) k.1).0)) (edges fs) (ends_are_vertices fs)),
+      between_numbers (number_of (vertices fs)) j i 0 fs
+          ∙ count_none (λ (e : Edge). number_of (vertices fs) e.from == j && number_of (vertices fs) e.to == i) (edges fs)
+          (All-weaker (HasEnds (vertices fs)) (λ (e : Edge). (number_of (vertices fs) e.from == j && number_of (vertices fs) e.to == i) ≡ false)
+          (λ e k. and_false_left (number_of (vertices fs) e.from == j) (number_of (vertices fs) e.to == i) (other (number_of (vertices fs) e.from) (number_found e.from (vertices fs) k.0).0)) (edges fs) (ends_are_vertices fs)),
+    )
       where
         other : (n : ℕ) → n < length (vertices fs) → (n == j) ≡ false
         other n l = less_not_equal n j (omega (arith, l, past))
@@ -284,7 +285,7 @@ module _ (fs : List Triangle) where
                 where
                   First : Type 0
                   First = (is_before e.from (get_or (vertices fs) low origin) ≡ true)
-                    ⊎ ((same e.from (get_or (vertices fs) low origin) ≡ true) × (is_before e.to (get_or (vertices fs) high origin) ≡ true))
+                      ⊎ ((same e.from (get_or (vertices fs) low origin) ≡ true) × (is_before e.to (get_or (vertices fs) high origin) ≡ true))
 
                   first_by : (a b c : Bool) → (a || (b && c)) ≡ true → (a ≡ true) ⊎ ((b ≡ true) × (c ≡ true))
                   first_by true b c h = inl refl
@@ -297,7 +298,9 @@ module _ (fs : List Triangle) where
                   earlier : (i j : ℕ) → (i < length (vertices fs)) × (get_or (vertices fs) i origin ≡ e.from) → (j < length (vertices fs)) × (get_or (vertices fs) j origin ≡ e.to) → First → (i < low) ⊎ ((i ≡ low) × (j < high))
                   earlier i j a b (inl t) = inl (index_less (vertices fs) (vertices-ascend fs) i low a.0 low_inside (ap (λ p. is_before p (get_or (vertices fs) low origin)) a.1 ∙ t))
                   earlier i j a b (inr t) =
-                      inr (sym (number_at (vertices fs) (vertices-ascend fs) i a.0)
-                      ∙ ap (number_of (vertices fs)) (a.1 ∙ same-is e.from (get_or (vertices fs) low origin) t.0)
-                      ∙ number_at (vertices fs) (vertices-ascend fs) low low_inside,
-                      index_less (vertices fs) (vertices-ascend fs) j high b.0 high_inside (ap (λ p. is_before p (get_or (vertices fs) high origin)) b.1 ∙ t.1))
+                      inr (
+                        sym (number_at (vertices fs) (vertices-ascend fs) i a.0)
+                            ∙ ap (number_of (vertices fs)) (a.1 ∙ same-is e.from (get_or (vertices fs) low origin) t.0)
+                            ∙ number_at (vertices fs) (vertices-ascend fs) low low_inside,
+                        index_less (vertices fs) (vertices-ascend fs) j high b.0 high_inside (ap (λ p. is_before p (get_or (vertices fs) high origin)) b.1 ∙ t.1),
+                      )

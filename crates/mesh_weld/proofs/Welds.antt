@@ -8,7 +8,7 @@ use Rattle.stl_text.specs.Triangle.{Triangle, Edge, corners, edges, sides}
 use Rattle.mesh_weld.specs.Balance.{edge_count, IsBalanced, IsLeastOpen, is_edge_before}
 use Rattle.mesh_weld.specs.Mesh.{is_kept, kept_facets, vertices, number_of, triples}
 use Rattle.mesh_weld.specs.Entries.{threes, sides_from}
-use Rattle.mesh_weld.specs.Welding.{IsKeptFault}
+use Rattle.mesh_weld.specs.Welding.{IsKeptFault, IsWeldFault}
 use Rattle.mesh_weld.specs.declared.faults.WeldFault.{WeldFault}
 use Rattle.mesh_weld.specs.declared.faults.WeldFault.TheVariants as fault
 use Rattle.mesh_weld.proofs.Flat.{edge_count-cons, Dropped, dropped, own_count}
@@ -93,3 +93,15 @@ kept_fault kept flat a b result p q at_a at_b h is =
     let first : IsLeastOpen kept a q (edge_count kept a q) (edge_count kept q a) = subst (λ r. IsLeastOpen kept r q (edge_count kept r q) (edge_count kept q r)) (sym at_a) h in
     let both : IsLeastOpen kept a b (edge_count kept a b) (edge_count kept b a) = subst (λ r. IsLeastOpen kept a r (edge_count kept a r) (edge_count kept r a)) (sym at_b) first in
     subst (IsKeptFault kept flat) (sym is) (both, refl, refl)
+
+pub weld_fault : (fs kept flat : List Triangle) (f : WeldFault) → kept ≡ kept_facets fs → flat ≡ flat_facets fs → IsKeptFault kept flat f → IsWeldFault fs f
+weld_fault fs kept flat (fault.Open from to there back) k l h =
+    let at_kept : IsKeptFault (kept_facets fs) flat (fault.Open from to there back) = subst (λ l. IsKeptFault l flat (fault.Open from to there back)) k h in
+    let at_both : IsKeptFault (kept_facets fs) (flat_facets fs) (fault.Open from to there back) = subst (λ l. IsKeptFault (kept_facets fs) l (fault.Open from to there back)) l at_kept in
+    open_of_all fs from to there back at_both.0 at_both.1 at_both.2
+weld_fault fs kept flat fault.Memory k l h = tt
+
+-- balanced edges leave want of memory as the one fault
+pub only_memory : (fs : List Triangle) (f : WeldFault) → IsWeldFault fs f → IsBalanced fs → f ≡ fault.Memory
+only_memory fs (fault.Open from to there back) h balanced = absurd (h.differ (h.there_is ∙ balanced from to ∙ sym h.back_is))
+only_memory fs fault.Memory h balanced = refl

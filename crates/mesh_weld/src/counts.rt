@@ -24,7 +24,10 @@ fn is_same(first: Point, second: Point) -> bool
 }
 
 /// The facets with two equal corners.
-pub fn flat_facets<A: Allocator + Copy>(alloc: A, facets: &[Facet]) -> Result<Vec<Facet, A>, AllocError>
+pub fn flat_facets<A: Allocator + Copy>(
+    alloc: A,
+    facets: &[Facet],
+) -> Result<Vec<Facet, A>, AllocError>
     ensures { IfOk result (λ flat. flat.items ≡ filter (λ t. not (is_kept t)) facets.now) }
 {
     let mut flat = Vec::new(alloc);

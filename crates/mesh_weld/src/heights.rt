@@ -14,7 +14,10 @@ pub struct Height {
 }
 
 /// The numbers of the facets by ascending least height, of two as low by number.
-pub fn order_by_height<A: Allocator + Copy>(alloc: A, facets: &[Facet]) -> Result<Vec<u32, A>, AllocError>
+pub fn order_by_height<A: Allocator + Copy>(
+    alloc: A,
+    facets: &[Facet],
+) -> Result<Vec<u32, A>, AllocError>
     requires { length facets.now ≤ 1048576 }
     ensures { IfOk result (λ order. IsByHeight facets.now order.items) }
 {
@@ -23,7 +26,10 @@ pub fn order_by_height<A: Allocator + Copy>(alloc: A, facets: &[Facet]) -> Resul
     numbers_of(alloc, list.as_slice())
 }
 
-fn list_heights<A: Allocator + Copy>(alloc: A, facets: &[Facet]) -> Result<Vec<Height, A>, AllocError>
+fn list_heights<A: Allocator + Copy>(
+    alloc: A,
+    facets: &[Facet],
+) -> Result<Vec<Height, A>, AllocError>
     requires { length facets.now ≤ 1048576 }
     ensures { IfOk result (λ list. list.items ≡ heights_from 0 facets.now) }
 {

@@ -32,10 +32,23 @@ pub fn weld<A: Allocator + Copy + Send + Sync>(
     let mut facets = facets;
     let flat = flat_facets(alloc, facets.as_slice())?;
     keep_whole(&mut facets);
-    let Parts { points, numbers, edges, edge_count, order } =
-        number_parts(alloc, facets.as_slice(), flat.as_slice())?;
+    let Parts {
+        points,
+        numbers,
+        edges,
+        edge_count,
+        order,
+    } = number_parts(alloc, facets.as_slice(), flat.as_slice())?;
     let dropped = flat.len() as u32;
-    Ok(Solid { facets, points, numbers, edges, edge_count, order, dropped })
+    Ok(Solid {
+        facets,
+        points,
+        numbers,
+        edges,
+        edge_count,
+        order,
+        dropped,
+    })
 }
 
 /// What a solid holds besides its facets.
@@ -48,7 +61,11 @@ struct Parts<A: Allocator> {
     order: Vec<u32, A>,
 }
 
-fn number_parts<A: Allocator + Copy>(alloc: A, kept: &[Facet], flat: &[Facet]) -> Result<Parts<A>, WeldFault>
+fn number_parts<A: Allocator + Copy>(
+    alloc: A,
+    kept: &[Facet],
+    flat: &[Facet],
+) -> Result<Parts<A>, WeldFault>
     requires kept { length kept.now ≤ 1048576 }
     requires flat { length flat.now ≤ 1048576 }
     ensures points { IfOk result (λ parts. parts.points.items ≡ vertices kept.now) }
@@ -58,14 +75,26 @@ fn number_parts<A: Allocator + Copy>(alloc: A, kept: &[Facet], flat: &[Facet]) -
     ensures closed { IfOk result (λ parts. IsBalanced kept.now) }
     ensures open { IfErr result (IsKeptFault kept.now flat.now) }
 {
-    let Welded { points, numbers: corners } = number_corners(alloc, kept)?;
+    let Welded {
+        points,
+        numbers: corners,
+    } = number_corners(alloc, kept)?;
     let numbers = in_threes(alloc, corners.as_slice())?;
     let sides = sorted_sides(alloc, numbers.as_slice())?;
     if let Some((low, high)) = least_uneven(sides.as_slice()) {
         return Err(open_edge(kept, flat, points[low as usize], points[high as usize]));
     }
-    let Numbered { numbers: named, count: edge_count } = number_sides(alloc, numbers.as_slice(), sides.as_slice())?;
+    let Numbered {
+        numbers: named,
+        count: edge_count,
+    } = number_sides(alloc, numbers.as_slice(), sides.as_slice())?;
     let edges = in_threes(alloc, named.as_slice())?;
     let order = order_by_height(alloc, kept)?;
-    Ok(Parts { points, numbers, edges, edge_count, order })
+    Ok(Parts {
+        points,
+        numbers,
+        edges,
+        edge_count,
+        order,
+    })
 }

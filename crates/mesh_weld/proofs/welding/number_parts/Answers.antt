@@ -79,7 +79,7 @@ returns-clause-edges g c =
     let kept = c.args.kept.now in
     let few : length (vertices kept) ≤ 2 ^ 32 = omega (arith, few_vertices kept) in
     let pairs : ArePairNumbers (sides_from 0 (triples kept)) c.in_ok-named.field-0.numbers.items c.in_ok-named.field-0.count =
-      subst (λ l. ArePairNumbers (sides_from 0 l) c.in_ok-named.field-0.numbers.items c.in_ok-named.field-0.count) (c.as_slice-4.ensures.value ∙ numbers_are g (goal.at.returns-clause-edges g c).In_ok-numbers) c.in_ok-named.ensures in
+    subst (λ l. ArePairNumbers (sides_from 0 l) c.in_ok-named.field-0.numbers.items c.in_ok-named.field-0.count) (c.as_slice-4.ensures.value ∙ numbers_are g (goal.at.returns-clause-edges g c).In_ok-numbers) c.in_ok-named.ensures in
     subst (λ l. AreEdgeNumbers kept l c.in_ok-named.field-0.count) (sym (c.in_ok-edges.ensures ∙ ap threes c.as_slice-6.ensures.value)) (edge_numbers kept few c.in_ok-named.field-0.numbers.items c.in_ok-named.field-0.count pairs)
 
 pub returns-clause-closed : goal.returns-clause-closed
