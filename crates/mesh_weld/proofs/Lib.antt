@@ -7,6 +7,8 @@ pub mod Lows
 pub mod Transfer
 pub mod Named
 pub mod Welds
+pub mod EdgeCount
+pub mod Alike
 mod Closed
 pub mod Turning
 pub mod Flat

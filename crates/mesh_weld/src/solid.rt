@@ -1,11 +1,12 @@
-ghost use Rattle.std.specs.Prelude.{◌≡◌, ◌<◌, ◌≤◌, ℕ, Some, length, slice_get};
+ghost use Rattle.std.specs.Prelude.{◌≡◌, ◌<◌, ◌≤◌, ◌↔◌, ℕ, IsTrue, List, Some, length, option_map, slice_get};
+ghost use Rattle.stl_text.specs.Extent.{bounds};
 ghost use Rattle.mesh_weld.specs.Balance.{IsBalanced};
 ghost use Rattle.mesh_weld.specs.EdgeNumbers.{AreEdgeNumbers};
 ghost use Rattle.mesh_weld.specs.Mesh.{IsByHeight, triples, vertices};
 
 use std::alloc::Allocator;
 use std::marker::Model;
-use stl_text::{Facet, Point};
+use stl_text::{Facet, Point, extent};
 
 /// The kept facets of a closed mesh: those with three distinct corners.
 #[derive(Drop)]
@@ -59,12 +60,33 @@ impl<A: Allocator> Solid<A> {
         self.numbers.as_slice()
     }
 
-    /// For each kept facet the numbers of its edges 0, 1 and 2, below [`Solid::edge_count`]. Two edges have one number
-    /// exactly where their ends are the same two points, in either order.
+    /// For each kept facet the numbers of its edges 0, 1 and 2. Two edges have one number exactly where their ends are
+    /// the same two points, in either order.
     pub fn edge_numbers(&self) -> &[[u32; 3]]
         ensures { (count : ℕ) × AreEdgeNumbers self.now.facets result.now count }
     {
         self.edges.as_slice()
+    }
+
+    /// How many numbers of edges there are: each is below this.
+    pub fn edge_count(&self) -> u32
+        ensures { (numbers : List (List ℕ)) (count : ℕ) → AreEdgeNumbers self.now.facets numbers count → result ≡ count }
+    {
+        self.edge_count
+    }
+
+    /// The least and the greatest x, y and z of the kept facets' corners, in micrometres; `None` where none is kept.
+    pub fn corners(&self) -> Option<(Point, Point)>
+        ensures { result ≡ option_map (λ b. record { 0 = b.low; 1 = b.high }) (bounds self.now.facets) }
+    {
+        extent(self.facets.as_slice())
+    }
+
+    /// Whether both have the same facets, in the same order, and dropped as many.
+    pub fn same(&self, other: &Solid<A>) -> bool
+        ensures { IsTrue result ↔ (self.now ≡ other.now) }
+    {
+        self.dropped == other.dropped && self.facets.as_slice() == other.facets.as_slice()
     }
 
     /// The numbers of the kept facets by ascending least height, of two as low by number.
