@@ -2,6 +2,7 @@
 #![tactic(auto)]
 
 mod corners;
+mod counts;
 mod faults;
 mod laws;
 mod rays;
