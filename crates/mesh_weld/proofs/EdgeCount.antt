@@ -58,10 +58,10 @@ module _ (fs : List Triangle) (ns ms : List (List ℕ)) (a b : ℕ) (h : AreEdge
   at_most =
       let all : Picked a = picked a (omega arith) in
       let few : length all.list ≤ b = length-le_from_distinct_below all.list b (IsDistinct-from_AllPairs Decides-eqb all.list all.differ)
-        (λ q t. let some = Any-from_list_any (eqb q) all.list t in
-        let is : q ≡ some.1 = eqb-true q some.1 some.4 in
-        let inside : some.0 < length all.list = some.2 in
-        below q (subst (λ y. (m : ℕ) × (m < a) × Pick m y) (some.3 ∙ sym is) (all.each some.0 some.1 inside))) in
+      (λ q t. let some = Any-from_list_any (eqb q) all.list t in
+      let is : q ≡ some.1 = eqb-true q some.1 some.4 in
+      let inside : some.0 < length all.list = some.2 in
+      below q (subst (λ y. (m : ℕ) × (m < a) × Pick m y) (some.3 ∙ sym is) (all.each some.0 some.1 inside))) in
       omega (arith, few, all.long)
 
 -- all numberings of the edges of some facets have as many numbers

@@ -61,5 +61,9 @@ fn sort_heights<A: Allocator>(list: &mut Vec<Height, A>)
 fn numbers_of<A: Allocator + Copy>(alloc: A, list: &[Height]) -> Result<Vec<u32, A>, AllocError>
     ensures { IfOk result (λ numbers. numbers.items ≡ map (λ height. height.facet) list.now) }
 {
-    list.iter().map(|height| height.facet).collect(alloc)
+    let mut numbers = Vec::with_capacity(alloc, list.len())?;
+    for height in list {
+        numbers.push(height.facet)?;
+    }
+    Ok(numbers)
 }

@@ -16,3 +16,6 @@ pub use laws::hold_mesh_laws;
 pub use rays::{probe, step};
 pub use solid::Solid;
 pub use welding::weld;
+
+#[cfg(test)]
+mod tests;
