@@ -4,6 +4,7 @@
 mod bits;
 mod chunk;
 mod devices;
+mod filling;
 mod grid;
 mod grid_faults;
 mod image;
