@@ -1,5 +1,5 @@
 -- However hands draw, split and join, the lists are fair at every moment.
-use Rattle.std.proofs.Common.{◌≡◌, ◌≢◌, ℕ, zero, suc, ◌+◌, ◌-◌, ◌<◌, ◌≤◌, List, [], ◌∷◌, ◌++◌, length, set, sum_by, All, nat_le, length-append, zero-add, refl, sym, ap, ◌∙◌, subst, ⊎_elim, arith}
+use Rattle.std.proofs.Common.{◌≡◌, ◌≢◌, ℕ, zero, suc, ◌+◌, ◌<◌, ◌≤◌, List, [], ◌∷◌, ◌++◌, length, set, sum_by, All, nat_le, length-append, zero-add, refl, sym, ap, ◌∙◌, subst, ⊎_elim, arith}
 use Rattle.std.specs.Prelude.{◌==◌}
 use Rattle.std.proofs.lemmas.List.Sums.{sum_by-append, sum_by_push}
 use Rattle.std.proofs.lemmas.Bool.Decides.{nat_tests}
@@ -8,7 +8,7 @@ use lib.ListN.{get_elem?}
 use Rattle.atomic_table.proofs.Lists.{at_set, at_snoc}
 use Rattle.layer_pool.specs.declared.machine.Hand.{Hand}
 use Rattle.layer_pool.specs.declared.machine.Plan.{Plan}
-use Rattle.layer_pool.specs.Machine.{one_if, times, once_below, late, hand, all_found, Moment, moment, start, IsDraw, IsSplit, IsJoin, both_hands, nobody, Step, Step.draw, Step.split, Step.join, Reached, Reached.first, Reached.next, IsFair, NeverTwice, EndsLast}
+use Rattle.layer_pool.specs.Machine.{one_if, times, once_below, late, hand, all_found, Moment, start, IsDraw, IsSplit, IsJoin, both_hands, nobody, Step, Step.draw, Step.split, Step.join, Reached, Reached.first, Reached.next, IsFair, NeverTwice, EndsLast}
 use Rattle.layer_pool.proofs.Counts.{sum_by-two-le, once_at_most, once_when, late_below, sum_by-set, sum_by-one-le, sum_by-all, length-all, below-all, once_more, sum_by-below}
 
 -- a fact of each hand, after one has changed
@@ -29,7 +29,7 @@ Few plan h = late plan.stripes h.found ≤ h.stands_for
 abbrev Spent : Hand → Type 0
 Spent h = h.stands_for ≡ 0 → h.found ≡ []
 
--- a measure of all hands that doesn't look at the numbers themselves, after one number was appended to one of the lists
+-- a sum over all lists, after one number was appended to one of them
 appended : (f : ℕ → ℕ) (hands : List Hand) (id : ℕ) (h : Hand) (x : ℕ) → get_elem? hands id ≡ some h → sum_by f (all_found (set hands id (hand h.stands_for (h.found ++ x ∷ [])))) ≡ sum_by f (all_found hands) + f x
 appended f hands id h x at =
     let after = hand h.stands_for (h.found ++ x ∷ []) in
@@ -86,7 +86,7 @@ fair_draw plan m after id h fair d =
       past = subst (λ t. w + 1 ≤ n + t) (sym (appended (λ y. one_if (nat_le n y)) m.hands id h w at)) (past_by n w (late n (all_found m.hands)) fair.past);
     })
 
--- a measure of the lists, after one hand was cut in two
+-- a sum over all lists, after one hand was cut in two
 split_sum : (f : ℕ → ℕ) (hands : List Hand) (id left moved : ℕ) (h : Hand) → get_elem? hands id ≡ some h → sum_by f (all_found (set hands id (hand left h.found) ++ hand moved [] ∷ [])) ≡ sum_by f (all_found hands)
 split_sum f hands id left moved h at =
     let g : Hand → ℕ = λ k. sum_by f k.found in
@@ -125,6 +125,7 @@ other_still (x ∷ xs) zero (suc j) both w apart at = at
 other_still (x ∷ xs) (suc i) zero both w apart at = at
 other_still (x ∷ xs) (suc i) (suc j) both w apart at = other_still xs i j both w (λ e. apart (ap suc e)) at
 
+-- a sum over all lists, after one hand took in another
 joined_sum : (f : ℕ → ℕ) (hands : List Hand) (id other : ℕ) (v w : Hand) → get_elem? hands id ≡ some v → get_elem? (set hands id (both_hands v w)) other ≡ some w
     → sum_by f (all_found (set (set hands id (both_hands v w)) other nobody)) ≡ sum_by f (all_found hands)
 joined_sum f hands id other v w at there =

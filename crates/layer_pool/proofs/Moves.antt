@@ -1,14 +1,14 @@
 -- Each step that the code takes on the table is a step of the claims machine.
-use Rattle.std.proofs.Common.{◌≡◌, ◌≢◌, ℕ, ◌+◌, ◌-◌, ◌%◌, ◌^◌, ◌<◌, ◌≤◌, Bool, false, List, [], ◌∷◌, ◌++◌, length, set, sum_by, All, false, ltb-false, mod-eq_of_lt, refl, sym, ap, ◌∙◌, subst, ⊎_elim, arith}
+use Rattle.std.proofs.Common.{◌≡◌, ◌≢◌, ℕ, ◌+◌, ◌-◌, ◌%◌, ◌^◌, ◌<◌, ◌≤◌, false, List, [], ◌∷◌, ◌++◌, length, set, false, ltb-false, mod-eq_of_lt, refl, sym, ap, ◌∙◌, subst, ⊎_elim, arith}
 use Rattle.std.specs.Prelude.{slice_index, ◌==◌}
-use mathlib.Core.Option.{some, some-ne-none, some-injective}
+use mathlib.Core.Option.{some, some-injective}
 use lib.ListN.{get_elem?}
 use Rattle.atomic_table.specs.Table.{State, Step as TableStep, Me, keeps, opening, Allows, Splits, Joins, Final, Seen}
 use Rattle.atomic_table.proofs.Lists.{at_set}
 use Rattle.layer_pool.specs.declared.machine.Hand.{Hand}
 use Rattle.layer_pool.specs.declared.machine.Plan.{Plan}
-use Rattle.layer_pool.specs.Machine.{one_if, times, once_below, IsEachOnce, late, hand, Moment, moment, IsDraw, IsSplit, IsJoin, Step.draw, Step.split, Step.join, Reached, Reached.first, Reached.next, IsKept, Appends, one_less, new_pass, both_hands, nobody}
-use Rattle.layer_pool.specs.Passes.{ClaimsView, PassView, IsOwned}
+use Rattle.layer_pool.specs.Machine.{one_if, times, once_below, IsEachOnce, late, hand, Moment, moment, Step.draw, Step.split, Step.join, Reached, Reached.first, Reached.next, IsKept, Appends, one_less, new_pass, both_hands, nobody}
+use Rattle.layer_pool.specs.Passes.{ClaimsView, PassView, IsOwned, plan_of, IsEnd, HasReached}
 use Rattle.layer_pool.proofs.Counts.{sum_by-one-le, sum_by-only, sum_by-all, length-all}
 use Rattle.layer_pool.proofs.Fair.{always_fair, most_drawn, found_below}
 
@@ -67,6 +67,13 @@ joins plan id v other w s kept at apart there =
           (join id other v w (record { two = apart; there = at; other_there = other_was s.views id other (both_hands v w) w apart there; becomes = refl }));
     }
 
+-- what a hand has found, and for how many it stands, once it has taken in another
+pub taken_found : (now mine : Me (Unit {0}) Hand) (theirs : Hand) (found : List ℕ) → now ≡ (both_hands mine.0 theirs, mine.1) → theirs.found ≡ found → now.0.found ≡ mine.0.found ++ found
+taken_found now mine theirs found is same = ap (λ (m : Me (Unit {0}) Hand). m.0.found) is ∙ ap (λ l. mine.0.found ++ l) same
+
+pub taken_parts : (now mine : Me (Unit {0}) Hand) (theirs : Hand) → now ≡ (both_hands mine.0 theirs, mine.1) → now.0.stands_for ≡ mine.0.stands_for + theirs.stands_for
+taken_parts now mine theirs is = ap (λ (m : Me (Unit {0}) Hand). m.0.stands_for) is
+
 -- What the last moment tells of a hand.
 pub record Closed (plan : Plan) (h : Hand) (word : ℕ) : Type 0 where
   pub once : (x : ℕ) → times x h.found ≤ once_below x word
@@ -108,15 +115,38 @@ word_at words w n is at = some-injective w n (ap (λ ws. get_elem? ws 0) (sym is
 last_word : (plan : Plan) (s : State (Unit {0}) Hand) (kept : IsKept plan s) (words : List ℕ) (n : ℕ) → s.words ≡ words → get_elem? words 0 ≡ some n → Reached plan (moment n s.views)
 last_word plan s kept words n same at = subst (λ w. Reached plan (moment w s.views)) (word_at words kept.word n (sym same ∙ kept.one_word) at) kept.reached
 
-pub closes : (plan : Plan) (id : ℕ) (h : Hand) (words : List ℕ) (slots : List (Unit {0})) (n : ℕ) → Final (Seen (IsKept plan) id h) words slots → get_elem? words 0 ≡ some n → Closed plan h n
-closes plan id h words slots n final at =
-    let s = final.0 in
-    closed_moment plan (moment n s.views) id h (last_word plan s final.1.0 words n final.2 at) final.1.1
+-- a plan is what the claims show of it
+plan_is : (plan : Plan) (claims : ClaimsView) → plan.stripes ≡ claims.stripes → plan.passes ≡ claims.passes → plan ≡ plan_of claims
+plan_is plan claims stripes passes =
+    ap (λ n. plan_of (record { stripes = n; passes = plan.passes; name = claims.name })) stripes
+    ∙ ap (λ n. plan_of (record { stripes = claims.stripes; passes = n; name = claims.name })) passes
 
-pub closes_alone : (plan : Plan) (words : List ℕ) (slots : List (Unit {0})) (n : ℕ) → Final (IsKept plan) words slots → get_elem? words 0 ≡ some n → n ≤ plan.stripes + plan.passes
-closes_alone plan words slots n final at =
+pub closes : (plan : Plan) (claims : ClaimsView) (id : ℕ) (h : Hand) (words : List ℕ) (slots : List (Unit {0})) (n : ℕ) → plan.stripes ≡ claims.stripes → plan.passes ≡ claims.passes
+    → Final (Seen (IsKept plan) id h) words slots → get_elem? words 0 ≡ some n → HasReached claims h n
+closes plan claims id h words slots n stripes passes final at =
     let s = final.0 in
-    most_drawn plan (moment n s.views) (last_word plan s final.1 words n final.2 at)
+    record {
+      hands = s.views;
+      reached = subst (λ p. Reached p (moment n s.views)) (plan_is plan claims stripes passes) (last_word plan s final.1.0 words n final.2 at);
+      id = id;
+      there = final.1.1;
+    }
+
+pub closed : (claims : ClaimsView) (h : Hand) (n : ℕ) → HasReached claims h n → Closed (plan_of claims) h n
+closed claims h n last = closed_moment (plan_of claims) (moment n last.hands) last.id h last.reached last.there
+
+pub closes_alone : (plan : Plan) (claims : ClaimsView) (words : List ℕ) (slots : List (Unit {0})) (n : ℕ) → plan.stripes ≡ claims.stripes → plan.passes ≡ claims.passes
+    → Final (IsKept plan) words slots → get_elem? words 0 ≡ some n → IsEnd claims [] n
+closes_alone plan claims words slots n stripes passes final at =
+    let s = final.0 in
+    record {
+      hands = s.views;
+      reached = subst (λ p. Reached p (moment n s.views)) (plan_is plan claims stripes passes) (last_word plan s final.1 words n final.2 at);
+      joined = λ some. absurd (omega arith);
+    }
+
+pub most_at_end : (claims : ClaimsView) (n : ℕ) → IsEnd claims [] n → n ≤ claims.stripes + claims.passes
+most_at_end claims n last = most_drawn (plan_of claims) (moment n last.hands) last.reached
 
 -- a pass that has not ended has found no number at `stripes` or above
 pub not_late : (claims : ClaimsView) (p : PassView) → IsOwned claims p → p.has_ended ≡ false → late claims.stripes p.found ≡ 0

@@ -7,3 +7,6 @@ mod machine;
 
 pub use crate::claims::{Claims, Pass};
 pub use crate::laws::claims_laws;
+
+#[cfg(test)]
+mod tests;

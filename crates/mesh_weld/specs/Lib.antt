@@ -1,4 +1,6 @@
 pub mod Balance
 pub mod Mesh
+pub mod Entries
 pub mod Welding
+pub mod Probing
 pub mod MeshLaws

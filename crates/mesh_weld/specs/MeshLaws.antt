@@ -1,10 +1,11 @@
 -- What holds of closed meshes: amounts of edges cancel, so winds do, and a ray may be summed from either end.
-use Rattle.std.specs.Prelude.{◌≡◌, ◌↔◌, false, List, ℤ, pos, ◌+ℤ◌, neg_ℤ}
+use Rattle.std.specs.Prelude.{◌≡◌, ◌↔◌, ◌⊎◌, false, List, ℤ, pos, ◌+ℤ◌, neg_ℤ}
 use Rattle.stl_text.specs.Position.{Position}
 use Rattle.stl_text.specs.Triangle.{Triangle, twice}
 use Rattle.stl_text.specs.Winding.{total, wind, wind_y, hit, hit_y, ray, ray_y, neg_ray_back}
 use Rattle.mesh_weld.specs.Balance.{IsBalanced}
 use Rattle.mesh_weld.specs.Mesh.{is_kept, kept_facets}
+use Rattle.mesh_weld.specs.Probing.{NoneTouches, NoneBetween}
 
 -- an edge taken back has the opposite amount
 abbrev pub IsOpposite : (Position → Position → ℤ) → Type 0
@@ -41,3 +42,12 @@ KeptRaysAreAll = (facets : List Triangle) (c : Position)
 
 abbrev pub KeptAreClosed : Type 0
 KeptAreClosed = (facets : List Triangle) → IsBalanced (kept_facets facets) ↔ IsBalanced facets
+
+-- the rays along x and along y agree at a place that no facet of a closed mesh touches
+abbrev pub RaysAgree : Type 0
+RaysAgree = (facets : List Triangle) → IsBalanced facets → (c : Position) → NoneTouches facets c → ray facets c ≡ ray_y facets c
+
+-- a step along x or along y that passes no facet of a closed mesh keeps the ray
+abbrev pub StepsKeepRays : Type 0
+StepsKeepRays = (facets : List Triangle) → IsBalanced facets → (c d : Position) → c.z ≡ d.z → (c.x ≡ d.x) ⊎ (c.y ≡ d.y)
+    → NoneBetween facets c d → ray facets c ≡ ray facets d

@@ -1,4 +1,4 @@
-ghost use Rattle.mesh_weld.specs.MeshLaws.{AmountsCancel, FlatFacetsAreMissed, KeptAreClosed, KeptRaysAreAll, RayFromTheLeft, SideWindsCancel, WindsCancel};
+ghost use Rattle.mesh_weld.specs.MeshLaws.{AmountsCancel, FlatFacetsAreMissed, KeptAreClosed, KeptRaysAreAll, RayFromTheLeft, RaysAgree, SideWindsCancel, StepsKeepRays, WindsCancel};
 
 /// What holds of every closed mesh, as a promise that other crates can call on. It does nothing.
 pub fn hold_mesh_laws()
@@ -9,4 +9,6 @@ pub fn hold_mesh_laws()
     ensures flat { FlatFacetsAreMissed }
     ensures kept { KeptRaysAreAll }
     ensures closed { KeptAreClosed }
+    ensures agree { RaysAgree }
+    ensures steps { StepsKeepRays }
 {}

@@ -1,12 +1,16 @@
 //! Closed meshes: facets welded at their corners, each directed edge balanced by the edge back.
 #![tactic(auto)]
 
+mod corners;
 mod faults;
 mod laws;
+mod rays;
+mod sides;
 mod solid;
 mod welding;
 
 pub use faults::WeldFault;
 pub use laws::hold_mesh_laws;
+pub use rays::{probe, step};
 pub use solid::Solid;
 pub use welding::weld;

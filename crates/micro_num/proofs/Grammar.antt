@@ -1,5 +1,5 @@
 -- A number of the grammar has one spelling, and its parts are those that its text is cut into.
-use Rattle.std.proofs.Common.{◌≡◌, ℕ, zero, suc, ◌+◌, ◌<◌, ◌≤◌, Bool, true, false, cond, not, ◌&&◌, ◌||◌, List, [], ◌∷◌, ◌++◌, length, take, drop, refl, sym, ◌∙◌, ap, subst, inl, inr, arith, ◌⊎◌, append_assoc, lit≤}
+use Rattle.std.proofs.Common.{◌≡◌, ℕ, suc, ◌<◌, ◌≤◌, Bool, true, false, not, ◌&&◌, ◌||◌, List, [], ◌∷◌, ◌++◌, length, take, drop, refl, sym, ◌∙◌, ap, subst, inl, inr, arith, ◌⊎◌, append_assoc, lit≤}
 use Rattle.std.specs.Prelude.{Option, Some, None, ◌==◌, nat_lt, nat_le, if◌then◌else◌}
 use Rattle.std.specs.Char.{is_ascii_digit}
 use Rattle.std.specs.List.{list_all, before_first, position_or_len}
@@ -10,12 +10,12 @@ use Rattle.std.proofs.Math.Numerals.{one-add}
 use Rattle.std.proofs.lemmas.Bool.{eqb-true, leb-true, ne_eqb}
 use Rattle.micro_num.specs.Numeral.{Sign, unsigned, plus, minus, Exponent, Numeral, is_exponent_mark, is_point, sign_text, fraction_text, exponent_text, numeral_text, fraction_digits, mantissa_digits, are_digits, is_exponent, IsNumeral, sign_of, after_sign, from_first, fraction_of, exponent_of, parts_of, numeral_of}
 
-and_parts : (a b : Bool) → (a && b) ≡ true → (a ≡ true) × (b ≡ true)
+pub and_parts : (a b : Bool) → (a && b) ≡ true → (a ≡ true) × (b ≡ true)
 and_parts true b h = (refl, h)
 and_parts false b h = cc
 
 -- nothing, or what begins with a byte that passes
-abbrev Starts : (ℕ → Bool) → List ℕ → Type 0
+abbrev pub Starts : (ℕ → Bool) → List ℕ → Type 0
 Starts p [] = Unit {0}
 Starts p (x ∷ xs) = p x ≡ true
 
@@ -28,15 +28,15 @@ place p (x ∷ xs) ys clear starts =
     let parts : (not (p x) ≡ true) × (list_all (λ z. not (p z)) xs ≡ true) = and_parts _ _ clear in
     rw parts.0 (rw one-add (ap suc (place p xs ys parts.1 starts)))
 
-before-is : (p : ℕ → Bool) (xs ys : List ℕ) → list_all (λ x. not (p x)) xs ≡ true → Starts p ys
+pub before-is : (p : ℕ → Bool) (xs ys : List ℕ) → list_all (λ x. not (p x)) xs ≡ true → Starts p ys
     → before_first p (xs ++ ys) ≡ xs
 before-is p xs ys clear starts = ap (λ n. take n (xs ++ ys)) (place p xs ys clear starts) ∙ take-append_seam xs ys
 
-from-is : (p : ℕ → Bool) (xs ys : List ℕ) → list_all (λ x. not (p x)) xs ≡ true → Starts p ys
+pub from-is : (p : ℕ → Bool) (xs ys : List ℕ) → list_all (λ x. not (p x)) xs ≡ true → Starts p ys
     → from_first p (xs ++ ys) ≡ ys
 from-is p xs ys clear starts = ap (λ n. drop n (xs ++ ys)) (place p xs ys clear starts) ∙ drop-append_seam xs ys
 
-from_starts : (p : ℕ → Bool) (xs : List ℕ) → Starts p (from_first p xs)
+pub from_starts : (p : ℕ → Bool) (xs : List ℕ) → Starts p (from_first p xs)
 from_starts p [] = tt
 from_starts p (x ∷ xs) = at_head (from_starts p xs) (p x) refl
   where
@@ -46,7 +46,7 @@ from_starts p (x ∷ xs) = at_head (from_starts p xs) (p x) refl
 
 -- A word is the text of its parts, number or not.
 
-sign-text : (word : List ℕ) → sign_text (sign_of word) ++ after_sign word ≡ word
+pub sign-text : (word : List ℕ) → sign_text (sign_of word) ++ after_sign word ≡ word
 sign-text [] = refl
 sign-text (byte ∷ rest) = by_tests (byte == 43) (byte == 45) refl refl
   where
@@ -60,12 +60,12 @@ fraction-text : (bytes : List ℕ) → Starts is_point bytes → fraction_text (
 fraction-text [] h = refl
 fraction-text (point ∷ digits) h = ap (λ x. x ∷ digits) (sym (eqb-true point 46 h))
 
-exponent-text : (bytes : List ℕ) → exponent_text (exponent_of bytes) ≡ bytes
+pub exponent-text : (bytes : List ℕ) → exponent_text (exponent_of bytes) ≡ bytes
 exponent-text [] = refl
 exponent-text (mark ∷ rest) = ap {B = List ℕ} (λ r. mark ∷ r) (sign-text rest)
 
 -- the four parts of a text, from behind
-regrouped : (s w f e : List ℕ) → s ++ w ++ f ++ e ≡ s ++ (w ++ (f ++ e))
+pub regrouped : (s w f e : List ℕ) → s ++ w ++ f ++ e ≡ s ++ (w ++ (f ++ e))
 regrouped s w f e = append_assoc (s ++ w) f e ∙ append_assoc s w (f ++ e)
 
 -- two cuts of a text, at the first mark and in front of it at the first point
@@ -107,7 +107,7 @@ numeral_of-is word n read = by_test (are_digits (mantissa_digits (parts_of word)
 
 -- a digit is no sign, no point and no mark
 module _ (d : ℕ) (h : is_ascii_digit d ≡ true) where
-  bounds : (48 ≤ d) × (d ≤ 57)
+  pub bounds : (48 ≤ d) × (d ≤ 57)
   bounds =
       let parts : (nat_le 48 d ≡ true) × (nat_le d 57 ≡ true) = and_parts _ _ h in
       (leb-true 48 d parts.0, leb-true d 57 parts.1)
@@ -122,7 +122,7 @@ module _ (d : ℕ) (h : is_ascii_digit d ≡ true) where
   digit-mark : not (is_exponent_mark d) ≡ true
   digit-mark = rw (other 69 (inr (lit≤ tt)), other 101 (inr (lit≤ tt))) refl
 
-all-weaker : (p q : ℕ → Bool) → ((x : ℕ) → p x ≡ true → q x ≡ true) → (xs : List ℕ)
+pub all-weaker : (p q : ℕ → Bool) → ((x : ℕ) → p x ≡ true → q x ≡ true) → (xs : List ℕ)
     → list_all p xs ≡ true → list_all q xs ≡ true
 all-weaker p q weaker [] h = refl
 all-weaker p q weaker (x ∷ xs) h =
@@ -130,7 +130,7 @@ all-weaker p q weaker (x ∷ xs) h =
     rw (weaker x parts.0) (all-weaker p q weaker xs parts.1)
 
 -- nothing, or what begins with no sign
-abbrev IsUnsigned : List ℕ → Type 0
+abbrev pub IsUnsigned : List ℕ → Type 0
 IsUnsigned [] = Unit {0}
 IsUnsigned (byte ∷ rest) = ((byte == 43) ≡ false) × ((byte == 45) ≡ false)
 
@@ -140,19 +140,19 @@ digits_unsigned (d ∷ ds) h =
     let parts : (is_ascii_digit d ≡ true) × (list_all is_ascii_digit ds ≡ true) = and_parts _ _ h in
     (other d parts.0 43 (inl (lit≤ tt)), other d parts.0 45 (inl (lit≤ tt)))
 
-sign-is : (sign : Sign) (rest : List ℕ) → IsUnsigned rest → sign_of (sign_text sign ++ rest) ≡ sign
+pub sign-is : (sign : Sign) (rest : List ℕ) → IsUnsigned rest → sign_of (sign_text sign ++ rest) ≡ sign
 sign-is unsigned [] h = refl
 sign-is unsigned (byte ∷ rest) h = rw (h.0, h.1) refl
 sign-is plus rest h = refl
 sign-is minus rest h = refl
 
-after_sign-is : (sign : Sign) (rest : List ℕ) → IsUnsigned rest → after_sign (sign_text sign ++ rest) ≡ rest
+pub after_sign-is : (sign : Sign) (rest : List ℕ) → IsUnsigned rest → after_sign (sign_text sign ++ rest) ≡ rest
 after_sign-is unsigned [] h = refl
 after_sign-is unsigned (byte ∷ rest) h = rw (h.0, h.1) refl
 after_sign-is plus rest h = refl
 after_sign-is minus rest h = refl
 
-exponent-is : (exponent : Option Exponent) → is_exponent exponent ≡ true → exponent_of (exponent_text exponent) ≡ exponent
+pub exponent-is : (exponent : Option Exponent) → is_exponent exponent ≡ true → exponent_of (exponent_text exponent) ≡ exponent
 exponent-is None h = refl
 exponent-is (Some e) h =
     let parts : (is_exponent_mark e.mark ≡ true) × (are_digits e.digits ≡ true) = and_parts _ _ h in
@@ -160,7 +160,7 @@ exponent-is (Some e) h =
     let clear : IsUnsigned e.digits = digits_unsigned e.digits digits.1 in
     λ i. Some (record { mark = e.mark; sign = sign-is e.sign e.digits clear i; digits = after_sign-is e.sign e.digits clear i })
 
-exponent_starts : (exponent : Option Exponent) → is_exponent exponent ≡ true → Starts is_exponent_mark (exponent_text exponent)
+pub exponent_starts : (exponent : Option Exponent) → is_exponent exponent ≡ true → Starts is_exponent_mark (exponent_text exponent)
 exponent_starts None h = tt
 exponent_starts (Some e) h = (and_parts _ _ h).0
 
@@ -178,7 +178,7 @@ fraction_clear None h = refl
 fraction_clear (Some digits) h = all-weaker is_ascii_digit (λ x. not (is_exponent_mark x)) digit-mark digits h
 
 -- the first byte behind the sign is a digit or the point
-mantissa_unsigned : (whole : List ℕ) (fraction : Option (List ℕ)) (rest : List ℕ) → list_all is_ascii_digit whole ≡ true
+pub mantissa_unsigned : (whole : List ℕ) (fraction : Option (List ℕ)) (rest : List ℕ) → list_all is_ascii_digit whole ≡ true
     → nat_lt 0 (length (whole ++ fraction_digits fraction)) ≡ true → IsUnsigned (whole ++ (fraction_text fraction ++ rest))
 mantissa_unsigned (d ∷ ds) fraction rest h some = digits_unsigned (d ∷ ds) h
 mantissa_unsigned [] None rest h some = cc

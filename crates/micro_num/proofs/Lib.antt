@@ -9,3 +9,11 @@ mod Examples
 mod Rows
 mod Magnitude
 pub mod Grammar
+mod Leading
+mod DigitRows
+mod Powers
+mod Capped
+mod Scanning
+mod Exponents
+mod Inches
+mod Coordinates

@@ -1,15 +1,13 @@
 -- A magnitude number at its ends: nothing stays nothing, far up it is no coordinate, and far down it is 0.
-use Rattle.std.proofs.Common.{◌≡◌, ℕ, suc, ◌+◌, ◌*◌, ◌/◌, ◌^◌, ◌<◌, ◌≤◌, arith, ap, ◌∙◌, refl, lit≤}
-use Rattle.std.specs.Prelude.{pos, negsuc, ℤ, Err, Bool, false}
-use Rattle.std.proofs.Math.Nat.{zero-mul, div-eq_of_lt, one-le-pow, pow-le-pow_right, mul-le-mul_right}
+use Rattle.std.proofs.Common.{◌≡◌, ℕ, suc, ◌*◌, ◌^◌, ◌<◌, ◌≤◌, arith, refl, lit≤}
+use Rattle.std.specs.Prelude.{pos, negsuc, ℤ, Err, false}
+use Rattle.std.proofs.Math.Nat.{zero-mul, div-eq_of_lt, pow-le-pow_right, mul-le-mul_right}
 use Rattle.std.proofs.lemmas.Bool.{lt-leb}
+use Rattle.micro_num.proofs.Powers.{power_above}
 use Rattle.micro_num.specs.declared.faults.NumFault.TheVariants.{OutOfRange}
 use Rattle.micro_num.specs.Micrometres.{magnitude, rounded_quotient, coordinate_or_fault, is_coordinate}
 
-power_above : (k : ℕ) → 0 < 10 ^ k
-power_above k = one-le-pow k 10 (lit≤ tt)
-
-rounded_quotient-small : (m k : ℕ) → 2 * m < 10 ^ k → rounded_quotient m k ≡ 0
+pub rounded_quotient-small : (m k : ℕ) → 2 * m < 10 ^ k → rounded_quotient m k ≡ 0
 rounded_quotient-small m k below = div-eq_of_lt (omega (arith, below))
 
 pub magnitude-zero : (s : ℤ) → magnitude 0 s ≡ 0

@@ -1,8 +1,7 @@
 -- Texts and the coordinates that they stand for.
-use Rattle.std.proofs.Common.{◌≡◌, ℕ, List, ◌++◌, replicate, refl, ap, lit≤, ◌+◌, ◌-◌, ◌^◌}
-use Rattle.std.specs.Prelude.{Ok, Err, pos, negsuc, codes, Result, ℤ}
+use Rattle.std.proofs.Common.{◌≡◌, ◌++◌, replicate, refl, ap, lit≤, ◌+◌, ◌-◌, ◌^◌}
+use Rattle.std.specs.Prelude.{Ok, Err, pos, negsuc, codes}
 use Rattle.micro_num.specs.declared.units.Unit.TheVariants.{Millimetre, Inch}
-use Rattle.micro_num.specs.declared.faults.NumFault.{NumFault}
 use Rattle.micro_num.specs.declared.faults.NumFault.TheVariants.{NotNumber, TooLong, OutOfRange}
 use Rattle.micro_num.specs.Micrometres.{coordinate_of, coordinate_or_fault, magnitude}
 use Rattle.micro_num.proofs.Magnitude.{magnitude-zero, magnitude_far, magnitude-near}

@@ -1,3 +1,4 @@
 pub mod Numeral
 pub mod Micrometres
 pub mod Bounds
+pub mod Scan

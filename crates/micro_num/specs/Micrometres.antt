@@ -2,7 +2,7 @@
 --     magnitude unit n s         the nearest whole number to a worth, halves away from zero
 --     micro unit n               what a number is worth in a unit
 --     coordinate_of unit word    the coordinate that a word stands for, or why it stands for none
-use Rattle.std.specs.Prelude.{◌≡◌, ℕ, ◌+◌, ◌*◌, ◌/◌, ◌^◌, ◌≤◌, Bool, List, [], ◌∷◌, length, Option, Some, None, Result, Ok, Err, ℤ, pos, negsuc, ◌+ℤ◌, ◌-ℤ◌, neg_ℤ, nat_abs, nat_lt, nat_le, if◌then◌else◌, fold, ◌-◌, suc}
+use Rattle.std.specs.Prelude.{ℕ, ◌+◌, ◌*◌, ◌/◌, ◌^◌, Bool, List, length, Option, Some, None, Result, Ok, Err, ℤ, pos, negsuc, ◌+ℤ◌, ◌-ℤ◌, neg_ℤ, nat_abs, nat_lt, nat_le, if◌then◌else◌, fold, ◌-◌, suc}
 use Rattle.micro_num.specs.declared.units.Unit.{Unit as LengthUnit}
 use Rattle.micro_num.specs.declared.units.Unit.TheVariants.{Millimetre, Inch}
 use Rattle.micro_num.specs.declared.faults.NumFault.{NumFault}

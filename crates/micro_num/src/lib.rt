@@ -1,12 +1,21 @@
 //! Decimal texts read as whole micrometres, and the exact integers that the other crates count with.
 #![tactic(auto)]
 
+mod digits;
 mod division;
 mod faults;
+mod lengths;
+mod mantissa;
+mod reading;
+mod scaling;
 mod spelling;
 mod units;
 
 pub use division::ceil_div;
 pub use faults::NumFault;
+pub use reading::read_micro;
 pub use spelling::one_spelling;
 pub use units::Unit;
+
+#[cfg(test)]
+mod worked_texts;

@@ -205,23 +205,23 @@ from_first-le p bytes =
     let left : length (drop (position_or_len p bytes) bytes) ≡ length bytes - position_or_len p bytes = length-drop (position_or_len p bytes) bytes in
     omega (arith, left)
 
-after_space-le : (bytes : List ℕ) → length (after_space bytes) ≤ length bytes
+pub after_space-le : (bytes : List ℕ) → length (after_space bytes) ≤ length bytes
 after_space-le bytes =
     let left : length (drop (prefix_len is_white bytes) bytes) ≡ length bytes - prefix_len is_white bytes = length-drop (prefix_len is_white bytes) bytes in
     omega (arith, left)
 
-word_length : (bytes : List ℕ) → length (first_word bytes) + length (after_word bytes) ≡ length (after_space bytes)
+pub word_length : (bytes : List ℕ) → length (first_word bytes) + length (after_word bytes) ≡ length (after_space bytes)
 word_length bytes =
     let whole : first_word bytes ++ after_word bytes ≡ after_space bytes = take-append-drop (position_or_len is_white (after_space bytes)) (after_space bytes) in
     sym (length-append (first_word bytes) (after_word bytes)) ∙ ap length whole
 
-after_word-le : (bytes : List ℕ) → length (after_word bytes) ≤ length bytes
+pub after_word-le : (bytes : List ℕ) → length (after_word bytes) ≤ length bytes
 after_word-le bytes = omega (arith, word_length bytes, after_space-le bytes)
 
-after_word-lt : (bytes : List ℕ) → 0 < length (first_word bytes) → length (after_word bytes) < length bytes
+pub after_word-lt : (bytes : List ℕ) → 0 < length (first_word bytes) → length (after_word bytes) < length bytes
 after_word-lt bytes some = omega (arith, some, word_length bytes, after_space-le bytes)
 
-after_line-le : (bytes : List ℕ) → length (after_line bytes) ≤ length bytes
+pub after_line-le : (bytes : List ℕ) → length (after_line bytes) ≤ length bytes
 after_line-le bytes = from_first-le is_line_end bytes
 
 after_piece-le : (p : Piece) (bytes : List ℕ) → length (after_piece p bytes) ≤ length bytes
@@ -230,7 +230,7 @@ after_piece-le normal_part bytes = after_word-le bytes
 after_piece-le (coordinate z) bytes = after_word-le bytes
 after_piece-le rest_of_line bytes = after_line-le bytes
 
-rest-le : (unit : LengthUnit) (ps : List Piece) (bytes rest : List ℕ) → rest_behind unit ps bytes ≡ Some rest → length rest ≤ length bytes
+pub rest-le : (unit : LengthUnit) (ps : List Piece) (bytes rest : List ℕ) → rest_behind unit ps bytes ≡ Some rest → length rest ≤ length bytes
 rest-le unit [] bytes rest e = omega (arith, length_is e)
   where
     length_is : ◌≡◌ {A = Option (List ℕ)} (Some bytes) (Some rest) → length bytes ≡ length rest
@@ -244,7 +244,7 @@ rest-le unit (p ∷ ps) bytes rest e =
     by_test false le h = cc
 
 -- without a word there is only white space
-no_word-space : (bytes : List ℕ) → first_word bytes ≡ [] → after_space bytes ≡ []
+pub no_word-space : (bytes : List ℕ) → first_word bytes ≡ [] → after_space bytes ≡ []
 no_word-space bytes e = by_front (after_space bytes) refl (front_is bytes) e
   where
     Front : List ℕ → Type 0
@@ -285,7 +285,7 @@ abbrev end_pieces : List Piece
 end_pieces = end_word ∷ rest_of_line ∷ []
 
 -- one more solid, open
-cut_open : (solids : List (List Triangle)) (facets : List Triangle)
+pub cut_open : (solids : List (List Triangle)) (facets : List Triangle)
     → flat_map solid_pieces (solids ++ facets ∷ []) ≡ flat_map solid_pieces solids ++ (open_pieces facets ++ end_pieces)
 cut_open solids facets =
     flat_map-append solid_pieces solids (facets ∷ [])
@@ -312,7 +312,7 @@ cut_facet solids facets t front p more is =
         flat_map-append facet_pieces facets (t ∷ [])
         ∙ ap (λ r. flat_map facet_pieces facets ++ r) (append-nil (facet_pieces t) ∙ is)
 
-facets_of-open : (solids : List (List Triangle)) (facets : List Triangle)
+pub facets_of-open : (solids : List (List Triangle)) (facets : List Triangle)
     → length (facets_of (solids ++ facets ∷ [])) ≡ length (facets_of solids) + length facets
 facets_of-open solids facets =
     ap length (flat_map-append (λ fs. fs) solids (facets ∷ []))

@@ -4,3 +4,5 @@ pub mod Extent
 pub mod Winding
 pub mod Touch
 pub mod Text
+pub mod Reading
+pub mod Written

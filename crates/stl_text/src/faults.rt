@@ -1,5 +1,9 @@
+ghost use Rattle.std.specs.Prelude.{◌≡◌};
+ghost use Rattle.stl_text.specs.declared.faults.StlFault.TheVariants.{Memory};
+
 use crate::words::Word;
 use micro_num::NumFault;
+use std::alloc::AllocFailed;
 use thiserror::Error;
 
 /// Why a text is no mesh. Each place is that of a byte, counted from 0.
@@ -20,4 +24,12 @@ pub enum StlFault {
     /// A growth was refused.
     #[error("out of memory")]
     Memory,
+}
+
+impl<T: Drop> From<AllocFailed<T>> for StlFault {
+    ghost from_gives = { λ _ fault. fault ≡ Memory };
+
+    fn from(_failed: AllocFailed<T>) -> StlFault {
+        StlFault::Memory
+    }
 }

@@ -8,17 +8,20 @@ use Rattle.layer_pool.proofs.claims.Claims.draw.Goals as goal
 
 pub fetch_add-number-requires : goal.fetch_add-number-requires
 fetch_add-number-requires g c =
-    let claims = c.self.inside in
-    let pass = c.pass.inside in
-    let plan = claims.table.shared.key in
-    let bound = c.self.invariant in
-    let stripes : plan.stripes ≡ c.args.self.now.stripes = bound.2 ∙ ap (λ (v : ClaimsView). v.stripes) c.self.view_is in
-    let found : pass.seat.me.0.found ≡ c.args.pass.now.found = ap (λ (p : PassView). p.found) c.pass.view_is in
-    let going : c.args.pass.now.has_ended ≡ false = sym (ap (λ (p : PassView). p.has_ended) c.pass.view_is) ∙ c.if-pass.false in
-    let on : late plan.stripes pass.seat.me.0.found ≡ 0 =
-      ap (λ n. late n pass.seat.me.0.found) stripes ∙ ap (late c.args.self.now.stripes) found ∙ not_late c.args.self.now c.args.pass.now c.requires going in
-    let one = c.pass.invariant.1 in
-    let few = bound.3 in
-    let same = bound.2 in
-    let some_passes = bound.5 in
-    (search rules, search rules, draws plan _ _ pass.seat.me (step 0 0 1 0 none) (omega arith) (omega arith) on)
+    let plan = c.self.inside.table.shared.key in
+    let mine = c.pass.inside.seat.me in
+    let claims = c.args.self.now in
+    let pass = c.args.pass.now in
+    let sound = c.self.invariant in
+    let stripes : plan.stripes ≡ claims.stripes = sound.same ∙ ap (λ (v : ClaimsView). v.stripes) c.self.view_is in
+    let found : mine.0.found ≡ pass.found = ap (λ (p : PassView). p.found) c.pass.view_is in
+    let going : pass.has_ended ≡ false = sym (ap (λ (p : PassView). p.has_ended) c.pass.view_is) ∙ c.if-pass.false in
+    let none_late : late plan.stripes mine.0.found ≡ 0 =
+    ap (λ n. late n mine.0.found) stripes ∙ ap (late claims.stripes) found ∙ not_late claims pass c.requires going in
+    let room : plan.stripes + plan.passes < 2 ^ 62 =
+    let same = sound.same in
+    let few_stripes = sound.few_stripes in
+    let few_passes = sound.few_passes in
+    omega arith in
+    let stands : 0 < mine.0.stands_for = let one = c.pass.invariant.1 in omega arith in
+    (search rules, search rules, draws plan _ _ mine (step 0 0 1 0 none) room stands none_late)

@@ -1,12 +1,10 @@
-use Rattle.std.proofs.Common.{rules, ◌≡◌, ◌+◌, List, [], ◌∷◌, ◌++◌, length, arith, ap, sym, ◌∙◌, length-append}
+use Rattle.std.proofs.Common.{rules, ◌≡◌, ◌+◌, List, [], ◌∷◌, length, arith, ap, sym, ◌∙◌, length-append}
 use Rattle.std.specs.Prelude.{ℕ, ◌==◌}
 use Rattle.std.proofs.lemmas.List.Sums.{sum_by-append}
-use Rattle.atomic_table.specs.Table.{Me}
-use Rattle.layer_pool.specs.declared.machine.Hand.{Hand}
 use Rattle.layer_pool.specs.Machine.{one_if, times}
 use Rattle.layer_pool.specs.Passes.{ClaimsView, PassView, IsOwned}
 use Rattle.layer_pool.proofs.Gathers.{all_last, all_front, times_pop, length_pop}
-use Rattle.layer_pool.proofs.Moves.{joins}
+use Rattle.layer_pool.proofs.Moves.{joins, taken_found, taken_parts}
 use Rattle.layer_pool.proofs.claims.Claims.gather.Goals as goal
 
 pub join_seat-requires : goal.join_seat-requires
@@ -15,8 +13,7 @@ join_seat-requires g c =
     let all = c.loop-pass.all in
     let seat = c.into_seat.result in
     let name : c.args.self.now.name ≡ table.table_id = sym (ap (λ (v : ClaimsView). v.name) c.self.view_is) in
-    let mine = all_last (IsOwned c.args.self.now) _ _ _ c.in-Some.ensures.items c.loop-pass.invariant.owned in
-    (
+    let mine = all_last (IsOwned c.args.self.now) _ _ _ c.in-Some.ensures.items c.loop-pass.invariant.owned in (
       c.loop-pass.invariant.table ∙ name,
       c.into_seat.ensures.seat.0 ∙ mine.owner ∙ name,
       c.into_seat.ensures.seat.1,
@@ -32,8 +29,8 @@ loop-pass-preserved g c =
     let seat = c.into_seat.result.me.0 in
     let is = c.in-Some.ensures.items in
     let now = c.join_seat.ensures.2 in
-    let found_now : c.join_seat.new.seat.me.0.found ≡ all.found ++ pass.found = ap (λ (m : Me (Unit {0}) Hand). m.0.found) now ∙ ap (λ l. all.found ++ l) c.into_seat.ensures.hand.1 in
-    let stands_now : c.join_seat.new.seat.me.0.stands_for ≡ all.stands_for + seat.stands_for = ap (λ (m : Me (Unit {0}) Hand). m.0.stands_for) now in
+    let found_now = taken_found c.join_seat.new.seat.me c.loop-pass.all.me seat pass.found now c.into_seat.ensures.hand.1 in
+    let stands_now = taken_parts c.join_seat.new.seat.me c.loop-pass.all.me seat now in
     record {
       table = c.join_seat.ensures.0 ∙ was.table;
       parts = (let one = c.into_seat.ensures.hand.0 in let l = ap (λ (ps : List PassView). length ps) is in let push = length-append c.pop-in-loop-pass.new.self.items (pass ∷ []) in let w = was.parts in omega arith);

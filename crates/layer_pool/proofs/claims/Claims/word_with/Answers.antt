@@ -1,18 +1,14 @@
-use Rattle.std.proofs.Common.{rules, ◌≡◌, ℕ, ◌+◌, ◌≤◌, ap, ◌∙◌, sym, subst}
-use Rattle.layer_pool.specs.Passes.{ClaimsView}
-use Rattle.layer_pool.proofs.Moves.{closes}
+use Rattle.std.proofs.Common.{◌≡◌, ◌∙◌, ap}
+use Rattle.layer_pool.specs.Passes.{ClaimsView, HasReached}
+use Rattle.layer_pool.proofs.Moves.{closes, closed}
 use Rattle.layer_pool.proofs.claims.Claims.word_with.Goals as goal
 
 pub returns : goal.returns
 returns g c =
     let table = c.self.inside.table in
-    let last = closes table.shared.key c.args.seat.id c.args.seat.me.0 _ _ c.word-word.result c.close_with-closed.ensures.values.2 c.word-word.ensures in
-    let stripes : table.shared.key.stripes ≡ c.args.self.stripes = c.self.invariant.2 ∙ ap (λ (v : ClaimsView). v.stripes) c.self.view_is in
+    let stripes : table.shared.key.stripes ≡ c.args.self.stripes = c.self.invariant.same ∙ ap (λ (v : ClaimsView). v.stripes) c.self.view_is in
     let passes : table.shared.key.passes ≡ c.args.self.passes = ap (λ (v : ClaimsView). v.passes) c.self.view_is in
-    record {
-      once = last.once;
-      count = last.count;
-      most = subst (λ (k : ℕ). c.word-word.result ≤ k + c.args.self.passes) stripes (subst (λ (k : ℕ). c.word-word.result ≤ table.shared.key.stripes + k) passes last.most);
-      whole = λ is. last.whole (is ∙ sym passes);
-      all = λ is. last.all (is ∙ sym passes);
-    }
+    let last : HasReached c.args.self c.args.seat.me.0 c.word-word.result =
+    closes table.shared.key c.args.self c.args.seat.id c.args.seat.me.0 _ _ c.word-word.result stripes passes c.close_with-closed.ensures.values.2 c.word-word.ensures in
+    let told = closed c.args.self c.args.seat.me.0 c.word-word.result last in
+    record { machine = last; once = told.once; count = told.count; most = told.most; whole = told.whole; all = told.all }

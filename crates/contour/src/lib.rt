@@ -1,0 +1,13 @@
+//! Where planes cut a closed mesh: segments, the loops that they make, and a sweep of rising planes.
+#![tactic(auto)]
+
+mod heights;
+mod nodes;
+mod planes;
+mod rings;
+mod sweeping;
+
+pub use nodes::{Node, Segment};
+pub use planes::{segment_at, segments};
+pub use rings::Loops;
+pub use sweeping::Sweep;

@@ -1,0 +1,17 @@
+pub mod Turns
+pub mod Winds
+pub mod Ahead
+pub mod Passing
+pub mod Blends
+pub mod Settle
+pub mod Least
+pub mod Sliding
+pub mod Scanlines
+pub mod Courses
+pub mod Rounding
+pub mod Hitting
+pub mod Shifts
+pub mod Quadrants
+pub mod Rays
+pub mod Touching
+pub mod Steps

@@ -1,0 +1,37 @@
+use Rattle.std.proofs.Common.{rules, ◌≡◌, pos, ◌-ℤ◌, ◌*ℤ◌, [], ◌∷◌, FitsSigned, to_z, of_z, refl, ◌∙◌, subst, sym, ap, arith}
+use Rattle.std.proofs.lemmas.Int.{ints, to_z_pos, to_z-of_z}
+use mir.Syntax.{w128}
+use Rattle.micro_num.proofs.Sizes.{sizes, cast_in}
+use Rattle.micro_num.proofs.Identity.{reads, identity}
+use Rattle.exact_cut.specs.Columns.{IsLeastColumn, clamp}
+use Rattle.exact_cut.proofs.Least.{ceiling_by, ceiling_step, positive_by, unit_positive, least_clamp}
+use Rattle.exact_cut.proofs.columns.column.Goals as goal
+
+pub ceil_div-requires : goal.ceil_div-requires
+ceil_div-requires c =
+    let den = c.den-den in
+    let s = to_z w128 c.args.step in
+    let s_in = cast_in w128 c.args.step 100000 c.requires.step_in in
+    positive_by (pos 2 *ℤ s *ℤ den.result)
+    (identity (s ∷ den.result ∷ []) (search (reads, sizes, s_in, den.ensures.within) depth 40 fits 5000) refl)
+    (unit_positive s den.result c.args.step (to_z_pos w128 c.args.step (omega arith)) c.requires.step_above den.ensures.positive)
+
+pub returns : goal.returns
+returns c =
+    let p = c.args.c.now in
+    let num = c.num in
+    let den = c.den-den in
+    let i = c.ceil_div.result in
+    let first = c.args.first2 in
+    let s = to_z w128 c.args.step in
+    let s_in = cast_in w128 c.args.step 100000 c.requires.step_in in
+    let k = ceiling_by num.result den.result first s c.ceil_div.ensures
+    (identity (num.result ∷ den.result ∷ first ∷ []) (search (reads, sizes, c.requires.first_in, num.ensures.within, den.ensures.within) depth 40 fits 5000) refl)
+    (identity (s ∷ den.result ∷ []) (search (reads, sizes, s_in, den.ensures.within) depth 40 fits 5000) refl) in
+    let h = ceiling_step i num.result den.result first s c.args.step (to_z_pos w128 c.args.step (omega arith)) k in
+    let f1 : FitsSigned w128 i = search rules in
+    let clamped_is : c.clamped.result ≡ clamp i c.args.columns = simp to_z-of_z at c.clamped.ensures in
+    let l = least_clamp i num.result den.result first c.args.step c.args.columns h in
+    let m = subst (λ n. IsLeastColumn n den.result first c.args.step c.args.columns (clamp i c.args.columns)) num.ensures.value l in
+    let n = subst (λ d. IsLeastColumn p.num d first c.args.step c.args.columns (clamp i c.args.columns)) den.ensures.value m in
+    subst (IsLeastColumn p.num p.den first c.args.step c.args.columns) (sym clamped_is) n

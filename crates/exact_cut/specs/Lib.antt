@@ -1,0 +1,12 @@
+pub mod Cut
+pub mod CornerTurns
+pub mod Place
+pub mod Seen
+pub mod Cutting
+pub mod Sections
+pub mod Crossed
+pub mod Columns
+pub mod Course
+pub mod Slides
+pub mod Lattices
+pub mod WindLaws

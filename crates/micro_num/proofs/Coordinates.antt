@@ -1,0 +1,183 @@
+-- The coordinate that a word stands for, from the size that its text has.
+use Rattle.std.proofs.Common.{◌≡◌, ◌≢◌, ◌↔◌, ◌⊎◌, inl, inr, ℕ, zero, suc, ◌+◌, ◌*◌, ◌<◌, ◌≤◌, Bool, true, false, List, ◌++◌, length, length-append, ℤ, pos, negsuc, neg_ℤ, ◌+ℤ◌, ◌-ℤ◌, arith, ap, subst, sym, ◌∙◌, refl}
+use Rattle.std.specs.Prelude.{Option, Some, None, Result, Ok, Err, unsigned_abs, ◌&&◌, nat_lt, nat_le, if◌then◌else◌}
+use Rattle.std.specs.Char.{is_ascii_digit}
+use Rattle.std.specs.List.{list_all, before_first}
+use Rattle.std.proofs.lemmas.Bool.{cases_lt, lt-ltb, le-ltb, lt-leb, le-leb}
+use Rattle.micro_num.specs.declared.units.Unit.{Unit as LengthUnit}
+use Rattle.micro_num.specs.declared.faults.NumFault.{NumFault}
+use Rattle.micro_num.specs.declared.faults.NumFault.TheVariants.{NotNumber, TooLong, OutOfRange}
+use Rattle.micro_num.specs.Numeral.{Sign, unsigned, plus, minus, Numeral, IsNumeral, IsSpelled, sign_of, after_sign, numeral_of, numeral_text, from_first, fraction_digits, mantissa_digits, is_exponent, exponent_of}
+use Rattle.micro_num.specs.Micrometres.{with_sign, magnitude, unit_factor, unit_power, digits_value, exponent_value, coordinate_or_fault, numeral_coordinate, coordinate_of, micro, is_coordinate}
+use Rattle.micro_num.specs.Scan.{is_other, digits_behind, rest_behind, IsCapped, scanned, is_numeral, size, size_or_fault, size_of}
+use Rattle.micro_num.proofs.Grammar.{numeral_of-is, numeral_of-text}
+use Rattle.micro_num.proofs.Scanning.{numeral_of-scanned, scanned_digits}
+
+-- what is read of a size
+module _ (unit : LengthUnit) (text : List ℕ) (r : ℕ) (is : is_numeral (scanned unsigned text) ≡ true)
+    (capped : IsCapped (size unit (scanned unsigned text)) r) where
+  m : ℕ
+  m = size unit (scanned unsigned text)
+
+  open_size : size_of unit text ≡ size_or_fault m
+  unfolding m
+  open_size = ap (λ b. if b then size_or_fault (size unit (scanned unsigned text)) else Err NotNumber) is
+
+  pub size_beyond : 128000000 < r → Err OutOfRange ≡ size_of unit text
+  unfolding m
+  size_beyond above = by_cases (cases_lt 128000000 m)
+    where
+      by_cases : (128000000 < m) ⊎ (m ≤ 128000000) → Err OutOfRange ≡ size_of unit text
+      by_cases (inl far) = sym (open_size ∙ ap (λ b. if b then Ok (pos m) else Err OutOfRange) (lt-leb m 128000000 far))
+      by_cases (inr near) = absurd (omega (arith, capped.within near))
+
+  pub size_within : r ≤ 128000000 → Ok (pos r) ≡ size_of unit text
+  unfolding m
+  size_within below = by_cases (cases_lt 128000000 m)
+    where
+      by_cases : (128000000 < m) ⊎ (m ≤ 128000000) → Ok (pos r) ≡ size_of unit text
+      by_cases (inl far) = absurd (omega (arith, capped.beyond far))
+      by_cases (inr near) =
+          ap (λ r. Ok (pos r)) (capped.within near)
+          ∙ sym (open_size ∙ ap (λ b. if b then Ok (pos m) else Err OutOfRange) (le-leb m 128000000 near))
+
+-- The three parts of a text are those that are met in it.
+module _ (text whole fraction behind : List ℕ) (whole_is : whole ≡ before_first is_other text)
+    (fraction_is : fraction ≡ fraction_digits (digits_behind (from_first is_other text)))
+    (behind_is : behind ≡ rest_behind (from_first is_other text)) where
+  pub met_numeral : 0 < length whole + length fraction → is_exponent (exponent_of behind) ≡ true → is_numeral (scanned unsigned text) ≡ true
+  met_numeral some exponent =
+      let n : Numeral = scanned unsigned text in
+      let sizes : length (mantissa_digits n) ≡ length whole + length fraction =
+      (λ i. length (sym whole_is i ++ sym fraction_is i)) ∙ length-append whole fraction in
+      let long : nat_lt 0 (length (mantissa_digits n)) ≡ true = lt-ltb 0 (length (mantissa_digits n)) (omega arith) in
+      let digits : list_all is_ascii_digit (mantissa_digits n) ≡ true = scanned_digits unsigned text in
+      let last : is_exponent n.exponent ≡ true = ap (λ b. is_exponent (exponent_of b)) (sym behind_is) ∙ exponent in
+      (λ i. (long i && digits i) && last i)
+
+  pub met_size : (unit : LengthUnit) (r : ℕ)
+      → IsCapped (magnitude (unit_factor unit * digits_value (whole ++ fraction)) ((exponent_value (exponent_of behind) -ℤ pos (length fraction)) +ℤ pos (unit_power unit))) r
+      → IsCapped (size unit (scanned unsigned text)) r
+  met_size unit r h =
+      subst (λ m. IsCapped m r)
+      (λ i. magnitude (unit_factor unit * digits_value (whole_is i ++ fraction_is i))
+      ((exponent_value (exponent_of (behind_is i)) -ℤ pos (length (fraction_is i))) +ℤ pos (unit_power unit)))
+      h
+
+abbrev pub turned : Sign → ℤ → ℤ
+turned unsigned z = z
+turned plus z = z
+turned minus z = neg_ℤ z
+
+pub turned-plus : (s : Sign) (z : ℤ) → s ≢ minus → turned s z ≡ z
+turned-plus unsigned z h = refl
+turned-plus plus z h = refl
+turned-plus minus z h = absurd (h refl)
+
+abbrev pub signed : Sign → Result ℤ NumFault → Result ℤ NumFault
+signed s (Ok z) = Ok (turned s z)
+signed s (Err f) = Err f
+
+sized : (s : Sign) (m : ℕ) → coordinate_or_fault (with_sign s m) ≡ signed s (size_or_fault m)
+sized unsigned m = by_test (nat_le m 128000000)
+  where
+    by_test : (b : Bool) → (if b then Ok (pos m) else Err OutOfRange) ≡ signed unsigned (if b then Ok (pos m) else Err OutOfRange)
+    by_test true = refl
+    by_test false = refl
+sized plus m = by_test (nat_le m 128000000)
+  where
+    by_test : (b : Bool) → (if b then Ok (pos m) else Err OutOfRange) ≡ signed plus (if b then Ok (pos m) else Err OutOfRange)
+    by_test true = refl
+    by_test false = refl
+sized minus zero = refl
+sized minus (suc k) = by_test (nat_le (suc k) 128000000)
+  where
+    by_test : (b : Bool) → (if b then Ok (negsuc k) else Err OutOfRange) ≡ signed minus (if b then Ok (pos (suc k)) else Err OutOfRange)
+    by_test true = refl
+    by_test false = refl
+
+pub coordinate-is : (unit : LengthUnit) (word : List ℕ) → length word ≤ 255
+    → coordinate_of unit word ≡ signed (sign_of word) (size_of unit (after_sign word))
+coordinate-is unit word short =
+    ap (λ b. if b then Err TooLong else numeral_coordinate unit (numeral_of word)) (le-ltb 255 (length word) short)
+    ∙ ap (numeral_coordinate unit) (numeral_of-scanned word)
+    ∙ by_test (is_numeral n)
+  where
+    n : Numeral
+    n = scanned (sign_of word) (after_sign word)
+
+    by_test : (b : Bool) → numeral_coordinate unit (if b then Some n else None) ≡ signed (sign_of word) (if b then size_or_fault (size unit n) else Err NotNumber)
+    by_test true = sized (sign_of word) (size unit n)
+    by_test false = refl
+
+-- What the coordinate says of the word.
+module _ (unit : LengthUnit) (word : List ℕ) where
+  short_coordinate : length word ≤ 255 → coordinate_of unit word ≡ numeral_coordinate unit (numeral_of word)
+  short_coordinate short = ap (λ b. if b then Err TooLong else numeral_coordinate unit (numeral_of word)) (le-ltb 255 (length word) short)
+
+  long_coordinate : 255 < length word → coordinate_of unit word ≡ Err TooLong
+  long_coordinate long = ap (λ b. if b then Err TooLong else numeral_coordinate unit (numeral_of word)) (lt-ltb 255 (length word) long)
+
+  pub spelled_coordinate : (n : Numeral) → IsNumeral n → word ≡ numeral_text n → length word ≤ 255 → coordinate_of unit word ≡ coordinate_or_fault (micro unit n)
+  spelled_coordinate n is spelled short =
+      short_coordinate short ∙ ap (numeral_coordinate unit) (ap numeral_of spelled ∙ numeral_of-text n is)
+
+  is_range : (z : ℤ) → coordinate_or_fault z ≡ Err NotNumber → ⊥
+  is_range z h = by_test (is_coordinate z) h
+    where
+      by_test : (b : Bool) → (if b then Ok z else Err OutOfRange) ≡ Err NotNumber → ⊥
+      by_test true e = cc
+      by_test false e = cc
+
+  is_size : (z : ℤ) → coordinate_or_fault z ≡ Err TooLong → ⊥
+  is_size z h = by_test (is_coordinate z) h
+    where
+      by_test : (b : Bool) → (if b then Ok z else Err OutOfRange) ≡ Err TooLong → ⊥
+      by_test true e = cc
+      by_test false e = cc
+
+  pub not_number : (coordinate_of unit word ≡ Err NotNumber) ↔ ((length word ≤ 255) × (IsSpelled word → ⊥))
+  not_number = (λ e. forth (cases_lt 255 (length word)) e, λ h. back h.0 h.1 (numeral_of word) refl)
+    where
+      forth : (255 < length word) ⊎ (length word ≤ 255) → coordinate_of unit word ≡ Err NotNumber → (length word ≤ 255) × (IsSpelled word → ⊥)
+      forth (inl long) e = let other = long_coordinate long in cc
+      forth (inr short) e = (short, λ h. is_range (micro unit h.1) (sym (spelled_coordinate h.1 h.2 h.3 short) ∙ e))
+
+      back : length word ≤ 255 → (IsSpelled word → ⊥) → (o : Option Numeral) → numeral_of word ≡ o → coordinate_of unit word ≡ Err NotNumber
+      back short none None e = short_coordinate short ∙ ap (numeral_coordinate unit) e
+      back short none (Some n) e =
+          let read : IsNumeral n × (word ≡ numeral_text n) = numeral_of-is word n e in
+          absurd (none (short, n, read.0, read.1))
+
+  pub too_long : (coordinate_of unit word ≡ Err TooLong) ↔ (255 < length word)
+  too_long = (λ e. forth (cases_lt 255 (length word)) e (numeral_of word) refl, long_coordinate)
+    where
+      forth : (255 < length word) ⊎ (length word ≤ 255) → coordinate_of unit word ≡ Err TooLong → (o : Option Numeral) → numeral_of word ≡ o → 255 < length word
+      forth (inl long) e o is = long
+      forth (inr short) e None is = let other = short_coordinate short ∙ ap (numeral_coordinate unit) is in cc
+      forth (inr short) e (Some n) is =
+          absurd (is_size (micro unit n) (sym (short_coordinate short ∙ ap (numeral_coordinate unit) is) ∙ e))
+
+  pub out_of_range : (coordinate_of unit word ≡ Err OutOfRange)
+      ↔ ((n : Numeral) × IsNumeral n × (word ≡ numeral_text n) × (length word ≤ 255) × (128000000 < unsigned_abs (micro unit n)))
+  out_of_range = (λ e. forth (cases_lt 255 (length word)) e (numeral_of word) refl, λ h. back h.0 h.1 h.2 h.3 h.4)
+    where
+      beyond : (z : ℤ) → coordinate_or_fault z ≡ Err OutOfRange → (128000000 < unsigned_abs z) ⊎ (unsigned_abs z ≤ 128000000) → 128000000 < unsigned_abs z
+      beyond z e (inl far) = far
+      beyond z e (inr near) =
+          let other : coordinate_or_fault z ≡ Ok z = ap (λ b. if b then Ok z else Err OutOfRange) (le-leb (unsigned_abs z) 128000000 near) in
+          cc
+
+      forth : (255 < length word) ⊎ (length word ≤ 255) → coordinate_of unit word ≡ Err OutOfRange → (o : Option Numeral) → numeral_of word ≡ o
+          → (n : Numeral) × IsNumeral n × (word ≡ numeral_text n) × (length word ≤ 255) × (128000000 < unsigned_abs (micro unit n))
+      forth (inl long) e o is = let other = long_coordinate long in cc
+      forth (inr short) e None is = let other = short_coordinate short ∙ ap (numeral_coordinate unit) is in cc
+      forth (inr short) e (Some n) is =
+          let read : IsNumeral n × (word ≡ numeral_text n) = numeral_of-is word n is in
+          let far : coordinate_or_fault (micro unit n) ≡ Err OutOfRange = sym (short_coordinate short ∙ ap (numeral_coordinate unit) is) ∙ e in
+          (n, read.0, read.1, short, beyond (micro unit n) far (cases_lt 128000000 (unsigned_abs (micro unit n))))
+
+      back : (n : Numeral) → IsNumeral n → word ≡ numeral_text n → length word ≤ 255 → 128000000 < unsigned_abs (micro unit n) → coordinate_of unit word ≡ Err OutOfRange
+      back n is spelled short far =
+          spelled_coordinate n is spelled short
+          ∙ ap (λ b. if b then Ok (micro unit n) else Err OutOfRange) (lt-leb (unsigned_abs (micro unit n)) 128000000 far)

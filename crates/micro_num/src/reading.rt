@@ -1,0 +1,64 @@
+ghost use Rattle.std.specs.Prelude.{◌≡◌, ◌≤◌, ◌<◌, ◌↔◌, ◌≤ℤ◌, Err, IfOk, List, length, ℕ, pos, unsigned_abs};
+ghost use Rattle.micro_num.specs.Scan.{size_of};
+ghost use Rattle.micro_num.specs.Numeral.{Numeral, IsNumeral, IsSpelled, numeral_text};
+ghost use Rattle.micro_num.specs.Micrometres.{coordinate_of, coordinate_or_fault, micro};
+ghost use Rattle.micro_num.specs.declared.faults.NumFault.TheVariants.{NotNumber, OutOfRange, TooLong};
+
+use crate::faults::NumFault;
+use crate::lengths::size_in;
+use crate::mantissa::{read_exponent, read_mantissa, split_sign};
+use crate::scaling::LIMIT;
+use crate::units::Unit;
+
+/// The whole micrometres that a word stands for, rounded to the nearest, halves away from zero.
+///
+/// A word is a number where it is a sign or none, then digits with at most one point before, among or behind them and
+/// at least one digit, then nothing, or `e` or `E`, a sign or none and at least one digit.
+///
+/// # Errors
+/// `TooLong` where the word has more than 255 bytes, else `NotNumber` where it is no number, else `OutOfRange` where
+/// the rounded value is more than 128,000,000 micrometres from 0.
+pub fn read_micro(word: &[u8], unit: Unit) -> Result<i32, NumFault>
+    ensures exact { result ≡ coordinate_of unit word.now }
+    ensures spelled { (n : Numeral) → IsNumeral n → word.now ≡ numeral_text n → length word.now ≤ 255
+        → result ≡ coordinate_or_fault (micro unit n) }
+    ensures not_number { (result ≡ Err NotNumber) ↔ ((length word.now ≤ 255) × (IsSpelled word.now → ⊥)) }
+    ensures too_long { (result ≡ Err TooLong) ↔ (255 < length word.now) }
+    ensures out_of_range { (result ≡ Err OutOfRange) ↔ ((n : Numeral) × IsNumeral n × (word.now ≡ numeral_text n)
+        × (length word.now ≤ 255) × (128000000 < unsigned_abs (micro unit n))) }
+{
+    read_word(word, unit)
+}
+
+/// The coordinate of a word, from its sign and the text behind that.
+fn read_word(word: &[u8], unit: Unit) -> Result<i32, NumFault>
+    ensures { result ≡ coordinate_of unit word.now }
+{
+    if word.len() > 255 {
+        return Err(NumFault::TooLong);
+    }
+    let (negative, text) = split_sign(word);
+    let size = read_unsigned(text, unit)?;
+    Ok(if negative { -size } else { size })
+}
+
+/// How far from 0 the text behind a sign is.
+fn read_unsigned(text: &[u8], unit: Unit) -> Result<i32, NumFault>
+    requires { length text.now ≤ 255 }
+    ensures exact { result ≡ size_of unit text.now }
+    ensures small { IfOk result (λ z. (pos 0 ≤ℤ z) × (z ≤ℤ pos 128000000)) }
+{
+    let mantissa = read_mantissa(text);
+    if mantissa.whole.len() + mantissa.fraction.len() == 0 {
+        return Err(NumFault::NotNumber);
+    }
+    let Some(exponent) = read_exponent(mantissa.behind) else {
+        return Err(NumFault::NotNumber);
+    };
+    let size = size_in(&mantissa, exponent, unit);
+    if size > LIMIT {
+        Err(NumFault::OutOfRange)
+    } else {
+        Ok(size as i32)
+    }
+}

@@ -1,0 +1,108 @@
+use super::*;
+use std::alloc::{AllocError, Global};
+use std::test::Fail;
+
+#[test]
+fn spellings(rt: HostRuntime) {
+    let rows: [(&[u8], Result<i32, NumFault>); 20] = [
+        (b"0.0005", Ok(1)),
+        (b"-0.0005", Ok(-1)),
+        (b"4.9999E-4", Ok(0)),
+        (b"2.648000e-002", Ok(26)),
+        (b"0e99999999999", Ok(0)),
+        (b"1.", Ok(1000)),
+        (b"+.5", Ok(500)),
+        (b"8000.0004", Ok(8_000_000)),
+        (b"8000.0005", Ok(8_000_001)),
+        (b"-128000.0004", Ok(-128_000_000)),
+        (b"128000.0005", Err(NumFault::OutOfRange)),
+        (b"-128000.0005", Err(NumFault::OutOfRange)),
+        (b"1e99999999999", Err(NumFault::OutOfRange)),
+        (b".", Err(NumFault::NotNumber)),
+        (b"1e", Err(NumFault::NotNumber)),
+        (b"1,5", Err(NumFault::NotNumber)),
+        (b"nan", Err(NumFault::NotNumber)),
+        (b"", Err(NumFault::NotNumber)),
+        (b"1.2.3", Err(NumFault::NotNumber)),
+        (b"+-1", Err(NumFault::NotNumber)),
+    ];
+    for (word, wanted) in rows {
+        assert!(rt; read_micro(word, Unit::Millimetre) == wanted);
+    }
+}
+
+#[test]
+fn inches(rt: HostRuntime) {
+    let rows: [(&[u8], Result<i32, NumFault>); 8] = [
+        (b"1", Ok(25_400)),
+        (b"0.0001", Ok(3)),
+        (b"0.0025", Ok(64)),
+        (b"-0.0025", Ok(-64)),
+        (b"5039.37", Ok(127_999_998)),
+        (b"5039.37008", Ok(128_000_000)),
+        (b"5039.3701", Err(NumFault::OutOfRange)),
+        (b"nan", Err(NumFault::NotNumber)),
+    ];
+    for (word, wanted) in rows {
+        assert!(rt; read_micro(word, Unit::Inch) == wanted);
+    }
+}
+
+/// `front`, a row of one digit, and `back`.
+fn long_word(
+    alloc: Global,
+    front: &[u8],
+    digit: u8,
+    count: usize,
+    back: &[u8],
+) -> Result<Vec<u8>, AllocError> {
+    let mut word = Vec::new(alloc);
+    word.extend_from_slice(front)?;
+    for _ in 0..count {
+        word.push(digit)?;
+    }
+    word.extend_from_slice(back)?;
+    Ok(word)
+}
+
+#[test]
+fn long_words(rt: HostRuntime) -> Result<(), Fail> {
+    let millimetres: [(&[u8], u8, usize, &[u8], Result<i32, NumFault>); 9] = [
+        (b"", b'0', 255, b"", Ok(0)),
+        (b"", b'0', 256, b"", Err(NumFault::TooLong)),
+        (b"0e", b'9', 253, b"", Ok(0)),
+        (b"1e-", b'9', 252, b"", Ok(0)),
+        (b"1e", b'9', 253, b"", Err(NumFault::OutOfRange)),
+        (b"1", b'0', 240, b"e-240", Ok(1000)),
+        (b"0.", b'0', 240, b"1e241", Ok(1000)),
+        (b"0.", b'0', 240, b"5e237", Ok(1)),
+        (b"0.00049", b'9', 240, b"", Ok(0)),
+    ];
+    for (front, digit, count, back, wanted) in millimetres {
+        let word = long_word(rt.alloc(), front, digit, count, back)?;
+        assert!(rt; read_micro(&word, Unit::Millimetre) == wanted);
+    }
+    let inches: [(&[u8], u8, i32); 2] = [(b"0.0025", b'0', 64), (b"0.00249", b'9', 63)];
+    for (front, digit, wanted) in inches {
+        let word = long_word(rt.alloc(), front, digit, 240, b"")?;
+        assert!(rt; read_micro(&word, Unit::Inch) == Ok(wanted));
+    }
+    Ok(())
+}
+
+#[test]
+fn ceilings(rt: HostRuntime) {
+    assert!(rt; ceil_div(-7, 2) == -3);
+    assert!(rt; ceil_div(7, 2) == 4);
+    assert!(rt; ceil_div(6, 2) == 3);
+}
+
+#[test]
+fn numbers_of_faults(rt: HostRuntime) {
+    assert!(rt;
+        NumFault::NotNumber as u8 == 1
+            && NumFault::TooLong as u8 == 2
+            && NumFault::OutOfRange as u8 == 3
+    );
+    one_spelling();
+}

@@ -1,0 +1,27 @@
+use Rattle.std.proofs.Common.{length, refl, sym, ◌∙◌, ap, [], arith}
+use Rattle.std.specs.Prelude.{codes}
+use Rattle.stl_text.specs.declared.words.Word.TheVariants.{FacetOrEnd}
+use Rattle.stl_text.specs.Text.{facet_word, is_keyword}
+use Rattle.stl_text.proofs.Steps.{stops_at, taken_place, unfit}
+use Rattle.stl_text.proofs.reader.Reader.begins_facet.Goals as goal
+
+pub returns-then-room-eq0-clause-fault : goal.returns-then-room-eq0-clause-fault
+returns-then-room-eq0-clause-fault c =
+    let passed = c.next_word-word.ensures in
+    stops_at c.args.room facet_word [] c.args.self.now _ (
+      refl,
+      sym c.if-room-eq0.true,
+      ap (is_keyword (codes "facet")) (sym passed.word) ∙ sym c.is_keyword.ensures ∙ c.if-is_keyword.true,
+      taken_place c.args.self.now c.next_word-word.new.self c.next_word-word.result.now _ passed.rest passed.place passed.within
+          c.place_of.ensures,
+    )
+
+pub returns-clause-fault : goal.returns-clause-fault
+returns-clause-fault c =
+    let passed = c.next_word-word.ensures in
+    unfit c.args.room c.args.self.now c.next_word-word.new.self facet_word FacetOrEnd c.next_word-word.result.now c.fault_at.result
+    refl (λ e. cc) passed.word
+    (let no_facet = sym c.is_keyword.ensures ∙ c.if-is_keyword.false in
+    let no_end = sym c.is_keyword-2.ensures ∙ c.if-is_keyword-2.false in
+    rw (no_facet, no_end) refl)
+    passed.rest passed.place passed.within c.fault_at.ensures
