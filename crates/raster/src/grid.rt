@@ -168,7 +168,7 @@ impl Grid {
 }
 
 /// The grid of this pitch and layer height that a mesh with these least and greatest coordinates fits in.
-fn fit_corners(
+pub(crate) fn fit_corners(
     corners: Option<(Point, Point)>,
     pitch: u32,
     layer_height: u32,

@@ -11,6 +11,8 @@ mod image;
 mod rows;
 mod rules;
 mod spans;
+#[cfg(test)]
+mod tests;
 mod write_fault;
 
 pub use devices::{Counted, Failed, Failures, Sink, Source};
