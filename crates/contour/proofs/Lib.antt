@@ -1,3 +1,5 @@
 pub mod Cutting
 pub mod Numbered
 pub mod Parts
+pub mod Counts
+pub mod Swept
