@@ -3,3 +3,4 @@ pub mod Numbered
 pub mod Parts
 pub mod Counts
 pub mod Swept
+pub mod Pushes
