@@ -19,5 +19,6 @@ pub struct Lattice {
     pub ghost step_in: { step ≤ 100000 },
     pub ghost columns_in: { columns ≤ 16384 },
     pub ghost rows_in: { rows ≤ 16384 },
-    pub ghost last_in: { (y2 +ℤ pos 2 *ℤ pos step *ℤ pos rows) ≤ℤ (pos 256200000 +ℤ pos 2 *ℤ pos step) },
+    pub ghost last_in: { (y2 +ℤ pos 2 *ℤ pos step *ℤ pos rows)
+        ≤ℤ (pos 256200000 +ℤ pos 2 *ℤ pos step) },
 }

@@ -73,8 +73,10 @@ impl Walk {
         ensures row { result.row ≡ row }
         ensures sign { result.sign ≡ sign }
         ensures length { length result.columns ≡ end - row }
-        ensures columns { (n : ℕ) → n < end - row → IsLeastColumn (num_between near.now far.now (row_y lattice.now (row + n)))
-            (den_between near.now far.now) lattice.now.x2 lattice.now.step lattice.now.columns (slice_index result.columns n) }
+        ensures columns { (n : ℕ) → n < end - row
+            → IsLeastColumn (num_between near.now far.now (row_y lattice.now (row + n)))
+            (den_between near.now far.now) lattice.now.x2 lattice.now.step
+            lattice.now.columns (slice_index result.columns n) }
     {
         Walk {
             row,
@@ -139,8 +141,10 @@ fn slide_between(near: &CutPoint, far: &CutPoint, lattice: &Lattice, row: u32, r
     requires den_positive { pos 0 <ℤ den_between near.now far.now }
     ensures slide { IsSlide result }
     ensures unit { result.unit ≡ pos 2 *ℤ pos lattice.now.step *ℤ den_between near.now far.now }
-    ensures place { place_of result ≡ num_between near.now far.now (row_y lattice.now row) -ℤ lattice.now.x2 *ℤ den_between near.now far.now }
-    ensures pace { 1 < rows → pace_of result ≡ pos 2 *ℤ pos lattice.now.step *ℤ slope_between near.now far.now }
+    ensures place { place_of result ≡ num_between near.now far.now (row_y lattice.now row)
+        -ℤ lattice.now.x2 *ℤ den_between near.now far.now }
+    ensures pace { 1 < rows
+        → pace_of result ≡ pos 2 *ℤ pos lattice.now.step *ℤ slope_between near.now far.now }
     ensures whole_in { IsAtMost 300000000000000000000000000000000000 result.whole }
 {
     let (num, den) = meet(near, far, scanline(lattice, row));
