@@ -1,2 +1,6 @@
 pub mod Cutting
 pub mod Numbered
+pub mod Parts
+pub mod Counts
+pub mod Swept
+pub mod Pushes

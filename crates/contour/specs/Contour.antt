@@ -4,7 +4,7 @@
 --     follower list s       the segment behind s: at its end node, of those that start there, the one in the place
 --                           that s has among those that end there
 --     loops list            the cycles, each from its least facet, in order of these
-use Rattle.std.specs.Prelude.{◌≡◌, ℕ, ◌-◌, take, drop, zero, suc, Bool, true, ◌&&◌, List, [], ◌∷◌, length, map, Option, Some, None, filter, filter_map, find, slice_index_or, slice_get, min, max, ℤ, pos, ◌*ℤ◌, ◌==◌, nat_le, int_le, int_lt, if◌then◌else◌, flat_map, count_by}
+use Rattle.std.specs.Prelude.{◌≡◌, ℕ, ◌-◌, ◌≤◌, take, drop, zero, suc, Bool, true, ◌&&◌, List, [], ◌∷◌, length, map, Option, Some, None, filter, filter_map, find, slice_index_or, slice_get, min, max, ℤ, pos, ◌*ℤ◌, ◌==◌, nat_le, int_le, int_lt, if◌then◌else◌, flat_map, count_by}
 use Rattle.std.specs.Int.{int_max}
 use Rattle.std.specs.List.{enumerate_from, list_all, list_any, position_or_len, AllByRecursion}
 use Rattle.std.specs.List.Sorted.{IsStrictlyIncreasing}
@@ -140,3 +140,14 @@ greatest_z t = int_max (int_max t.a.z t.b.z) t.c.z
 abbrev pub parts_from : {X : Type 0} → ℕ → List ℕ → List X → List (List X)
 parts_from at [] xs = []
 parts_from at (e ∷ ends) xs = take (e - at) xs ∷ parts_from e ends (drop (e - at) xs)
+
+-- the parts begin at the place `at`, stand in order, and the last ends at n
+abbrev pub AreEnds : ℕ → List ℕ → ℕ → Type 0
+AreEnds at [] n = at ≡ n
+AreEnds at (e ∷ ends) n = (at ≤ e) × AreEnds e ends n
+
+-- where the part with a number begins
+abbrev pub start_of : ℕ → List ℕ → ℕ → ℕ
+start_of at ends zero = at
+start_of at [] (suc k) = at
+start_of at (e ∷ ends) (suc k) = start_of e ends k

@@ -1,1 +1,2 @@
 pub mod Contour
+pub mod Sweeping

@@ -1,6 +1,7 @@
 //! Where planes cut a closed mesh: segments, the loops that they make, and a sweep of rising planes.
 #![tactic(auto)]
 
+mod cut_facets;
 mod heights;
 mod nodes;
 mod planes;

@@ -1,156 +1,120 @@
-ghost use Rattle.std.specs.Prelude.{◌≡◌, ◌<◌, ◌≤ℤ◌, ◌≤◌, All, IfOk, OnErr, OnOk, length, vec_len};
+ghost use Rattle.std.specs.Prelude.{◌≡◌, ◌<◌, ◌≤ℤ◌, All, IfOk, OnErr, OnOk, filter_map, length};
 ghost use Rattle.micro_num.specs.Bounds.{IsAtMost};
+ghost use Rattle.contour.specs.Contour.{active_facets, passed_count, segments};
+ghost use Rattle.contour.specs.Sweeping.{numbered_segment};
 
-use crate::heights::{highest, lowest};
+use crate::cut_facets::{Begun, CutFacets};
 use crate::nodes::Segment;
 use crate::planes::segment_at;
 use mesh_weld::Solid;
 use std::alloc::{AllocError, Allocator};
+use std::marker::Model;
 
-/// A plane that rises through a mesh, with the facets that it cuts.
+/// A plane that rises through a mesh, with the facets that it cuts. A step up looks at the facets
+/// that begin or are cut on the way, and at no others.
 #[derive(Drop)]
 pub struct Sweep<'m, A: Allocator> {
     alloc: A,
     solid: &'m Solid<A>,
     height: i64,
     passed: usize,
-    active: Vec<u32, A>,
-    tops: Vec<i32, A>,
+    cut: CutFacets<A>,
+}
+
+impl<'m, A: Allocator> Model for Sweep<'m, A> {
+    ghost use Rattle.contour.specs.Sweeping.{IsSwept, SweepView};
+
+    ghost Value = { SweepView };
+
+    ghost view = { λ s. record { facets = s.solid.now.facets; height = s.height } };
+
+    ghost invariant = { λ s. IsSwept s.solid.now.facets s.height s.passed s.cut.numbers.items s.cut.tops.items };
 }
 
 impl<'m, A: Allocator + Copy + Send + Sync> Sweep<'m, A> {
-    /// A sweep that stands at the height `z2`, doubled micrometres.
+    /// A sweep that stands at the height `z2`, doubled micrometres, from -256,200,000 to
+    /// 256,200,000. `Err` comes only where a growth was refused.
     pub fn start(alloc: A, s: &'m Solid<A>, z2: i64) -> Result<Sweep<'m, A>, AllocError>
         requires { IsAtMost 256200000 z2 }
+        ensures mesh { IfOk result (λ sweep. sweep.facets ≡ s.now.facets) }
+        ensures at { IfOk result (λ sweep. sweep.height ≡ z2) }
     {
-        let mut active = Vec::new(alloc);
-        let passed = push_cut(s, s.by_height(), z2, &mut active)?;
-        active.sort_unstable();
-        let mut tops = Vec::with_capacity(alloc, active.len())?;
-        for n in &active {
-            tops.push(highest(&s.facet(*n)))?;
-        }
+        let mut begun = Begun::find(alloc, s, s.by_height(), z2)?;
+        begun.cut.sort_unstable();
+        let cut = CutFacets::of(alloc, s, begun.cut.as_slice())?;
         Ok(Sweep {
             alloc,
             solid: s,
             height: z2,
-            passed,
-            active,
-            tops,
+            passed: begun.count,
+            cut,
         })
     }
 
-    /// Raises the plane to the height `z2`, doubled micrometres, which isn't below its own. On a
-    /// refusal of memory the sweep is as before.
+    /// Raises the plane to the height `z2`, doubled micrometres, which isn't below its own, and at
+    /// most 256,200,000. `Err` comes only where a growth was refused, and the sweep is then as before.
     pub fn advance(&mut self, z2: i64) -> Result<(), AllocError>
         requires height { IsAtMost 256200000 z2 }
+        requires up { self.old.height ≤ℤ z2 }
+        ensures mesh { self.new.facets ≡ self.old.facets }
+        ensures at { OnOk result (self.new.height ≡ z2) }
+        ensures err { OnErr result (self.new ≡ self.old) }
     {
-        let mut fresh = Vec::new(self.alloc);
-        let more = push_cut(
-            self.solid,
-            &self.solid.by_height()[self.passed..],
-            z2,
-            &mut fresh,
-        )?;
-        fresh.sort_unstable();
-        let merged = self.merged_with(fresh.as_slice(), z2)?;
-        self.active = merged.active;
-        self.tops = merged.tops;
-        self.passed += more;
+        let rest = &self.solid.by_height()[self.passed..];
+        let mut begun = Begun::find(self.alloc, self.solid, rest, z2)?;
+        begun.cut.sort_unstable();
+        self.cut = self.cut.risen(self.alloc, self.solid, begun.cut.as_slice(), z2)?;
+        self.passed += begun.count;
         self.height = z2;
         Ok(())
     }
 
-    /// The facets that the plane still cuts at `z2`, with the fresh ones among them.
-    fn merged_with(&self, fresh: &[u32], z2: i64) -> Result<CutFacets<A>, AllocError> {
-        let mut merged = CutFacets::with_capacity(self.alloc, self.active.len() + fresh.len())?;
-        let mut rest = fresh;
-        for (n, top) in self.active.iter().zip(&self.tops) {
-            if 2 * i64::from(*top) > z2 {
-                let before = rest.iter().take_while(|m| **m < *n).count();
-                let (first, later) = rest.split_at(before);
-                merged.push_all(self.solid, first)?;
-                merged.push(*n, *top)?;
-                rest = later;
-            }
-        }
-        merged.push_all(self.solid, rest)?;
-        Ok(merged)
-    }
-
     /// The height of the plane, in doubled micrometres.
-    pub fn height(&self) -> i64 {
+    pub fn height(&self) -> i64
+        ensures { result ≡ self.now.height }
+    {
         self.height
     }
 
     /// How many kept facets have a corner at most at the height.
-    pub fn passed(&self) -> u32 {
+    pub fn passed(&self) -> u32
+        ensures { result ≡ passed_count self.now.facets self.now.height }
+    {
         self.passed as u32
     }
 
     /// The numbers of the kept facets that have corners at most at the height and corners above
     /// it, in ascending order.
-    pub fn active(&self) -> &[u32] {
-        self.active.as_slice()
+    pub fn active(&self) -> &[u32]
+        ensures { result.now ≡ active_facets self.now.facets self.now.height }
+    {
+        self.cut.numbers.as_slice()
     }
 
-    /// The segments at the height, in order of facets.
-    pub fn segments(&self) -> Result<Vec<Segment, A>, AllocError> {
-        let mut list = Vec::with_capacity(self.alloc, self.active.len())?;
-        for n in &self.active {
-            if let Some(segment) = segment_at(self.solid, *n, self.height) {
-                list.push(segment)?;
-            }
-        }
-        Ok(list)
+    /// The segments at the height, in order of facets. `Err` comes only where a growth was refused.
+    pub fn segments(&self) -> Result<Vec<Segment, A>, AllocError>
+        ensures { IfOk result (λ list. list.items ≡ segments self.now.facets self.now.height) }
+    {
+        segments_of(self.alloc, self.solid, self.cut.numbers.as_slice(), self.height)
     }
 }
 
-/// The numbers of facets that a plane cuts, each with its greatest height in micrometres.
-#[derive(Drop)]
-struct CutFacets<A: Allocator> {
-    active: Vec<u32, A>,
-    tops: Vec<i32, A>,
-}
-
-impl<A: Allocator + Copy + Send + Sync> CutFacets<A> {
-    fn with_capacity(alloc: A, room: usize) -> Result<CutFacets<A>, AllocError> {
-        Ok(CutFacets {
-            active: Vec::with_capacity(alloc, room)?,
-            tops: Vec::with_capacity(alloc, room)?,
-        })
-    }
-
-    fn push(&mut self, facet: u32, top: i32) -> Result<(), AllocError> {
-        self.active.push(facet)?;
-        self.tops.push(top)?;
-        Ok(())
-    }
-
-    fn push_all(&mut self, s: &Solid<A>, facets: &[u32]) -> Result<(), AllocError> {
-        for n in facets {
-            self.push(*n, highest(&s.facet(*n)))?;
-        }
-        Ok(())
-    }
-}
-
-/// Of facets in order of their least heights, pushes those that the plane at `z2` cuts, and answers
-/// how many have a corner at most at it.
-fn push_cut<A: Allocator + Copy + Send + Sync>(
+/// The segments of facets at the height `z2`, of those that have one.
+fn segments_of<A: Allocator + Copy + Send + Sync>(
+    alloc: A,
     s: &Solid<A>,
-    order: &[u32],
+    numbers: &[u32],
     z2: i64,
-    cut: &mut Vec<u32, A>,
-) -> Result<usize, AllocError> {
-    for (i, n) in order.iter().enumerate() {
-        let f = s.facet(*n);
-        if 2 * i64::from(lowest(&f)) > z2 {
-            return Ok(i);
-        }
-        if 2 * i64::from(highest(&f)) > z2 {
-            cut.push(*n)?;
+) -> Result<Vec<Segment, A>, AllocError>
+    requires numbers { All (λ n. n < length s.now.facets) numbers.now }
+    requires height { IsAtMost 256200000 z2 }
+    ensures { IfOk result (λ list. list.items ≡ filter_map (numbered_segment s.now.facets z2) numbers.now) }
+{
+    let mut list = Vec::with_capacity(alloc, numbers.len())?;
+    for n in numbers {
+        if let Some(segment) = segment_at(s, *n, z2) {
+            list.push(segment)?;
         }
     }
-    Ok(order.len())
+    Ok(list)
 }

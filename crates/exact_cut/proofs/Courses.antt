@@ -1,14 +1,14 @@
 -- A walk's columns are those of the facet's crossings, row by row.
-use Rattle.std.proofs.Common.{◌≡◌, ◌↔◌, ◌⊎◌, inl, inr, ℕ, zero, suc, ◌+◌, ◌-◌, ◌<◌, ◌≤◌, [], ◌∷◌, List, length, slice_index, ℤ, pos, negsuc, ◌+ℤ◌, ◌-ℤ◌, ◌*ℤ◌, ◌≤ℤ◌, ◌<ℤ◌, refl, sym, ◌∙◌, ap, subst, arith}
+use Rattle.std.proofs.Common.{◌≡◌, ◌⊎◌, inl, inr, Bool, true, false, ◌&&◌, nat_lt, nat_le, if◌then◌else◌, ℕ, zero, suc, ◌+◌, ◌-◌, ◌<◌, ◌≤◌, [], ◌∷◌, List, length, slice_index, ℤ, pos, negsuc, ◌+ℤ◌, ◌-ℤ◌, ◌*ℤ◌, ◌≤ℤ◌, ◌<ℤ◌, refl, sym, ◌∙◌, subst, arith}
 use Rattle.std.proofs.lemmas.Int.{ints}
 use Rattle.micro_num.proofs.Identity.{reads, identity}
 use Rattle.micro_num.proofs.Signs.{at_most_or_above}
 use Rattle.stl_text.specs.Triangle.{Triangle}
 use Rattle.stl_text.specs.Winding.{wind, volume, hit}
-use Rattle.exact_cut.specs.Columns.{centre_x, clamp, IsLeastColumn}
+use Rattle.exact_cut.specs.Columns.{centre_x, IsLeastColumn}
 use Rattle.exact_cut.specs.Course.{Course}
 use Rattle.exact_cut.specs.Crossed.{Crosses}
-use Rattle.exact_cut.specs.Lattices.{row_y, pixel, IsCrossedAt, IsCourse, IsUncrossed}
+use Rattle.exact_cut.specs.Lattices.{row_y, pixel, IsCrossedAt, IsCourse, IsUncrossed, course_hit, CoursesTellHits, UncrossedRowsHaveNoHits}
 use Rattle.exact_cut.specs.Sections.{IsSection, slope_between, num_between, den_between}
 use Rattle.exact_cut.specs.Slides.{IsSlide, columns_along, place_of, pace_of}
 use Rattle.exact_cut.specs.WindLaws.{CrossingsSplitRows}
@@ -20,6 +20,7 @@ use Rattle.exact_cut.proofs.Hitting.{hit-wind, hit-zero}
 use Rattle.exact_cut.proofs.Least.{ceiling_by, least_clamp}
 use Rattle.exact_cut.proofs.Scanlines.{not_before}
 use Rattle.exact_cut.proofs.Settle.{both_alike, up_ahead, down_ahead}
+use Rattle.exact_cut.proofs.Steps.{no_hit}
 use Rattle.exact_cut.proofs.Sliding.{after, IsSlide-after, Moved-after, ceiling_of, column-after}
 
 -- ---- the columns of a slide
@@ -127,3 +128,55 @@ module _ (t : Triangle) (z : ℤ) (l : Lattice) (s : Section) (h : IsSection t z
 -- a course by its parts
 pub course_as : {t : Triangle} {z : ℤ} {l : Lattice} (c : Course) (row : ℕ) (sign : ℤ) → c.row ≡ row → c.sign ≡ sign → IsCourse t z l (record { row = row; sign = sign; columns = c.columns }) → IsCourse t z l c
 course_as {t} {z} {l} c row sign e f h = subst (IsCourse t z l) (λ i. with_columns (sym e i) (sym f i) c.columns) h
+
+-- ---- all pixels
+pub uncrossed-hits : UncrossedRowsHaveNoHits
+uncrossed-hits t z l h i j b = no_hit t (pixel l z i j) (h j b)
+
+inside : (a b c : Bool) (x : ℤ) → a ≡ true → b ≡ true → c ≡ true → (if a && b && c then x else pos 0) ≡ x
+inside a b c x e f g = λ k. if e k && f k && g k then x else pos 0
+
+left_out : (a b c : Bool) (x : ℤ) → a ≡ false → (if a && b && c then x else pos 0) ≡ pos 0
+left_out a b c x e = λ k. if e k && b && c then x else pos 0
+
+right_out : (a b c : Bool) (x : ℤ) → a ≡ true → b ≡ false → (if a && b && c then x else pos 0) ≡ pos 0
+right_out a b c x e f = λ k. if e k && f k && c then x else pos 0
+
+last_out : (a b c : Bool) (x : ℤ) → a ≡ true → b ≡ true → c ≡ false → (if a && b && c then x else pos 0) ≡ pos 0
+last_out a b c x e f g = λ k. if e k && f k && g k then x else pos 0
+
+pub courses-hits : CoursesTellHits
+courses-hits t z l c h i j b d = by (nat_le c.row j) (nat_lt j (c.row + length c.columns)) (nat_lt i (slice_index c.columns (j - c.row))) refl refl refl
+  where
+    n : ℕ
+    n = j - c.row
+
+    le : (a b : ℕ) → nat_le a b ≡ true → a ≤ b
+    le a b e = grind arith
+
+    not_le : (a b : ℕ) → nat_le a b ≡ false → b < a
+    not_le a b e = grind arith
+
+    lt : (a b : ℕ) → nat_lt a b ≡ true → a < b
+    lt a b e = grind arith
+
+    not_lt : (a b : ℕ) → nat_lt a b ≡ false → b ≤ a
+    not_lt a b e = grind arith
+
+    none : wind t (row_y l j) z ≡ pos 0 → hit t (pixel l z i j) ≡ pos 0
+    none e = no_hit t (pixel l z i j) e
+
+    in_course : (k : ℕ) → j ≡ c.row + k → k < length c.columns → IsCrossedAt t z l c.sign j (slice_index c.columns k)
+    in_course k e a = subst (λ j. IsCrossedAt t z l c.sign j (slice_index c.columns k)) (sym e) (h.crossed k a)
+
+    by : (p q r : Bool) → nat_le c.row j ≡ p → nat_lt j (c.row + length c.columns) ≡ q → nat_lt i (slice_index c.columns (j - c.row)) ≡ r → hit t (pixel l z i j) ≡ course_hit c i j
+    by false q r e f g = none (h.before j (not_le c.row j e)) ∙ sym (left_out _ _ _ c.sign e)
+    by true false r e f g = none (h.after j (not_lt j (c.row + length c.columns) f) d) ∙ sym (right_out _ _ _ c.sign e f)
+    by true true true e f g =
+        let a = le c.row j e in
+        let k = lt j (c.row + length c.columns) f in
+        (in_course n (omega arith) (omega arith)).ahead i (lt i (slice_index c.columns n) g) ∙ sym (inside _ _ _ c.sign e f g)
+    by true true false e f g =
+        let a = le c.row j e in
+        let k = lt j (c.row + length c.columns) f in
+        (in_course n (omega arith) (omega arith)).passed i (not_lt i (slice_index c.columns n) g) b ∙ sym (last_out _ _ _ c.sign e f g)

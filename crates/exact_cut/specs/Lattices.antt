@@ -1,5 +1,5 @@
 -- The pixel centres of a layer, and how a facet crosses their rows.
-use Rattle.std.specs.Prelude.{◌≡◌, ◌⊎◌, ℕ, ◌+◌, ◌<◌, ◌≤◌, List, length, slice_index, ℤ, pos, negsuc}
+use Rattle.std.specs.Prelude.{◌≡◌, ◌⊎◌, ℕ, ◌+◌, ◌-◌, ◌<◌, ◌≤◌, ◌&&◌, nat_lt, nat_le, if◌then◌else◌, length, slice_index, ℤ, pos, negsuc}
 use Rattle.stl_text.specs.Position.{Position}
 use Rattle.stl_text.specs.Triangle.{Triangle}
 use Rattle.stl_text.specs.Winding.{wind, hit}
@@ -37,3 +37,18 @@ pub record IsCourse (t : Triangle) (z : ℤ) (l : Lattice) (c : Course) : Type 0
 -- no row of the lattice is crossed
 abbrev pub IsUncrossed : Triangle → ℤ → Lattice → Type 0
 IsUncrossed t z l = (j : ℕ) → j < l.rows → wind t (row_y l j) z ≡ pos 0
+
+-- by its course, how the ray from the pixel in column i and row j passes a facet
+abbrev pub course_hit : Course → ℕ → ℕ → ℤ
+course_hit c i j =
+    if nat_le c.row j && nat_lt j (c.row + length c.columns) && nat_lt i (slice_index c.columns (j - c.row)) then c.sign else pos 0
+
+-- a course tells the hits of all rays from the lattice's pixels
+abbrev pub CoursesTellHits : Type 0
+CoursesTellHits =
+    (t : Triangle) (z : ℤ) (l : Lattice) (c : Course) → IsCourse t z l c → (i j : ℕ) → i < l.columns → j < l.rows → hit t (pixel l z i j) ≡ course_hit c i j
+
+-- where no row is crossed, no ray hits
+abbrev pub UncrossedRowsHaveNoHits : Type 0
+UncrossedRowsHaveNoHits =
+    (t : Triangle) (z : ℤ) (l : Lattice) → IsUncrossed t z l → (i j : ℕ) → j < l.rows → hit t (pixel l z i j) ≡ pos 0

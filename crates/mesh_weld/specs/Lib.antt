@@ -1,5 +1,6 @@
 pub mod Balance
 pub mod Mesh
+pub mod EdgeNumbers
 pub mod Entries
 pub mod Welding
 pub mod Probing

@@ -15,7 +15,10 @@ pub struct Corner {
 }
 
 /// The corners of the facets, in their order.
-fn list_corners<A: Allocator + Copy>(alloc: A, facets: &[Facet]) -> Result<Vec<Corner, A>, AllocError>
+fn list_corners<A: Allocator + Copy>(
+    alloc: A,
+    facets: &[Facet],
+) -> Result<Vec<Corner, A>, AllocError>
     requires { length facets.now ≤ 1048576 }
     ensures { IfOk result (λ list. list.items ≡ corners_from 0 facets.now) }
 {
@@ -52,7 +55,11 @@ pub struct Welded<A: Allocator> {
     pub numbers: Vec<u32, A>,
 }
 
-fn join_corners<A: Allocator + Copy>(alloc: A, facets: &[Facet], sorted: &[Corner]) -> Result<Welded<A>, AllocError>
+fn join_corners<A: Allocator + Copy>(
+    alloc: A,
+    facets: &[Facet],
+    sorted: &[Corner],
+) -> Result<Welded<A>, AllocError>
     requires few { length facets.now ≤ 1048576 }
     requires all { IsPermutation (corners_from 0 facets.now) sorted.now }
     requires ascending { NeverFalls sorted.now }
@@ -81,7 +88,10 @@ fn add_point<A: Allocator>(points: &mut Vec<Point, A>, point: Point) -> Result<(
 }
 
 /// The distinct corners of facets in ascending order, and each corner's number among them.
-pub fn number_corners<A: Allocator + Copy>(alloc: A, facets: &[Facet]) -> Result<Welded<A>, AllocError>
+pub fn number_corners<A: Allocator + Copy>(
+    alloc: A,
+    facets: &[Facet],
+) -> Result<Welded<A>, AllocError>
     requires { length facets.now ≤ 1048576 }
     ensures points { IfOk result (λ welded. welded.points.items ≡ vertices facets.now) }
     ensures numbers { IfOk result (λ welded. welded.numbers.items ≡ map (number_of (vertices facets.now)) (flat_map corners facets.now)) }
@@ -92,7 +102,10 @@ pub fn number_corners<A: Allocator + Copy>(alloc: A, facets: &[Facet]) -> Result
 }
 
 /// Numbers in groups of three, as each facet has three corners and three edges.
-pub fn in_threes<A: Allocator + Copy>(alloc: A, numbers: &[u32]) -> Result<Vec<[u32; 3], A>, AllocError>
+pub fn in_threes<A: Allocator + Copy>(
+    alloc: A,
+    numbers: &[u32],
+) -> Result<Vec<[u32; 3], A>, AllocError>
     ensures { IfOk result (λ list. list.items ≡ threes numbers.now) }
 {
     let mut list = Vec::with_capacity(alloc, numbers.len() / 3)?;

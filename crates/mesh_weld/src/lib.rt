@@ -2,7 +2,9 @@
 #![tactic(auto)]
 
 mod corners;
+mod counts;
 mod faults;
+mod heights;
 mod laws;
 mod rays;
 mod sides;
@@ -14,3 +16,6 @@ pub use laws::hold_mesh_laws;
 pub use rays::{probe, step};
 pub use solid::Solid;
 pub use welding::weld;
+
+#[cfg(test)]
+mod tests;

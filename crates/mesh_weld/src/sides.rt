@@ -22,7 +22,10 @@ impl Side {
 }
 
 /// The directed edges of the facets, in their order.
-fn list_sides<A: Allocator + Copy>(alloc: A, triples: &[[u32; 3]]) -> Result<Vec<Side, A>, AllocError>
+fn list_sides<A: Allocator + Copy>(
+    alloc: A,
+    triples: &[[u32; 3]],
+) -> Result<Vec<Side, A>, AllocError>
     requires { length triples.now ≤ 1048576 }
     ensures { IfOk result (λ list. list.items ≡ sides_from 0 triples.now) }
 {
@@ -53,7 +56,10 @@ fn sort_sides<A: Allocator>(list: &mut Vec<Side, A>)
 }
 
 /// The directed edges of the facets, sorted by their ends in either order.
-pub fn sorted_sides<A: Allocator + Copy>(alloc: A, triples: &[[u32; 3]]) -> Result<Vec<Side, A>, AllocError>
+pub fn sorted_sides<A: Allocator + Copy>(
+    alloc: A,
+    triples: &[[u32; 3]],
+) -> Result<Vec<Side, A>, AllocError>
     requires { length triples.now ≤ 1048576 }
     ensures all { IfOk result (λ list. IsPermutation (sides_from 0 triples.now) list.items) }
     ensures ascending { IfOk result (λ list. IsNonDecreasingBy pair_key list.items) }
@@ -105,9 +111,15 @@ impl Run {
         ensures { result ≡ counted self side.now }
     {
         if side.from < side.to {
-            Run { there: self.there + 1, ..self }
+            Run {
+                there: self.there + 1,
+                ..self
+            }
         } else if side.to < side.from {
-            Run { back: self.back + 1, ..self }
+            Run {
+                back: self.back + 1,
+                ..self
+            }
         } else {
             self
         }
@@ -130,7 +142,11 @@ pub fn least_uneven(sorted: &[Side]) -> Option<(u32, u32)>
         }
         run = run.counted(side);
     }
-    if run.there == run.back { None } else { Some((run.low, run.high)) }
+    if run.there == run.back {
+        None
+    } else {
+        Some((run.low, run.high))
+    }
 }
 
 /// Each edge's number, one for both directions, and how many numbers there are.
@@ -141,7 +157,11 @@ pub struct Numbered<A: Allocator> {
 }
 
 /// Numbers the pairs of ends from 0 up, and gives each side that of its ends.
-pub fn number_sides<A: Allocator + Copy>(alloc: A, triples: &[[u32; 3]], sorted: &[Side]) -> Result<Numbered<A>, AllocError>
+pub fn number_sides<A: Allocator + Copy>(
+    alloc: A,
+    triples: &[[u32; 3]],
+    sorted: &[Side],
+) -> Result<Numbered<A>, AllocError>
     requires few { length triples.now ≤ 1048576 }
     requires all { IsPermutation (sides_from 0 triples.now) sorted.now }
     requires ascending { IsNonDecreasingBy pair_key sorted.now }

@@ -6,3 +6,4 @@ pub mod Covered
 pub mod Decimals
 pub mod Sent
 pub mod Written
+pub mod Sweeps

@@ -4,12 +4,15 @@
 mod bits;
 mod chunk;
 mod devices;
+mod filling;
 mod grid;
 mod grid_faults;
 mod image;
 mod rows;
 mod rules;
 mod spans;
+#[cfg(test)]
+mod tests;
 mod write_fault;
 
 pub use devices::{Counted, Failed, Failures, Sink, Source};

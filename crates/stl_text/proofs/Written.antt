@@ -1,23 +1,21 @@
 -- What is written is read back.
-use Rattle.std.proofs.Common.{◌≡◌, ℕ, ◌+◌, ◌<◌, ◌≤◌, Bool, true, false, ◌&&◌, not, List, [], ◌∷◌, ◌++◌, length, take, drop, refl, sym, ◌∙◌, ap, subst, arith, append_assoc, append-nil}
-use Rattle.std.specs.Prelude.{Option, Some, Ok, Err, Result, ℤ, codes, flat_map, nat_lt, if◌then◌else◌}
-use Rattle.std.specs.Str.{bytes_eq, str_to_ascii_lowercase}
+use Rattle.std.proofs.Common.{◌≡◌, ℕ, ◌≤◌, Bool, true, false, ◌&&◌, not, List, [], ◌∷◌, ◌++◌, length, refl, sym, ◌∙◌, ap, arith, append_assoc}
+use Rattle.std.specs.Prelude.{Some, Ok, Err, codes, flat_map, nat_lt}
+use Rattle.std.specs.Str.{str_to_ascii_lowercase}
 use Rattle.std.specs.Char.{to_ascii_lowercase}
-use Rattle.std.specs.List.{before_first, list_all, position_or_len, prefix_len}
+use Rattle.std.specs.List.{before_first, list_all}
 use Rattle.std.specs.Ordering.{int_eq}
 use Rattle.std.proofs.Math.Numerals.{one-add}
 use Rattle.std.proofs.lemmas.Bool.{lt-ltb}
 use Rattle.std.proofs.lemmas.Bool.Decides.{Decides-int_eq, nat_tests}
 use Rattle.std.proofs.lemmas.Slice.Eq.{bytes_eq-Decides}
 use Rattle.micro_num.specs.declared.units.Unit.{Unit as LengthUnit}
-use Rattle.micro_num.specs.declared.faults.NumFault.{NumFault}
 use Rattle.micro_num.specs.Numeral.{from_first}
-use Rattle.micro_num.specs.Micrometres.{coordinate_of}
 use Rattle.stl_text.specs.declared.words.Word.{Word}
 use Rattle.stl_text.specs.declared.words.Word.TheVariants.{FacetOrEnd, Solid}
 use Rattle.stl_text.specs.Triangle.{Triangle}
-use Rattle.stl_text.specs.Text.{Piece, keyword, normal_part, coordinate, rest_of_line, end_word, facet_pieces, solid_pieces, facets_of, is_white, is_line_end, is_keyword, is_read_as, begins_with, after_space, first_word, after_word, after_line, after_piece, rest_behind, Reads}
-use Rattle.stl_text.specs.Written.{Token, is_token, is_word, are_white, laid_out, IsWordOf, AreTokensOf, IsApart, IsRemark, WrittenSolid, AreWrittenSolids, Written}
+use Rattle.stl_text.specs.Text.{Piece, keyword, normal_part, coordinate, rest_of_line, end_word, facet_pieces, solid_pieces, is_white, is_line_end, is_read_as, begins_with, after_space, first_word, after_word, after_piece, rest_behind, Reads}
+use Rattle.stl_text.specs.Written.{Token, is_word, are_white, laid_out, IsWordOf, AreTokensOf, IsApart, IsRemark, WrittenSolid, AreWrittenSolids, Written}
 use Rattle.stl_text.proofs.Parts.{and_parts}
 use Rattle.stl_text.proofs.Steps.{spelled-append}
 

@@ -1,5 +1,5 @@
 use Rattle.std.proofs.Common.{[], ◌∷◌, ◌+ℤ◌, ◌*ℤ◌, pos, to_z, refl, ◌∙◌, arith}
-use Rattle.std.proofs.lemmas.Int.{ints, to_z_pos}
+use Rattle.std.proofs.lemmas.Int.{to_z_pos}
 use mir.Syntax.{w64}
 use Rattle.micro_num.proofs.Sizes.{sizes, cast_in, at_most_by}
 use Rattle.micro_num.proofs.Identity.{reads, identity}

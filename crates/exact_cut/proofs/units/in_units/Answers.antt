@@ -1,10 +1,8 @@
-use Rattle.std.proofs.Common.{rules, ◌-ℤ◌, ◌*ℤ◌, ◌+◌, FitsSigned, unsigned_abs, refl, ◌≡◌, ◌∙◌, ◌≤◌, arith}
-use Rattle.std.proofs.lemmas.Int.{ints, to_z-of_z, fits_signed_from_abs}
+use Rattle.std.proofs.Common.{◌-ℤ◌, ◌*ℤ◌, FitsSigned, refl}
+use Rattle.std.proofs.lemmas.Int.{to_z-of_z}
 use mir.Syntax.{w128}
-use Rattle.micro_num.specs.Bounds.{IsAtMost}
 use Rattle.micro_num.proofs.Sizes.{sizes, fits}
-use Rattle.exact_cut.specs.Slides.{ArePartsOf}
-use Rattle.exact_cut.proofs.Rounding.{lack_not_negative, lack_below, product_in, whole_in, parts_of, product_at_most, whole_at_most}
+use Rattle.exact_cut.proofs.Rounding.{whole_in, parts_of, product_at_most, whole_at_most}
 use Rattle.exact_cut.proofs.units.in_units.Goals as goal
 
 pub overflow_mul-result : goal.overflow_mul-result

@@ -1,4 +1,4 @@
-use Rattle.std.proofs.Common.{rules, ◌+ℤ◌, ◌-ℤ◌, pos, FitsSigned, refl, sym}
+use Rattle.std.proofs.Common.{◌+ℤ◌, ◌-ℤ◌, pos, FitsSigned, refl, sym}
 use Rattle.std.proofs.lemmas.Int.{to_z-of_z}
 use mir.Syntax.{w128}
 use Rattle.micro_num.proofs.Sizes.{sizes, fits}

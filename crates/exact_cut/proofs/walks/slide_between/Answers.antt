@@ -1,10 +1,9 @@
-use Rattle.std.proofs.Common.{rules, ◌≡◌, pos, ◌+ℤ◌, ◌-ℤ◌, ◌*ℤ◌, ◌<ℤ◌, [], ◌∷◌, FitsSigned, to_z, refl, ◌∙◌, ap, sym, subst, arith}
-use Rattle.std.proofs.lemmas.Int.{ints, to_z_pos, to_z-of_z}
+use Rattle.std.proofs.Common.{◌≡◌, pos, ◌-ℤ◌, ◌*ℤ◌, ◌<ℤ◌, FitsSigned, to_z, refl, ◌∙◌, ap, sym, subst, arith}
+use Rattle.std.proofs.lemmas.Int.{to_z_pos, to_z-of_z}
 use lib.Dec.{lit≤}
 use mir.Syntax.{w64, w128}
 use Rattle.micro_num.specs.Bounds.{IsAtMost}
 use Rattle.micro_num.proofs.Sizes.{sizes, fits, cast_in, is_at_most}
-use Rattle.micro_num.proofs.Identity.{reads, identity}
 use Rattle.exact_cut.specs.Slides.{ArePartsOf}
 use Rattle.exact_cut.proofs.Least.{unit_positive}
 use Rattle.exact_cut.proofs.Rounding.{IsSlide-of, whole_within}

@@ -15,11 +15,12 @@ loop-side-preserved c =
     let side : Side = get_or es i (record { from = 0; to = 0; slot = 0 }) in
     let is_side : (d : Side) → get_or es i d ≡ side = λ d. get_or_default es i d (record { from = 0; to = 0; slot = 0 }) inside in
     elim c.if-not-has_ends_of.branch [
-      then-not-has_ends_of+else-run w ↦
+      | then-not-has_ends_of+else-run w ↦
           rw (c.counted-run.ensures, w.run-is, w.started-run.ensures) (counted_next es i side inside is_side c.loop-side.run c.loop-side.invariant w.if-run.false)
       | else-not-has_ends_of w ↦
           let ends = c.has_ends_of.ensures.value.0 w.if-not-has_ends_of.false in
-          rw (c.counted-run.ensures, w.run-is) (counted_more es i side inside is_side c.loop-side.run c.loop-side.invariant ends.0 ends.1) ]
+          rw (c.counted-run.ensures, w.run-is) (counted_more es i side inside is_side c.loop-side.run c.loop-side.invariant ends.0 ends.1)
+    ]
 
 pub returns-then-run : goal.returns-then-run
 returns-then-run c =

@@ -27,14 +27,16 @@ loop-side-preserved g c =
     let own : All (IsSideOf (sides_from 0 ts)) es = All-permutation (IsSideOf (sides_from 0 ts)) (sides_from 0 ts) es c.requires.all (own_sides ts) in
     let pair : c.pair-pair.result ≡ key_at es i = c.pair-pair.ensures in
     elim c.if-count-eq0.branch [
-      then-count-eq0 w ↦
+      | then-count-eq0 w ↦
           let changed : (at.count ≡ 0) ⊎ (key_at es i ≡ at.last → ⊥) =
-            elim w.then-count-eq0.branch [
-              then-count-eq0-via-then-count-eq0 v ↦ inl v.if-count-eq0.true
-              | then-count-eq0-via-else-count-eq0+then-pair-last v ↦ inr (λ e. v.if-pair-last.true (pair ∙ e)) ] in
+          elim w.then-count-eq0.branch [
+            | then-count-eq0-via-then-count-eq0 v ↦ inl v.if-count-eq0.true
+            | then-count-eq0-via-else-count-eq0+then-pair-last v ↦ inr (λ e. v.if-pair-last.true (pair ∙ e))
+          ] in
           rw (w.count-is, w.last-is, pair) (named_next (sides_from 0 ts) es i at.numbers.items at.count at.last c.loop-side-test.true c.requires.ascending own at.invariant changed)
       | else-count-eq0+else-pair-last w ↦
-          rw (w.count-is, w.last-is) (named_same (sides_from 0 ts) es i at.numbers.items at.count at.last c.loop-side-test.true c.requires.ascending own at.invariant w.if-count-eq0.false (sym pair ∙ w.if-pair-last.false)) ]
+          rw (w.count-is, w.last-is) (named_same (sides_from 0 ts) es i at.numbers.items at.count at.last c.loop-side-test.true c.requires.ascending own at.invariant w.if-count-eq0.false (sym pair ∙ w.if-pair-last.false))
+    ]
 
 pub returns : goal.returns
 returns g c =

@@ -1,8 +1,8 @@
-use Rattle.std.proofs.Common.{rules, ◌≡◌, ◌-◌, ◌∷◌, ◌<◌, FitsSigned, length, subst, sym, ◌∙◌, ap, refl}
+use Rattle.std.proofs.Common.{◌≡◌, ◌-◌, ◌∷◌, ◌<◌, FitsSigned, subst, sym, ◌∙◌, ap, refl}
 use Rattle.std.proofs.lemmas.Int.{to_z-of_z}
 use mir.Syntax.{w128}
 use Rattle.micro_num.proofs.Sizes.{sizes, fits}
-use Rattle.exact_cut.specs.Slides.{IsWalking, columns_along, next}
+use Rattle.exact_cut.specs.Slides.{IsWalking, columns_along}
 use Rattle.exact_cut.specs.Columns.{clamp}
 use Rattle.exact_cut.proofs.Sliding.{IsWalking-next, columns_along-first, some_left, whole_left}
 use Rattle.exact_cut.proofs.walks.Walk.next_column.Goals as goal

@@ -1,4 +1,4 @@
-use Rattle.std.proofs.Common.{pos, negsuc, ◌<◌, ◌≡◌, refl, arith}
+use Rattle.std.proofs.Common.{pos, negsuc, ◌<◌, arith}
 use Rattle.std.proofs.lemmas.Int.{to_z-of_z}
 use Rattle.stl_text.specs.Triangle.{twice}
 use Rattle.exact_cut.specs.Sections.{IsSection}

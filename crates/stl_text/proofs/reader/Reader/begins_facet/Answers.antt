@@ -1,4 +1,4 @@
-use Rattle.std.proofs.Common.{length, refl, sym, ◌∙◌, ap, [], arith}
+use Rattle.std.proofs.Common.{refl, sym, ◌∙◌, ap, []}
 use Rattle.std.specs.Prelude.{codes}
 use Rattle.stl_text.specs.declared.words.Word.TheVariants.{FacetOrEnd}
 use Rattle.stl_text.specs.Text.{facet_word, is_keyword}
