@@ -1,5 +1,5 @@
 -- Bytes that go out piece by piece.
-use Rattle.std.proofs.Common.{◌≡◌, ℕ, ◌+◌, ◌-◌, ◌≤◌, List, [], ◌∷◌, ◌++◌, ◌∙◌, length, take, drop, Option, Some, None, arith, append_assoc, ap, subst, sym}
+use Rattle.std.proofs.Common.{◌≡◌, ℕ, ◌+◌, ◌-◌, ◌≤◌, List, ◌++◌, ◌∙◌, length, take, drop, Option, Some, None, append_assoc, ap, subst, sym}
 use Rattle.std.specs.Prelude.{Err, IfErr, IfSome, Ok, Result}
 use Rattle.std.proofs.lemmas.List.{length-take-le, take_rest, take-append-drop}
 use Rattle.std.proofs.Math.Seq.{take-append-add}

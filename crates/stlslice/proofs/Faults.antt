@@ -1,5 +1,5 @@
 -- Which faults of a run come of the text of its input.
-use Rattle.std.proofs.Common.{◌≡◌, ◌≢◌, ◌⊎◌, ℕ, List, inl, inr, refl, ap}
+use Rattle.std.proofs.Common.{◌≡◌, ◌≢◌, ◌⊎◌, ℕ, List, inl, inr, refl}
 use Rattle.std.specs.Prelude.{Err, Result, IsErrAnd, IfErr, Ok}
 use Rattle.micro_num.specs.declared.units.Unit.{Unit as LengthUnit}
 use Rattle.stl_text.specs.declared.faults.StlFault.{StlFault}
@@ -8,7 +8,7 @@ use Rattle.stlslice.specs.declared.task.Task.{Task}
 use Rattle.stlslice.specs.declared.task.Task.TheVariants as task
 use Rattle.stlslice.specs.declared.run_faults.RunFault.{RunFault}
 use Rattle.stlslice.specs.declared.run_faults.RunFault.TheVariants as fault
-use Rattle.stlslice.specs.Program.{IsOutcome, misread}
+use Rattle.stlslice.specs.Program.{misread}
 use Rattle.stlslice.specs.Running.{IsRunFault}
 
 abbrev pub IsTextFault : LengthUnit → List ℕ → RunFault → Type 0

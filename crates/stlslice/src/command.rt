@@ -22,16 +22,28 @@ pub(crate) const PROBE: &str = "probe";
 
 const ABOUT: &str = "Slices a closed triangle mesh into one image a layer.
 
-Reads ASCII STL on standard input and writes P4 images (raw PBM) on standard output, from the lowest layer up, with
-nothing between them. A pixel is 1 where its centre is inside the mesh.";
+Reads ASCII STL on standard input and writes P4 images (raw PBM) on standard
+output, from the lowest layer up, with nothing between them. A pixel is 1 where
+its centre is inside the mesh.";
 
 const EXAMPLES: &str = "Examples:
-  stlslice --pitch 50 --layer 100 < part.stl > layers.pbm   images with pixels of 0.05 mm, every 0.1 mm
-  stlslice --pitch 50 --layer 100 --report < part.stl       loops and area of each layer
-  stlslice --box < part.stl                                 how many facets, and their box in micrometres
-  stlslice --pitch 50 --layer 100 --probe 3,4,0 < part.stl  the signed crossings at one voxel
+  stlslice --pitch 50 --layer 100 < part.stl > layers.pbm
+          images with pixels of 0.05 mm, every 0.1 mm
+  stlslice --pitch 50 --layer 100 --report < part.stl
+          loops and area of each layer
+  stlslice --box < part.stl
+          how many facets there are, and their box in micrometres
+  stlslice --pitch 50 --layer 100 --probe 3,4,0 < part.stl
+          the signed crossings at one voxel
 
-Exit status: 0 done; 2 words; 3 the input is no ASCII STL; 4 the mesh is open; 5 the grid; 6 memory; 7 input or output.";
+Exit status:
+  0  done
+  2  the words
+  3  the input is no ASCII STL
+  4  the mesh is open
+  5  there is no such grid, or no such voxel in it
+  6  out of memory
+  7  the input or the output failed";
 
 /// The command, of the words after the program's name. None of its options is required and none excludes another.
 pub(crate) fn command<'a>(alloc: Global) -> Result<Command<'a>, AllocError> {
@@ -48,12 +60,12 @@ pub(crate) fn command<'a>(alloc: Global) -> Result<Command<'a>, AllocError> {
         .arg(flag(
             alloc,
             REPORT,
-            "Write a report in place of images: loops and area of each layer, and the total area",
+            "Write a report in place of images: how many loops and pixels\neach layer has, and the pixels of all",
         ))?
         .arg(flag(
             alloc,
             BOX,
-            "Write the number of facets and their box, and do nothing else",
+            "Write how many facets there are and their box in\nmicrometres, and do nothing else; the mesh may be open",
         ))?
         .arg(probe(alloc))
 }
@@ -64,7 +76,7 @@ fn pitch<'a>(alloc: Global) -> Arg<'a> {
         .value_name("N")
         .value_parser(value_parser!(u32).range(1..=100_000))
         .help(
-            "Width and depth of a pixel in micrometres, 1 to 100000, as in --pitch 50; needed unless --box is there",
+            "Width and depth of a pixel in micrometres, 1 to 100000,\nas in --pitch 50; needed unless --box is there",
         )
 }
 
@@ -74,7 +86,7 @@ fn layer<'a>(alloc: Global) -> Arg<'a> {
         .value_name("N")
         .value_parser(value_parser!(u32).range(1..=100_000))
         .help(
-            "Height of a layer in micrometres, 1 to 100000, as in --layer 100; needed unless --box is there",
+            "Height of a layer in micrometres, 1 to 100000,\nas in --layer 100; needed unless --box is there",
         )
 }
 
@@ -84,7 +96,7 @@ fn rule<'a>(alloc: Global) -> Arg<'a> {
         .value_name("R")
         .default_value("evenodd")
         .help(
-            "Which pixels are filled, by the signed crossings of a ray from their centre: evenodd (an odd sum), nonzero, or positive (a sum above 0)",
+            "Which pixels are filled, by the sum of the signed crossings\nof a ray from their centre: evenodd (an odd sum),\nnonzero (a sum other than 0) or positive (a sum above 0)",
         )
 }
 
@@ -93,7 +105,9 @@ fn unit<'a>(alloc: Global) -> Arg<'a> {
         .long(UNIT)
         .value_name("U")
         .default_value("mm")
-        .help("Unit of the numbers in the input: mm or inch; options stay in micrometres")
+        .help(
+            "Unit of the numbers in the input: mm or inch;\noptions and output stay in micrometres",
+        )
 }
 
 fn grid<'a>(alloc: Global) -> Arg<'a> {
@@ -101,7 +115,7 @@ fn grid<'a>(alloc: Global) -> Arg<'a> {
         .long(GRID)
         .value_name("COLUMNS,ROWS,LAYERS,X0,Y0,Z0")
         .help(
-            "A grid to slice by, in place of the one that fits the mesh: three counts, and its least corner in micrometres, as in --grid 400,300,120,0,0,-500",
+            "A grid to slice by, in place of the one that fits the mesh:\nthree counts (at most 16384, 16384 and 65535), and its least\ncorner in micrometres, as in --grid 400,300,120,0,0,-500",
         )
 }
 
@@ -111,12 +125,12 @@ fn workers<'a>(alloc: Global) -> Arg<'a> {
         .value_name("N")
         .default_value("1")
         .value_parser(value_parser!(u32).range(1..=64))
-        .help("Number of threads, 1 to 64, as in --workers 4; the output is the same for each")
+        .help("Number of threads, 1 to 64, as in --workers 4;\nthe output is the same for each")
 }
 
 fn probe<'a>(alloc: Global) -> Arg<'a> {
     Arg::new(alloc, PROBE).long(PROBE).value_name("I,J,K").help(
-        "Write the signed crossings at one voxel, by a ray along x and one along y: its column, row (from the least y) and layer, from 0, as in --probe 3,4,0",
+        "Write the sums of signed crossings at one voxel, by a ray\nalong x and one along y: its column, row (from the least y)\nand layer, counted from 0, as in --probe 3,4,0",
     )
 }
 

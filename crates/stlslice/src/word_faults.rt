@@ -1,4 +1,8 @@
-ghost use Rattle.std.specs.Prelude.{◌≡◌, ◌⊎◌, ◌≢◌};
+ghost use Rattle.std.specs.Prelude.{◌≡◌, ◌≢◌};
+ghost use Rattle.clap.specs.Words.{kind_of};
+ghost use Rattle.clap.specs.declared.error.kind.ErrorKind.TheVariants.{OutOfMemory};
+ghost use Rattle.stlslice.specs.declared.word_faults.WordFault.TheVariants.{Memory, Refused};
+ghost use Rattle.stlslice.specs.Statuses.{IsWordStatus};
 
 use clap::Error as Refusal;
 use clap::error::ErrorKind;
@@ -52,16 +56,25 @@ pub enum WordFault {
 
 impl WordFault {
     /// The exit status of a program that ends with this fault; 0 where the words asked for help.
-    pub fn status(&self) -> u8 {
+    pub fn status(&self) -> u8
+        ensures { IsWordStatus self.now result }
+    {
         match self {
-            WordFault::Refused(refusal) if !refusal.use_stderr() => 0,
+            WordFault::Refused(refusal) => { if refusal.use_stderr() { 2 } else { 0 } }
             WordFault::Memory => 6,
-            _ => 2,
+            WordFault::Missing { .. }
+            | WordFault::BadRule
+            | WordFault::BadUnit
+            | WordFault::BadGrid
+            | WordFault::BadProbe => 2,
         }
     }
 }
 
 impl From<Refusal> for WordFault {
+    ghost from_gives = { λ refusal fault. (kind_of refusal ≡ OutOfMemory → fault ≡ Memory)
+        × (kind_of refusal ≢ OutOfMemory → fault ≡ Refused refusal) };
+
     fn from(refusal: Refusal) -> WordFault {
         match refusal.kind() {
             ErrorKind::OutOfMemory => WordFault::Memory,
@@ -71,6 +84,8 @@ impl From<Refusal> for WordFault {
 }
 
 impl From<AllocError> for WordFault {
+    ghost from_gives = { λ _ fault. fault ≡ Memory };
+
     fn from(_error: AllocError) -> WordFault {
         WordFault::Memory
     }

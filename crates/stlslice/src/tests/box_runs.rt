@@ -60,7 +60,10 @@ fn inches(rt: HostRuntime) -> Result<(), Fail> {
     let mut sink = Counted::new(Vec::new(rt.alloc()));
     let task = Task::Box { unit: Unit::Inch };
     assert_eq!(rt; run(&rt, rt.alloc(), &task, &mut source, &mut sink), Ok(()));
-    assert_eq!(rt; sink.inner().as_slice(), "facets 12 box 0 0 0 51 51 51\n".as_bytes());
+    assert_eq!(rt;
+        sink.inner().as_slice(),
+        "facets 12 box 0 0 0 51 51 51\n".as_bytes()
+    );
     assert_eq!(rt; (source.failures(), sink.failures()), (0, 0));
     Ok(())
 }

@@ -1,6 +1,6 @@
-use Rattle.std.proofs.Common.{◌≡◌, ap, refl, rules}
+use Rattle.std.proofs.Common.{refl, rules}
 use Rattle.stlslice.specs.Program.{boxed}
-use Rattle.stlslice.proofs.Faults.{IsTextFault, IsWorkFault, misread_box, passed_on}
+use Rattle.stlslice.proofs.Faults.{IsWorkFault, misread_box, passed_on}
 use Rattle.stlslice.proofs.running.outcome.Goals as goal
 
 pub returns-in_err-facets-in-Box-clause-err : goal.returns-in_err-facets-in-Box-clause-err

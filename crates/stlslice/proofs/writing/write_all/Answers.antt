@@ -1,5 +1,4 @@
-use Rattle.std.proofs.Common.{◌≡◌, ◌≤◌, ◌-◌, length, take, arith, rules}
-use Rattle.std.specs.Io.KnownBytes.{Appends}
+use Rattle.std.proofs.Common.{◌≤◌, ◌-◌, length, arith, rules}
 use Rattle.stlslice.proofs.Bytes.{appended, taken_on}
 use Rattle.stlslice.proofs.writing.write_all.Goals as goal
 
