@@ -31,9 +31,10 @@ fails_on R p step x (y ∷ ys) h e =
 pub Fades-from_pairs : {X : Type 0} (R : X → X → Type 0) (p : X → Bool) → ((x y : X) → R x y → p x ≡ false → p y ≡ false)
     → (xs : List X) → AllPairs R xs → Fades p xs
 Fades-from_pairs R p step [] h = tt
-Fades-from_pairs R p step (x ∷ xs) h =
-    (fails_on R p step x xs (λ k d l. h 0 (suc k) d (omega arith) (omega arith)),
-    Fades-from_pairs R p step xs (λ i j d less l. h (suc i) (suc j) d (omega arith) (omega arith)))
+Fades-from_pairs R p step (x ∷ xs) h = (
+  fails_on R p step x xs (λ k d l. h 0 (suc k) d (omega arith) (omega arith)),
+  Fades-from_pairs R p step xs (λ i j d less l. h (suc i) (suc j) d (omega arith) (omega arith)),
+)
 
 pub Fades-drop : {X : Type 0} (p : X → Bool) (k : ℕ) (xs : List X) → Fades p xs → Fades p (drop k xs)
 Fades-drop p zero xs h = h

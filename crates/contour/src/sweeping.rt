@@ -63,7 +63,9 @@ impl<'m, A: Allocator + Copy + Send + Sync> Sweep<'m, A> {
         let rest = &self.solid.by_height()[self.passed..];
         let mut begun = Begun::find(self.alloc, self.solid, rest, z2)?;
         begun.cut.sort_unstable();
-        self.cut = self.cut.risen(self.alloc, self.solid, begun.cut.as_slice(), z2)?;
+        self.cut = self
+            .cut
+            .risen(self.alloc, self.solid, begun.cut.as_slice(), z2)?;
         self.passed += begun.count;
         self.height = z2;
         Ok(())
@@ -95,7 +97,12 @@ impl<'m, A: Allocator + Copy + Send + Sync> Sweep<'m, A> {
     pub fn segments(&self) -> Result<Vec<Segment, A>, AllocError>
         ensures { IfOk result (λ list. list.items ≡ segments self.now.facets self.now.height) }
     {
-        segments_of(self.alloc, self.solid, self.cut.numbers.as_slice(), self.height)
+        segments_of(
+            self.alloc,
+            self.solid,
+            self.cut.numbers.as_slice(),
+            self.height,
+        )
     }
 }
 
