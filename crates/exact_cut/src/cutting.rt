@@ -20,7 +20,8 @@ fn is_below(f: &Facet, number: usize, z2: i64) -> bool
 /// as below. `z2` is -256,200,000 to 256,200,000.
 pub fn cuts(f: &Facet, z2: i64) -> Option<Cut>
     requires { IsAtMost 256200000 z2 }
-    ensures { MatchOption result (IsBetween (twice f.now) z2 → ⊥) (λ c. IsCut (twice f.now) z2 c) }
+    ensures { MatchOption result (IsBetween (twice f.now) z2 → ⊥)
+        (λ c. IsCut (twice f.now) z2 c) }
 {
     let a = is_below(f, 0, z2);
     let b = is_below(f, 1, z2);

@@ -1,9 +1,13 @@
 //! Closed meshes: facets welded at their corners, each directed edge balanced by the edge back.
 #![tactic(auto)]
 
+mod corners;
+mod counts;
 mod faults;
+mod heights;
 mod laws;
 mod rays;
+mod sides;
 mod solid;
 mod welding;
 
@@ -12,3 +16,6 @@ pub use laws::hold_mesh_laws;
 pub use rays::{probe, step};
 pub use solid::Solid;
 pub use welding::weld;
+
+#[cfg(test)]
+mod tests;

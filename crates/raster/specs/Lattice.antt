@@ -55,6 +55,12 @@ pub record IsLattice (g : Lattice) : Type 0 where
   pub last_y : middle g.origin.y g.pitch (g.rows - 1) ≤ℤ pos 256200000
   pub last_z : middle g.origin.z g.layer_height (g.layers - 1) ≤ℤ pos 256200000
 
+-- no coordinate of the first is above the second's
+pub record IsBox (low high : Position) : Type 0 where
+  pub x : low.x ≤ℤ high.x
+  pub y : low.y ≤ℤ high.y
+  pub z : low.z ≤ℤ high.z
+
 -- a stretch in steps, rounded up, and 1 at least
 abbrev pub cell_count : ℤ → ℤ → ℕ → ℕ
 cell_count low high step = max 1 (div_ceil (nat_abs (high -ℤ low)) step)

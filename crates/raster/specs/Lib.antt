@@ -4,3 +4,4 @@ pub mod Fill
 pub mod Picture
 pub mod Bits
 pub mod Rows
+pub mod Marks

@@ -1,8 +1,9 @@
-ghost use Rattle.std.specs.Prelude.{◌≡◌, ◌<◌, ◌≤◌, ◌≤ℤ◌, Some, ◌-◌, ℕ, int_lt, pos};
+ghost use Rattle.std.specs.Prelude.{◌≡◌, ◌<◌, ◌≤◌, ◌≤ℤ◌, IfSome, Some, option_map, ◌-◌, ℕ, int_lt, pos};
 ghost use Rattle.micro_num.specs.Bounds.{IsAtMost};
-ghost use Rattle.raster.specs.Lattice.{cell_count, exceeds, given_grid, grid_within, lattice, middle, plane, reaches_too_far, within_limits};
+ghost use Rattle.raster.specs.Lattice.{IsBox, cell_count, centre, exceeds, given_grid, grid_within, lattice, middle, plane, reaches_too_far, within_limits};
 
 use crate::grid_faults::GridFault;
+use exact_cut::Centre;
 use std::marker::Model;
 use stl_text::Point;
 
@@ -140,6 +141,22 @@ impl Grid {
         self.layers
     }
 
+    /// The centre of the voxel of column i, row j and layer k.
+    pub fn centre(&self, i: u32, j: u32, k: u32) -> Centre
+        requires column { i < self.now.columns }
+        requires row { j < self.now.rows }
+        requires layer { k < self.now.layers }
+        ensures { result ≡ centre self.now i j k }
+    {
+        let x2 = middle_before(self.origin.x(), self.pitch, i, self.columns);
+        let y2 = middle_before(self.origin.y(), self.pitch, j, self.rows);
+        let z2 = middle_before(self.origin.z(), self.layer_height, k, self.layers);
+        match Centre::new(x2, y2, z2) {
+            Some(centre) => centre,
+            None => unreachable!(),
+        }
+    }
+
     /// The height of layer k's plane, in half micrometres: that of the centres of its voxels.
     pub fn plane(&self, k: u32) -> i64
         requires { k < self.now.layers }
@@ -150,15 +167,32 @@ impl Grid {
     }
 }
 
+/// The grid of this pitch and layer height that a mesh with these least and greatest coordinates fits in.
+pub(crate) fn fit_corners(
+    corners: Option<(Point, Point)>,
+    pitch: u32,
+    layer_height: u32,
+) -> Result<Grid, GridFault>
+    requires pitch { 1 ≤ pitch }
+    requires pitch_high { pitch ≤ 100000 }
+    requires height { 1 ≤ layer_height }
+    requires height_high { layer_height ≤ 100000 }
+    requires order { IfSome corners (λ c. IsBox c.0 c.1) }
+    ensures { result ≡ grid_within (option_map (λ c. record { low = c.0; high = c.1 }) corners) pitch layer_height }
+{
+    match corners {
+        None => Err(GridFault::EmptyMesh),
+        Some((low, high)) => fit_box(low, high, pitch, layer_height),
+    }
+}
+
 /// The grid that a box fits in.
 fn fit_box(low: Point, high: Point, pitch: u32, layer_height: u32) -> Result<Grid, GridFault>
     requires pitch { 1 ≤ pitch }
     requires pitch_high { pitch ≤ 100000 }
     requires height { 1 ≤ layer_height }
     requires height_high { layer_height ≤ 100000 }
-    requires x { low.x ≤ℤ high.x }
-    requires y { low.y ≤ℤ high.y }
-    requires z { low.z ≤ℤ high.z }
+    requires order { IsBox low high }
     ensures { result ≡ grid_within (Some (record { low = low; high = high })) pitch layer_height }
 {
     let columns = cell_count(low.x(), high.x(), pitch);
@@ -273,4 +307,17 @@ fn middle(start: i32, step: u32, number: u32) -> i64
 {
     let reach = u64::from(step) * (2 * u64::from(number) + 1);
     2 * i64::from(start) + reach as i64
+}
+
+/// The middle of one of so many cells, of which the last one's is in the range of centres, in half micrometres.
+fn middle_before(start: i32, step: u32, number: u32, count: u32) -> i64
+    requires start { IsAtMost 128000000 start }
+    requires step { step ≤ 100000 }
+    requires number { number < count }
+    requires count { count ≤ 65535 }
+    requires last { middle start step (count - 1) ≤ℤ pos 256200000 }
+    ensures value { result ≡ middle start step number }
+    ensures within { IsAtMost 256200000 result }
+{
+    middle(start, step, number)
 }

@@ -1,0 +1,147 @@
+//! What no clause says: solids of boxes, the least open edge, and memory that is refused.
+ghost use Rattle.std.specs.Prelude.{◌≤◌, ◌+◌, length, vec_len};
+
+use crate::{Solid, WeldFault, weld};
+use short_memory::ShortMemory;
+use std::alloc::{AllocError, Allocator, Global};
+use std::test::Fail;
+use stl_text::{Facet, Point};
+
+// The corners of a box from 0 to 2, by their numbers in ascending order: 4 for x, 2 for y, 1 for z.
+fn corner(number: u8) -> Result<Point, AllocError> {
+    let at = |bit: u8| i32::from(number / bit % 2) * 2;
+    Point::new(at(4), at(2), at(1)).ok_or(AllocError)
+}
+
+const BOX: [[u8; 3]; 12] = [
+    [0, 2, 6],
+    [0, 6, 4],
+    [1, 5, 7],
+    [1, 7, 3],
+    [0, 4, 5],
+    [0, 5, 1],
+    [2, 3, 7],
+    [2, 7, 6],
+    [0, 1, 3],
+    [0, 3, 2],
+    [4, 6, 7],
+    [4, 7, 5],
+];
+
+fn push_facets<A: Allocator>(list: &mut Vec<Facet, A>, table: &[[u8; 3]]) -> Result<(), AllocError>
+    requires { length table.now ≤ 16 }
+    ensures { vec_len list.new ≤ vec_len list.old + 16 }
+{
+    for [a, b, c] in table {
+        list.push(Facet::of(corner(*a)?, corner(*b)?, corner(*c)?))?;
+    }
+    Ok(())
+}
+
+// The solid of the facets of two tables.
+fn joined<A: Allocator + Copy + Send + Sync>(
+    alloc: A,
+    first: &[[u8; 3]],
+    second: &[[u8; 3]],
+) -> Result<Solid<A>, WeldFault>
+    requires first { length first.now ≤ 16 }
+    requires second { length second.now ≤ 16 }
+{
+    let mut list = Vec::new(alloc);
+    push_facets(&mut list, first)?;
+    push_facets(&mut list, second)?;
+    weld(alloc, list)
+}
+
+// How many facets were kept and dropped, and how many vertices and edges there are; `None` where memory was refused.
+fn counts(welded: Result<Solid<Global>, WeldFault>) -> Option<(usize, u32, usize, u32)> {
+    let solid = welded.ok()?;
+    Some((
+        solid.count(),
+        solid.dropped(),
+        solid.vertices().len(),
+        solid.edge_count(),
+    ))
+}
+
+#[test]
+fn closed_meshes(rt: HostRuntime) -> Result<(), Fail> {
+    let alloc = rt.alloc();
+    assert_eq!(rt; counts(joined(alloc, &BOX, &[])), Some((12, 0, 8, 18)));
+    // facet 10 once more, and its mirror
+    assert_eq!(rt;
+        counts(joined(alloc, &BOX, &[[4, 6, 7], [4, 7, 6]])),
+        Some((14, 0, 8, 18))
+    );
+    // a facet with two equal corners
+    assert_eq!(rt;
+        counts(joined(alloc, &BOX, &[[0, 0, 4]])),
+        Some((12, 1, 8, 18))
+    );
+    // back to back
+    assert_eq!(rt;
+        counts(joined(alloc, &[[0, 2, 6]], &[[0, 6, 2]])),
+        Some((2, 0, 3, 3))
+    );
+    assert_eq!(rt; counts(joined(alloc, &[], &[])), Some((0, 0, 0, 0)));
+    Ok(())
+}
+
+#[test]
+fn box_without_its_first_facet(rt: HostRuntime) -> Result<(), Fail> {
+    let Err(fault) = joined(rt.alloc(), &BOX[1..], &[[0, 2, 2]]) else {
+        assert!(rt; false);
+        return Ok(());
+    };
+    // the dropped facet has one edge either way
+    let open = WeldFault::Open {
+        from: corner(0)?,
+        to: corner(2)?,
+        there: 1,
+        back: 2,
+    };
+    assert_eq!(rt; fault, open);
+    Ok(())
+}
+
+#[test]
+fn solid_of_a_box(rt: HostRuntime) -> Result<(), Fail> {
+    let alloc = rt.alloc();
+    let (Ok(solid), Ok(other)) = (joined(alloc, &BOX, &[]), joined(alloc, &BOX, &[[0, 0, 4]]))
+    else {
+        assert!(rt; false);
+        return Ok(());
+    };
+    assert_eq!(rt;
+        solid.by_height(),
+        [0, 1, 4, 5, 6, 7, 8, 9, 10, 11, 2, 3].as_slice()
+    );
+    assert!(rt; solid.corners() == Some((corner(0)?, corner(7)?)));
+    assert!(rt; solid.same(&solid));
+    assert!(rt; !solid.same(&other));
+    assert_eq!(rt; solid.triples().len(), 12);
+    assert_eq!(rt; solid.edge_numbers().len(), 12);
+    Ok(())
+}
+
+// How many facets were kept, if no memory was refused.
+fn kept(memory: &ShortMemory<Global>) -> Option<usize> {
+    let solid = joined(memory, &BOX, &[[0, 0, 4]]).ok()?;
+    Some(solid.count())
+}
+
+#[test]
+fn each_growth_refused_in_turn(rt: HostRuntime) -> Result<(), Fail> {
+    for turn in 1..100 {
+        let memory = ShortMemory::new(rt.alloc(), turn);
+        let count = kept(&memory);
+        if !memory.has_refused() {
+            assert!(rt; turn > 8);
+            assert_eq!(rt; count, Some(12));
+            return Ok(());
+        }
+        assert_eq!(rt; count, None);
+    }
+    assert!(rt; false);
+    Ok(())
+}
