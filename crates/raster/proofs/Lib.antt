@@ -7,3 +7,4 @@ pub mod Decimals
 pub mod Sent
 pub mod Written
 pub mod Sweeps
+pub mod Courses

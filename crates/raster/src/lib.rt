@@ -3,6 +3,7 @@
 
 mod bits;
 mod chunk;
+mod crossed;
 mod devices;
 mod filling;
 mod grid;
