@@ -8,3 +8,4 @@ pub mod Sent
 pub mod Written
 pub mod Sweeps
 pub mod Courses
+pub mod Layers

@@ -9,6 +9,7 @@ mod filling;
 mod grid;
 mod grid_faults;
 mod image;
+mod layer;
 mod rows;
 mod rules;
 mod spans;

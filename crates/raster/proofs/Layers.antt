@@ -1,0 +1,109 @@
+-- The rows of a layer, one after another, by its crossings in ascending order of rows.
+use Rattle.std.proofs.Common.{◌≡◌, ◌≢◌, ℕ, zero, suc, ◌+◌, ◌-◌, ◌<◌, ◌≤◌, ◌⊎◌, inl, inr, List, [], ◌∷◌, ◌++◌, Bool, true, false, cond, ◌&&◌, ◌||◌, length, get_or, map, take, drop, length-drop, refl, ap, sym, subst, ◌∙◌, add-one, arith}
+use Rattle.std.specs.Prelude.{ℤ, pos, negsuc, ◌+ℤ◌, neg_ℤ, nat_le, nat_lt, ◌==◌}
+use Rattle.std.specs.List.{list_all}
+use Rattle.std.specs.List.Sorted.{IsNonDecreasingBy}
+use Rattle.std.proofs.lemmas.Int.{ints}
+use Rattle.std.proofs.lemmas.List.{take-append-drop, get_or-take, get_or-drop, length-take-le}
+use Rattle.std.proofs.lemmas.List.Folds.{list_all-append}
+use Rattle.std.proofs.lemmas.Bool.Decides.{nat_tests}
+use Rattle.stl_text.specs.Winding.{total}
+use Rattle.mesh_weld.proofs.Sums.{total-append}
+use Rattle.raster.specs.declared.rules.Rule.{Rule}
+use Rattle.raster.specs.declared.spans.Span.{Span}
+use Rattle.raster.specs.declared.filling.Mark.{Mark}
+use Rattle.raster.specs.declared.crossed.Crossed.{Crossed}
+use Rattle.raster.specs.Fill.{are_apart, covers, is_inside, is_span_before}
+use Rattle.raster.specs.Rows.{are_within}
+use Rattle.raster.specs.Marks.{AreRowSpans, passed, sign_of, signs}
+use Rattle.raster.specs.Crossings.{AreSpansBelow, AreSplit, are_crossings_within, crossed_at, row_passed, row_signs, row_total}
+use Rattle.raster.proofs.Areas.{and-left, and-right}
+use Rattle.raster.proofs.Covered.{all-drop, all-take}
+use Rattle.raster.proofs.Sweeps.{covers-append}
+
+both : (a b : Bool) → a ≡ true → b ≡ true → (a && b) ≡ true
+both a b h k = ap (λ (c : Bool). c && b) h ∙ k
+
+abbrev marks_of : List Crossed → List Mark
+marks_of list = map (λ c. c.mark) list
+
+take-next : (list : List Crossed) (n : ℕ) → n < length list → marks_of (take (suc n) list) ≡ marks_of (take n list) ++ ((crossed_at list n).mark ∷ [])
+take-next [] n h = absurd (omega arith)
+take-next (c ∷ list) zero h = refl
+take-next (c ∷ list) (suc n) h = ap (λ (l : List Mark). c.mark ∷ l) (take-next list n (omega arith))
+
+pub taken-more : (list : List Crossed) (start end : ℕ) → start ≤ end → end < length list → marks_of (take (end + 1 - start) (drop start list)) ≡ marks_of (take (end - start) (drop start list)) ++ ((crossed_at list end).mark ∷ [])
+taken-more list start end order room =
+    let next : end + 1 - start ≡ suc (end - start) = omega arith in
+    let place : start + (end - start) ≡ end = omega arith in
+    ap (λ (n : ℕ). marks_of (take n (drop start list))) next
+    ∙ take-next (drop start list) (end - start) (omega (arith, length-drop start list))
+    ∙ ap (λ (c : Crossed). marks_of (take (end - start) (drop start list)) ++ (c.mark ∷ [])) (get_or-drop start list (end - start) (record { row = 0; mark = record { column = 0; is_up = false } }))
+    ∙ ap (λ (n : ℕ). marks_of (take (end - start) (drop start list)) ++ ((crossed_at list n).mark ∷ [])) place
+
+pub split-behind : (list : List Crossed) (start end row : ℕ) → IsNonDecreasingBy (λ c. c.row) list → AreSplit list start row → start ≤ end → end ≤ length list → ((k : ℕ) → k < end → (crossed_at list k).row ≤ row) → (end < length list → (crossed_at list end).row ≡ row → ⊥) → AreSplit list end (row + 1)
+split-behind list start end row up split order room here other = record {
+    within = room;
+    below = λ k h. omega (arith, here k h);
+    above = λ k low high. later (crossed_at list end).row (crossed_at list k).row (other (omega arith)) (split.above end order (omega arith)) (up end k (record { row = 0; mark = record { column = 0; is_up = false } }) low high)
+  }
+  where
+    later : (a b : ℕ) → (a ≡ row → ⊥) → row ≤ a → a ≤ b → row + 1 ≤ b
+    later a b h k l = grind arith
+
+none-here : (b c : Bool) (w z : ℤ) → b ≡ false → z ≡ pos 0 → cond (b && c) w (pos 0) +ℤ z ≡ pos 0
+none-here true c w z h k = absurd (grind arith)
+none-here false c w z h k = omega (arith, ints)
+
+one-here : (b c : Bool) (w z y : ℤ) → b ≡ true → z ≡ y → cond (b && c) w (pos 0) +ℤ z ≡ cond c w (pos 0) +ℤ y
+one-here true c w z y h k = ap (λ (x : ℤ). cond c w (pos 0) +ℤ x) k
+one-here false c w z y h k = absurd (grind arith)
+
+not-row : (a b : ℕ) → a ≢ b → (a == b) ≡ false
+not-row a b h = grind (arith, nat_tests)
+
+same-row : (a b : ℕ) → a ≡ b → (a == b) ≡ true
+same-row a b h = grind (arith, nat_tests)
+
+total-elsewhere : (test : ℕ → Bool) (list : List Crossed) (j : ℕ) → ((k : ℕ) → k < length list → (crossed_at list k).row ≢ j) → row_total test list j ≡ pos 0
+total-elsewhere test [] j h = refl
+total-elsewhere test (c ∷ list) j h =
+    none-here (c.row == j) (test c.mark.column) (sign_of c.mark) (row_total test list j) (not-row c.row j (h 0 (omega arith))) (total-elsewhere test list j (λ k low. h (suc k) (omega arith)))
+
+total-here : (test : ℕ → Bool) (list : List Crossed) (j : ℕ) → ((k : ℕ) → k < length list → (crossed_at list k).row ≡ j) → row_total test list j ≡ total (λ m. cond (test m.column) (sign_of m) (pos 0)) (marks_of list)
+total-here test [] j h = refl
+total-here test (c ∷ list) j h =
+    one-here (c.row == j) (test c.mark.column) (sign_of c.mark) (row_total test list j) (total (λ m. cond (test m.column) (sign_of m) (pos 0)) (marks_of list)) (same-row c.row j (h 0 (omega arith))) (total-here test list j (λ k low. h (suc k) (omega arith)))
+
+-- the sum of a row is that of the part between two splits
+pub part-total : (test : ℕ → Bool) (list : List Crossed) (start end j : ℕ) → start ≤ end → AreSplit list start j → AreSplit list end (j + 1) → row_total test list j ≡ total (λ m. cond (test m.column) (sign_of m) (pos 0)) (marks_of (take (end - start) (drop start list)))
+part-total test list start end j order first last =
+    let size-front : length (take start list) ≡ start = length-take-le start list first.within in
+    let size-rest : length (drop start list) ≡ length list - start = length-drop start list in
+    let size-part : length (take (end - start) (drop start list)) ≡ end - start = length-take-le (end - start) (drop start list) (omega (arith, last.within)) in
+    let size-tail : length (drop (end - start) (drop start list)) ≡ length (drop start list) - (end - start) = length-drop (end - start) (drop start list) in
+    let low : row_total test (take start list) j ≡ pos 0 = total-elsewhere test (take start list) j (λ k h e.
+            omega (arith, first.below k (omega arith), ap (λ (c : Crossed). c.row) (get_or-take start list k nothing (omega arith)), e)) in
+    let high : row_total test (drop (end - start) (drop start list)) j ≡ pos 0 = total-elsewhere test (drop (end - start) (drop start list)) j (λ k h e.
+            omega (arith, last.above (end + k) (omega arith) (omega (arith, last.within)), ap (λ (c : Crossed). c.row) (get_or-drop (end - start) (drop start list) k nothing), ap (λ (c : Crossed). c.row) (get_or-drop start list (end - start + k) nothing), ap (λ (n : ℕ). (crossed_at list n).row) (shift start end k order), e)) in
+    let here : row_total test (take (end - start) (drop start list)) j ≡ total (λ m. cond (test m.column) (sign_of m) (pos 0)) (marks_of (take (end - start) (drop start list))) = total-here test (take (end - start) (drop start list)) j (λ k h.
+            middle (crossed_at (take (end - start) (drop start list)) k).row (crossed_at (drop start list) k).row (crossed_at list (start + k)).row
+            (ap (λ (c : Crossed). c.row) (get_or-take (end - start) (drop start list) k nothing (omega arith)))
+            (ap (λ (c : Crossed). c.row) (get_or-drop start list k nothing))
+            (last.below (start + k) (omega arith))
+            (first.above (start + k) (omega arith) (omega (arith, last.within)))) in
+    ap (λ (l : List Crossed). row_total test l j) (sym (take-append-drop start list))
+    ∙ total-append (λ c. cond (c.row == j && test c.mark.column) (sign_of c.mark) (pos 0)) (take start list) (drop start list)
+    ∙ ap (λ (l : List Crossed). row_total test (take start list) j +ℤ row_total test l j) (sym (take-append-drop (end - start) (drop start list)))
+    ∙ ap (λ (z : ℤ). row_total test (take start list) j +ℤ z) (total-append (λ c. cond (c.row == j && test c.mark.column) (sign_of c.mark) (pos 0)) (take (end - start) (drop start list)) (drop (end - start) (drop start list)))
+    ∙ ends (row_total test (take start list) j) (row_total test (take (end - start) (drop start list)) j) (row_total test (drop (end - start) (drop start list)) j) low high
+    ∙ here
+  where
+    nothing : Crossed
+    nothing = record { row = 0; mark = record { column = 0; is_up = false } }
+    shift : (start end k : ℕ) → start ≤ end → start + (end - start + k) ≡ end + k
+    shift start end k h = omega arith
+    middle : (a b c : ℕ) → a ≡ b → b ≡ c → c < j + 1 → j ≤ c → a ≡ j
+    middle a b c e f g h = omega arith
+    ends : (a b c : ℤ) → a ≡ pos 0 → c ≡ pos 0 → a +ℤ (b +ℤ c) ≡ b
+    ends a b c h k = omega (arith, ints)
