@@ -107,3 +107,86 @@ part-total test list start end j order first last =
     middle a b c e f g h = omega arith
     ends : (a b c : ℤ) → a ≡ pos 0 → c ≡ pos 0 → a +ℤ (b +ℤ c) ≡ b
     ends a b c h k = omega (arith, ints)
+
+all-weaker : (p q : Span → Bool) → ((s : Span) → p s ≡ true → q s ≡ true) → (spans : List Span) → list_all p spans ≡ true → list_all q spans ≡ true
+all-weaker p q f [] h = refl
+all-weaker p q f (s ∷ spans) h = both (q s) (list_all q spans) (f s (and-left (p s) (list_all p spans) h)) (all-weaker p q f spans (and-right (p s) (list_all p spans) h))
+
+all-join : (p : Span → Bool) (xs ys : List Span) → list_all p xs ≡ true → list_all p ys ≡ true → list_all p (xs ++ ys) ≡ true
+all-join p xs ys h k = list_all-append p xs ys ∙ both (list_all p xs) (list_all p ys) h k
+
+covers-not : (p : Span → Bool) (i j : ℕ) → ((s : Span) → p s ≡ true → (s.row == j) ≡ false) → (spans : List Span) → list_all p spans ≡ true → covers spans i j ≡ false
+covers-not p i j f [] h = refl
+covers-not p i j f (s ∷ spans) h =
+    neither (s.row == j) (nat_le s.from i) (nat_lt i s.to) (covers spans i j) (f s (and-left (p s) (list_all p spans) h)) (covers-not p i j f spans (and-right (p s) (list_all p spans) h))
+  where
+    neither : (a b c d : Bool) → a ≡ false → d ≡ false → (a && b && c || d) ≡ false
+    neither true b c d h k = absurd (grind arith)
+    neither false b c d h k = k
+
+apart-join : (row : ℕ) (xs ys : List Span) → list_all (λ s. nat_lt s.row row) xs ≡ true → list_all (λ s. s.row == row) ys ≡ true → are_apart xs ≡ true → are_apart ys ≡ true → are_apart (xs ++ ys) ≡ true
+apart-join row [] ys low here h k = k
+apart-join row (s ∷ xs) ys low here h k =
+    both (list_all (is_span_before s) (xs ++ ys)) (are_apart (xs ++ ys))
+    (all-join (is_span_before s) xs ys (and-left (list_all (is_span_before s) xs) (are_apart xs) h)
+        (all-weaker (λ t. t.row == row) (is_span_before s) (λ t e. before s.row s.to t.row t.from (and-left (nat_lt s.row row) (list_all (λ t. nat_lt t.row row) xs) low) e) ys here))
+    (apart-join row xs ys (and-right (nat_lt s.row row) (list_all (λ t. nat_lt t.row row) xs) low) here (and-right (list_all (is_span_before s) xs) (are_apart xs) h) k)
+  where
+    before : (r to t from : ℕ) → nat_lt r row ≡ true → (t == row) ≡ true → (nat_lt r t || (r == t && nat_lt to from)) ≡ true
+    before r to t from h' k' = grind (arith, nat_tests)
+
+columns-of : (columns rows : ℕ) (list : List Crossed) → are_crossings_within columns rows list ≡ true → list_all (λ m. nat_le m.column columns) (marks_of list) ≡ true
+columns-of columns rows [] h = refl
+columns-of columns rows (c ∷ list) h =
+    both (nat_le c.mark.column columns) (list_all (λ m. nat_le m.column columns) (marks_of list))
+    (and-right (nat_lt c.row rows) (nat_le c.mark.column columns) (and-left (nat_lt c.row rows && nat_le c.mark.column columns) (are_crossings_within columns rows list) h))
+    (columns-of columns rows list (and-right (nat_lt c.row rows && nat_le c.mark.column columns) (are_crossings_within columns rows list) h))
+
+part-columns : (columns rows : ℕ) (list : List Crossed) (start n : ℕ) → are_crossings_within columns rows list ≡ true → list_all (λ m. nat_le m.column columns) (marks_of (take n (drop start list))) ≡ true
+part-columns columns rows list start n h =
+    columns-of columns rows (take n (drop start list))
+    (all-take (λ c. nat_lt c.row rows && nat_le c.mark.column columns) n (drop start list) (all-drop (λ c. nat_lt c.row rows && nat_le c.mark.column columns) start list h))
+
+last-or-lower : (j row : ℕ) → j < row + 1 → (j < row) ⊎ (j ≡ row)
+last-or-lower j row h = grind arith
+
+-- one more row
+pub spans-more : (rule : Rule) (columns rows row start end : ℕ) (list : List Crossed) (old new : List Span) (marks : List Mark) → start ≤ end → AreSplit list start row → AreSplit list end (row + 1) → marks ≡ marks_of (take (end - start) (drop start list)) → are_crossings_within columns rows list ≡ true → take (length old) new ≡ old → AreRowSpans rule row marks (drop (length old) new) → AreSpansBelow rule columns row list old → AreSpansBelow rule columns (row + 1) list new
+spans-more rule columns rows row start end list old new marks order first last taken inside kept done h =
+    subst (λ (spans : List Span). AreSpansBelow rule columns (row + 1) list spans) (ap (λ (l : List Span). l ++ drop (length old) new) (sym kept) ∙ take-append-drop (length old) new)
+    (record {
+      rows = all-join (λ s. nat_lt s.row (row + 1)) old (drop (length old) new)
+        (all-weaker (λ s. nat_lt s.row row) (λ s. nat_lt s.row (row + 1)) (λ s e. lower s.row e) old h.rows)
+        (all-weaker (λ s. s.row == row) (λ s. nat_lt s.row (row + 1)) (λ s e. here s.row e) (drop (length old) new) done.rows);
+      apart = apart-join row old (drop (length old) new) h.rows done.rows h.apart done.apart;
+      within = all-join (λ s. nat_lt s.from s.to && nat_le s.to columns) old (drop (length old) new) h.within
+        (done.within columns (subst (λ (l : List Mark). list_all (λ m. nat_le m.column columns) l ≡ true) (sym taken) (part-columns columns rows list start (end - start) inside)));
+      filled = λ i j low. elim (last-or-lower j row low) [
+        inl less ↦ covers-append old (drop (length old) new) i j
+            ∙ ap (λ (b : Bool). covers old i j || b) (covers-not (λ s. s.row == row) i j (λ s e. elsewhere s.row row j e less) (drop (length old) new) done.rows)
+            ∙ or-false (covers old i j) ∙ h.filled i j less
+        | inr same ↦ covers-append old (drop (length old) new) i j
+            ∙ ap (λ (b : Bool). b || covers (drop (length old) new) i j) (covers-not (λ s. nat_lt s.row row) i j (λ s e. under s.row row j e same) old h.rows)
+            ∙ ap (λ (n : ℕ). covers (drop (length old) new) i n) same
+            ∙ done.filled i
+            ∙ ap (λ (l : List Mark). is_inside rule (neg_ℤ (passed l i))) taken
+            ∙ ap (λ (z : ℤ). is_inside rule (neg_ℤ z)) (sym (part-total (λ column. nat_le column i) list start end row order first last))
+            ∙ ap (λ (n : ℕ). is_inside rule (neg_ℤ (row_passed list n i))) (sym same)
+        ]
+    })
+  where
+    lower : (r : ℕ) → nat_lt r row ≡ true → nat_lt r (row + 1) ≡ true
+    lower r e = grind (arith, nat_tests)
+    here : (r : ℕ) → (r == row) ≡ true → nat_lt r (row + 1) ≡ true
+    here r e = grind (arith, nat_tests)
+    elsewhere : (a b c : ℕ) → (a == b) ≡ true → c < b → (a == c) ≡ false
+    elsewhere a b c e l = grind (arith, nat_tests)
+    under : (a b c : ℕ) → nat_lt a b ≡ true → c ≡ b → (a == c) ≡ false
+    under a b c e l = grind (arith, nat_tests)
+    or-false : (b : Bool) → (b || false) ≡ b
+    or-false true = refl
+    or-false false = refl
+
+pub row-balanced : (list : List Crossed) (start end row : ℕ) (marks : List Mark) → start ≤ end → AreSplit list start row → AreSplit list end (row + 1) → marks ≡ marks_of (take (end - start) (drop start list)) → row_signs list row ≡ pos 0 → signs marks ≡ pos 0
+row-balanced list start end row marks order first last taken h =
+    ap (λ (l : List Mark). signs l) taken ∙ sym (part-total (λ _. true) list start end row order first last) ∙ h
