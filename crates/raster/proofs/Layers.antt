@@ -2,7 +2,7 @@
 use Rattle.std.proofs.Common.{◌≡◌, ◌≢◌, ℕ, zero, suc, ◌+◌, ◌-◌, ◌<◌, ◌≤◌, ◌⊎◌, inl, inr, List, [], ◌∷◌, ◌++◌, Bool, true, false, cond, ◌&&◌, ◌||◌, length, get_or, map, take, drop, length-drop, refl, ap, sym, subst, ◌∙◌, add-one, arith}
 use Rattle.std.specs.Prelude.{ℤ, pos, negsuc, ◌+ℤ◌, neg_ℤ, nat_le, nat_lt, ◌==◌}
 use Rattle.std.specs.List.{list_all}
-use Rattle.std.specs.List.Sorted.{IsNonDecreasingBy}
+use Rattle.std.specs.List.Sorted.{IsNonDecreasingBy, IsPermutation}
 use Rattle.std.proofs.lemmas.Int.{ints}
 use Rattle.std.proofs.lemmas.List.{take-append-drop, get_or-take, get_or-drop, length-take-le}
 use Rattle.std.proofs.lemmas.List.Folds.{list_all-append}
@@ -19,7 +19,7 @@ use Rattle.raster.specs.Marks.{AreRowSpans, passed, sign_of, signs}
 use Rattle.raster.specs.Crossings.{AreSpansBelow, AreSplit, are_crossings_within, crossed_at, row_passed, row_signs, row_total}
 use Rattle.raster.proofs.Areas.{and-left, and-right}
 use Rattle.raster.proofs.Covered.{all-drop, all-take}
-use Rattle.raster.proofs.Sweeps.{covers-append}
+use Rattle.raster.proofs.Sweeps.{all-permutation, covers-append, total-permutation}
 
 both : (a b : Bool) → a ≡ true → b ≡ true → (a && b) ≡ true
 both a b h k = ap (λ (c : Bool). c && b) h ∙ k
@@ -43,10 +43,10 @@ taken-more list start end order room =
 
 pub split-behind : (list : List Crossed) (start end row : ℕ) → IsNonDecreasingBy (λ c. c.row) list → AreSplit list start row → start ≤ end → end ≤ length list → ((k : ℕ) → k < end → (crossed_at list k).row ≤ row) → (end < length list → (crossed_at list end).row ≡ row → ⊥) → AreSplit list end (row + 1)
 split-behind list start end row up split order room here other = record {
-    within = room;
-    below = λ k h. omega (arith, here k h);
-    above = λ k low high. later (crossed_at list end).row (crossed_at list k).row (other (omega arith)) (split.above end order (omega arith)) (up end k (record { row = 0; mark = record { column = 0; is_up = false } }) low high)
-  }
+  within = room;
+  below = λ k h. omega (arith, here k h);
+  above = λ k low high. later (crossed_at list end).row (crossed_at list k).row (other (omega arith)) (split.above end order (omega arith)) (up end k (record { row = 0; mark = record { column = 0; is_up = false } }) low high);
+}
   where
     later : (a b : ℕ) → (a ≡ row → ⊥) → row ≤ a → a ≤ b → row + 1 ≤ b
     later a b h k l = grind arith
@@ -83,15 +83,15 @@ part-total test list start end j order first last =
     let size-part : length (take (end - start) (drop start list)) ≡ end - start = length-take-le (end - start) (drop start list) (omega (arith, last.within)) in
     let size-tail : length (drop (end - start) (drop start list)) ≡ length (drop start list) - (end - start) = length-drop (end - start) (drop start list) in
     let low : row_total test (take start list) j ≡ pos 0 = total-elsewhere test (take start list) j (λ k h e.
-            omega (arith, first.below k (omega arith), ap (λ (c : Crossed). c.row) (get_or-take start list k nothing (omega arith)), e)) in
+    omega (arith, first.below k (omega arith), ap (λ (c : Crossed). c.row) (get_or-take start list k nothing (omega arith)), e)) in
     let high : row_total test (drop (end - start) (drop start list)) j ≡ pos 0 = total-elsewhere test (drop (end - start) (drop start list)) j (λ k h e.
-            omega (arith, last.above (end + k) (omega arith) (omega (arith, last.within)), ap (λ (c : Crossed). c.row) (get_or-drop (end - start) (drop start list) k nothing), ap (λ (c : Crossed). c.row) (get_or-drop start list (end - start + k) nothing), ap (λ (n : ℕ). (crossed_at list n).row) (shift start end k order), e)) in
+    omega (arith, last.above (end + k) (omega arith) (omega (arith, last.within)), ap (λ (c : Crossed). c.row) (get_or-drop (end - start) (drop start list) k nothing), ap (λ (c : Crossed). c.row) (get_or-drop start list (end - start + k) nothing), ap (λ (n : ℕ). (crossed_at list n).row) (shift start end k order), e)) in
     let here : row_total test (take (end - start) (drop start list)) j ≡ total (λ m. cond (test m.column) (sign_of m) (pos 0)) (marks_of (take (end - start) (drop start list))) = total-here test (take (end - start) (drop start list)) j (λ k h.
-            middle (crossed_at (take (end - start) (drop start list)) k).row (crossed_at (drop start list) k).row (crossed_at list (start + k)).row
-            (ap (λ (c : Crossed). c.row) (get_or-take (end - start) (drop start list) k nothing (omega arith)))
-            (ap (λ (c : Crossed). c.row) (get_or-drop start list k nothing))
-            (last.below (start + k) (omega arith))
-            (first.above (start + k) (omega arith) (omega (arith, last.within)))) in
+    middle (crossed_at (take (end - start) (drop start list)) k).row (crossed_at (drop start list) k).row (crossed_at list (start + k)).row
+    (ap (λ (c : Crossed). c.row) (get_or-take (end - start) (drop start list) k nothing (omega arith)))
+    (ap (λ (c : Crossed). c.row) (get_or-drop start list k nothing))
+    (last.below (start + k) (omega arith))
+    (first.above (start + k) (omega arith) (omega (arith, last.within)))) in
     ap (λ (l : List Crossed). row_total test l j) (sym (take-append-drop start list))
     ∙ total-append (λ c. cond (c.row == j && test c.mark.column) (sign_of c.mark) (pos 0)) (take start list) (drop start list)
     ∙ ap (λ (l : List Crossed). row_total test (take start list) j +ℤ row_total test l j) (sym (take-append-drop (end - start) (drop start list)))
@@ -101,10 +101,13 @@ part-total test list start end j order first last =
   where
     nothing : Crossed
     nothing = record { row = 0; mark = record { column = 0; is_up = false } }
+
     shift : (start end k : ℕ) → start ≤ end → start + (end - start + k) ≡ end + k
     shift start end k h = omega arith
+
     middle : (a b c : ℕ) → a ≡ b → b ≡ c → c < j + 1 → j ≤ c → a ≡ j
     middle a b c e f g h = omega arith
+
     ends : (a b c : ℤ) → a ≡ pos 0 → c ≡ pos 0 → a +ℤ (b +ℤ c) ≡ b
     ends a b c h k = omega (arith, ints)
 
@@ -129,7 +132,7 @@ apart-join row [] ys low here h k = k
 apart-join row (s ∷ xs) ys low here h k =
     both (list_all (is_span_before s) (xs ++ ys)) (are_apart (xs ++ ys))
     (all-join (is_span_before s) xs ys (and-left (list_all (is_span_before s) xs) (are_apart xs) h)
-        (all-weaker (λ t. t.row == row) (is_span_before s) (λ t e. before s.row s.to t.row t.from (and-left (nat_lt s.row row) (list_all (λ t. nat_lt t.row row) xs) low) e) ys here))
+    (all-weaker (λ t. t.row == row) (is_span_before s) (λ t e. before s.row s.to t.row t.from (and-left (nat_lt s.row row) (list_all (λ t. nat_lt t.row row) xs) low) e) ys here))
     (apart-join row xs ys (and-right (nat_lt s.row row) (list_all (λ t. nat_lt t.row row) xs) low) here (and-right (list_all (is_span_before s) xs) (are_apart xs) h) k)
   where
     before : (r to t from : ℕ) → nat_lt r row ≡ true → (t == row) ≡ true → (nat_lt r t || (r == t && nat_lt to from)) ≡ true
@@ -156,13 +159,13 @@ spans-more rule columns rows row start end list old new marks order first last t
     subst (λ (spans : List Span). AreSpansBelow rule columns (row + 1) list spans) (ap (λ (l : List Span). l ++ drop (length old) new) (sym kept) ∙ take-append-drop (length old) new)
     (record {
       rows = all-join (λ s. nat_lt s.row (row + 1)) old (drop (length old) new)
-        (all-weaker (λ s. nat_lt s.row row) (λ s. nat_lt s.row (row + 1)) (λ s e. lower s.row e) old h.rows)
-        (all-weaker (λ s. s.row == row) (λ s. nat_lt s.row (row + 1)) (λ s e. here s.row e) (drop (length old) new) done.rows);
+          (all-weaker (λ s. nat_lt s.row row) (λ s. nat_lt s.row (row + 1)) (λ s e. lower s.row e) old h.rows)
+          (all-weaker (λ s. s.row == row) (λ s. nat_lt s.row (row + 1)) (λ s e. here s.row e) (drop (length old) new) done.rows);
       apart = apart-join row old (drop (length old) new) h.rows done.rows h.apart done.apart;
       within = all-join (λ s. nat_lt s.from s.to && nat_le s.to columns) old (drop (length old) new) h.within
-        (done.within columns (subst (λ (l : List Mark). list_all (λ m. nat_le m.column columns) l ≡ true) (sym taken) (part-columns columns rows list start (end - start) inside)));
+          (done.within columns (subst (λ (l : List Mark). list_all (λ m. nat_le m.column columns) l ≡ true) (sym taken) (part-columns columns rows list start (end - start) inside)));
       filled = λ i j low. elim (last-or-lower j row low) [
-        inl less ↦ covers-append old (drop (length old) new) i j
+        | inl less ↦ covers-append old (drop (length old) new) i j
             ∙ ap (λ (b : Bool). covers old i j || b) (covers-not (λ s. s.row == row) i j (λ s e. elsewhere s.row row j e less) (drop (length old) new) done.rows)
             ∙ or-false (covers old i j) ∙ h.filled i j less
         | inr same ↦ covers-append old (drop (length old) new) i j
@@ -172,17 +175,21 @@ spans-more rule columns rows row start end list old new marks order first last t
             ∙ ap (λ (l : List Mark). is_inside rule (neg_ℤ (passed l i))) taken
             ∙ ap (λ (z : ℤ). is_inside rule (neg_ℤ z)) (sym (part-total (λ column. nat_le column i) list start end row order first last))
             ∙ ap (λ (n : ℕ). is_inside rule (neg_ℤ (row_passed list n i))) (sym same)
-        ]
+      ];
     })
   where
     lower : (r : ℕ) → nat_lt r row ≡ true → nat_lt r (row + 1) ≡ true
     lower r e = grind (arith, nat_tests)
+
     here : (r : ℕ) → (r == row) ≡ true → nat_lt r (row + 1) ≡ true
     here r e = grind (arith, nat_tests)
+
     elsewhere : (a b c : ℕ) → (a == b) ≡ true → c < b → (a == c) ≡ false
     elsewhere a b c e l = grind (arith, nat_tests)
+
     under : (a b c : ℕ) → nat_lt a b ≡ true → c ≡ b → (a == c) ≡ false
     under a b c e l = grind (arith, nat_tests)
+
     or-false : (b : Bool) → (b || false) ≡ b
     or-false true = refl
     or-false false = refl
@@ -190,3 +197,18 @@ spans-more rule columns rows row start end list old new marks order first last t
 pub row-balanced : (list : List Crossed) (start end row : ℕ) (marks : List Mark) → start ≤ end → AreSplit list start row → AreSplit list end (row + 1) → marks ≡ marks_of (take (end - start) (drop start list)) → row_signs list row ≡ pos 0 → signs marks ≡ pos 0
 row-balanced list start end row marks order first last taken h =
     ap (λ (l : List Mark). signs l) taken ∙ sym (part-total (λ _. true) list start end row order first last) ∙ h
+
+-- what is said of crossings holds in any order of them
+pub signs-in_order : (list sorted : List Crossed) (rows : ℕ) → IsPermutation list sorted → ((j : ℕ) → j < rows → row_signs list j ≡ pos 0) → (j : ℕ) → j < rows → row_signs sorted j ≡ pos 0
+signs-in_order list sorted rows same h j low =
+    total-permutation (λ c. cond (c.row == j && true) (sign_of c.mark) (pos 0)) list sorted same ∙ h j low
+
+pub spans-in_any_order : (rule : Rule) (columns rows : ℕ) (list sorted : List Crossed) (spans : List Span) → IsPermutation list sorted → are_crossings_within columns rows list ≡ true → (are_crossings_within columns rows sorted ≡ true → AreSpansBelow rule columns rows sorted spans) → AreSpansBelow rule columns rows list spans
+spans-in_any_order rule columns rows list sorted spans same inside h =
+    let k : AreSpansBelow rule columns rows sorted spans = h (all-permutation (λ c. nat_lt c.row rows && nat_le c.mark.column columns) list sorted same inside) in
+    record {
+      rows = k.rows;
+      apart = k.apart;
+      within = k.within;
+      filled = λ i j low. k.filled i j low ∙ ap (λ (z : ℤ). is_inside rule (neg_ℤ z)) (total-permutation (λ c. cond (c.row == j && nat_le c.mark.column i) (sign_of c.mark) (pos 0)) list sorted same);
+    }

@@ -55,3 +55,19 @@ pub(crate) fn fill_rows<A: Allocator + Copy>(
     }
     Ok(spans)
 }
+
+/// The spans of a layer of so many rows, by its crossings in any order.
+pub(crate) fn fill_crossings<A: Allocator + Copy>(
+    alloc: A,
+    rule: Rule,
+    rows: u32,
+    crossings: &mut [Crossed],
+) -> Result<Vec<Span, A>, AllocError>
+    requires few { length crossings.old ≤ 4611686018427387904 }
+    requires balanced { (j : ℕ) → j < rows → row_signs crossings.old j ≡ pos 0 }
+    ensures { IfOk result (λ spans. (columns : ℕ) → are_crossings_within columns rows crossings.old ≡ true
+        → AreSpansBelow rule columns rows crossings.old spans.items) }
+{
+    crossings.sort_unstable_by_key(|crossed| crossed.row);
+    fill_rows(alloc, rule, rows, crossings)
+}

@@ -6,5 +6,5 @@ abbrev pub invariant-loop-row : goal.invariant-loop-row
 invariant-loop-row g l =
     record {
       split : AreSplit l.crossings l.start l.row;
-      spans : (columns : ℕ) → are_crossings_within columns l.rows l.crossings ≡ true → AreSpansBelow l.rule columns l.row l.crossings l.spans.items
+      spans : (columns : ℕ) → are_crossings_within columns l.rows l.crossings ≡ true → AreSpansBelow l.rule columns l.row l.crossings l.spans.items;
     }

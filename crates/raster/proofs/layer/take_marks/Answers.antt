@@ -12,8 +12,8 @@ loop-end-preserved g c =
       within = omega (arith, c.loop-end-test.true);
       here = below_more _ _ inv.here (omega (arith, c.if-crossings-end.true));
       taken = c.in_ok-push.ensures.ok
-        ∙ ap (λ (l : List Mark). l ++ ((crossed_at c.args.crossings.now c.loop-end.end).mark ∷ [])) inv.taken
-        ∙ sym (taken-more c.args.crossings.now c.args.start c.loop-end.end inv.order c.loop-end-test.true)
+          ∙ ap (λ (l : List Mark). l ++ ((crossed_at c.args.crossings.now c.loop-end.end).mark ∷ [])) inv.taken
+          ∙ sym (taken-more c.args.crossings.now c.args.start c.loop-end.end inv.order c.loop-end-test.true);
     }
 
 pub returns-else-crossings-end-clause-split : goal.returns-else-crossings-end-clause-split

@@ -9,7 +9,7 @@ invariant-loop-end g l =
       order : l.start ≤ l.end;
       within : l.end ≤ length l.crossings;
       here : (k : ℕ) → k < l.end → (crossed_at l.crossings k).row ≤ l.row;
-      taken : l.marks.items ≡ map (λ (c : Crossed). c.mark) (take (l.end - l.start) (drop l.start l.crossings))
+      taken : l.marks.items ≡ map (λ (c : Crossed). c.mark) (take (l.end - l.start) (drop l.start l.crossings));
     }
 
 abbrev pub decreases-loop-end : goal.decreases-loop-end
