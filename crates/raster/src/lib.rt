@@ -3,11 +3,13 @@
 
 mod bits;
 mod chunk;
+mod crossed;
 mod devices;
 mod filling;
 mod grid;
 mod grid_faults;
 mod image;
+mod layer;
 mod rows;
 mod rules;
 mod spans;
