@@ -50,7 +50,11 @@ fn push_side<A: Allocator>(list: &mut Vec<Side, A>, from: u32, to: u32) -> Resul
 
 /// Sorts directed edges by their ends, in either order. Each lesser end is below `groups`: so the edges of one lesser end
 /// are brought together first, and each few of them sorted.
-fn sort_sides<A: Allocator + Copy>(alloc: A, list: &mut [Side], groups: usize) -> Result<(), AllocError>
+fn sort_sides<A: Allocator + Copy>(
+    alloc: A,
+    list: &mut [Side],
+    groups: usize,
+) -> Result<(), AllocError>
     requires few { length list.old ≤ 3145728 }
     requires groups { groups ≤ 3145728 }
     ensures all { IsPermutation list.old list.new }
