@@ -4,6 +4,7 @@
 mod corners;
 mod counts;
 mod faults;
+mod gather;
 mod heights;
 mod laws;
 mod rays;

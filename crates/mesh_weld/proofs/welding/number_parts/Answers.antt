@@ -27,7 +27,10 @@ all_sides g c numbers =
 
 pub sorted_sides-requires : goal.sorted_sides-requires
 sorted_sides-requires g c =
-    omega (arith, ap length (numbers_are g (goal.at.sorted_sides-requires g c).In_ok-numbers), length-map c.args.kept.now (λ t. map (number_of (vertices c.args.kept.now)) (corners t)))
+    record {
+      few = omega (arith, ap length (numbers_are g (goal.at.sorted_sides-requires g c).In_ok-numbers), length-map c.args.kept.now (λ t. map (number_of (vertices c.args.kept.now)) (corners t)));
+      groups = omega (arith, ap length c.in_ok-points.ensures.points, few_vertices c.args.kept.now, c.in_ok-points.field-0.points.ok.0);
+    }
 
 pub least_uneven-requires-clause-few : goal.least_uneven-requires-clause-few
 least_uneven-requires-clause-few g c =
