@@ -10,9 +10,9 @@ use Rattle.stl_text.specs.Winding.{left, turn, wind, volume, normal_x, normal_y,
 use Rattle.exact_cut.specs.CornerTurns.{Meets}
 use Rattle.exact_cut.specs.Cutting.{IsBetween}
 use Rattle.exact_cut.specs.Crossed.{Winding, Crosses}
-use Rattle.exact_cut.specs.Cut.{CutIs, start, finish, Rises, cut_x, cut_y, cut_d, den_of, num_of}
+use Rattle.exact_cut.specs.Cut.{CutIs, start, finish, Rises, cut_y, cut_d}
 use Rattle.exact_cut.proofs.Turns.{turn_of-up, turn_of-down, turn_of-below, turn_of-above}
-use Rattle.exact_cut.proofs.Winds.{Passes, passes}
+use Rattle.exact_cut.proofs.Winds.{Passes, passes, den_of, num_of}
 
 -- ---- the denominator, by the two edges' cross products
 pub den-left : (r s p q : Position) (y z : ℤ) → den_of r s p q z ≡ cut_d r s *ℤ left p q y z +ℤ cut_d p q *ℤ left s r y z

@@ -5,6 +5,10 @@ pub mod Passing
 pub mod Blends
 pub mod Settle
 pub mod Least
+pub mod Sliding
+pub mod Scanlines
+pub mod Courses
+pub mod Rounding
 pub mod Hitting
 pub mod Shifts
 pub mod Quadrants

@@ -7,9 +7,9 @@ use Rattle.stl_text.specs.Position.{Position}
 use Rattle.stl_text.specs.Triangle.{Triangle}
 use Rattle.stl_text.specs.Winding.{left, turn_of, turn, wind, volume, normal_x, normal_y, hit, left_x, turn_x, wind_y, hit_y}
 use Rattle.exact_cut.specs.CornerTurns.{where_not_zero, corner_turn}
-use Rattle.exact_cut.specs.Cut.{Rises, cut_x, cut_y, cut_d, den_of, num_of}
+use Rattle.exact_cut.specs.Cut.{Rises, cut_x, cut_y, cut_d}
 use Rattle.exact_cut.proofs.Turns.{turn_of-up, turn_of-down, turn_of-below, turn_of-above}
-use Rattle.exact_cut.proofs.Winds.{Passes, Quiet}
+use Rattle.exact_cut.proofs.Winds.{Passes, Quiet, den_of, num_of}
 use Rattle.exact_cut.proofs.Ahead.{cut-left, cut-left_down}
 use Rattle.exact_cut.proofs.Quadrants.{UpTurn, up_yes, up_no, DownTurn, down_yes, down_no, SameSign, both_above, both_zero, both_below, taken, quadrants, quadrants-flat}
 

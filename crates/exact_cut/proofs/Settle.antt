@@ -1,7 +1,6 @@
 -- From what the code's steps ensure to where the facet is crossed.
-use Rattle.std.proofs.Common.{◌≡◌, ◌⊎◌, ◌↔◌, [], ◌∷◌, Bool, true, false, ℤ, pos, negsuc, ◌+ℤ◌, ◌-ℤ◌, ◌*ℤ◌, neg_ℤ, ◌≤ℤ◌, ◌<ℤ◌, IsTrue, refl, sym, ◌∙◌, subst, arith, inl, inr}
+use Rattle.std.proofs.Common.{◌≡◌, ◌⊎◌, ◌↔◌, [], ◌∷◌, Bool, true, false, ℤ, pos, negsuc, ◌*ℤ◌, neg_ℤ, ◌≤ℤ◌, ◌<ℤ◌, IsTrue, refl, sym, ◌∙◌, subst, inl, inr}
 use mathlib.Core.Bool.{beq}
-use Rattle.std.proofs.lemmas.Int.{ints}
 use Rattle.micro_num.proofs.Signs.{at_most_or_above}
 use Rattle.stl_text.specs.Position.{Position}
 use Rattle.stl_text.specs.Triangle.{Triangle}
@@ -12,7 +11,7 @@ use Rattle.exact_cut.specs.Crossed.{Crosses}
 use Rattle.exact_cut.specs.declared.edges.Cut.{Cut}
 use Rattle.exact_cut.specs.declared.fractions.CutPoint.{CutPoint}
 use Rattle.exact_cut.specs.declared.fractions.Section.{Section}
-use Rattle.exact_cut.specs.Sections.{IsSection}
+use Rattle.exact_cut.specs.Sections.{IsSection, num_between, den_between}
 use Rattle.micro_num.proofs.Identity.{reads, identity}
 use Rattle.exact_cut.proofs.Winds.{Passes, passes}
 use Rattle.exact_cut.proofs.Ahead.{wind-outside, crosses_by, settled-same, settled-up, settled-down}
@@ -38,13 +37,6 @@ not_less b x y h e = by (at_most_or_above y x)
     by : (y ≤ℤ x) ⊎ (x <ℤ y) → y ≤ℤ x
     by (inl k) = k
     by (inr k) = let l = h.1 k in absurd (cc)
-
--- numerator and denominator of the line through two cut points
-abbrev pub num_between : CutPoint → CutPoint → ℤ → ℤ
-num_between p q y = p.x *ℤ q.y -ℤ p.y *ℤ q.x +ℤ y *ℤ (q.x *ℤ p.d -ℤ p.x *ℤ q.d)
-
-abbrev pub den_between : CutPoint → CutPoint → ℤ
-den_between p q = q.y *ℤ p.d -ℤ p.y *ℤ q.d
 
 num-swap : (p q : CutPoint) (y : ℤ) → neg_ℤ (num_between p q y) ≡ num_between q p y
 num-swap p q y = identity (p.x ∷ p.y ∷ p.d ∷ q.x ∷ q.y ∷ q.d ∷ y ∷ []) (search reads depth 40 fits 5000) refl

@@ -9,8 +9,8 @@ use Rattle.stl_text.specs.Winding.{hit, wind, left, volume, hit_y, wind_y}
 use Rattle.std.proofs.Common.{Bool, true, false, int_lt, if◌then◌else◌}
 use Rattle.stl_text.specs.Touch.{Between}
 use Rattle.exact_cut.specs.Crossed.{Crosses}
-use Rattle.exact_cut.specs.Cut.{start, finish, Rises, cut_x, cut_y, cut_d, den_of, num_of}
-use Rattle.exact_cut.proofs.Winds.{Passes, passes}
+use Rattle.exact_cut.specs.Cut.{start, finish, Rises, cut_x, cut_y, cut_d}
+use Rattle.exact_cut.proofs.Winds.{Passes, passes, den_of, num_of}
 use Rattle.exact_cut.proofs.Ahead.{WindCase, winds_up, winds_down, winds_not, wind_case, crosses, cut-left, cut-left_down, Sides, all_below, all_above, between, sides, wind-below, wind-above}
 use Rattle.exact_cut.proofs.Hitting.{hit-wind, hit-zero}
 use Rattle.exact_cut.proofs.Quadrants.{taken, taken_none}
@@ -168,7 +168,7 @@ weights_in w lu ld yu yd (winds_down e a b) f g =
     at_most a h = omega (arith, ints)
 weights_in w lu ld yu yd (winds_not e) f g = inl e
 
-no_hit : (t : Triangle) (p : Position) → wind t p.y p.z ≡ pos 0 → hit t p ≡ pos 0
+pub no_hit : (t : Triangle) (p : Position) → wind t p.y p.z ≡ pos 0 → hit t p ≡ pos 0
 no_hit t p e = hit-taken t p ∙ taken_none (wind t p.y p.z) (volume t p) e
 
 -- between is the same both ways

@@ -5,8 +5,16 @@ use Rattle.micro_num.proofs.Identity.{reads, identity}
 use Rattle.stl_text.specs.Position.{Position}
 use Rattle.stl_text.specs.Triangle.{Triangle}
 use Rattle.stl_text.specs.Winding.{left, turn, wind, volume, normal_x, normal_y}
-use Rattle.exact_cut.specs.Cut.{start, finish, Rises, cut_x, cut_d, den_of, num_of}
+use Rattle.exact_cut.specs.Cut.{cut_y, start, finish, Rises, cut_x, cut_d}
 use Rattle.exact_cut.proofs.Turns.{turn_of-below, turn_of-above}
+
+-- the crossing of the line through the cut points of s down to r and of p up to q with the scanline y, before its sign is settled
+abbrev pub den_of : Position → Position → Position → Position → ℤ → ℤ
+den_of r s p q z = cut_y p q z *ℤ cut_d r s -ℤ cut_y r s z *ℤ cut_d p q
+
+abbrev pub num_of : Position → Position → Position → Position → ℤ → ℤ → ℤ
+num_of r s p q y z =
+    cut_x r s z *ℤ cut_y p q z -ℤ cut_y r s z *ℤ cut_x p q z +ℤ y *ℤ (cut_x p q z *ℤ cut_d r s -ℤ cut_x r s z *ℤ cut_d p q)
 
 -- an amount of edges that is 0 at an edge whose ends lie on one side of z
 pub record Quiet (f : Position → Position → ℤ) (z : ℤ) : Type 0 where

@@ -32,11 +32,3 @@ pub record CutIs (low high : Position) (z x y d : ℤ) : Type 0 where
   pub x_is : x ≡ cut_x low high z
   pub y_is : y ≡ cut_y low high z
   pub d_is : d ≡ cut_d low high
-
--- the crossing of the line through the cut points of s down to r and of p up to q with the scanline y, before its sign is settled
-abbrev pub den_of : Position → Position → Position → Position → ℤ → ℤ
-den_of r s p q z = cut_y p q z *ℤ cut_d r s -ℤ cut_y r s z *ℤ cut_d p q
-
-abbrev pub num_of : Position → Position → Position → Position → ℤ → ℤ → ℤ
-num_of r s p q y z =
-    cut_x r s z *ℤ cut_y p q z -ℤ cut_y r s z *ℤ cut_x p q z +ℤ y *ℤ (cut_x p q z *ℤ cut_d r s -ℤ cut_x r s z *ℤ cut_d p q)

@@ -6,4 +6,7 @@ pub mod Cutting
 pub mod Sections
 pub mod Crossed
 pub mod Columns
+pub mod Course
+pub mod Slides
+pub mod Lattices
 pub mod WindLaws

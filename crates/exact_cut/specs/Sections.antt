@@ -1,10 +1,11 @@
 -- The segment in which a height cuts a facet.
-use Rattle.std.specs.Prelude.{ℤ}
+use Rattle.std.specs.Prelude.{ℤ, ◌+ℤ◌, ◌-ℤ◌, ◌*ℤ◌}
 use Rattle.stl_text.specs.Triangle.{Triangle}
 use Rattle.exact_cut.specs.Cut.{CutIs, start, finish}
 use Rattle.exact_cut.specs.Cutting.{IsCut}
 use Rattle.exact_cut.specs.declared.edges.Cut.{Cut}
 use Rattle.exact_cut.specs.declared.fractions.Section.{Section}
+use Rattle.exact_cut.specs.declared.fractions.CutPoint.{CutPoint}
 
 -- its ends are the cut points of the facet's edge down and of its edge up
 pub record IsSection (t : Triangle) (z : ℤ) (s : Section) : Type 0 where
@@ -12,3 +13,13 @@ pub record IsSection (t : Triangle) (z : ℤ) (s : Section) : Type 0 where
   pub is_cut : IsCut t z cut
   pub down : CutIs (finish t cut.down) (start t cut.down) z s.down.x s.down.y s.down.d
   pub up : CutIs (start t cut.up) (finish t cut.up) z s.up.x s.up.y s.up.d
+
+-- the line through two cut points has its crossing with the scanline y at num_between / den_between
+abbrev pub slope_between : CutPoint → CutPoint → ℤ
+slope_between p q = q.x *ℤ p.d -ℤ p.x *ℤ q.d
+
+abbrev pub num_between : CutPoint → CutPoint → ℤ → ℤ
+num_between p q y = p.x *ℤ q.y -ℤ p.y *ℤ q.x +ℤ y *ℤ slope_between p q
+
+abbrev pub den_between : CutPoint → CutPoint → ℤ
+den_between p q = q.y *ℤ p.d -ℤ p.y *ℤ q.d

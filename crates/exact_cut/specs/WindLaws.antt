@@ -1,10 +1,11 @@
 -- What holds of every facet: the laws that the crate's functions stand on.
-use Rattle.std.specs.Prelude.{◌≡◌, ◌⊎◌, ◌↔◌, ℤ, pos, ◌+ℤ◌, ◌-ℤ◌, ◌*ℤ◌, neg_ℤ, ◌<ℤ◌}
+use Rattle.std.specs.Prelude.{◌≡◌, ℕ, ◌<◌, ◌≤◌, ◌⊎◌, ◌↔◌, ℤ, pos, ◌+ℤ◌, ◌-ℤ◌, ◌*ℤ◌, neg_ℤ, ◌<ℤ◌}
 use Rattle.stl_text.specs.Position.{Position}
 use Rattle.stl_text.specs.Triangle.{Triangle}
 use Rattle.stl_text.specs.Winding.{turn, wind, volume, hit, hit_y}
 use Rattle.exact_cut.specs.CornerTurns.{Meets}
-use Rattle.exact_cut.specs.Crossed.{Winding}
+use Rattle.exact_cut.specs.Crossed.{Winding, Crosses}
+use Rattle.exact_cut.specs.Columns.{centre_x, IsLeastColumn}
 use Rattle.exact_cut.specs.CornerTurns.{corner_turn}
 use Rattle.stl_text.specs.Touch.{Touches, Between}
 
@@ -38,3 +39,10 @@ abbrev pub StepsAlongYKeepHits : Type 0
 StepsAlongYKeepHits =
     (t : Triangle) (x y1 y2 z : ℤ) → (Between t (record { x = x; y = y1; z = z }) (record { x = x; y = y2; z = z }) → ⊥)
     → hit_y t (record { x = x; y = y1; z = z }) ≡ hit_y t (record { x = x; y = y2; z = z })
+
+-- in a row of centres, the rays from those before a crossing's least column hit with the crossing's sign, and no other hits
+abbrev pub CrossingsSplitRows : Type 0
+CrossingsSplitRows =
+    (t : Triangle) (y z sign num den first : ℤ) (step columns column : ℕ) → Crosses t y z sign num den → IsLeastColumn num den first step columns column
+    → ((i : ℕ) → i < column → hit t (record { x = centre_x first step i; y = y; z = z }) ≡ sign)
+    × ((i : ℕ) → column ≤ i → i < columns → hit t (record { x = centre_x first step i; y = y; z = z }) ≡ pos 0)

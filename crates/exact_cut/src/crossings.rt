@@ -1,12 +1,12 @@
 ghost use Rattle.std.specs.Prelude.{◌≡◌, ℤ, ◌<◌, ◌≤ℤ◌, ◌<ℤ◌, ◌*ℤ◌, ◌↔◌, IsTrue, MatchOption};
-ghost use Rattle.std.specs.Prelude.{pos, ◌+ℤ◌, ◌-ℤ◌};
+ghost use Rattle.std.specs.Prelude.{pos};
 ghost use Rattle.micro_num.specs.Bounds.{IsAtMost};
 ghost use Rattle.stl_text.specs.Triangle.{twice};
 ghost use Rattle.stl_text.specs.Winding.{wind};
 ghost use Rattle.exact_cut.specs.Cut.{Rises, cut_d, cut_x, cut_y};
 ghost use Rattle.exact_cut.specs.Crossed.{Crosses};
 ghost use Rattle.exact_cut.specs.Place.{place};
-ghost use Rattle.exact_cut.specs.Sections.{IsSection};
+ghost use Rattle.exact_cut.specs.Sections.{IsSection, den_between, num_between};
 
 use crate::corners::{finish_of, start_of};
 use crate::cutting::cuts;
@@ -55,9 +55,8 @@ fn is_ahead(p: &CutPoint, y2: i64) -> bool
 /// denominator of its doubled x.
 pub fn meet(near: &CutPoint, far: &CutPoint, y2: i64) -> (i128, i128)
     requires { IsAtMost 256200000 y2 }
-    ensures num { result.0 ≡ near.now.x *ℤ far.now.y -ℤ near.now.y *ℤ far.now.x
-        +ℤ y2 *ℤ (far.now.x *ℤ near.now.d -ℤ near.now.x *ℤ far.now.d) }
-    ensures den { result.1 ≡ far.now.y *ℤ near.now.d -ℤ near.now.y *ℤ far.now.d }
+    ensures num { result.0 ≡ num_between near.now far.now y2 }
+    ensures den { result.1 ≡ den_between near.now far.now }
     ensures num_in { IsAtMost 83076749736557242056487941267521535 result.0 }
     ensures den_in { IsAtMost 154742504910672534362390527 result.1 }
 {

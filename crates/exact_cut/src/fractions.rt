@@ -12,6 +12,7 @@ pub struct CutPoint {
     ghost x_in: { IsAtMost 131072000000000000 x },
     ghost y_in: { IsAtMost 131072000000000000 y },
     ghost d_in: { IsAtMost 512000000 d },
+    ghost d_positive: { pos 0 <ℤ d },
 }
 
 /// The segment in which a height cuts a facet: where the edge down and the edge up pass the height.

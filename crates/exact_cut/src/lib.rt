@@ -11,8 +11,15 @@ mod doubled;
 mod edges;
 mod fractions;
 mod hits;
+mod lattice;
 mod laws;
 mod offsets;
+mod rows;
+mod slides;
+mod units;
+mod walks;
+#[cfg(test)]
+mod worked;
 
 pub use centres::Centre;
 pub use columns::column;
@@ -21,4 +28,6 @@ pub use cutting::cuts;
 pub use edges::Cut;
 pub use fractions::Crossing;
 pub use hits::{ray_hit, ray_hit_y};
+pub use lattice::Lattice;
 pub use laws::hold_laws;
+pub use walks::Walk;

@@ -51,10 +51,11 @@ pub record IsOwned (claims : ClaimsView) (p : PassView) : Type 0 where
 abbrev pub IsFresh : PassView → Type 0
 IsFresh p = (p.found ≡ []) × (p.has_ended ≡ false)
 
+-- the plan of the machine that gives these numbers out
 abbrev pub plan_of : ClaimsView → Plan
 plan_of claims = record { stripes = claims.stripes; passes = claims.passes }
 
--- The list has a hand that stands for as many as these passes are, and has found what they have found.
+-- One hand of the list stands for as many passes as these are, and has found each number as often as they have.
 pub record HasTogether (hands : List Hand) (passes : List PassView) : Type 0 where
   pub id : ℕ
   pub hand : Hand
@@ -62,13 +63,13 @@ pub record HasTogether (hands : List Hand) (passes : List PassView) : Type 0 whe
   pub stands : hand.stands_for ≡ length passes
   pub found : (x : ℕ) → times x hand.found ≡ times x (found_by_all passes)
 
--- The machine came to this word by its steps, and one of its hands has all that these passes have, if there are any.
+-- Steps of the machine lead to this word, with all that these passes found in one hand, if there are any passes.
 pub record IsEnd (claims : ClaimsView) (passes : List PassView) (word : ℕ) : Type 0 where
   pub hands : List Hand
   pub reached : Reached (plan_of claims) (moment word hands)
   pub joined : 0 < length passes → HasTogether hands passes
 
--- The same, of a hand that stands for the passes.
+-- Steps of the machine lead to this word, with this hand among its hands.
 pub record HasReached (claims : ClaimsView) (hand : Hand) (word : ℕ) : Type 0 where
   pub hands : List Hand
   pub reached : Reached (plan_of claims) (moment word hands)

@@ -1,4 +1,14 @@
 pub mod Edges
+pub mod Order
+pub mod InOrder
+pub mod Points
+pub mod Pairs
+pub mod Lows
+pub mod Transfer
+pub mod Named
+pub mod Welds
+pub mod EdgeCount
+pub mod Alike
 mod Closed
 pub mod Turning
 pub mod Flat

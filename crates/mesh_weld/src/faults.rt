@@ -1,3 +1,7 @@
+ghost use Rattle.std.specs.Prelude.{◌≡◌};
+ghost use Rattle.mesh_weld.specs.declared.faults.WeldFault.TheVariants as weld_fault;
+
+use std::alloc::AllocError;
 use stl_text::Point;
 use thiserror::Error;
 
@@ -16,4 +20,12 @@ pub enum WeldFault {
     /// A growth was refused.
     #[error("out of memory")]
     Memory,
+}
+
+impl From<AllocError> for WeldFault {
+    ghost from_gives = { λ _ fault. fault ≡ weld_fault.Memory };
+
+    fn from(_refused: AllocError) -> WeldFault {
+        WeldFault::Memory
+    }
 }

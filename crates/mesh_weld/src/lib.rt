@@ -1,9 +1,13 @@
 //! Closed meshes: facets welded at their corners, each directed edge balanced by the edge back.
 #![tactic(auto)]
 
+mod corners;
+mod counts;
 mod faults;
+mod heights;
 mod laws;
 mod rays;
+mod sides;
 mod solid;
 mod welding;
 

@@ -1,24 +1,29 @@
-ghost use Rattle.std.specs.Prelude.{◌≡◌, ◌<◌, ◌≤◌, Some, length, slice_get};
+ghost use Rattle.std.specs.Prelude.{◌≡◌, ◌<◌, ◌≤◌, ◌↔◌, ℕ, IsTrue, List, Some, length, option_map, slice_get};
+ghost use Rattle.stl_text.specs.Extent.{bounds};
 ghost use Rattle.mesh_weld.specs.Balance.{IsBalanced};
+ghost use Rattle.mesh_weld.specs.EdgeNumbers.{AreEdgeNumbers};
 ghost use Rattle.mesh_weld.specs.Mesh.{IsByHeight, triples, vertices};
 
 use std::alloc::Allocator;
 use std::marker::Model;
-use stl_text::{Facet, Point};
+use stl_text::{Facet, Point, extent};
 
 /// The kept facets of a closed mesh: those with three distinct corners.
 #[derive(Drop)]
 pub struct Solid<A: Allocator> {
-    facets: Vec<Facet, A>,
-    points: Vec<Point, A>,
-    numbers: Vec<[u32; 3], A>,
-    order: Vec<u32, A>,
-    dropped: u32,
+    pub(crate) facets: Vec<Facet, A>,
+    pub(crate) points: Vec<Point, A>,
+    pub(crate) numbers: Vec<[u32; 3], A>,
+    pub(crate) edges: Vec<[u32; 3], A>,
+    pub(crate) edge_count: u32,
+    pub(crate) order: Vec<u32, A>,
+    pub(crate) dropped: u32,
 }
 
 impl<A: Allocator> Model for Solid<A> {
     ghost use Rattle.std.specs.Prelude.{◌≡◌, ◌≤◌, length};
     ghost use Rattle.mesh_weld.specs.Balance.{IsBalanced};
+    ghost use Rattle.mesh_weld.specs.EdgeNumbers.{AreEdgeNumbers};
     ghost use Rattle.mesh_weld.specs.Mesh.{Mesh, IsByHeight, triples, vertices};
 
     ghost Value = { Mesh };
@@ -28,6 +33,7 @@ impl<A: Allocator> Model for Solid<A> {
     ghost invariant = { λ s. IsBalanced s.facets.items
         × (s.points.items ≡ vertices s.facets.items)
         × (s.numbers.items ≡ triples s.facets.items)
+        × AreEdgeNumbers s.facets.items s.edges.items s.edge_count
         × IsByHeight s.facets.items s.order.items
         × (length s.facets.items ≤ 1048576) };
 }
@@ -52,6 +58,35 @@ impl<A: Allocator> Solid<A> {
         ensures { result.now ≡ triples self.now.facets }
     {
         self.numbers.as_slice()
+    }
+
+    /// For each kept facet the numbers of its edges 0, 1 and 2. Two edges have one number exactly where their ends are
+    /// the same two points, in either order.
+    pub fn edge_numbers(&self) -> &[[u32; 3]]
+        ensures { (count : ℕ) × AreEdgeNumbers self.now.facets result.now count }
+    {
+        self.edges.as_slice()
+    }
+
+    /// How many numbers of edges there are: each is below this.
+    pub fn edge_count(&self) -> u32
+        ensures { (numbers : List (List ℕ)) (count : ℕ) → AreEdgeNumbers self.now.facets numbers count → result ≡ count }
+    {
+        self.edge_count
+    }
+
+    /// The least and the greatest x, y and z of the kept facets' corners, in micrometres; `None` where none is kept.
+    pub fn corners(&self) -> Option<(Point, Point)>
+        ensures { result ≡ option_map (λ b. record { 0 = b.low; 1 = b.high }) (bounds self.now.facets) }
+    {
+        extent(self.facets.as_slice())
+    }
+
+    /// Whether both have the same facets, in the same order, and dropped as many.
+    pub fn same(&self, other: &Solid<A>) -> bool
+        ensures { IsTrue result ↔ (self.now ≡ other.now) }
+    {
+        self.dropped == other.dropped && self.facets.as_slice() == other.facets.as_slice()
     }
 
     /// The numbers of the kept facets by ascending least height, of two as low by number.

@@ -1,15 +1,20 @@
-ghost use Rattle.std.specs.Prelude.{◌≡◌, ◌≤◌, IfErr, IfOk, vec_len};
+ghost use Rattle.std.specs.Prelude.{◌≡◌, ◌≤◌, IfErr, IfOk, length, vec_len};
 ghost use Rattle.stl_text.specs.Position.{Position};
 ghost use Rattle.stl_text.specs.Winding.{ray};
 ghost use Rattle.mesh_weld.specs.Balance.{IsBalanced};
-ghost use Rattle.mesh_weld.specs.Mesh.{mesh_of};
-ghost use Rattle.mesh_weld.specs.Welding.{IsWeldFault};
+ghost use Rattle.mesh_weld.specs.EdgeNumbers.{AreEdgeNumbers};
+ghost use Rattle.mesh_weld.specs.Mesh.{IsByHeight, mesh_of, triples, vertices};
+ghost use Rattle.mesh_weld.specs.Welding.{IsKeptFault, IsWeldFault};
 ghost use Rattle.mesh_weld.specs.declared.faults.WeldFault.TheVariants.{Memory};
 
+use crate::corners::{Welded, in_threes, number_corners};
+use crate::counts::{flat_facets, keep_whole, open_edge};
 use crate::faults::WeldFault;
+use crate::heights::order_by_height;
+use crate::sides::{Numbered, least_uneven, number_sides, sorted_sides};
 use crate::solid::Solid;
 use std::alloc::Allocator;
-use stl_text::Facet;
+use stl_text::{Facet, Point};
 
 /// The solid of closed facets. Memory aside, it succeeds exactly where the directed edges of all
 /// facets balance; facets with two equal corners are dropped. On a fault the list is given up.
@@ -24,5 +29,72 @@ pub fn weld<A: Allocator + Copy + Send + Sync>(
     ensures open { IfErr result (IsWeldFault facets.items) }
     ensures only { IsBalanced facets.items → IfErr result (λ fault. fault ≡ Memory) }
 {
-    Err(WeldFault::Memory)
+    let mut facets = facets;
+    let flat = flat_facets(alloc, facets.as_slice())?;
+    keep_whole(&mut facets);
+    let Parts {
+        points,
+        numbers,
+        edges,
+        edge_count,
+        order,
+    } = number_parts(alloc, facets.as_slice(), flat.as_slice())?;
+    let dropped = flat.len() as u32;
+    Ok(Solid {
+        facets,
+        points,
+        numbers,
+        edges,
+        edge_count,
+        order,
+        dropped,
+    })
+}
+
+/// What a solid holds besides its facets.
+#[derive(Drop)]
+struct Parts<A: Allocator> {
+    points: Vec<Point, A>,
+    numbers: Vec<[u32; 3], A>,
+    edges: Vec<[u32; 3], A>,
+    edge_count: u32,
+    order: Vec<u32, A>,
+}
+
+fn number_parts<A: Allocator + Copy>(
+    alloc: A,
+    kept: &[Facet],
+    flat: &[Facet],
+) -> Result<Parts<A>, WeldFault>
+    requires kept { length kept.now ≤ 1048576 }
+    requires flat { length flat.now ≤ 1048576 }
+    ensures points { IfOk result (λ parts. parts.points.items ≡ vertices kept.now) }
+    ensures numbers { IfOk result (λ parts. parts.numbers.items ≡ triples kept.now) }
+    ensures edges { IfOk result (λ parts. AreEdgeNumbers kept.now parts.edges.items parts.edge_count) }
+    ensures order { IfOk result (λ parts. IsByHeight kept.now parts.order.items) }
+    ensures closed { IfOk result (λ parts. IsBalanced kept.now) }
+    ensures open { IfErr result (IsKeptFault kept.now flat.now) }
+{
+    let Welded {
+        points,
+        numbers: corners,
+    } = number_corners(alloc, kept)?;
+    let numbers = in_threes(alloc, corners.as_slice())?;
+    let sides = sorted_sides(alloc, numbers.as_slice())?;
+    if let Some((low, high)) = least_uneven(sides.as_slice()) {
+        return Err(open_edge(kept, flat, points[low as usize], points[high as usize]));
+    }
+    let Numbered {
+        numbers: named,
+        count: edge_count,
+    } = number_sides(alloc, numbers.as_slice(), sides.as_slice())?;
+    let edges = in_threes(alloc, named.as_slice())?;
+    let order = order_by_height(alloc, kept)?;
+    Ok(Parts {
+        points,
+        numbers,
+        edges,
+        edge_count,
+        order,
+    })
 }

@@ -2,13 +2,14 @@
 --     scanned                   the parts of a text behind its sign, as they are met one after another
 --     size_of                   the distance from 0 that such a text stands for, or why it stands for none
 --     IsLeading                 the first digits of a number, where the last ones were left out
+--     IsMantissa                the digits of a number with such first digits
 --     IsCarry                   what the digits that were left out add to 254 times the others
 --     IsCapped                  a number, or one that is no coordinate where that is none
 --     IsCut                     such first digits in a unit
 --     IsNear                    a power of ten, or one as far out
-use Rattle.std.specs.Prelude.{◌≡◌, ℕ, ◌+◌, ◌*◌, ◌^◌, ◌-◌, ◌<◌, ◌≤◌, ◌==◌, Bool, ◌&&◌, List, [], ◌∷◌, Option, Some, None, Result, Ok, Err, not, fold, nat_le, if◌then◌else◌, ℤ, pos, neg_ℤ, ◌≤ℤ◌, ◌⊎◌}
+use Rattle.std.specs.Prelude.{◌≡◌, ℕ, ◌+◌, ◌*◌, ◌^◌, ◌-◌, ◌<◌, ◌≤◌, ◌==◌, Bool, true, ◌&&◌, List, [], ◌∷◌, ◌++◌, length, Option, Some, None, Result, Ok, Err, not, fold, nat_le, if◌then◌else◌, ℤ, pos, neg_ℤ, ◌≤ℤ◌, ◌⊎◌}
 use Rattle.std.specs.Char.{is_ascii_digit}
-use Rattle.std.specs.List.{before_first}
+use Rattle.std.specs.List.{before_first, list_all}
 use Rattle.micro_num.specs.declared.units.Unit.{Unit as LengthUnit}
 use Rattle.micro_num.specs.declared.faults.NumFault.{NumFault}
 use Rattle.micro_num.specs.declared.faults.NumFault.TheVariants.{NotNumber, OutOfRange}
@@ -64,6 +65,13 @@ pub record IsLeading (value dropped n : ℕ) : Type 0 where
   pub high : n < (value + 1) * 10 ^ dropped
   pub short : value < 10000000000000000
   pub long : 0 < dropped → 1000000000000000 ≤ value
+
+-- the digits of a number, and the first of them as a number
+pub record IsMantissa (value dropped : ℕ) (whole fraction : List ℕ) : Type 0 where
+  pub leads : IsLeading value dropped (digits_value (whole ++ fraction))
+  pub digits : list_all is_ascii_digit (whole ++ fraction) ≡ true
+  pub few : dropped ≤ length whole + length fraction
+  pub within : length whole + length fraction ≤ 255
 
 -- carry is the whole part of 254 times n, where n is a fraction of so many digits
 pub record IsCarry (carry count n : ℕ) : Type 0 where

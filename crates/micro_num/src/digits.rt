@@ -6,7 +6,10 @@ ghost use Rattle.micro_num.specs.Scan.{IsLeading, digits_after, is_other};
 /// While the leading digits are below this, one more of them still fits.
 const ROOM: u64 = 1_000_000_000_000_000;
 
-/// The number that the first digits write, as far as 16 digits behind the zeros in front.
+/// The number that the first digits write: behind the zeros in front, 16 of them at most.
+///
+/// These and how many stand behind them decide how a number is rounded, whatever stands there: where one of the first
+/// digits is behind the point, it decides the half, and where none is, the number is far out of range.
 #[derive(Clone, Copy)]
 pub struct Leading {
     pub value: u64,

@@ -1,8 +1,6 @@
 ghost use Rattle.std.specs.Prelude.{◌≡◌, ◌≤◌, ◌<◌, ◌+◌, ◌*◌, ◌++◌, ◌+ℤ◌, ◌-ℤ◌, List, length, ℕ, ℤ, pos, true, unsigned_abs};
-ghost use Rattle.std.specs.Char.{is_ascii_digit};
-ghost use Rattle.std.specs.List.{list_all};
 ghost use Rattle.micro_num.specs.Micrometres.{digits_value, magnitude, unit_factor, unit_power};
-ghost use Rattle.micro_num.specs.Scan.{IsCapped, IsCarry, IsCut, IsLeading, IsNear};
+ghost use Rattle.micro_num.specs.Scan.{IsCapped, IsCarry, IsCut, IsMantissa, IsNear};
 
 use crate::mantissa::Mantissa;
 use crate::scaling::{carried, scaled};
@@ -10,10 +8,8 @@ use crate::units::Unit;
 
 /// 254 times the leading digits, with what the digits behind them add to that: as far as they carry into it.
 fn in_inches(mantissa: &Mantissa<'_>) -> u64
-    requires leads { IsLeading mantissa.now.leading.value mantissa.now.leading.dropped
-        (digits_value (mantissa.now.whole.now ++ mantissa.now.fraction.now)) }
-    requires digits { list_all is_ascii_digit (mantissa.now.whole.now ++ mantissa.now.fraction.now) ≡ true }
-    requires few { mantissa.now.leading.dropped ≤ length mantissa.now.whole.now + length mantissa.now.fraction.now }
+    requires { IsMantissa mantissa.now.leading.value mantissa.now.leading.dropped
+        mantissa.now.whole.now mantissa.now.fraction.now }
     ensures times { IsCarry result mantissa.now.leading.dropped
         (digits_value (mantissa.now.whole.now ++ mantissa.now.fraction.now)) }
     ensures small { result < 3000000000000000000 }
@@ -30,10 +26,8 @@ fn in_inches(mantissa: &Mantissa<'_>) -> u64
 
 /// The leading digits times the unit's factor, with what the digits behind them add to that.
 fn in_unit(mantissa: &Mantissa<'_>, unit: Unit) -> u64
-    requires leads { IsLeading mantissa.now.leading.value mantissa.now.leading.dropped
-        (digits_value (mantissa.now.whole.now ++ mantissa.now.fraction.now)) }
-    requires digits { list_all is_ascii_digit (mantissa.now.whole.now ++ mantissa.now.fraction.now) ≡ true }
-    requires few { mantissa.now.leading.dropped ≤ length mantissa.now.whole.now + length mantissa.now.fraction.now }
+    requires { IsMantissa mantissa.now.leading.value mantissa.now.leading.dropped
+        mantissa.now.whole.now mantissa.now.fraction.now }
     ensures { IsCut result mantissa.now.leading.dropped
         (unit_factor unit * digits_value (mantissa.now.whole.now ++ mantissa.now.fraction.now)) }
 {
@@ -56,11 +50,8 @@ fn power_in(unit: Unit) -> i64
 
 /// What a number is worth in micrometres without its sign, or more than the greatest coordinate where it is more.
 pub fn size_in(mantissa: &Mantissa<'_>, exponent: i64, unit: Unit) -> u64
-    requires leads { IsLeading mantissa.now.leading.value mantissa.now.leading.dropped
-        (digits_value (mantissa.now.whole.now ++ mantissa.now.fraction.now)) }
-    requires digits { list_all is_ascii_digit (mantissa.now.whole.now ++ mantissa.now.fraction.now) ≡ true }
-    requires few { mantissa.now.leading.dropped ≤ length mantissa.now.whole.now + length mantissa.now.fraction.now }
-    requires within { length mantissa.now.whole.now + length mantissa.now.fraction.now ≤ 255 }
+    requires mantissa { IsMantissa mantissa.now.leading.value mantissa.now.leading.dropped
+        mantissa.now.whole.now mantissa.now.fraction.now }
     requires small { unsigned_abs exponent < 10000000000000000 }
     ensures { (z : ℤ) → IsNear exponent z → IsCapped
         (magnitude (unit_factor unit * digits_value (mantissa.now.whole.now ++ mantissa.now.fraction.now))

@@ -11,6 +11,13 @@ use crate::scaling::LIMIT;
 use crate::units::Unit;
 
 /// The whole micrometres that a word stands for, rounded to the nearest, halves away from zero.
+///
+/// A word is a number where it is a sign or none, then digits with at most one point before, among or behind them and
+/// at least one digit, then nothing, or `e` or `E`, a sign or none and at least one digit.
+///
+/// # Errors
+/// `TooLong` where the word has more than 255 bytes, else `NotNumber` where it is no number, else `OutOfRange` where
+/// the rounded value is more than 128,000,000 micrometres from 0.
 pub fn read_micro(word: &[u8], unit: Unit) -> Result<i32, NumFault>
     ensures exact { result ≡ coordinate_of unit word.now }
     ensures spelled { (n : Numeral) → IsNumeral n → word.now ≡ numeral_text n → length word.now ≤ 255

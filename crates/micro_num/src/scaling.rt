@@ -5,6 +5,7 @@ ghost use Rattle.micro_num.specs.Micrometres.{magnitude, rounded_quotient};
 /// The greatest coordinate, in micrometres.
 pub const LIMIT: u64 = 128_000_000;
 
+/// The powers of ten that 64 bits hold.
 static POWERS: [u64; 20] = [
     1,
     10,
@@ -35,12 +36,13 @@ fn power_of_ten(power: u64) -> u64
     POWERS[power as usize]
 }
 
-/// `value` tenths to the power `power`, to the nearest whole number, halves upward.
+/// `value` divided by ten to the power `power`, to the nearest whole number, halves upward.
 fn shrunk(value: u64, power: u64) -> u64
     requires some { 0 < power }
     requires small { value < 3000000000000000000 }
     ensures { result ≡ rounded_quotient value power }
 {
+    // no value here is half of ten to the power 20
     if power > 19 {
         return 0;
     }

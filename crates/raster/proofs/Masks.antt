@@ -30,7 +30,7 @@ at-black row part a k m black size room low high =
     let front : length (take a row) ≡ a = length-take-le a row (omega arith) in
     let inside : m - a < length part = omega arith in
     let first : get_or (put_mid a k row part) m 0 ≡ get_or (part ++ drop k (drop a row)) (m - a) 0 =
-            get_or-append_right (take a row) (part ++ drop k (drop a row)) a m 0 front low in
+    get_or-append_right (take a row) (part ++ drop k (drop a row)) a m 0 front low in
     let second : get_or (part ++ drop k (drop a row)) (m - a) 0 ≡ get_or part (m - a) 0 = get_or_append_left part (drop k (drop a row)) 0 (m - a) inside in
     let third : get_or part (m - a) 0 ≡ get_or (replicate (length part) 255) (m - a) 0 = ap (λ (l : List ℕ). get_or l (m - a) 0) black in
     first ∙ second ∙ third ∙ get_or-replicate (length part) (m - a) 255 0 inside

@@ -35,10 +35,10 @@ split-here spans start end number apart split order some other above =
     record {
       within = omega (arith, split.within);
       below = λ k h. elim (last-or-before k start h) [
-      inl e ↦ omega (arith, ap (λ (n : ℕ). (span_at spans n).row) e, last)
-      | inr h' ↦ omega (arith, rows-ascend spans k (start - 1) apart h' (omega (arith, split.within)), last)
+        | inl e ↦ omega (arith, ap (λ (n : ℕ). (span_at spans n).row) e, last)
+        | inr h' ↦ omega (arith, rows-ascend spans k (start - 1) apart h' (omega (arith, split.within)), last)
       ];
-      above = above
+      above = above;
     }
   where
     lower : (r n : ℕ) → r < n + 1 → (r ≡ n → ⊥) → r < n
@@ -52,6 +52,7 @@ within-crosses width spans i h = settle (crosses spans i) (nat_lt i width) (λ e
     settle true b f = sym (ap (λ (c : Bool). c && true) (f refl))
     settle false true f = refl
     settle false false f = refl
+
     inside : (spans : List Span) → are_within width spans ≡ true → crosses spans i ≡ true → nat_lt i width ≡ true
     inside [] h e = absurd (grind arith)
     inside (s ∷ rest) h e = grind (arith, nat_tests, inside rest)

@@ -1,5 +1,5 @@
 -- What a device's calls do to the count of its failures, and to the bytes that it holds.
-use Rattle.std.specs.Prelude.{◌≡◌, ℕ, ◌+◌, ◌-◌, ◌^◌, min, ◌<◌, ◌⊎◌, List, take, Option}
+use Rattle.std.specs.Prelude.{◌≡◌, ℕ, Bool, ◌+◌, ◌-◌, ◌^◌, min, ◌<◌, ◌⊎◌, List, take, Option}
 use Rattle.std.specs.Io.KnownBytes.{Appends}
 
 -- a count that stays once it is at the end of its range
@@ -18,7 +18,8 @@ HasFailed old new = (old < new) ⊎ (new ≡ greatest_count)
 abbrev pub AppendsFirst : Option (List ℕ) → Option (List ℕ) → ℕ → List ℕ → Type 0
 AppendsFirst old new written text = Appends old new (take written text)
 
--- a device, and how many of its calls have failed
+-- a device, how many of its calls have failed, and whether all that it took has been flushed
 pub record Tallied (T : Type 0) : Type 0 where
   pub device : T
   pub count : ℕ
+  pub is_settled : Bool

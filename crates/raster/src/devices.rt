@@ -1,4 +1,4 @@
-ghost use Rattle.std.specs.Prelude.{◌≡◌, ◌≤◌, ◌<◌, IfOk, List, OnErr, OnOk, Ok, Option, length, take, ℕ};
+ghost use Rattle.std.specs.Prelude.{◌≡◌, Bool, true, ◌≤◌, ◌<◌, IfOk, List, OnErr, OnOk, Ok, Option, length, take, ℕ};
 ghost use Rattle.std.specs.Io.KnownBytes.{Appends, Consumes, IsAtEnd, Keeps};
 ghost use Rattle.raster.specs.Devices.{Fails};
 
@@ -40,6 +40,9 @@ pub trait Sink: Failures {
     /// The bytes that went out, where they are known.
     ghost contents: { Self → Option (List ℕ) };
 
+    /// Whether all that was taken has been flushed.
+    ghost is_settled: { Self → Bool };
+
     /// Takes bytes from the front of `piece` and answers how many: at least one, unless `piece` is empty. An error
     /// took none.
     fn put(&mut self, piece: &[u8]) -> Result<usize, Failed>
@@ -52,6 +55,7 @@ pub trait Sink: Failures {
 
     /// Flushes what was taken. It takes no byte itself.
     fn settle(&mut self) -> Result<(), Failed>
+        ensures settled { OnOk result (is_settled self.new ≡ true) }
         ensures none { Keeps (contents self.old) (contents self.new) }
         ensures ok { OnOk result (Self.Failures.failure_count self.new ≡ Self.Failures.failure_count self.old) }
         ensures err { OnErr result (Fails (Self.Failures.failure_count self.old) (Self.Failures.failure_count self.new)) };
@@ -63,6 +67,7 @@ pub trait Sink: Failures {
 pub struct Counted<T> {
     inner: T,
     failures: u64,
+    is_settled: bool,
 }
 
 impl<T> Model for Counted<T> {
@@ -70,15 +75,19 @@ impl<T> Model for Counted<T> {
 
     ghost Value = { Tallied T };
 
-    ghost view = { λ counted. record { device = counted.inner; count = counted.failures } };
+    ghost view = { λ counted. record { device = counted.inner; count = counted.failures; is_settled = counted.is_settled } };
 }
 
 impl<T> Counted<T> {
     /// Over a reader or a writer, with no failure yet.
     pub fn new(inner: T) -> Counted<T>
-        ensures { result ≡ record { device = inner; count = 0 } }
+        ensures { result ≡ record { device = inner; count = 0; is_settled = true } }
     {
-        Counted { inner, failures: 0 }
+        Counted {
+            inner,
+            failures: 0,
+            is_settled: true,
+        }
     }
 
     /// The reader or writer.
@@ -92,7 +101,11 @@ impl<T> Counted<T> {
     pub fn into_inner(self) -> T
         ensures { result ≡ self.device }
     {
-        let Counted { inner, failures: _ } = self;
+        let Counted {
+            inner,
+            failures: _,
+            is_settled: _,
+        } = self;
         inner
     }
 
@@ -128,7 +141,10 @@ impl<T: Read> Source for Counted<T> {
 impl<T: Write> Sink for Counted<T> {
     ghost contents = { λ counted. T.contents counted.device };
 
+    ghost is_settled = { λ counted. counted.is_settled };
+
     fn put(&mut self, piece: &[u8]) -> Result<usize, Failed> {
+        self.is_settled = false;
         match self.inner.write(piece) {
             Ok(0) if !piece.is_empty() => Err(self.fail()),
             Ok(count) => Ok(count),
@@ -138,7 +154,10 @@ impl<T: Write> Sink for Counted<T> {
 
     fn settle(&mut self) -> Result<(), Failed> {
         match self.inner.flush() {
-            Ok(()) => Ok(()),
+            Ok(()) => {
+                self.is_settled = true;
+                Ok(())
+            }
             Err(_) => Err(self.fail()),
         }
     }

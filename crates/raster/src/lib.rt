@@ -2,15 +2,20 @@
 #![tactic(auto)]
 
 mod bits;
+mod chunk;
 mod devices;
 mod grid;
 mod grid_faults;
+mod image;
 mod rows;
 mod rules;
 mod spans;
+mod write_fault;
 
 pub use devices::{Counted, Failed, Failures, Sink, Source};
 pub use grid::Grid;
 pub use grid_faults::GridFault;
+pub use image::write_layer;
 pub use rules::Rule;
 pub use spans::{Span, area};
+pub use write_fault::WriteFault;

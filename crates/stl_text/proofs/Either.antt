@@ -10,7 +10,8 @@ use Rattle.std.proofs.lemmas.List.{take-append-drop}
 use Rattle.std.proofs.Math.Numerals.{one-add}
 use Rattle.std.proofs.lemmas.Grind.{flat_map-append}
 use Rattle.std.proofs.lemmas.List.Sums.{sum_by-append}
-use Rattle.stl_text.proofs.OneFault.{begun_in, begun-facets, begun-solids}
+use Rattle.stl_text.specs.Reading.{begun_in, open_pieces}
+use Rattle.stl_text.proofs.OneFault.{begun-facets, begun-solids}
 use Rattle.micro_num.specs.declared.units.Unit.{Unit as LengthUnit}
 use Rattle.micro_num.specs.declared.faults.NumFault.{NumFault}
 use Rattle.micro_num.specs.Numeral.{from_first}
@@ -205,23 +206,23 @@ from_first-le p bytes =
     let left : length (drop (position_or_len p bytes) bytes) ≡ length bytes - position_or_len p bytes = length-drop (position_or_len p bytes) bytes in
     omega (arith, left)
 
-pub after_space-le : (bytes : List ℕ) → length (after_space bytes) ≤ length bytes
+after_space-le : (bytes : List ℕ) → length (after_space bytes) ≤ length bytes
 after_space-le bytes =
     let left : length (drop (prefix_len is_white bytes) bytes) ≡ length bytes - prefix_len is_white bytes = length-drop (prefix_len is_white bytes) bytes in
     omega (arith, left)
 
-pub word_length : (bytes : List ℕ) → length (first_word bytes) + length (after_word bytes) ≡ length (after_space bytes)
+word_length : (bytes : List ℕ) → length (first_word bytes) + length (after_word bytes) ≡ length (after_space bytes)
 word_length bytes =
     let whole : first_word bytes ++ after_word bytes ≡ after_space bytes = take-append-drop (position_or_len is_white (after_space bytes)) (after_space bytes) in
     sym (length-append (first_word bytes) (after_word bytes)) ∙ ap length whole
 
-pub after_word-le : (bytes : List ℕ) → length (after_word bytes) ≤ length bytes
+after_word-le : (bytes : List ℕ) → length (after_word bytes) ≤ length bytes
 after_word-le bytes = omega (arith, word_length bytes, after_space-le bytes)
 
 pub after_word-lt : (bytes : List ℕ) → 0 < length (first_word bytes) → length (after_word bytes) < length bytes
 after_word-lt bytes some = omega (arith, some, word_length bytes, after_space-le bytes)
 
-pub after_line-le : (bytes : List ℕ) → length (after_line bytes) ≤ length bytes
+after_line-le : (bytes : List ℕ) → length (after_line bytes) ≤ length bytes
 after_line-le bytes = from_first-le is_line_end bytes
 
 after_piece-le : (p : Piece) (bytes : List ℕ) → length (after_piece p bytes) ≤ length bytes
@@ -278,14 +279,11 @@ no_word-space bytes e = by_front (after_space bytes) refl (front_is bytes) e
 
 -- The scan of a whole text.
 
-abbrev open_pieces : List Triangle → List Piece
-open_pieces facets = keyword Solid (codes "solid") ∷ rest_of_line ∷ flat_map facet_pieces facets
-
 abbrev end_pieces : List Piece
 end_pieces = end_word ∷ rest_of_line ∷ []
 
 -- one more solid, open
-pub cut_open : (solids : List (List Triangle)) (facets : List Triangle)
+cut_open : (solids : List (List Triangle)) (facets : List Triangle)
     → flat_map solid_pieces (solids ++ facets ∷ []) ≡ flat_map solid_pieces solids ++ (open_pieces facets ++ end_pieces)
 cut_open solids facets =
     flat_map-append solid_pieces solids (facets ∷ [])
@@ -312,7 +310,7 @@ cut_facet solids facets t front p more is =
         flat_map-append facet_pieces facets (t ∷ [])
         ∙ ap (λ r. flat_map facet_pieces facets ++ r) (append-nil (facet_pieces t) ∙ is)
 
-pub facets_of-open : (solids : List (List Triangle)) (facets : List Triangle)
+facets_of-open : (solids : List (List Triangle)) (facets : List Triangle)
     → length (facets_of (solids ++ facets ∷ [])) ≡ length (facets_of solids) + length facets
 facets_of-open solids facets =
     ap length (flat_map-append (λ fs. fs) solids (facets ∷ []))

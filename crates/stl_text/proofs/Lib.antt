@@ -9,3 +9,4 @@ pub mod OneFault
 pub mod Either
 pub mod Steps
 pub mod Solids
+pub mod Written

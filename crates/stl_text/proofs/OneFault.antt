@@ -1,6 +1,6 @@
 -- A text has one fault at most, and none where it reads as facets.
 use Rattle.std.proofs.Common.{◌≡◌, ◌≢◌, ℕ, ◌+◌, ◌<◌, ◌≤◌, Bool, true, false, cond, ◌&&◌, List, [], ◌∷◌, ◌++◌, length, refl, sym, ◌∙◌, ap, subst, inl, inr, arith, ◌⊎◌, append-nil, lit≤, length-append}
-use Rattle.std.specs.Prelude.{Option, Some, None, Ok, Err, Result, ℤ, if◌then◌else◌, codes, flat_map, count_by, nat_lt}
+use Rattle.std.specs.Prelude.{Option, Some, None, Ok, Err, Result, ℤ, if◌then◌else◌, codes, flat_map, nat_lt}
 use Rattle.std.specs.Str.{bytes_eq, str_to_ascii_lowercase}
 use Rattle.std.specs.List.{list_all, before_first}
 use Rattle.std.proofs.lemmas.List.Folds.{list_all-append}
@@ -15,6 +15,7 @@ use Rattle.stl_text.specs.declared.faults.StlFault.{StlFault}
 use Rattle.stl_text.specs.declared.faults.StlFault.TheVariants as fault
 use Rattle.stl_text.specs.Triangle.{Triangle}
 use Rattle.stl_text.specs.Text.{Piece, keyword, normal_part, coordinate, rest_of_line, facet_word, end_word, facet_pieces, solid_pieces, is_keyword, is_text_of, is_wanted, is_facet_word, wanted, begins_with, rest_behind, first_word, after_space, is_white, facets_of, Reads, Wants, IsFaultOf}
+use Rattle.stl_text.specs.Reading.{begun_in}
 use Rattle.stl_text.proofs.Parts.{and_parts}
 use Rattle.stl_text.proofs.Determined.{Slot, fixed, any_word, any_coordinate, any_line, facet_slots, Place, Prefixes, Prefixes.longer, Prefixes.shorter, word_code, word_at, word_at-code, matches, outside, next, next_in, run, run-append, then-some, then_at, only, passed, shape-is, read-is, solid_slot, facet_slot, end_slot, solids-run, agree}
 use Rattle.stl_text.proofs.OneReading.{GoesOn, goes_on, nothing_more}
@@ -127,9 +128,6 @@ wanted_word kind text word sound h =
     ap (is_text_of kind) ((bytes_eq-Decides _ text).0 h) ∙ (and_parts _ _ sound).0
 
 -- How many facets have begun.
-
-abbrev pub begun_in : List Piece → ℕ
-begun_in ps = count_by is_facet_word ps
 
 begun-more : (front : List Piece) (p : Piece) (more : List Piece) → is_facet_word p ≡ true → begun_in front < begun_in (front ++ p ∷ more)
 begun-more front p more h =

@@ -1,6 +1,6 @@
 -- Worked texts: what they read as, and their faults.
 use Rattle.std.proofs.Common.{◌≡◌, ℕ, List, [], ◌∷◌, ◌++◌, refl, length, lit≤, drop, take, replicate, ◌<◌, arith}
-use Rattle.std.specs.Prelude.{pos, negsuc, codes, false}
+use Rattle.std.specs.Prelude.{pos, negsuc, codes, false, flat_map}
 use Rattle.micro_num.specs.declared.units.Unit.TheVariants.{Millimetre}
 use Rattle.micro_num.specs.declared.faults.NumFault.TheVariants.{NotNumber, TooLong, OutOfRange}
 use Rattle.micro_num.specs.Micrometres.{magnitude}
@@ -9,6 +9,7 @@ use Rattle.stl_text.specs.declared.faults.StlFault.TheVariants as fault
 use Rattle.stl_text.proofs.Meshes.{at, cube, file_text}
 use Rattle.stl_text.specs.Triangle.{Triangle, triangle}
 use Rattle.stl_text.specs.Text
+use Rattle.stl_text.specs.Written
 
 box_file_length : length (file_text (cube 0 2)) ≡ 1483
 box_file_length = refl
@@ -267,4 +268,59 @@ number_out_of_range =
       };
       stands = lit≤ tt;
       refused = refl;
+    }
+
+-- the first of these solids, as it is written
+abbrev token : List ℕ → List ℕ → Written.Token
+token word space = record { word = word; space = space }
+
+abbrev body : List Written.Token
+body =
+    token (codes "FACET") (codes " ") ∷ token (codes "NORMAL") (codes " ")
+    ∷ token (codes "nan") (codes " ") ∷ token (codes "nan") (codes " ") ∷ token (codes "nan") (codes "\r\n")
+    ∷ token (codes "OUTER") (codes " ") ∷ token (codes "LOOP") (codes "\r\n")
+    ∷ token (codes "VERTEX") (codes " ") ∷ token (codes "1E-3") (codes " ") ∷ token (codes "+0") (codes " ") ∷ token (codes "-.002") (codes " ")
+    ∷ token (codes "VERTEX") (codes " ") ∷ token (codes "0") (codes " ") ∷ token (codes "0") (codes " ") ∷ token (codes "0") (codes "\r\n")
+    ∷ token (codes "Vertex") (codes " ") ∷ token (codes "0") (codes " ") ∷ token (codes ".001e0") (codes " ") ∷ token (codes "0") (codes "\r\n")
+    ∷ token (codes "ENDLOOP") (codes "\r\n  ") ∷ token (codes "endFacet") (codes "\r\n") ∷ []
+
+solid_in_capitals : Written.WrittenSolid Millimetre (small ∷ []) (capitals small (codes " endsolid"))
+unfolding magnitude
+solid_in_capitals =
+    record {
+      opening = codes "SOLID";
+      opening_is = refl;
+      name = codes " endsolid";
+      name_is = record { apart = refl; one_line = refl };
+      name_end = 13;
+      name_ends = refl;
+      space = codes "\n";
+      space_is = refl;
+      body = body;
+      body_is = words;
+      closing = codes "ENDSOLID";
+      closing_is = refl;
+      remark = codes " it is";
+      remark_is = record { apart = refl; one_line = refl };
+      remark_end = 13;
+      remark_ends = refl;
+      behind = codes "\n";
+      behind_is = refl;
+      text_is = refl;
+    }
+  where
+    words : Written.AreTokensOf Millimetre (flat_map Text.facet_pieces (small ∷ [])) body
+    words = (refl, refl, (refl, refl, (refl, tt, (refl, tt, (refl, tt, (refl, refl, (refl, refl, (refl, refl, (refl, refl, (refl, refl, (refl, refl, (refl, refl, (refl, refl, (refl, refl, (refl, refl, (refl, refl, (refl, refl, (refl, refl, (refl, refl, (refl, refl, (refl, refl, tt)))))))))))))))))))))
+
+written_in_capitals : Written.Written Millimetre (small ∷ []) (codes "\n" ++ capitals small (codes " endsolid"))
+written_in_capitals =
+    record {
+      lead = codes "\n";
+      lead_is = refl;
+      solids = (small ∷ []) ∷ [];
+      some = lit≤ tt;
+      each = refl;
+      texts = capitals small (codes " endsolid") ∷ [];
+      texts_are = (solid_in_capitals, tt);
+      text_is = refl;
     }

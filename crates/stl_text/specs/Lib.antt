@@ -5,3 +5,4 @@ pub mod Winding
 pub mod Touch
 pub mod Text
 pub mod Reading
+pub mod Written

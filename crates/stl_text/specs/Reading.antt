@@ -13,7 +13,7 @@ use Rattle.stl_text.specs.declared.words.Word.TheVariants.{Solid, FacetOrEnd, No
 use Rattle.stl_text.specs.declared.faults.StlFault.{StlFault}
 use Rattle.stl_text.specs.declared.faults.StlFault.TheVariants as fault
 use Rattle.stl_text.specs.Triangle.{Triangle}
-use Rattle.stl_text.specs.Text.{Piece, keyword, coordinate, rest_of_line, end_word, facet_word, facet_pieces, normal_pieces, loop_pieces, is_facet_word, is_keyword, is_wanted, wanted, rest_behind, first_word, after_space}
+use Rattle.stl_text.specs.Text.{Piece, keyword, coordinate, rest_of_line, facet_word, facet_pieces, normal_pieces, loop_pieces, is_facet_word, is_keyword, is_wanted, wanted, rest_behind, first_word, after_space}
 
 pub record Cursor : Type 0 where
   pub unit : LengthUnit

@@ -1,8 +1,9 @@
-ghost use Rattle.std.specs.Prelude.{◌≡◌, ◌⊎◌, List, ℕ};
+ghost use Rattle.std.specs.Prelude.{◌≡◌, ◌≤◌, ◌⊎◌, List, length, ℕ};
 ghost use Rattle.micro_num.specs.declared.units.Unit.{Unit as LengthUnit};
 ghost use Rattle.stl_text.specs.declared.faults.StlFault.{StlFault};
 ghost use Rattle.stl_text.specs.Text.{IsFaultOf, Reads};
 ghost use Rattle.stl_text.specs.Triangle.{Triangle};
+ghost use Rattle.stl_text.specs.Written.{Written};
 
 /// A text reads as facets in one way, or has one fault.
 pub fn one_outcome()
@@ -14,4 +15,11 @@ pub fn one_outcome()
         → Reads limit unit bytes facets → IsFaultOf limit unit bytes fault → ⊥ }
     ensures either { (limit : ℕ) (unit : LengthUnit) (bytes : List ℕ)
         → ((facets : List Triangle) × Reads limit unit bytes facets) ⊎ ((fault : StlFault) × IsFaultOf limit unit bytes fault) }
+{}
+
+/// A text that is written of facets, with any white space between words, any case of keywords, any
+/// words for normals and any names, reads as these facets.
+pub fn written_reads_back()
+    ensures { (limit : ℕ) (unit : LengthUnit) (facets : List Triangle) (bytes : List ℕ)
+        → length facets ≤ limit → Written unit facets bytes → Reads limit unit bytes facets }
 {}

@@ -16,7 +16,7 @@ use micro_num::{NumFault, Unit, read_micro};
 use std::alloc::Allocator;
 use std::marker::Model;
 
-/// How many facets are read at most.
+/// How many facets `read_stl` reads at most, and the greatest limit of `read_stl_at_most`.
 pub const FACET_LIMIT: u32 = 1_048_576;
 
 /// A text that is read from the left, word by word.
@@ -79,6 +79,14 @@ impl<'t> Reader<'t> {
         self.rest = skip_line(self.rest);
     }
 
+    /// The place of `word`, which was passed last.
+    fn place_of(&self, word: &[u8]) -> usize
+        requires { length word.now + length self.now.rest ≤ self.now.whole }
+        ensures { result ≡ self.now.whole - (length word.now + length self.now.rest) }
+    {
+        self.whole - (word.len() + self.rest.len())
+    }
+
     /// The fault of a text in which `word`, which was passed last, stands in place of `wanted`.
     fn fault_at(&self, word: &[u8], wanted: Word) -> StlFault
         requires { length word.now + length self.now.rest ≤ self.now.whole }
@@ -89,7 +97,7 @@ impl<'t> Reader<'t> {
         } else {
             StlFault::Expected {
                 word: wanted,
-                at: self.whole - (word.len() + self.rest.len()),
+                at: self.place_of(word),
             }
         }
     }
@@ -104,7 +112,7 @@ impl<'t> Reader<'t> {
         } else {
             StlFault::Number {
                 cause,
-                at: self.whole - (word.len() + self.rest.len()),
+                at: self.place_of(word),
             }
         }
     }
@@ -210,8 +218,9 @@ impl<'t> Reader<'t> {
         let word = self.next_word();
         if is_keyword(word, b"facet") {
             if room == 0 {
-                let at = self.whole - (word.len() + self.rest.len());
-                return Err(StlFault::TooMany { at });
+                return Err(StlFault::TooMany {
+                    at: self.place_of(word),
+                });
             }
             return Ok(true);
         }
@@ -269,8 +278,17 @@ impl<'t> Reader<'t> {
 
 /// The facets of an ASCII STL text in file order, at most `limit` of them.
 ///
-/// The text's numbers are in `unit`; points are in whole micrometres. Memory aside, a text that
-/// spells no mesh has exactly one fault, and that is the answer.
+/// A text is one or more solids: `solid` and a name up to the end of its line, any number of facets,
+/// `endsolid` and the rest of its line. Keywords are read in any case, and a normal is any three
+/// words. The text's numbers are in `unit`; points are in whole micrometres.
+///
+/// Memory aside, a text that spells no mesh has exactly one fault, and that is the answer:
+/// - `Expected` where the first word that doesn't fit stands in place of a keyword,
+/// - `Number` where it stands in place of a vertex number,
+/// - `TooMany` where it is the word `facet` of one facet more than `limit`, over all solids,
+/// - `Ended` where the text ends in place of a word.
+///
+/// `Memory` comes only where a growth of the list was refused.
 pub fn read_stl_at_most<A: Allocator + Copy + Send + Sync>(
     alloc: A,
     bytes: &[u8],
@@ -288,7 +306,8 @@ pub fn read_stl_at_most<A: Allocator + Copy + Send + Sync>(
     Ok(facets)
 }
 
-/// The facets of an ASCII STL text in file order, at most 1,048,576 of them.
+/// The facets of an ASCII STL text in file order, at most 1,048,576 of them: `read_stl_at_most` with
+/// this limit.
 pub fn read_stl<A: Allocator + Copy + Send + Sync>(
     alloc: A,
     bytes: &[u8],

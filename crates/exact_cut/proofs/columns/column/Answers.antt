@@ -1,5 +1,5 @@
-use Rattle.std.proofs.Common.{rules, ◌≡◌, pos, ◌-ℤ◌, ◌*ℤ◌, [], ◌∷◌, FitsSigned, to_z, of_z, refl, ◌∙◌, subst, sym, ap, arith}
-use Rattle.std.proofs.lemmas.Int.{ints, to_z_pos, to_z-of_z}
+use Rattle.std.proofs.Common.{rules, ◌≡◌, pos, ◌*ℤ◌, [], ◌∷◌, FitsSigned, to_z, refl, subst, sym, arith}
+use Rattle.std.proofs.lemmas.Int.{to_z_pos, to_z-of_z}
 use mir.Syntax.{w128}
 use Rattle.micro_num.proofs.Sizes.{sizes, cast_in}
 use Rattle.micro_num.proofs.Identity.{reads, identity}

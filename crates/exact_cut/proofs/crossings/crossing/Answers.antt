@@ -1,7 +1,7 @@
-use Rattle.std.proofs.Common.{rules, pos, negsuc, FitsSigned, to_z, of_z, refl, ◌∙◌, ap, sym, subst, ◌<ℤ◌}
+use Rattle.std.proofs.Common.{pos, FitsSigned, to_z, of_z, refl, ◌∙◌, ap, sym, subst, ◌<ℤ◌}
 use Rattle.std.proofs.lemmas.Int.{to_z-of_z}
 use mir.Syntax.{w64, w128}
-use Rattle.micro_num.proofs.Sizes.{sizes, fits, is_at_most}
+use Rattle.micro_num.proofs.Sizes.{sizes, fits}
 use Rattle.stl_text.specs.Triangle.{twice}
 use Rattle.exact_cut.proofs.Settle.{same_side, up_alone, down_alone, crosses_as}
 use Rattle.exact_cut.proofs.crossings.crossing.Goals as goal

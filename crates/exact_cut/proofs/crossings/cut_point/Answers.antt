@@ -4,6 +4,7 @@ use mir.Syntax.{w64}
 use Rattle.micro_num.specs.Bounds.{IsAtMost}
 use Rattle.micro_num.proofs.Sizes.{sizes, fits, is_at_most, at_most_by}
 use Rattle.micro_num.proofs.Identity.{reads, identity}
+use Rattle.exact_cut.proofs.Least.{positive_by}
 use Rattle.exact_cut.proofs.Blends.{height_in, blend_in}
 use Rattle.exact_cut.proofs.crossings.cut_point.Goals as goal
 
@@ -74,4 +75,5 @@ invariant_of-result c =
           (blend_in l.y h.y (h.z -ℤ z2) (z2 -ℤ l.z) 256000000 512000000
           l.y_in h.y_in above below span);
       d_in = is_at_most 512000000 (search (sizes, l.z_in, h.z_in) depth 40) refl;
+      d_positive = positive_by (h.z -ℤ l.z) (identity (l.z ∷ h.z ∷ []) (search (reads, sizes, l.z_in, h.z_in) depth 40) refl) (let a = c.requires.low in let b = c.requires.high in omega (arith, ints));
     }

@@ -1,4 +1,4 @@
-use Rattle.std.proofs.Common.{◌≡◌, ◌*ℤ◌, ℤ, pos, int_lt, true, false, if◌then◌else◌, FitsSigned, refl, sym}
+use Rattle.std.proofs.Common.{◌*ℤ◌, FitsSigned, refl, sym}
 use Rattle.std.proofs.lemmas.Int.{to_z-of_z}
 use mir.Syntax.{w32, w128}
 use Rattle.micro_num.proofs.Sizes.{sizes, fits}

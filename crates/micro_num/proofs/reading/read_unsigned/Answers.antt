@@ -8,9 +8,15 @@ use Rattle.micro_num.proofs.Scanning.{scanned_digits}
 use Rattle.micro_num.proofs.Coordinates.{met_numeral, met_size, size_beyond, size_within}
 use Rattle.micro_num.proofs.reading.read_unsigned.Goals as goal
 
-pub size_in-size-requires-clause-digits : goal.size_in-size-requires-clause-digits
-size_in-size-requires-clause-digits c =
-    rw (c.read_mantissa-mantissa.ensures.whole, c.read_mantissa-mantissa.ensures.fraction) (scanned_digits unsigned c.args.text.now)
+pub size_in-size-requires-clause-mantissa : goal.size_in-size-requires-clause-mantissa
+size_in-size-requires-clause-mantissa c =
+    let met = c.read_mantissa-mantissa.ensures in
+    record {
+      leads = met.leads;
+      digits = rw (met.whole, met.fraction) (scanned_digits unsigned c.args.text.now);
+      few = met.few;
+      within = omega (arith, met.within);
+    }
 
 pub returns-then-size-gt-LIMIT-clause-exact : goal.returns-then-size-gt-LIMIT-clause-exact
 returns-then-size-gt-LIMIT-clause-exact c =

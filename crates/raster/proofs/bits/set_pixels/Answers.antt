@@ -11,13 +11,13 @@ returns-then-first-last-clause-inside c = λ i low high.
 pub returns-then-first-last-clause-left : goal.returns-then-first-last-clause-left
 returns-then-first-last-clause-left c = λ i low.
     elim (cases_eq (i / 8) (c.args.from / 8)) [
-    inl same ↦ c.set_bits.ensures.there i same ∙ max-none _ _ _ (bit_at-first c.mask_from-head.result c.mask_through-tail.result _ (c.mask_from-head.ensures.outside (i % 8) (omega arith)))
-    | inr other ↦ c.set_bits.ensures.elsewhere i other
+      | inl same ↦ c.set_bits.ensures.there i same ∙ max-none _ _ _ (bit_at-first c.mask_from-head.result c.mask_through-tail.result _ (c.mask_from-head.ensures.outside (i % 8) (omega arith)))
+      | inr other ↦ c.set_bits.ensures.elsewhere i other
     ]
 
 pub returns-then-first-last-clause-right : goal.returns-then-first-last-clause-right
 returns-then-first-last-clause-right c = λ i high.
     elim (cases_eq (i / 8) (c.args.from / 8)) [
-    inl same ↦ c.set_bits.ensures.there i same ∙ max-none _ _ _ (bit_at-second c.mask_from-head.result c.mask_through-tail.result _ (c.mask_through-tail.ensures.outside (i % 8) (omega arith) (omega arith)))
-    | inr other ↦ c.set_bits.ensures.elsewhere i other
+      | inl same ↦ c.set_bits.ensures.there i same ∙ max-none _ _ _ (bit_at-second c.mask_from-head.result c.mask_through-tail.result _ (c.mask_through-tail.ensures.outside (i % 8) (omega arith) (omega arith)))
+      | inr other ↦ c.set_bits.ensures.elsewhere i other
     ]

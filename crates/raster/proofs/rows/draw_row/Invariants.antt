@@ -8,5 +8,5 @@ abbrev pub invariant-loop-span : goal.invariant-loop-span
 invariant-loop-span l =
     record {
       bytes : (k : ℕ) → get_or l.row k 0 < 256;
-      drawn : (i : ℕ) → pixel_bit l.row i ≡ indicator (crosses (take l.span-index l.spans) i)
+      drawn : (i : ℕ) → pixel_bit l.row i ≡ indicator (crosses (take l.span-index l.spans) i);
     }

@@ -6,7 +6,7 @@ abbrev pub invariant-loop-start : goal.invariant-loop-start
 invariant-loop-start l =
     record {
       order : l.start ≤ l.end;
-      above : (k : ℕ) → l.start ≤ k → k < length l.spans → l.number ≤ (span_at l.spans k).row
+      above : (k : ℕ) → l.start ≤ k → k < length l.spans → l.number ≤ (span_at l.spans k).row;
     }
 
 abbrev pub decreases-loop-start : goal.decreases-loop-start

@@ -1,4 +1,4 @@
-use Rattle.std.proofs.Common.{length, refl, sym, ◌∙◌, ap, [], arith}
+use Rattle.std.proofs.Common.{refl, sym, ◌∙◌, ap, []}
 use Rattle.std.specs.Prelude.{codes}
 use Rattle.stl_text.specs.declared.words.Word.TheVariants.{FacetOrEnd}
 use Rattle.stl_text.specs.Text.{facet_word, is_keyword}
@@ -8,14 +8,12 @@ use Rattle.stl_text.proofs.reader.Reader.begins_facet.Goals as goal
 pub returns-then-room-eq0-clause-fault : goal.returns-then-room-eq0-clause-fault
 returns-then-room-eq0-clause-fault c =
     let passed = c.next_word-word.ensures in
-    let whole = ap (λ r. r.whole) c.self.view_is in
-    let rest = ap (λ r. length r.rest) c.self.view_is in
     stops_at c.args.room facet_word [] c.args.self.now _ (
       refl,
       sym c.if-room-eq0.true,
       ap (is_keyword (codes "facet")) (sym passed.word) ∙ sym c.is_keyword.ensures ∙ c.if-is_keyword.true,
       taken_place c.args.self.now c.next_word-word.new.self c.next_word-word.result.now _ passed.rest passed.place passed.within
-          (omega (arith, whole, rest)),
+          c.place_of.ensures,
     )
 
 pub returns-clause-fault : goal.returns-clause-fault

@@ -1,11 +1,9 @@
-use Rattle.std.proofs.Common.{[], ◌∷◌, ◌++◌, pos, refl, sym}
-use Rattle.std.proofs.Common.{rules, w32}
-use Rattle.std.specs.Prelude.{codes, FitsSigned}
-use Rattle.std.proofs.lemmas.Int.{to_z-of_z}
-use Rattle.std.proofs.lemmas.Result.{IfErr-weaker, err_from_is_err_and}
-use Rattle.stl_text.specs.declared.words.Word.TheVariants.{EndFacet, EndLoop, Loop, Normal, Outer, Vertex}
+use Rattle.std.proofs.Common.{[], ◌∷◌, ◌++◌, refl}
+use Rattle.std.specs.Prelude.{codes}
+use Rattle.std.proofs.lemmas.Result.{err_from_is_err_and}
+use Rattle.stl_text.specs.declared.words.Word.TheVariants.{EndLoop, Loop, Outer}
 use Rattle.stl_text.specs.Position.{origin}
-use Rattle.stl_text.specs.Text.{coordinate, keyword, loop_pieces, normal_part, normal_pieces, vertex_pieces}
+use Rattle.stl_text.specs.Text.{keyword, vertex_pieces}
 use Rattle.stl_text.specs.Triangle.{triangle}
 use Rattle.stl_text.proofs.Steps.{breaks_first, breaks_within, spells_then}
 use Rattle.stl_text.proofs.reader.Reader.outer_loop.Goals as goal

@@ -1,0 +1,5 @@
+use Rattle.stl_text.proofs.Written.{written_reads}
+use Rattle.stl_text.proofs.laws.written_reads_back.Goals as goal
+
+pub returns : goal.returns
+returns c = written_reads

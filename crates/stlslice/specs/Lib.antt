@@ -1,0 +1,3 @@
+pub mod Statuses
+pub mod Program
+pub mod Running

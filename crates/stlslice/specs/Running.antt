@@ -1,0 +1,25 @@
+-- Which tasks a run takes, and which of its faults come when, beside those of its devices and of memory.
+use Rattle.std.specs.Prelude.{ℕ, ◌≤◌, List, Err}
+use Rattle.stlslice.specs.declared.task.Task.{Task}
+use Rattle.stlslice.specs.declared.task.Task.TheVariants as task
+use Rattle.stlslice.specs.declared.run_faults.RunFault.{RunFault}
+use Rattle.stlslice.specs.declared.run_faults.RunFault.TheVariants as fault
+use Rattle.stlslice.specs.Program.{IsOutcome}
+
+-- the task's numbers are in range
+abbrev pub IsInRange : Task → Type 0
+IsInRange (task.Box unit) = Unit {0}
+IsInRange (task.Slice unit pitch layer rule workers report grid) =
+    (1 ≤ pitch) × (pitch ≤ 100000) × (1 ≤ layer) × (layer ≤ 100000) × (1 ≤ workers) × (workers ≤ 64)
+IsInRange (task.Probe unit pitch layer grid i j k) =
+    (1 ≤ pitch) × (pitch ≤ 100000) × (1 ≤ layer) × (layer ≤ 100000)
+
+-- a fault of the input is its outcome; the others are of a device or of memory
+abbrev pub IsRunFault : Task → List ℕ → RunFault → Type 0
+IsRunFault t input fault.Read = Unit {0}
+IsRunFault t input (fault.Stl cause) = IsOutcome t input (Err (fault.Stl cause))
+IsRunFault t input (fault.Open from to there back) = IsOutcome t input (Err (fault.Open from to there back))
+IsRunFault t input (fault.Grid cause) = IsOutcome t input (Err (fault.Grid cause))
+IsRunFault t input fault.Memory = Unit {0}
+IsRunFault t input (fault.Write written) = Unit {0}
+IsRunFault t input (fault.Outside columns rows layers) = IsOutcome t input (Err (fault.Outside columns rows layers))

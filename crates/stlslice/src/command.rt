@@ -1,0 +1,128 @@
+use clap::{Arg, ArgAction, Command, value_parser};
+use std::alloc::{AllocError, Global};
+
+/// The ids of the options, which are also their long names.
+pub(crate) const PITCH: &str = "pitch";
+
+pub(crate) const LAYER: &str = "layer";
+
+pub(crate) const RULE: &str = "rule";
+
+pub(crate) const WORKERS: &str = "workers";
+
+pub(crate) const REPORT: &str = "report";
+
+pub(crate) const BOX: &str = "box";
+
+pub(crate) const UNIT: &str = "unit";
+
+pub(crate) const GRID: &str = "grid";
+
+pub(crate) const PROBE: &str = "probe";
+
+const ABOUT: &str = "Slices a closed triangle mesh into one image a layer.
+
+Reads ASCII STL on standard input and writes P4 images (raw PBM) on standard output, from the lowest layer up, with
+nothing between them. A pixel is 1 where its centre is inside the mesh.";
+
+const EXAMPLES: &str = "Examples:
+  stlslice --pitch 50 --layer 100 < part.stl > layers.pbm   images with pixels of 0.05 mm, every 0.1 mm
+  stlslice --pitch 50 --layer 100 --report < part.stl       loops and area of each layer
+  stlslice --box < part.stl                                 how many facets, and their box in micrometres
+  stlslice --pitch 50 --layer 100 --probe 3,4,0 < part.stl  the signed crossings at one voxel
+
+Exit status: 0 done; 2 words; 3 the input is no ASCII STL; 4 the mesh is open; 5 the grid; 6 memory; 7 input or output.";
+
+/// The command, of the words after the program's name. None of its options is required and none excludes another.
+pub(crate) fn command<'a>(alloc: Global) -> Result<Command<'a>, AllocError> {
+    Command::new(alloc, "stlslice")
+        .no_binary_name(true)
+        .about(ABOUT)
+        .after_help(EXAMPLES)
+        .arg(pitch(alloc))?
+        .arg(layer(alloc))?
+        .arg(rule(alloc))?
+        .arg(unit(alloc))?
+        .arg(grid(alloc))?
+        .arg(workers(alloc))?
+        .arg(flag(
+            alloc,
+            REPORT,
+            "Write a report in place of images: loops and area of each layer, and the total area",
+        ))?
+        .arg(flag(
+            alloc,
+            BOX,
+            "Write the number of facets and their box, and do nothing else",
+        ))?
+        .arg(probe(alloc))
+}
+
+fn pitch<'a>(alloc: Global) -> Arg<'a> {
+    Arg::new(alloc, PITCH)
+        .long(PITCH)
+        .value_name("N")
+        .value_parser(value_parser!(u32).range(1..=100_000))
+        .help(
+            "Width and depth of a pixel in micrometres, 1 to 100000, as in --pitch 50; needed unless --box is there",
+        )
+}
+
+fn layer<'a>(alloc: Global) -> Arg<'a> {
+    Arg::new(alloc, LAYER)
+        .long(LAYER)
+        .value_name("N")
+        .value_parser(value_parser!(u32).range(1..=100_000))
+        .help(
+            "Height of a layer in micrometres, 1 to 100000, as in --layer 100; needed unless --box is there",
+        )
+}
+
+fn rule<'a>(alloc: Global) -> Arg<'a> {
+    Arg::new(alloc, RULE)
+        .long(RULE)
+        .value_name("R")
+        .default_value("evenodd")
+        .help(
+            "Which pixels are filled, by the signed crossings of a ray from their centre: evenodd (an odd sum), nonzero, or positive (a sum above 0)",
+        )
+}
+
+fn unit<'a>(alloc: Global) -> Arg<'a> {
+    Arg::new(alloc, UNIT)
+        .long(UNIT)
+        .value_name("U")
+        .default_value("mm")
+        .help("Unit of the numbers in the input: mm or inch; options stay in micrometres")
+}
+
+fn grid<'a>(alloc: Global) -> Arg<'a> {
+    Arg::new(alloc, GRID)
+        .long(GRID)
+        .value_name("COLUMNS,ROWS,LAYERS,X0,Y0,Z0")
+        .help(
+            "A grid to slice by, in place of the one that fits the mesh: three counts, and its least corner in micrometres, as in --grid 400,300,120,0,0,-500",
+        )
+}
+
+fn workers<'a>(alloc: Global) -> Arg<'a> {
+    Arg::new(alloc, WORKERS)
+        .long(WORKERS)
+        .value_name("N")
+        .default_value("1")
+        .value_parser(value_parser!(u32).range(1..=64))
+        .help("Number of threads, 1 to 64, as in --workers 4; the output is the same for each")
+}
+
+fn probe<'a>(alloc: Global) -> Arg<'a> {
+    Arg::new(alloc, PROBE).long(PROBE).value_name("I,J,K").help(
+        "Write the signed crossings at one voxel, by a ray along x and one along y: its column, row (from the least y) and layer, from 0, as in --probe 3,4,0",
+    )
+}
+
+fn flag<'a>(alloc: Global, name: &'a str, help: &'a str) -> Arg<'a> {
+    Arg::new(alloc, name)
+        .long(name)
+        .action(ArgAction::SetTrue)
+        .help(help)
+}

@@ -1,0 +1,23 @@
+//! The program `stlslice`, but for its `main`: what its words mean, and what a run reads and writes.
+#![tactic(auto)]
+
+mod box_line;
+mod command;
+mod reading;
+mod run_faults;
+mod running;
+mod task;
+mod texts;
+mod word_faults;
+mod words;
+mod writing;
+
+pub use raster::{Counted, Failed, Failures, Sink, Source};
+pub use run_faults::RunFault;
+pub use running::run;
+pub use task::{Given, Task};
+pub use word_faults::{Wanted, WordFault};
+pub use words::read_words;
+
+#[cfg(test)]
+mod tests;

@@ -1,0 +1,69 @@
+ghost use Rattle.std.specs.Prelude.{◌≡◌};
+ghost use Rattle.stlslice.specs.Statuses.{run_status};
+ghost use Rattle.stlslice.specs.declared.run_faults.RunFault.TheVariants.{Memory};
+
+use raster::GridFault;
+use std::alloc::AllocError;
+use stl_text::{Point, StlFault};
+use thiserror::Error;
+
+/// Why a run wrote no text, or not all of it. Its `Display` is the program's line on standard error.
+#[derive(Clone, Copy, Debug, PartialEq, Eq, Error)]
+pub enum RunFault {
+    /// The input could not be read. Nothing was written.
+    #[error("stlslice: read failed")]
+    Read,
+    /// The input is no mesh. Nothing was written.
+    #[error("stlslice: {0}")]
+    Stl(StlFault),
+    /// The mesh is not closed. Of all pairs of points `from` before `to` between which the directed edges there and
+    /// back differ in number, the least; with both numbers. Nothing was written.
+    #[error("stlslice: open edge {} {} {} to {} {} {} there {there} back {back}", .from.x(), .from.y(), .from.z(), .to.x(), .to.y(), .to.z())]
+    Open {
+        from: Point,
+        to: Point,
+        there: u32,
+        back: u32,
+    },
+    /// There is no grid. Nothing was written.
+    #[error("stlslice: {0}")]
+    Grid(GridFault),
+    /// A growth was refused. Nothing was written.
+    #[error("stlslice: out of memory")]
+    Memory,
+    /// The output could not be written. Its first `written` bytes were.
+    #[error("stlslice: write failed after {written} bytes")]
+    Write {
+        written: u64,
+    },
+    /// The voxel is not in the grid, which has these counts. Nothing was written.
+    #[error("stlslice: voxel outside the grid: {columns} columns, {rows} rows, {layers} layers")]
+    Outside {
+        columns: u32,
+        rows: u32,
+        layers: u32,
+    },
+}
+
+impl RunFault {
+    /// The exit status of a program that ends with this fault.
+    pub fn status(&self) -> u8
+        ensures { result ≡ run_status self.now }
+    {
+        match self {
+            RunFault::Stl(_) => 3,
+            RunFault::Open { .. } => 4,
+            RunFault::Grid(_) | RunFault::Outside { .. } => 5,
+            RunFault::Memory => 6,
+            RunFault::Read | RunFault::Write { .. } => 7,
+        }
+    }
+}
+
+impl From<AllocError> for RunFault {
+    ghost from_gives = { λ _ fault. fault ≡ Memory };
+
+    fn from(_error: AllocError) -> RunFault {
+        RunFault::Memory
+    }
+}

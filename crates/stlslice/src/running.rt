@@ -1,0 +1,92 @@
+ghost use Rattle.std.specs.Prelude.{◌≡◌, ◌≢◌, ◌⊎◌, Err, IfErr, IfOk, IfSome, List, Ok, OnOk, string_bytes, true, ℕ};
+ghost use Rattle.std.specs.Io.KnownBytes.{Appends, IsAtEnd, Keeps};
+ghost use Rattle.raster.specs.Devices.{AppendsFirst, HasFailed};
+ghost use Rattle.stlslice.specs.Program.{IsOutcome};
+ghost use Rattle.stlslice.specs.Running.{IsInRange, IsRunFault};
+ghost use Rattle.stlslice.specs.declared.run_faults.RunFault.TheVariants.{Memory, Read, Stl, Write};
+ghost use Rattle.stl_text.specs.Text.{IsFaultOf, Reads, facet_limit};
+ghost use Rattle.stl_text.specs.declared.faults.StlFault.{StlFault as InputFault};
+
+use crate::box_line::box_line;
+use crate::reading::read_all;
+use crate::run_faults::RunFault;
+use crate::task::Task;
+use crate::writing::write_all;
+use micro_num::Unit;
+use raster::{Sink, Source};
+use std::alloc::Allocator;
+use std::sync::Wait;
+use std::thread::Threads;
+use stl_text::{Facet, StlFault, read_stl};
+
+/// Reads the whole input, does the task, and writes and flushes what it answers.
+///
+/// After each fault but `Write` nothing was written. Each call of a device is tried once, so an interruption is a
+/// fault too. A growth may be refused at each step before the first byte is written.
+pub fn run<R: Threads + Wait + Sync, A: Allocator + Copy + Send + Sync, I: Source, O: Sink>(
+    _rt: &R,
+    alloc: A,
+    task: &Task,
+    source: &mut I,
+    sink: &mut O,
+) -> Result<(), RunFault>
+    requires { IsInRange task.now }
+    // All was read, and just the text of the outcome was written and flushed.
+    ensures whole { OnOk result (IsAtEnd (I.remaining source.new)) }
+    ensures flushed { OnOk result (O.is_settled sink.new ≡ true) }
+    ensures ok { OnOk result (IfSome (I.remaining source.old) (λ input.
+        (text : List ℕ) × IsOutcome task.now input (Ok text)
+        × Appends (O.contents sink.old) (O.contents sink.new) text)) }
+    // A fault of the input is its outcome, and the others come of a device or of memory.
+    ensures fault { IfErr result (λ fault. IfSome (I.remaining source.old) (λ input. IsRunFault task.now input fault)) }
+    ensures unread { result ≡ Err Read
+        → HasFailed (I.Failures.failure_count source.old) (I.Failures.failure_count source.new) }
+    ensures unwritten { (written : ℕ) → result ≡ Err (Write written)
+        → HasFailed (O.Failures.failure_count sink.old) (O.Failures.failure_count sink.new) }
+    // What was written.
+    ensures first { (written : ℕ) → result ≡ Err (Write written) → IfSome (I.remaining source.old) (λ input.
+        (text : List ℕ) × IsOutcome task.now input (Ok text)
+        × AppendsFirst (O.contents sink.old) (O.contents sink.new) written text) }
+    ensures nothing { IfErr result (λ fault. ((written : ℕ) → fault ≢ Write written)
+        → Keeps (O.contents sink.old) (O.contents sink.new)) }
+{
+    let input = read_all(alloc, source)?;
+    let text = outcome(alloc, task, input)?;
+    write_all(sink, text.as_bytes())
+}
+
+/// The text that a task has for an input. The input's bytes are freed once its facets are read.
+fn outcome<A: Allocator + Copy + Send + Sync>(
+    alloc: A,
+    task: &Task,
+    input: Vec<u8, A>,
+) -> Result<String<A>, RunFault>
+    ensures ok { IfOk result (λ text. IsOutcome task.now input.items (Ok (string_bytes text))) }
+    ensures err { IfErr result (λ fault. IsRunFault task.now input.items fault × (fault ≢ Read)
+        × ((written : ℕ) → fault ≢ Write written)) }
+{
+    match task {
+        Task::Box { unit } => {
+            let facets = read_facets(alloc, input, *unit)?;
+            Ok(box_line(alloc, &facets)?)
+        }
+        Task::Slice { .. } | Task::Probe { .. } => Err(RunFault::Memory),
+    }
+}
+
+/// The facets of an input, whose bytes are given up.
+fn read_facets<A: Allocator + Copy + Send + Sync>(
+    alloc: A,
+    input: Vec<u8, A>,
+    unit: Unit,
+) -> Result<Vec<Facet, A>, RunFault>
+    ensures ok { IfOk result (λ facets. Reads facet_limit unit input.items facets.items) }
+    ensures err { IfErr result (λ fault. (fault ≡ Memory) ⊎ ((cause : InputFault) × (fault ≡ Stl cause)
+        × IsFaultOf facet_limit unit input.items cause)) }
+{
+    match read_stl(alloc, &input, unit) {
+        Ok(facets) => Ok(facets),
+        Err(StlFault::Memory) => Err(RunFault::Memory),
+        Err(fault) => Err(RunFault::Stl(fault)),
+    }
+}

@@ -1,0 +1,82 @@
+use crate::task::Given;
+use micro_num::Unit;
+use raster::Rule;
+use stl_text::Point;
+
+/// The rule of that name.
+pub(crate) fn read_rule(text: &str) -> Option<Rule> {
+    match text {
+        "evenodd" => Some(Rule::EvenOdd),
+        "nonzero" => Some(Rule::NonZero),
+        "positive" => Some(Rule::Positive),
+        _ => None,
+    }
+}
+
+/// The unit of that name.
+pub(crate) fn read_unit(text: &str) -> Option<Unit> {
+    match text {
+        "mm" => Some(Unit::Millimetre),
+        "inch" => Some(Unit::Inch),
+        _ => None,
+    }
+}
+
+/// A grid of the form `COLUMNS,ROWS,LAYERS,X0,Y0,Z0`.
+pub(crate) fn read_grid(text: &str) -> Option<Given> {
+    let mut parts = text.split(',');
+    let columns = read_count(parts.next()?)?;
+    let rows = read_count(parts.next()?)?;
+    let layers = read_count(parts.next()?)?;
+    let x = read_coordinate(parts.next()?)?;
+    let y = read_coordinate(parts.next()?)?;
+    let z = read_coordinate(parts.next()?)?;
+    let origin = Point::new(x, y, z)?;
+    let given = Given {
+        columns,
+        rows,
+        layers,
+        origin,
+    };
+    parts.next().is_none().then_some(given)
+}
+
+/// A place in a grid, by its column, row and layer.
+#[derive(Clone, Copy)]
+pub(crate) struct Voxel {
+    pub(crate) i: u32,
+    pub(crate) j: u32,
+    pub(crate) k: u32,
+}
+
+/// A voxel of the form `I,J,K`.
+pub(crate) fn read_voxel(text: &str) -> Option<Voxel> {
+    let mut parts = text.split(',');
+    let i = read_count(parts.next()?)?;
+    let j = read_count(parts.next()?)?;
+    let k = read_count(parts.next()?)?;
+    parts.next().is_none().then_some(Voxel { i, j, k })
+}
+
+/// A number of 1 to 9 digits.
+fn read_count(text: &str) -> Option<u32> {
+    if is_digits(text) {
+        text.parse().ok()
+    } else {
+        None
+    }
+}
+
+/// A number of 1 to 9 digits, perhaps behind a minus.
+fn read_coordinate(text: &str) -> Option<i32> {
+    if is_digits(text.strip_prefix('-').unwrap_or(text)) {
+        text.parse().ok()
+    } else {
+        None
+    }
+}
+
+/// Whether a text is 1 to 9 digits.
+fn is_digits(text: &str) -> bool {
+    (1..=9).contains(&text.len()) && text.bytes().all(|byte| byte.is_ascii_digit())
+}

@@ -1,0 +1,104 @@
+ghost use Rattle.std.specs.Prelude.{◌≤◌, IfOk, IfSome};
+ghost use Rattle.stlslice.specs.Running.{IsInRange};
+
+use crate::command::{BOX, GRID, LAYER, PITCH, PROBE, REPORT, RULE, UNIT, WORKERS, command};
+use crate::task::{Given, Task};
+use crate::texts::{Voxel, read_grid, read_rule, read_unit, read_voxel};
+use crate::word_faults::{Wanted, WordFault};
+use clap::ArgMatches;
+use micro_num::Unit;
+use raster::Rule;
+use std::alloc::Global;
+
+/// The task that the words after the program's name stand for.
+///
+/// Faults are looked for in this order: words that are not of the command's form, or ask for help; the rule, the
+/// unit, the grid, the voxel; and, unless the task is the box, a missing pitch, then a missing layer height.
+pub fn read_words(alloc: Global, words: &[String]) -> Result<Task, WordFault>
+    ensures { IfOk result IsInRange }
+{
+    let matches = command(alloc)?.try_get_matches_from(words)?;
+    task_of(&matches)
+}
+
+/// The task of words that are of the command's form.
+fn task_of(matches: &ArgMatches<'_>) -> Result<Task, WordFault>
+    ensures { IfOk result IsInRange }
+{
+    let rule = rule_of(matches)?;
+    let unit = unit_of(matches)?;
+    let grid = grid_of(matches)?;
+    let voxel = voxel_of(matches)?;
+    if matches.get_flag(BOX) {
+        return Ok(Task::Box { unit });
+    }
+    let pitch = wanted(matches, PITCH, Wanted::Pitch)?;
+    let layer = wanted(matches, LAYER, Wanted::Layer)?;
+    Ok(match voxel {
+        Some(Voxel { i, j, k }) => Task::Probe {
+            unit,
+            pitch,
+            layer,
+            grid,
+            i,
+            j,
+            k,
+        },
+        None => Task::Slice {
+            unit,
+            pitch,
+            layer,
+            rule,
+            workers: number_of(matches, WORKERS, 64).unwrap_or(1),
+            report: matches.get_flag(REPORT),
+            grid,
+        },
+    })
+}
+
+fn rule_of(matches: &ArgMatches<'_>) -> Result<Rule, WordFault> {
+    match matches.get_str(RULE) {
+        Some(text) => read_rule(text).ok_or(WordFault::BadRule),
+        None => Ok(Rule::EvenOdd),
+    }
+}
+
+fn unit_of(matches: &ArgMatches<'_>) -> Result<Unit, WordFault> {
+    match matches.get_str(UNIT) {
+        Some(text) => read_unit(text).ok_or(WordFault::BadUnit),
+        None => Ok(Unit::Millimetre),
+    }
+}
+
+fn grid_of(matches: &ArgMatches<'_>) -> Result<Option<Given>, WordFault> {
+    match matches.get_str(GRID) {
+        Some(text) => read_grid(text).map(Some).ok_or(WordFault::BadGrid),
+        None => Ok(None),
+    }
+}
+
+fn voxel_of(matches: &ArgMatches<'_>) -> Result<Option<Voxel>, WordFault> {
+    match matches.get_str(PROBE) {
+        Some(text) => read_voxel(text).map(Some).ok_or(WordFault::BadProbe),
+        None => Ok(None),
+    }
+}
+
+/// The micrometres of an option that the task needs.
+fn wanted(matches: &ArgMatches<'_>, name: &str, option: Wanted) -> Result<u32, WordFault>
+    ensures { IfOk result (λ n. (1 ≤ n) × (n ≤ 100000)) }
+{
+    number_of(matches, name, 100_000).ok_or(WordFault::Missing { option })
+}
+
+/// The number of an option, 1 to `most`. The command's own reader has that range, so nothing is left out here.
+fn number_of(matches: &ArgMatches<'_>, name: &str, most: u32) -> Option<u32>
+    ensures { IfSome result (λ n. (1 ≤ n) × (n ≤ most)) }
+{
+    let number = matches.get_one::<u32>(name)?;
+    if 1 <= number && number <= most {
+        Some(number)
+    } else {
+        None
+    }
+}

@@ -1,0 +1,60 @@
+//! The program `stlslice`: slices the mesh on standard input, and writes to standard output.
+#![tactic(auto)]
+
+use std::env::{self, Env};
+use std::fmt::Display;
+use std::io::{self, ErrorKind};
+use std::process::ExitCode;
+use stlslice::{Counted, WordFault, read_words, run};
+
+/// The status where the words are not even text.
+const NO_TEXT: u8 = 2;
+
+fn main(rt: HostRuntime) -> ExitCode {
+    let alloc = rt.alloc();
+    let words = match words(&rt) {
+        Ok(words) => words,
+        Err(fault) => return unread(&rt, &fault),
+    };
+    let task = match read_words(alloc, words.as_slice()) {
+        Ok(task) => task,
+        Err(fault) => return refused(&rt, &fault),
+    };
+    let mut source = Counted::new(rt.stdin());
+    let mut sink = Counted::new(rt.stdout());
+    match run(&rt, alloc, &task, &mut source, &mut sink) {
+        Ok(()) => ExitCode::SUCCESS,
+        Err(fault) => ended(&rt, &fault, fault.status()),
+    }
+}
+
+/// The words after the program's name.
+fn words<R: Env + AllocGlobal>(rt: &R) -> io::Result<Vec<String>> {
+    let words = env::args(rt)?.skip(1).collect(rt.alloc())?;
+    Ok(words)
+}
+
+/// Ends a program whose words could not be had.
+fn unread<R: Eprint>(rt: &R, fault: &io::Error) -> ExitCode {
+    match fault.kind() {
+        ErrorKind::OutOfMemory => ended(rt, &WordFault::Memory, WordFault::Memory.status()),
+        _ => ended(rt, &"stlslice: the words are not UTF-8", NO_TEXT),
+    }
+}
+
+/// Ends a program whose words are no task. Help that they ask for goes to standard output.
+fn refused<R: Print + Eprint>(rt: &R, fault: &WordFault) -> ExitCode {
+    match fault {
+        WordFault::Refused(refusal) => {
+            let _ = refusal.print(rt);
+            ExitCode::from(fault.status())
+        }
+        _ => ended(rt, fault, fault.status()),
+    }
+}
+
+/// Ends the program with a line on standard error.
+fn ended<R: Eprint, D: Display>(rt: &R, line: &D, status: u8) -> ExitCode {
+    let _ = rt.eprintln(line);
+    ExitCode::from(status)
+}
