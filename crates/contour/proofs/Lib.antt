@@ -4,3 +4,4 @@ pub mod Parts
 pub mod Counts
 pub mod Swept
 pub mod Pushes
+pub mod Links
