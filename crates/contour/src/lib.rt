@@ -3,11 +3,13 @@
 
 mod cut_facets;
 mod heights;
+mod linking;
 mod nodes;
 mod planes;
 mod rings;
 mod sweeping;
 
+pub use linking::{Linker, loops};
 pub use nodes::{Node, Segment};
 pub use planes::{segment_at, segments};
 pub use rings::Loops;
