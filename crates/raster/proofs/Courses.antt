@@ -1,17 +1,16 @@
 -- What the crossings of one facet add to each row.
-use Rattle.std.proofs.Common.{◌≡◌, ◌≢◌, ℕ, zero, suc, ◌+◌, ◌-◌, ◌<◌, ◌≤◌, ◌⊎◌, inl, inr, List, [], ◌∷◌, ◌++◌, Bool, true, false, cond, ◌&&◌, length, get_or, refl, ap, sym, subst, ◌∙◌, arith}
-use Rattle.std.specs.Prelude.{ℤ, pos, negsuc, ◌+ℤ◌, ◌-ℤ◌, neg_ℤ, nat_le, nat_lt, ◌==◌, int_lt, ◌*ℤ◌, slice_index}
+use Rattle.std.proofs.Common.{◌≡◌, ℕ, zero, suc, ◌+◌, ◌-◌, ◌<◌, ◌≤◌, ◌⊎◌, inl, inr, List, [], ◌∷◌, ◌++◌, Bool, true, false, cond, ◌&&◌, length, refl, ap, sym, subst, ◌∙◌, arith}
+use Rattle.std.specs.Prelude.{ℤ, pos, negsuc, ◌+ℤ◌, ◌-ℤ◌, nat_le, nat_lt, ◌==◌, int_lt, ◌*ℤ◌, slice_index}
 use Rattle.std.specs.Ordering.{int_eq}
-use Rattle.std.specs.List.{list_all}
 use Rattle.std.proofs.lemmas.Int.{ints}
 use Rattle.std.proofs.lemmas.List.Folds.{list_all-append}
 use Rattle.std.proofs.lemmas.Bool.Decides.{nat_tests}
 use Rattle.stl_text.specs.Position.{Position}
 use Rattle.stl_text.specs.Triangle.{Triangle}
-use Rattle.stl_text.specs.Winding.{hit, total, volume, wind}
+use Rattle.stl_text.specs.Winding.{hit, volume, wind}
 use Rattle.mesh_weld.proofs.Sums.{total-append}
 use Rattle.exact_cut.specs.Course.{Course}
-use Rattle.exact_cut.specs.Lattices.{IsCourse, IsCrossedAt, IsUncrossed, pixel, row_y}
+use Rattle.exact_cut.specs.Lattices.{IsCourse, IsUncrossed, pixel, row_y}
 use Rattle.exact_cut.specs.declared.lattice.Lattice.{Lattice}
 use Rattle.raster.specs.declared.crossed.Crossed.{Crossed}
 use Rattle.raster.specs.Marks.{sign_of}

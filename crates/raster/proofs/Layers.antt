@@ -1,6 +1,6 @@
 -- The rows of a layer, one after another, by its crossings in ascending order of rows.
-use Rattle.std.proofs.Common.{◌≡◌, ◌≢◌, ℕ, zero, suc, ◌+◌, ◌-◌, ◌<◌, ◌≤◌, ◌⊎◌, inl, inr, List, [], ◌∷◌, ◌++◌, Bool, true, false, cond, ◌&&◌, ◌||◌, length, get_or, map, take, drop, length-drop, refl, ap, sym, subst, ◌∙◌, add-one, arith}
-use Rattle.std.specs.Prelude.{ℤ, pos, negsuc, ◌+ℤ◌, neg_ℤ, nat_le, nat_lt, ◌==◌}
+use Rattle.std.proofs.Common.{◌≡◌, ◌≢◌, ℕ, zero, suc, ◌+◌, ◌-◌, ◌<◌, ◌≤◌, ◌⊎◌, inl, inr, List, [], ◌∷◌, ◌++◌, Bool, true, false, cond, ◌&&◌, ◌||◌, length, map, take, drop, length-drop, refl, ap, sym, subst, ◌∙◌, arith}
+use Rattle.std.specs.Prelude.{ℤ, pos, ◌+ℤ◌, neg_ℤ, nat_le, nat_lt, ◌==◌}
 use Rattle.std.specs.List.{list_all}
 use Rattle.std.specs.List.Sorted.{IsNonDecreasingBy, IsPermutation}
 use Rattle.std.proofs.lemmas.Int.{ints}
@@ -14,7 +14,6 @@ use Rattle.raster.specs.declared.spans.Span.{Span}
 use Rattle.raster.specs.declared.filling.Mark.{Mark}
 use Rattle.raster.specs.declared.crossed.Crossed.{Crossed}
 use Rattle.raster.specs.Fill.{are_apart, covers, is_inside, is_span_before}
-use Rattle.raster.specs.Rows.{are_within}
 use Rattle.raster.specs.Marks.{AreRowSpans, passed, sign_of, signs}
 use Rattle.raster.specs.Crossings.{AreSpansBelow, AreSplit, are_crossings_within, crossed_at, row_passed, row_signs, row_total}
 use Rattle.raster.proofs.Areas.{and-left, and-right}

@@ -1,4 +1,4 @@
-use Rattle.std.proofs.Common.{◌≡◌, ◌+◌, ◌<◌, ◌≤◌, ℕ, ◌++◌, ◌∷◌, [], List, ◌∙◌, sym, ap, below_more, arith}
+use Rattle.std.proofs.Common.{◌++◌, ◌∷◌, [], List, ◌∙◌, sym, ap, below_more, arith}
 use Rattle.raster.specs.declared.filling.Mark.{Mark}
 use Rattle.raster.specs.Crossings.{crossed_at}
 use Rattle.raster.proofs.Layers.{split-behind, taken-more}
