@@ -4,7 +4,6 @@ ghost use Rattle.stl_text.specs.Triangle.{corners};
 ghost use Rattle.mesh_weld.specs.Entries.{corners_from, NeverFalls, IsAdded, threes};
 ghost use Rattle.mesh_weld.specs.Mesh.{number_of, vertices};
 
-use crate::gather::{gather, group_starts};
 use std::alloc::{AllocError, Allocator};
 use stl_text::{Facet, Point};
 
@@ -41,77 +40,10 @@ fn push_corner<A: Allocator>(list: &mut Vec<Corner, A>, point: Point) -> Result<
     Ok(())
 }
 
-/// Slabs of space along x, each as thick as the others: at most 2^18.
-#[derive(Clone, Copy)]
-struct Slabs {
-    least: i32,
-    shift: u32,
-    count: usize,
-}
-
-impl Slabs {
-    /// Slabs for all corners of the list.
-    fn of(list: &[Corner]) -> Slabs
-        ensures shift { result.shift < 32 }
-        ensures count { result.count ≤ 262144 }
-    {
-        let mut least = i32::MAX;
-        let mut greatest = i32::MIN;
-        for corner in list {
-            least = least.min(corner.point.x());
-            greatest = greatest.max(corner.point.x());
-        }
-        let spread = greatest.wrapping_sub(least).cast_unsigned();
-        let shift = (32 - spread.leading_zeros()).saturating_sub(18).min(31);
-        let last = (spread >> shift) as usize;
-        Slabs {
-            least,
-            shift,
-            count: last.min(262143) + 1,
-        }
-    }
-
-    fn slab(&self, corner: &Corner) -> usize
-        requires { self.now.shift < 32 }
-    {
-        (corner.point.x().wrapping_sub(self.least).cast_unsigned() >> self.shift) as usize
-    }
-}
-
-/// Sorts corners by their points: those of one slab are brought together first, and each few of them sorted.
-fn sort_corners<A: Allocator + Copy>(alloc: A, list: &mut [Corner]) -> Result<(), AllocError>
-    requires { length list.old ≤ 3145728 }
-    ensures all { IsPermutation list.old list.new }
-    ensures ascending { OnOk result (NeverFalls list.new) }
-{
-    let slabs = Slabs::of(list);
-    let slab = |corner: &Corner| slabs.slab(corner);
-    let starts = group_starts(alloc, list, slabs.count, &slab)?;
-    let mut next = Vec::from_slice(alloc, starts.as_slice())?;
-    gather(list, starts.as_slice(), next.as_mut_slice(), &slab);
-    sort_groups(list, starts.as_slice());
-    // goes over the list once, since it is sorted now
-    sort_by_place(list);
-    Ok(())
-}
-
-/// Sorts each part of the list between two starts.
-fn sort_groups(list: &mut [Corner], starts: &[u32])
-    ensures { IsPermutation list.old list.new }
-{
-    let mut from = 0;
-    for start in starts {
-        let to = *start as usize;
-        if from < to && to <= list.len() {
-            sort_by_place(&mut list[from..to]);
-        }
-        from = to;
-    }
-}
-
-fn sort_by_place(list: &mut [Corner])
-    ensures all { IsPermutation list.old list.new }
-    ensures ascending { NeverFalls list.new }
+/// Sorts corners by their points.
+fn sort_corners<A: Allocator>(list: &mut Vec<Corner, A>)
+    ensures all { IsPermutation list.old.items list.new.items }
+    ensures ascending { NeverFalls list.new.items }
 {
     list.sort_unstable_by_key(|corner| (corner.point.x(), corner.point.y(), corner.point.z()));
 }
@@ -165,7 +97,7 @@ pub fn number_corners<A: Allocator + Copy>(
     ensures numbers { IfOk result (λ welded. welded.numbers.items ≡ map (number_of (vertices facets.now)) (flat_map corners facets.now)) }
 {
     let mut sorted = list_corners(alloc, facets)?;
-    sort_corners(alloc, sorted.as_mut_slice())?;
+    sort_corners(&mut sorted);
     join_corners(alloc, facets, sorted.as_slice())
 }
 

@@ -4,7 +4,6 @@
 mod corners;
 mod counts;
 mod faults;
-mod gather;
 mod heights;
 mod laws;
 mod rays;

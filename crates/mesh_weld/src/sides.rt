@@ -2,7 +2,6 @@ ghost use Rattle.std.specs.Prelude.{◌≡◌, ◌↔◌, ◌≤◌, ◌<◌, �
 ghost use Rattle.std.specs.List.Sorted.{IsPermutation, IsNonDecreasingBy};
 ghost use Rattle.mesh_weld.specs.Entries.{sides_from, pair_key, started, counted, IsEven, IsLeastUneven, ArePairNumbers};
 
-use crate::gather::{gather, group_starts};
 use std::alloc::{AllocError, Allocator};
 
 /// A directed edge between vertex numbers, with its number among the edges of all facets, three a facet.
@@ -48,55 +47,25 @@ fn push_side<A: Allocator>(list: &mut Vec<Side, A>, from: u32, to: u32) -> Resul
     Ok(())
 }
 
-/// Sorts directed edges by their ends, in either order. Each lesser end is below `groups`: so the edges of one lesser end
-/// are brought together first, and each few of them sorted.
-fn sort_sides<A: Allocator + Copy>(
-    alloc: A,
-    list: &mut [Side],
-    groups: usize,
-) -> Result<(), AllocError>
-    requires few { length list.old ≤ 3145728 }
-    requires groups { groups ≤ 3145728 }
-    ensures all { IsPermutation list.old list.new }
-    ensures ascending { OnOk result (IsNonDecreasingBy pair_key list.new) }
+/// Sorts directed edges by their ends, in either order.
+fn sort_sides<A: Allocator>(list: &mut Vec<Side, A>)
+    ensures all { IsPermutation list.old.items list.new.items }
+    ensures ascending { IsNonDecreasingBy pair_key list.new.items }
 {
-    let lesser_end = |side: &Side| side.from.min(side.to) as usize;
-    let starts = group_starts(alloc, list, groups, &lesser_end)?;
-    let mut next = Vec::from_slice(alloc, starts.as_slice())?;
-    gather(list, starts.as_slice(), next.as_mut_slice(), &lesser_end);
-    sort_groups(list, starts.as_slice());
-    // goes over the list once, since it is sorted now
     list.sort_unstable_by_key(|side| side.pair());
-    Ok(())
-}
-
-/// Sorts each part of the list between two starts.
-fn sort_groups(list: &mut [Side], starts: &[u32])
-    ensures { IsPermutation list.old list.new }
-{
-    let mut from = 0;
-    for start in starts {
-        let to = *start as usize;
-        if from < to && to <= list.len() {
-            list[from..to].sort_unstable_by_key(|side| side.pair());
-        }
-        from = to;
-    }
 }
 
 /// The directed edges of the facets, sorted by their ends in either order.
 pub fn sorted_sides<A: Allocator + Copy>(
     alloc: A,
     triples: &[[u32; 3]],
-    groups: usize,
 ) -> Result<Vec<Side, A>, AllocError>
-    requires few { length triples.now ≤ 1048576 }
-    requires groups { groups ≤ 3145728 }
+    requires { length triples.now ≤ 1048576 }
     ensures all { IfOk result (λ list. IsPermutation (sides_from 0 triples.now) list.items) }
     ensures ascending { IfOk result (λ list. IsNonDecreasingBy pair_key list.items) }
 {
     let mut list = list_sides(alloc, triples)?;
-    sort_sides(alloc, list.as_mut_slice(), groups)?;
+    sort_sides(&mut list);
     Ok(list)
 }
 

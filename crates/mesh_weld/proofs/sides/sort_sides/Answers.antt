@@ -1,11 +1,7 @@
 use Rattle.std.proofs.Common.{rules}
-use Rattle.std.proofs.lemmas.List.Sorted.{IsNonDecreasingBy-from_sort_by_key, IsPermutation-trans}
+use Rattle.std.proofs.lemmas.List.Sorted.{IsNonDecreasingBy-from_sort_by_key}
 use Rattle.mesh_weld.specs.Entries.{pair_key}
 use Rattle.mesh_weld.proofs.sides.sort_sides.Goals as goal
-
-pub returns-clause-all : goal.returns-clause-all
-returns-clause-all g c =
-    IsPermutation-trans _ _ _ (IsPermutation-trans _ _ _ c.gather.ensures c.sort_groups.ensures) c.sort_unstable_by_key.ensures.permutation
 
 pub returns-clause-ascending : goal.returns-clause-ascending
 returns-clause-ascending g c =

@@ -1,4 +1,4 @@
-use Rattle.std.proofs.Common.{◌≡◌, ◌<◌, ◌≤◌, ◌*◌, ◌^◌, Vec, ℕ, List, length, map, get_or, refl, sym, ap, ◌∙◌, subst, arith}
+use Rattle.std.proofs.Common.{◌≡◌, ◌<◌, ◌≤◌, ◌^◌, length, map, get_or, sym, ap, ◌∙◌, subst, arith}
 use Rattle.std.specs.List.{flat_map}
 use Rattle.std.specs.List.Sorted.{IsPermutation, IsNonDecreasingBy}
 use Rattle.std.proofs.lemmas.List.{length-map, get_or_default}
@@ -27,10 +27,7 @@ all_sides g c numbers =
 
 pub sorted_sides-requires : goal.sorted_sides-requires
 sorted_sides-requires g c =
-    record {
-      few = omega (arith, ap length (numbers_are g (goal.at.sorted_sides-requires g c).In_ok-numbers), length-map c.args.kept.now (λ t. map (number_of (vertices c.args.kept.now)) (corners t)));
-      groups = omega (arith, ap length c.in_ok-points.ensures.points, few_vertices c.args.kept.now, c.in_ok-points.field-0.points.ok.0);
-    }
+    omega (arith, ap length (numbers_are g (goal.at.sorted_sides-requires g c).In_ok-numbers), length-map c.args.kept.now (λ t. map (number_of (vertices c.args.kept.now)) (corners t)))
 
 pub least_uneven-requires-clause-few : goal.least_uneven-requires-clause-few
 least_uneven-requires-clause-few g c =
