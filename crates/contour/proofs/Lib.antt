@@ -5,3 +5,5 @@ pub mod Counts
 pub mod Swept
 pub mod Pushes
 pub mod Sweeps
+pub mod Within
+pub mod LoopRays
