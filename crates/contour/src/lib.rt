@@ -9,6 +9,8 @@ mod planes;
 mod rays;
 mod rings;
 mod sweeping;
+#[cfg(test)]
+mod tests;
 
 pub use linking::{Linker, loops};
 pub use nodes::{Node, Segment};
