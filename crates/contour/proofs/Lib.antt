@@ -7,3 +7,4 @@ pub mod Pushes
 pub mod Sweeps
 pub mod Within
 pub mod LoopRays
+pub mod Rows
