@@ -6,3 +6,6 @@ pub mod Swept
 pub mod Pushes
 pub mod Sweeps
 pub mod Links
+pub mod Within
+pub mod LoopRays
+pub mod Rows
