@@ -1,15 +1,21 @@
--- Which faults of a run come of the text of its input.
-use Rattle.std.proofs.Common.{◌≡◌, ◌≢◌, ◌⊎◌, ℕ, List, inl, inr, refl}
-use Rattle.std.specs.Prelude.{Err, Result, IsErrAnd, IfErr, Ok}
+-- Which faults of a run come of its input, and what a probe answers.
+use Rattle.std.proofs.Common.{◌≡◌, ◌≢◌, ◌⊎◌, ℕ, List, Option, ap, inl, inr, refl, subst, sym}
+use Rattle.std.specs.Prelude.{Err, Result, IsErrAnd, IfErr, Ok, false}
 use Rattle.micro_num.specs.declared.units.Unit.{Unit as LengthUnit}
 use Rattle.stl_text.specs.declared.faults.StlFault.{StlFault}
-use Rattle.stl_text.specs.Text.{IsFaultOf, facet_limit}
+use Rattle.stl_text.specs.Text.{IsFaultOf, Reads, facet_limit}
+use Rattle.stl_text.specs.Triangle.{Triangle}
+use Rattle.mesh_weld.specs.Balance.{IsBalanced}
+use Rattle.mesh_weld.specs.Mesh.{Mesh, kept_facets, mesh_of}
+use Rattle.raster.specs.declared.grid_faults.GridFault.{GridFault}
+use Rattle.raster.specs.Lattice.{Lattice}
+use Rattle.stlslice.specs.declared.task.Given.{Given}
 use Rattle.stlslice.specs.declared.task.Task.{Task}
 use Rattle.stlslice.specs.declared.task.Task.TheVariants as task
 use Rattle.stlslice.specs.declared.run_faults.RunFault.{RunFault}
 use Rattle.stlslice.specs.declared.run_faults.RunFault.TheVariants as fault
-use Rattle.stlslice.specs.Program.{misread}
-use Rattle.stlslice.specs.Running.{IsRunFault}
+use Rattle.stlslice.specs.Program.{IsOutcome, closed, grid_for, is_box, misread, open_mesh, outside, probed, probed_text, unit_of}
+use Rattle.stlslice.specs.Running.{IsLoadFault, IsRunFault}
 
 abbrev pub IsTextFault : LengthUnit → List ℕ → RunFault → Type 0
 IsTextFault unit input f = (f ≡ fault.Memory) ⊎ ((cause : StlFault) × (f ≡ fault.Stl cause) × IsFaultOf facet_limit unit input cause)
@@ -25,3 +31,56 @@ misread_box unit input f (inr h) = rw h.1 (misread h.0 h.2 refl, (λ e. cc), (λ
 pub passed_on : {T : Type 0} (r : Result T RunFault) (P Q : RunFault → Type 0) → ((f : RunFault) → P f → Q f) → IsErrAnd r P → IfErr r Q
 passed_on (Ok x) P Q more h = tt
 passed_on (Err f) P Q more h = more f h
+
+abbrev pub IsSolidOf : LengthUnit → List ℕ → Mesh → Type 0
+IsSolidOf unit input mesh = (facets : List Triangle) × Reads facet_limit unit input facets × IsBalanced facets × (mesh ≡ mesh_of facets)
+
+-- a text that is no closed mesh is the outcome of what needs one
+pub unloaded : (t : Task) (input : List ℕ) (f : RunFault) → is_box t ≡ false → IsLoadFault (unit_of t) input f → IsWorkFault t input f
+unloaded t input fault.Read other h = absurd h
+unloaded t input (fault.Stl cause) other h = (misread cause h refl, (λ e. cc), (λ w e. cc))
+unloaded t input (fault.Open from to there back) other h = (open_mesh h.0 h.1 other from to there back h.2 refl, (λ e. cc), (λ w e. cc))
+unloaded t input (fault.Grid cause) other h = absurd h
+unloaded t input fault.Memory other h = (tt, (λ e. cc), (λ w e. cc))
+unloaded t input (fault.Write written) other h = absurd h
+unloaded t input (fault.Outside columns rows layers) other h = absurd h
+
+abbrev pub IsGridFault : Option Given → ℕ → ℕ → List Triangle → RunFault → Type 0
+IsGridFault given pitch layer facets f =
+    (f ≡ fault.Memory) ⊎ ((cause : GridFault) × (f ≡ fault.Grid cause) × (grid_for given pitch layer facets ≡ Err cause))
+
+-- what holds of the mesh's facets holds of those that were kept
+kept : (mesh : Mesh) (facets : List Triangle) (P : List Triangle → Type 0) → mesh ≡ mesh_of facets → P mesh.facets → P (kept_facets facets)
+kept mesh facets P is h = subst P (ap (λ (m : Mesh). m.facets) is) h
+
+-- where there is no grid, that is the outcome of a probe
+pub unplaced : (unit : LengthUnit) (pitch layer : ℕ) (given : Option Given) (i j k : ℕ) (input : List ℕ) (mesh : Mesh) (f : RunFault)
+    → IsSolidOf unit input mesh → IsGridFault given pitch layer mesh.facets f
+    → IsWorkFault (task.Probe unit pitch layer given i j k) input f
+unplaced unit pitch layer given i j k input mesh f s (inl is) = rw is (tt, (λ e. cc), (λ w e. cc))
+unplaced unit pitch layer given i j k input mesh f s (inr h) =
+    let none : grid_for given pitch layer (kept_facets s.0) ≡ Err h.0 =
+    kept mesh s.0 (λ (facets : List Triangle). grid_for given pitch layer facets ≡ Err h.0) s.3 h.2 in
+    rw h.1 (closed s.0 s.1 refl s.2 (rw none refl), (λ e. cc), (λ w e. cc))
+
+-- what a probe answers in its grid is its outcome
+pub probed_there : (unit : LengthUnit) (pitch layer : ℕ) (given : Option Given) (i j k : ℕ) (input : List ℕ) (mesh : Mesh) (g : Lattice)
+    (answer : Result (List ℕ) RunFault) → IsSolidOf unit input mesh → grid_for given pitch layer mesh.facets ≡ Ok g
+    → answer ≡ probed_text i j k mesh.facets g → IsOutcome (task.Probe unit pitch layer given i j k) input answer
+probed_there unit pitch layer given i j k input mesh g answer s placed is =
+    let there : grid_for given pitch layer (kept_facets s.0) ≡ Ok g =
+    kept mesh s.0 (λ (facets : List Triangle). grid_for given pitch layer facets ≡ Ok g) s.3 placed in
+    let said : answer ≡ probed_text i j k (kept_facets s.0) g =
+    kept mesh s.0 (λ (facets : List Triangle). answer ≡ probed_text i j k facets g) s.3 is in
+    closed s.0 s.1 refl s.2 (rw there said)
+
+-- so is its fault, unless memory is short
+pub probed_fault : (unit : LengthUnit) (pitch layer : ℕ) (given : Option Given) (i j k : ℕ) (input : List ℕ) (mesh : Mesh) (g : Lattice)
+    (f : RunFault) → IsSolidOf unit input mesh → grid_for given pitch layer mesh.facets ≡ Ok g
+    → (f ≡ fault.Memory) ⊎ (f ≡ outside g) × (Err f ≡ probed_text i j k mesh.facets g)
+    → IsWorkFault (task.Probe unit pitch layer given i j k) input f
+probed_fault unit pitch layer given i j k input mesh g f s placed (inl is) = rw is (tt, (λ e. cc), (λ w e. cc))
+probed_fault unit pitch layer given i j k input mesh g f s placed (inr h) =
+    let said : Err (outside g) ≡ probed_text i j k mesh.facets g =
+    subst (λ (x : RunFault). Err x ≡ probed_text i j k mesh.facets g) h.0 h.1 in
+    rw h.0 (probed_there unit pitch layer given i j k input mesh g (Err (outside g)) s placed said, (λ e. cc), (λ w e. cc))

@@ -1,5 +1,5 @@
 -- What the program writes for a task and an input, or which fault it ends with.
-use Rattle.std.specs.Prelude.{◌≡◌, ℕ, Bool, true, false, List, ◌++◌, length, Option, Some, None, Result, Ok, Err, codes, decimal, option_map}
+use Rattle.std.specs.Prelude.{◌≡◌, ℕ, Bool, true, false, ◌&&◌, List, ◌++◌, length, Option, Some, None, Result, Ok, Err, nat_lt, if◌then◌else◌, codes, decimal, option_map}
 use Rattle.std.specs.Fmt.{signed_decimal}
 use Rattle.micro_num.specs.declared.units.Unit.{Unit as LengthUnit}
 use Rattle.stl_text.specs.declared.faults.StlFault.{StlFault}
@@ -7,6 +7,12 @@ use Rattle.stl_text.specs.Position.{Position}
 use Rattle.stl_text.specs.Triangle.{Triangle}
 use Rattle.stl_text.specs.Extent.{bounds}
 use Rattle.stl_text.specs.Text.{facet_limit, Reads, IsFaultOf}
+use Rattle.stl_text.specs.Winding.{ray, ray_y}
+use Rattle.mesh_weld.specs.Balance.{IsBalanced, IsLeastOpen}
+use Rattle.mesh_weld.specs.Mesh.{kept_facets}
+use Rattle.raster.specs.declared.grid_faults.GridFault.{GridFault}
+use Rattle.raster.specs.Lattice.{Lattice, centre, fitted_grid, given_grid, lattice}
+use Rattle.stlslice.specs.declared.task.Given.{Given}
 use Rattle.stlslice.specs.declared.task.Task.{Task}
 use Rattle.stlslice.specs.declared.task.Task.TheVariants as task
 use Rattle.stlslice.specs.declared.run_faults.RunFault.{RunFault}
@@ -36,10 +42,52 @@ is_box (task.Box unit) = true
 is_box (task.Slice unit pitch layer rule workers report grid) = false
 is_box (task.Probe unit pitch layer grid i j k) = false
 
+-- the two rays at a voxel
+abbrev pub probe_text : Lattice → List Triangle → ℕ → ℕ → ℕ → List ℕ
+probe_text g facets i j k =
+    codes "voxel " ++ (decimal i ++ (codes " " ++ (decimal j ++ (codes " " ++ (decimal k
+    ++ (codes " x " ++ (signed_decimal (ray facets (centre g i j k))
+    ++ (codes " y " ++ (signed_decimal (ray_y facets (centre g i j k)) ++ codes "\n")))))))))
+
+-- the grid that was handed in, or else the one that the mesh fits in
+abbrev pub grid_for : Option Given → ℕ → ℕ → List Triangle → Result Lattice GridFault
+grid_for None pitch layer facets = fitted_grid facets pitch layer
+grid_for (Some given) pitch layer facets =
+    given_grid (lattice given.origin pitch layer given.columns given.rows given.layers)
+
+abbrev pub outside : Lattice → RunFault
+outside g = fault.Outside g.columns g.rows g.layers
+
+abbrev pub is_voxel : Lattice → ℕ → ℕ → ℕ → Bool
+is_voxel g i j k = nat_lt i g.columns && nat_lt j g.rows && nat_lt k g.layers
+
+-- with a grid, what it gives; without one, the grid's fault
+abbrev pub with_grid : (Lattice → Result (List ℕ) RunFault) → Result Lattice GridFault → Result (List ℕ) RunFault
+with_grid f (Ok g) = f g
+with_grid f (Err cause) = Err (fault.Grid cause)
+
+abbrev pub probed_text : ℕ → ℕ → ℕ → List Triangle → Lattice → Result (List ℕ) RunFault
+probed_text i j k facets g = if is_voxel g i j k then Ok (probe_text g facets i j k) else Err (outside g)
+
+-- what a probe answers for the kept facets of a closed mesh
+abbrev pub probed : Option Given → ℕ → ℕ → ℕ → ℕ → ℕ → List Triangle → Result (List ℕ) RunFault
+probed grid pitch layer i j k facets = with_grid (probed_text i j k facets) (grid_for grid pitch layer facets)
+
+-- what comes of the kept facets of a closed mesh
+abbrev pub IsMade : Task → List Triangle → Result (List ℕ) RunFault → Type 0
+IsMade (task.Box unit) facets answer = ⊥
+IsMade (task.Slice unit pitch layer rule workers report grid) facets answer = ⊥
+IsMade (task.Probe unit pitch layer grid i j k) facets answer = answer ≡ probed grid pitch layer i j k facets
+
 -- The program's answer to a task and an input, by the order of its checks: the text has to read as facets, and for a
--- box that is all.
+-- box that is all; else the mesh has to be closed, and then the grid and the voxel decide.
 pub data IsOutcome (t : Task) (bytes : List ℕ) (answer : Result (List ℕ) RunFault) : Type 0 where
   misread : (cause : StlFault) → IsFaultOf facet_limit (unit_of t) bytes cause → answer ≡ Err (fault.Stl cause)
       → IsOutcome t bytes answer
   boxed : (facets : List Triangle) → Reads facet_limit (unit_of t) bytes facets → is_box t ≡ true
       → answer ≡ Ok (box_text facets) → IsOutcome t bytes answer
+  open_mesh : (facets : List Triangle) → Reads facet_limit (unit_of t) bytes facets → is_box t ≡ false
+      → (from to : Position) (there back : ℕ) → IsLeastOpen facets from to there back
+      → answer ≡ Err (fault.Open from to there back) → IsOutcome t bytes answer
+  closed : (facets : List Triangle) → Reads facet_limit (unit_of t) bytes facets → is_box t ≡ false
+      → IsBalanced facets → IsMade t (kept_facets facets) answer → IsOutcome t bytes answer

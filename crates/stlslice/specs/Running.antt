@@ -4,6 +4,10 @@ use Rattle.stlslice.specs.declared.task.Task.{Task}
 use Rattle.stlslice.specs.declared.task.Task.TheVariants as task
 use Rattle.stlslice.specs.declared.run_faults.RunFault.{RunFault}
 use Rattle.stlslice.specs.declared.run_faults.RunFault.TheVariants as fault
+use Rattle.micro_num.specs.declared.units.Unit.{Unit as LengthUnit}
+use Rattle.stl_text.specs.Text.{facet_limit, IsFaultOf, Reads}
+use Rattle.stl_text.specs.Triangle.{Triangle}
+use Rattle.mesh_weld.specs.Balance.{IsLeastOpen}
 use Rattle.stlslice.specs.Program.{IsOutcome}
 
 -- the task's numbers are in range
@@ -23,3 +27,14 @@ IsRunFault t input (fault.Grid cause) = IsOutcome t input (Err (fault.Grid cause
 IsRunFault t input fault.Memory = Unit {0}
 IsRunFault t input (fault.Write written) = Unit {0}
 IsRunFault t input (fault.Outside columns rows layers) = IsOutcome t input (Err (fault.Outside columns rows layers))
+
+-- a text that is no closed mesh: its fault, or its least open edge
+abbrev pub IsLoadFault : LengthUnit → List ℕ → RunFault → Type 0
+IsLoadFault unit bytes fault.Read = ⊥
+IsLoadFault unit bytes (fault.Stl cause) = IsFaultOf facet_limit unit bytes cause
+IsLoadFault unit bytes (fault.Open from to there back) =
+    (facets : List Triangle) × Reads facet_limit unit bytes facets × IsLeastOpen facets from to there back
+IsLoadFault unit bytes (fault.Grid cause) = ⊥
+IsLoadFault unit bytes fault.Memory = Unit {0}
+IsLoadFault unit bytes (fault.Write written) = ⊥
+IsLoadFault unit bytes (fault.Outside columns rows layers) = ⊥

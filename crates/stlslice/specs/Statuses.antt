@@ -1,11 +1,17 @@
--- The exit status of a program that ends with a fault.
+-- What faults of the parts become in a run, and the exit status of a program that ends with a fault.
 use Rattle.std.specs.Prelude.{◌≡◌, ◌≢◌, ℕ}
 use Rattle.clap.specs.Words.{kind_of}
 use Rattle.clap.specs.declared.error.kind.ErrorKind.TheVariants.{DisplayHelp, DisplayVersion}
+use Rattle.mesh_weld.specs.declared.faults.WeldFault.{WeldFault}
+use Rattle.mesh_weld.specs.declared.faults.WeldFault.TheVariants as weld
 use Rattle.stlslice.specs.declared.run_faults.RunFault.{RunFault}
 use Rattle.stlslice.specs.declared.run_faults.RunFault.TheVariants as fault
 use Rattle.stlslice.specs.declared.word_faults.WordFault.{WordFault}
 use Rattle.stlslice.specs.declared.word_faults.WordFault.TheVariants as words
+
+abbrev pub of_weld : WeldFault → RunFault
+of_weld (weld.Open from to there back) = fault.Open from to there back
+of_weld weld.Memory = fault.Memory
 
 abbrev pub run_status : RunFault → ℕ
 run_status fault.Read = 7

@@ -3,6 +3,9 @@
 
 mod box_line;
 mod command;
+mod loading;
+mod placing;
+mod probing;
 mod reading;
 mod run_faults;
 mod running;
@@ -12,6 +15,7 @@ mod word_faults;
 mod words;
 mod writing;
 
+pub use loading::load;
 pub use raster::{Counted, Failed, Failures, Sink, Source};
 pub use run_faults::RunFault;
 pub use running::run;

@@ -1,7 +1,9 @@
-ghost use Rattle.std.specs.Prelude.{◌≡◌};
-ghost use Rattle.stlslice.specs.Statuses.{run_status};
-ghost use Rattle.stlslice.specs.declared.run_faults.RunFault.TheVariants.{Memory};
+ghost use Rattle.std.specs.Prelude.{◌≡◌, ◌≢◌};
+ghost use Rattle.stl_text.specs.declared.faults.StlFault.TheVariants as stl_fault;
+ghost use Rattle.stlslice.specs.Statuses.{of_weld, run_status};
+ghost use Rattle.stlslice.specs.declared.run_faults.RunFault.TheVariants.{Grid, Memory, Stl};
 
+use mesh_weld::WeldFault;
 use raster::GridFault;
 use std::alloc::AllocError;
 use stl_text::{Point, StlFault};
@@ -65,5 +67,46 @@ impl From<AllocError> for RunFault {
 
     fn from(_error: AllocError) -> RunFault {
         RunFault::Memory
+    }
+}
+
+impl From<StlFault> for RunFault {
+    ghost from_gives = { λ cause fault. (cause ≡ stl_fault.Memory → fault ≡ Memory)
+        × (cause ≢ stl_fault.Memory → fault ≡ Stl cause) };
+
+    fn from(cause: StlFault) -> RunFault {
+        match cause {
+            StlFault::Memory => RunFault::Memory,
+            _ => RunFault::Stl(cause),
+        }
+    }
+}
+
+impl From<WeldFault> for RunFault {
+    ghost from_gives = { λ cause fault. fault ≡ of_weld cause };
+
+    fn from(cause: WeldFault) -> RunFault {
+        match cause {
+            WeldFault::Open {
+                from,
+                to,
+                there,
+                back,
+            } => RunFault::Open {
+                from,
+                to,
+                there,
+                back,
+            },
+            WeldFault::Memory => RunFault::Memory,
+        }
+    }
+}
+
+impl From<GridFault> for RunFault {
+    ghost from_gives = { λ cause fault. fault ≡ Grid cause };
+
+    fn from(cause: GridFault) -> RunFault {
+        RunFault::Grid(cause)
     }
 }

@@ -1,23 +1,29 @@
-ghost use Rattle.std.specs.Prelude.{◌≡◌, ◌≢◌, ◌⊎◌, Err, IfErr, IfOk, IfSome, List, Ok, OnOk, string_bytes, true, ℕ};
+ghost use Rattle.std.specs.Prelude.{◌≡◌, ◌≢◌, ◌≤◌, ◌⊎◌, Err, IfErr, IfOk, IfSome, List, Ok, OnOk, string_bytes, true, vec_len, ℕ};
 ghost use Rattle.std.specs.Io.KnownBytes.{Appends, IsAtEnd, Keeps};
 ghost use Rattle.raster.specs.Devices.{AppendsFirst, HasFailed};
 ghost use Rattle.stlslice.specs.Program.{IsOutcome};
-ghost use Rattle.stlslice.specs.Running.{IsInRange, IsRunFault};
+ghost use Rattle.stlslice.specs.Running.{IsInRange, IsLoadFault, IsRunFault};
 ghost use Rattle.stlslice.specs.declared.run_faults.RunFault.TheVariants.{Memory, Read, Stl, Write};
+ghost use Rattle.mesh_weld.specs.Balance.{IsBalanced};
+ghost use Rattle.mesh_weld.specs.Mesh.{mesh_of};
 ghost use Rattle.stl_text.specs.Text.{IsFaultOf, Reads, facet_limit};
+ghost use Rattle.stl_text.specs.Triangle.{Triangle};
 ghost use Rattle.stl_text.specs.declared.faults.StlFault.{StlFault as InputFault};
 
 use crate::box_line::box_line;
+use crate::placing::grid_for;
+use crate::probing::probe_voxel;
 use crate::reading::read_all;
 use crate::run_faults::RunFault;
 use crate::task::Task;
 use crate::writing::write_all;
+use mesh_weld::{Solid, weld};
 use micro_num::Unit;
 use raster::{Sink, Source};
 use std::alloc::Allocator;
 use std::sync::Wait;
 use std::thread::Threads;
-use stl_text::{Facet, StlFault, read_stl};
+use stl_text::{Facet, read_stl};
 
 /// Reads the whole input, does the task, and writes and flushes what it answers.
 ///
@@ -55,12 +61,13 @@ pub fn run<R: Threads + Wait + Sync, A: Allocator + Copy + Send + Sync, I: Sourc
     write_all(sink, text.as_bytes())
 }
 
-/// The text that a task has for an input. The input's bytes are freed once its facets are read.
+/// The text that a task has for an input.
 fn outcome<A: Allocator + Copy + Send + Sync>(
     alloc: A,
     task: &Task,
     input: Vec<u8, A>,
 ) -> Result<String<A>, RunFault>
+    requires { IsInRange task.now }
     ensures ok { IfOk result (λ text. IsOutcome task.now input.items (Ok (string_bytes text))) }
     ensures err { IfErr result (λ fault. IsRunFault task.now input.items fault × (fault ≢ Read)
         × ((written : ℕ) → fault ≢ Write written)) }
@@ -70,7 +77,20 @@ fn outcome<A: Allocator + Copy + Send + Sync>(
             let facets = read_facets(alloc, input, *unit)?;
             Ok(box_line(alloc, &facets)?)
         }
-        Task::Slice { .. } | Task::Probe { .. } => Err(RunFault::Memory),
+        Task::Probe {
+            unit,
+            pitch,
+            layer,
+            grid,
+            i,
+            j,
+            k,
+        } => {
+            let solid = read_solid(alloc, input, *unit)?;
+            let grid = grid_for(&solid, *grid, *pitch, *layer)?;
+            probe_voxel(alloc, &solid, &grid, *i, *j, *k)
+        }
+        Task::Slice { .. } => Err(RunFault::Memory),
     }
 }
 
@@ -81,12 +101,23 @@ fn read_facets<A: Allocator + Copy + Send + Sync>(
     unit: Unit,
 ) -> Result<Vec<Facet, A>, RunFault>
     ensures ok { IfOk result (λ facets. Reads facet_limit unit input.items facets.items) }
+    ensures few { IfOk result (λ facets. vec_len facets ≤ 1048576) }
     ensures err { IfErr result (λ fault. (fault ≡ Memory) ⊎ ((cause : InputFault) × (fault ≡ Stl cause)
         × IsFaultOf facet_limit unit input.items cause)) }
 {
-    match read_stl(alloc, &input, unit) {
-        Ok(facets) => Ok(facets),
-        Err(StlFault::Memory) => Err(RunFault::Memory),
-        Err(fault) => Err(RunFault::Stl(fault)),
-    }
+    Ok(read_stl(alloc, &input, unit)?)
+}
+
+/// The closed mesh of an input, whose bytes are given up once its facets are read.
+fn read_solid<A: Allocator + Copy + Send + Sync>(
+    alloc: A,
+    input: Vec<u8, A>,
+    unit: Unit,
+) -> Result<Solid<A>, RunFault>
+    ensures ok { IfOk result (λ solid. (facets : List Triangle) × Reads facet_limit unit input.items facets
+        × IsBalanced facets × (solid ≡ mesh_of facets)) }
+    ensures err { IfErr result (IsLoadFault unit input.items) }
+{
+    let facets = read_facets(alloc, input, unit)?;
+    Ok(weld(alloc, facets)?)
 }

@@ -4,5 +4,7 @@
 mod box_runs;
 mod devices;
 mod lines;
+mod loads;
 mod meshes;
+mod probe_runs;
 mod words;

@@ -1,4 +1,6 @@
 use std::alloc::{AllocError, Global};
+use std::test::Fail;
+use stl_text::Point;
 
 /// The facets of the cube from (0, 0, 0) to (2, 2, 2) in micrometres, outward. A facet is its corners, and a corner
 /// three digits: whether x, y and z are 2.
@@ -40,4 +42,63 @@ fn push_corners(text: &mut String, facet: &str) -> Result<(), AllocError> {
         }
     }
     Ok(())
+}
+
+/// The octahedron with corners 2 micrometres from the origin along each axis.
+pub(crate) const OCTAHEDRON: &str = "solid o
+facet normal 0 0 0 outer loop vertex 2e-3 0 0 vertex 0 2e-3 0 vertex 0 0 2e-3 endloop endfacet
+facet normal 0 0 0 outer loop vertex 0 2e-3 0 vertex -2e-3 0 0 vertex 0 0 2e-3 endloop endfacet
+facet normal 0 0 0 outer loop vertex -2e-3 0 0 vertex 0 -2e-3 0 vertex 0 0 2e-3 endloop endfacet
+facet normal 0 0 0 outer loop vertex 0 -2e-3 0 vertex 2e-3 0 0 vertex 0 0 2e-3 endloop endfacet
+facet normal 0 0 0 outer loop vertex 0 2e-3 0 vertex 2e-3 0 0 vertex 0 0 -2e-3 endloop endfacet
+facet normal 0 0 0 outer loop vertex -2e-3 0 0 vertex 0 2e-3 0 vertex 0 0 -2e-3 endloop endfacet
+facet normal 0 0 0 outer loop vertex 0 -2e-3 0 vertex -2e-3 0 0 vertex 0 0 -2e-3 endloop endfacet
+facet normal 0 0 0 outer loop vertex 2e-3 0 0 vertex 0 -2e-3 0 vertex 0 0 -2e-3 endloop endfacet
+endsolid o
+";
+
+/// A box by its least and its greatest corner, in micrometres.
+pub(crate) type Corners = [[i32; 3]; 2];
+
+/// An ASCII STL text of boxes, one after the other, each with the facets of the cube in their order.
+pub(crate) fn boxes_text(alloc: Global, boxes: &[Corners]) -> Result<String, AllocError> {
+    let mut text = String::from_str(alloc, "solid b\n")?;
+    for corners in boxes {
+        push_box(&mut text, corners)?;
+    }
+    text.push_str("endsolid b\n")?;
+    Ok(text)
+}
+
+fn push_box(text: &mut String, corners: &Corners) -> Result<(), AllocError> {
+    for facet in CUBE {
+        text.push_str("facet normal 0 0 0\nouter loop\n")?;
+        push_box_corners(text, corners, facet)?;
+        text.push_str("endloop\nendfacet\n")?;
+    }
+    Ok(())
+}
+
+fn push_box_corners(text: &mut String, corners: &Corners, facet: &str) -> Result<(), AllocError> {
+    for (place, digit) in facet.bytes().enumerate() {
+        if place % 3 == 0 {
+            text.push_str("\nvertex")?;
+        }
+        let corner = if digit == b'0' {
+            corners[0]
+        } else {
+            corners[1]
+        };
+        write!(text, " {}e-3", corner[place % 3])?;
+    }
+    text.push_str("\n")?;
+    Ok(())
+}
+
+/// The point with these coordinates in micrometres.
+pub(crate) fn point(place: [i32; 3]) -> Result<Point, Fail> {
+    match Point::new(place[0], place[1], place[2]) {
+        Some(point) => Ok(point),
+        None => Err(Fail::new("a point out of range")),
+    }
 }
