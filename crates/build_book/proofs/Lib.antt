@@ -1,0 +1,3 @@
+pub mod OneLayer
+pub mod Areas
+pub mod Stripes
