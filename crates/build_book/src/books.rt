@@ -1,12 +1,13 @@
-ghost use Rattle.std.specs.Prelude.{◌≡◌, ◌≢◌, ◌+◌, ◌≤◌, IfErr, IfNone, IfOk, IfSome, None, OnErr, OnOk, Option, Some, length, map, replicate, slice_get, take, drop, ◌++◌, vec_len};
+ghost use Rattle.std.specs.Prelude.{◌≡◌, ◌≢◌, ◌+◌, IfErr, IfOk, IfSome, None, OnErr, OnOk, Some, replicate, slice_get};
 ghost use Rattle.build_book.specs.Filing.{Files, IsFileFault};
-ghost use Rattle.build_book.specs.Layers.{IsLawfulShelf, Layer as LayerView, filed_count};
+ghost use Rattle.build_book.specs.Layers.{IsComplete, IsLawfulShelf, Layer as LayerView, filed_count};
 
 use std::alloc::{AllocError, Allocator};
 use std::marker::Model;
 
 use crate::builds::Build;
 use crate::faults::FileFault;
+use crate::gaps::{all_layers, empty_places, filed_count, fill_gaps, first_taken, make_missing};
 use crate::jobs::{Job, STRIPE};
 use crate::layers::Layer;
 use crate::pieces::Piece;
@@ -45,6 +46,29 @@ impl<'m, A: Allocator + Copy + Send + Sync> Book<'m, A> {
         self.job
     }
 
+    /// Files a piece: its layers go into their places.
+    ///
+    /// `Stranger` where the piece's job isn't the book's in content. `Double` where it is and a place of the piece is
+    /// taken; its `layer` is the least such. The book is then unchanged, and the piece comes back.
+    pub fn file(&mut self, piece: Piece<'m, A>) -> Result<(), (FileFault, Piece<'m, A>)>
+        ensures ok { OnOk result (Files self.old piece.entry self.new) }
+        ensures fault { IfErr result (λ refusal. IsFileFault self.old piece.entry refusal.0) }
+        ensures back { IfErr result (λ refusal. refusal.1 ≡ piece.entry) }
+        ensures err { OnErr result (self.new ≡ self.old) }
+    {
+        if !self.job.same(piece.job()) {
+            return Err((FileFault::Stranger, piece));
+        }
+        let first = piece.stripe() as usize * STRIPE as usize;
+        let end = first + piece.layers().len();
+        if let Some(taken) = first_taken(self.places.as_slice(), first, end) {
+            let layer = taken as u32;
+            return Err((FileFault::Double { layer }, piece));
+        }
+        fill_gaps(self.places.as_mut_slice(), first, piece.into_layers());
+        Ok(())
+    }
+
     /// The layer in a place, or `None` where the place is empty or isn't in the grid.
     pub fn layer(&self, k: u32) -> Option<&Layer<A>>
         ensures some { IfSome result (λ layer. slice_get self.now.places k ≡ Some (Some layer.now)) }
@@ -58,37 +82,41 @@ impl<'m, A: Allocator + Copy + Send + Sync> Book<'m, A> {
         ensures count { result ≡ filed_count self.now.places }
         ensures lawful { IsLawfulShelf self.now }
     {
+        // There are as many places as layers.
+        let _layers = self.job.grid().layers();
         filed_count(self.places.as_slice())
     }
-}
 
-fn filed_count<A: Allocator>(places: &[Option<Layer<A>>]) -> u32
-    requires { length places.now ≤ 65535 }
-    ensures { result ≡ filed_count places.now }
-{
-    places.iter().filter(|place| place.is_some()).count() as u32
-}
-
-/// So many empty places.
-fn empty_places<A: Allocator>(
-    alloc: A,
-    count: u32,
-) -> Result<Vec<Option<Layer<A>>, A>, AllocError>
-    ensures { IfOk result (λ places. places.items ≡ replicate count None) }
-{
-    let mut places = Vec::with_capacity(alloc, count as usize)?;
-    for _ in 0..count {
-        places.push(None)?;
+    /// The complete build of a job: the layers of the book where its job is the same in content, and whatever is
+    /// missing made. `late` is the number of layers so made. On an error the book is given up.
+    pub fn finish(self, job: &'m Job<A>) -> Result<Build<'m, A>, AllocError>
+        ensures work { IfOk result (λ build. build.work ≡ job.now) }
+        ensures complete { IfOk result (λ build. IsComplete build.work build.layers) }
+        ensures late { IfOk result (λ build. self.entry.work ≡ job.now → build.late + filed_count self.entry.places ≡ job.now.grid.layers) }
+        ensures all_late { IfOk result (λ build. self.entry.work ≢ job.now → build.late ≡ job.now.grid.layers) }
+    {
+        let alloc = self.alloc;
+        let mut places = self.places_for(job)?;
+        let late = make_missing(alloc, job, places.as_mut_slice())?;
+        let layers = all_layers(alloc, places)?;
+        Ok(Build::of(job, layers, late))
     }
-    Ok(places)
-}
 
-/// Puts layers into the places from `first` on.
-fn put<A: Allocator>(places: &mut [Option<Layer<A>>], first: usize, layers: Vec<Layer<A>, A>)
-    requires { first + vec_len layers ≤ length places.old }
-    ensures { places.new ≡ take first places.old ++ map Some layers.items ++ drop (first + vec_len layers) places.old }
-{
-    for (n, layer) in layers.into_iter().enumerate() {
-        places[first + n] = Some(layer);
+    /// Its places where its job is the same as this one in content, else empty ones.
+    fn places_for(self, job: &Job<A>) -> Result<Vec<Option<Layer<A>>, A>, AllocError>
+        ensures lawful { IfOk result (λ found. IsLawfulShelf (record { work = job.now; places = found.items })) }
+        ensures same { IfOk result (λ found. self.entry.work ≡ job.now → found.items ≡ self.entry.places) }
+        ensures other { IfOk result (λ found. self.entry.work ≢ job.now → filed_count found.items ≡ 0) }
+    {
+        let Book {
+            alloc,
+            job: mine,
+            places,
+        } = self;
+        if mine.same(job) {
+            Ok(places)
+        } else {
+            empty_places(alloc, job.grid().layers())
+        }
     }
 }

@@ -4,6 +4,7 @@
 mod books;
 mod builds;
 mod faults;
+mod gaps;
 mod jobs;
 mod laws;
 mod layers;

@@ -1,4 +1,4 @@
-use Rattle.std.proofs.Common.{arith, rules}
+use Rattle.std.proofs.Common.{rules}
 use Rattle.build_book.proofs.Stripes.{higher_plane}
 use Rattle.build_book.proofs.pieces.rise.Goals as goal
 

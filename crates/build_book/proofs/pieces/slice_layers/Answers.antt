@@ -1,5 +1,4 @@
-use Rattle.std.proofs.Common.{◌≡◌, ◌+◌, ◌-◌, arith, rules, subst, length}
-use Rattle.build_book.specs.Layers.{IsLawful}
+use Rattle.std.proofs.Common.{◌≡◌, ◌+◌, ◌-◌, arith, rules, length}
 use Rattle.build_book.proofs.Stripes.{lawful_push}
 use Rattle.build_book.proofs.pieces.slice_layers.Goals as goal
 
