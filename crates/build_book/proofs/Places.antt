@@ -1,8 +1,10 @@
 -- Places of a book, before and after layers are put into those that are free.
-use Rattle.std.proofs.Common.{◌≡◌, ◌≢◌, ℕ, zero, suc, ◌+◌, ◌-◌, ◌*◌, ◌<◌, ◌≤◌, Bool, true, false, not, List, [], ◌∷◌, ◌++◌, length, append_assoc, length-append, take, drop, map, set, get_or, refl, sym, ◌∙◌, ap, subst, arith, Option, Some, None, count_by, sum_by, cond, is_some, flat_map, option_to_list, slice_get}
+use Rattle.std.proofs.Common.{◌≡◌, ◌≢◌, ℕ, zero, suc, ◌+◌, ◌-◌, ◌*◌, ◌<◌, ◌≤◌, min, Bool, true, false, not, ◌⊎◌, inl, inr, List, [], ◌∷◌, ◌++◌, length, append_assoc, length-append, take, drop, map, set, get_or, refl, sym, ◌∙◌, ap, subst, arith, Option, Some, None, count_by, sum_by, cond, is_some, flat_map, option_to_list, slice_get}
 use mir.Val.{bool_byte}
-use Rattle.std.proofs.lemmas.List.Sums.{sum_by-cons}
-use Rattle.build_book.specs.Layers.{Work, Layer, Shelf, IsLawful, AreLawfulFrom, IsLawfulPlace, IsLawfulShelf, IsComplete, filed_count}
+use Rattle.std.specs.Prelude.{nat_le}
+use Rattle.std.proofs.lemmas.Bool.Decides.{leb_tells}
+use Rattle.std.proofs.lemmas.List.Sums.{sum_by-cons, count_by-le-length}
+use Rattle.build_book.specs.Layers.{Work, Layer, Shelf, IsStripe, stripe_length, stripe_count, IsLawful, AreLawfulFrom, IsLawfulPlace, IsLawfulShelf, IsComplete, filed_count}
 use Rattle.build_book.specs.Filing.{filled, or_layer, IsTaken, AreFree}
 
 filled_none : (places : List (Option Layer)) → filled zero [] places ≡ places
@@ -205,3 +207,87 @@ all_counted (p ∷ ps) taken =
     let rest : filed_count ps ≡ length ps = all_counted ps (λ k h. taken (suc k) (omega (arith, h))) in
     simp sum_by-cons
     (by_layer (λ q. cond (is_some q) 1 0 + filed_count ps ≡ suc (length ps)) (λ x. omega (arith, rest)) p ps (taken zero (omega arith)))
+
+-- what a read of a place tells
+
+pub taken_at : (ps : List (Option Layer)) (n : ℕ) (v : Option Layer) → n < length ps → v ≡ get_or ps n v → is_some v ≡ true → IsTaken ps n
+taken_at [] n v low read some = absurd (omega (arith, low))
+taken_at (p ∷ ps) zero v low read some = by_place p (ap is_some (sym read) ∙ some)
+  where
+    by_place : (p : Option Layer) → is_some p ≡ true → IsTaken (p ∷ ps) zero
+    by_place None e = cc
+    by_place (Some x) e = (x, refl)
+taken_at (p ∷ ps) (suc n) v low read some = taken_at ps n v (omega (arith, low)) read some
+
+pub free_at : (ps : List (Option Layer)) (n : ℕ) (v : Option Layer) → n < length ps → v ≡ get_or ps n v → is_some v ≡ false → slice_get ps n ≡ Some None
+free_at [] n v low read none = absurd (omega (arith, low))
+free_at (p ∷ ps) zero v low read none = by_place p (ap is_some (sym read) ∙ none)
+  where
+    by_place : (p : Option Layer) → is_some p ≡ false → Some p ≡ Some None
+    by_place None e = refl
+    by_place (Some x) e = cc
+free_at (p ∷ ps) (suc n) v low read none = free_at ps n v (omega (arith, low)) read none
+
+-- what holds of each number from `first` on and below k, and of k, holds below k + 1
+pub one_further : (P : ℕ → Type 0) (first k : ℕ) → ((n : ℕ) → first ≤ n → n < k → P n) → P k → (n : ℕ) → first ≤ n → n < k + 1 → P n
+one_further P first k all last n from below = by_order (leb_tells (suc n) k)
+  where
+    by_order : ((nat_le (suc n) k ≡ true) × (suc n ≤ k)) ⊎ ((nat_le (suc n) k ≡ false) × (k < suc n)) → P n
+    by_order (inl x) = all n from x.1
+    by_order (inr x) = let same : k ≡ n = omega (arith, x.1, below) in subst P same last
+
+-- a stripe of the places of a book
+
+pub moved_stripe : (work other : Work) (s t : ℕ) (xs ys : List Layer) → other ≡ work → t ≡ s → ys ≡ xs → IsStripe other t xs → IsStripe work s ys
+moved_stripe work other s t xs ys same at equal stripe =
+    subst (λ w. IsStripe w s ys) same (subst (λ n. IsStripe other n ys) at (subst (λ l. IsStripe other t l) (sym equal) stripe))
+
+pub stripe_taken : (work : Work) (s first end : ℕ) (ps : List (Option Layer)) → IsLawfulShelf (record { work = work; places = ps })
+    → first ≡ 8 * s → end ≡ 8 * s + stripe_length work.grid s
+    → ((k : ℕ) → k < 8 * s → k < length ps → IsTaken ps k) → ((k : ℕ) → first ≤ k → k < end → IsTaken ps k)
+    → (k : ℕ) → k < 8 * (s + 1) → k < length ps → IsTaken ps k
+stripe_taken work s first end ps lawful at last below here k near low = by_order (leb_tells (suc k) (8 * s))
+  where
+    by_order : ((nat_le (suc k) (8 * s) ≡ true) × (suc k ≤ 8 * s)) ⊎ ((nat_le (suc k) (8 * s) ≡ false) × (8 * s < suc k)) → IsTaken ps k
+    by_order (inl x) = below k x.1 low
+    by_order (inr x) = here k (omega (arith, at, x.1)) (omega (arith, last, x.1, near, low, lawful.one_each))
+
+pub stripe_lawful : (work : Work) (s first : ℕ) (ys : List Layer) (ps new : List (Option Layer)) → IsLawfulShelf (record { work = work; places = ps })
+    → first ≡ 8 * s → IsStripe work s ys → new ≡ filled first ys ps → IsLawfulShelf (record { work = work; places = new })
+stripe_lawful work s first ys ps new lawful at stripe is =
+    subst (λ l. IsLawfulShelf (record { work = work; places = l })) (sym is)
+    (lawful_shelf work first ys ps lawful (subst (λ n. AreLawfulFrom work n ys) (sym at) stripe.lawful))
+
+pub stripe_filled : (work : Work) (s first : ℕ) (ys : List Layer) (ps new : List (Option Layer)) → IsLawfulShelf (record { work = work; places = ps })
+    → first ≡ 8 * s → IsStripe work s ys → new ≡ filled first ys ps
+    → ((k : ℕ) → k < 8 * s → k < length ps → IsTaken ps k)
+    → (k : ℕ) → k < 8 * (s + 1) → k < length new → IsTaken new k
+stripe_filled work s first ys ps new lawful at stripe is below k near low =
+    let long : length new ≡ length ps = ap length is ∙ length-filled first ys ps in
+    let early : k < length ps = omega (arith, low, long) in
+    subst (λ l. IsTaken l k) (sym is)
+    (taken_filled first (first + length ys) ys ps refl k early (λ h. below k (omega (arith, h, at)) early)
+      (omega (arith, at, stripe.whole, near, early, lawful.one_each)))
+
+pub few_layers : (work : Work) (ps : List (Option Layer)) → IsLawfulShelf (record { work = work; places = ps }) → (n : ℕ) → n ≡ stripe_count work.grid → n ≤ 8192
+    → filed_count ps ≤ 65536
+few_layers work ps lawful n is few = omega (arith, count_by-le-length is_some ps, lawful.one_each, is, few)
+
+-- free places of a stripe are those of its layers
+pub stripe_free : (work : Work) (s first end : ℕ) (ys : List Layer) (ps qs : List (Option Layer)) → IsStripe work s ys
+    → first ≡ 8 * s → end ≡ 8 * s + stripe_length work.grid s → ps ≡ qs → AreFree ps first end
+    → (k : ℕ) → 8 * s ≤ k → k < 8 * s + length ys → slice_get qs k ≡ Some None
+stripe_free work s first end ys ps qs stripe at last same free k low high =
+    subst (λ l. slice_get l k ≡ Some None) same (free k (omega (arith, low, at)) (omega (arith, high, last, stripe.whole)))
+
+-- where a stripe's places were free, its layers stand in them
+pub stripe_filed : (work : Work) (s first end : ℕ) (ys zs : List Layer) (ps qs new : List (Option Layer))
+    → IsLawfulShelf (record { work = work; places = ps }) → IsStripe work s ys → first ≡ 8 * s → end ≡ 8 * s + stripe_length work.grid s
+    → new ≡ filled first ys ps → AreFree ps first end → ys ≡ zs → ps ≡ qs
+    → new ≡ take (8 * s) qs ++ map Some zs ++ drop (8 * s + length zs) qs
+stripe_filed work s first end ys zs ps qs new lawful stripe at last is free same equal =
+    is ∙ ap (λ n. filled n ys ps) at
+    ∙ filled-is (8 * s) (8 * s + length ys) ys ps refl (omega (arith, stripe.whole, lawful.one_each))
+    (stripe_free work s first end ys ps ps stripe at last refl free)
+    ∙ ap (λ l. take (8 * s) ps ++ map Some l ++ drop (8 * s + length l) ps) same
+    ∙ ap (λ l. take (8 * s) l ++ map Some zs ++ drop (8 * s + length zs) l) equal

@@ -8,7 +8,7 @@ use std::marker::Model;
 use crate::builds::Build;
 use crate::faults::FileFault;
 use crate::gaps::{all_layers, empty_places, filed_count, fill_gaps, first_taken, make_missing};
-use crate::jobs::{Job, STRIPE};
+use crate::jobs::Job;
 use crate::layers::Layer;
 use crate::pieces::Piece;
 
@@ -59,13 +59,16 @@ impl<'m, A: Allocator + Copy + Send + Sync> Book<'m, A> {
         if !self.job.same(piece.job()) {
             return Err((FileFault::Stranger, piece));
         }
-        let first = piece.stripe() as usize * STRIPE as usize;
-        let end = first + piece.layers().len();
-        if let Some(taken) = first_taken(self.places.as_slice(), first, end) {
+        // A piece holds just the layers of its stripe.
+        let _layers = piece.layers();
+        let (first, end) = self.job.bounds(piece.stripe());
+        let places = self.places.as_slice();
+        if let Some(taken) = first_taken(places, first as usize, end as usize) {
             let layer = taken as u32;
             return Err((FileFault::Double { layer }, piece));
         }
-        fill_gaps(self.places.as_mut_slice(), first, piece.into_layers());
+        let places = self.places.as_mut_slice();
+        fill_gaps(places, first as usize, piece.into_layers());
         Ok(())
     }
 

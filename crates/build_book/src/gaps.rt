@@ -4,7 +4,7 @@ ghost use Rattle.build_book.specs.Layers.{IsComplete, IsLawfulShelf, filed_count
 
 use std::alloc::{AllocError, Allocator};
 
-use crate::jobs::{Job, STRIPE};
+use crate::jobs::Job;
 use crate::layers::Layer;
 use crate::pieces::slice_stripe;
 
@@ -112,13 +112,12 @@ fn make_stripe<A: Allocator + Copy + Send + Sync>(
     ensures below { IfOk result (λ made. (k : ℕ) → k < 8 * (s + 1) → k < length places.new → IsTaken places.new k) }
     ensures made { IfOk result (λ made. made + filed_count places.old ≡ filed_count places.new) }
 {
-    let first = s as usize * STRIPE as usize;
-    let end = places.len().min(first + STRIPE as usize);
-    if is_full(places, first, end) {
+    let (first, end) = job.bounds(s);
+    if is_full(places, first as usize, end as usize) {
         return Ok(0);
     }
     let piece = slice_stripe(alloc, job, s)?;
-    Ok(fill_gaps(places, first, piece.into_layers()))
+    Ok(fill_gaps(places, first as usize, piece.into_layers()))
 }
 
 /// Whether the places from `first` up to and without `end` are taken.

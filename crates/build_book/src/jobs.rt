@@ -1,5 +1,5 @@
-ghost use Rattle.std.specs.Prelude.{◌≡◌, ◌↔◌, IsTrue};
-ghost use Rattle.build_book.specs.Layers.{stripe_count};
+ghost use Rattle.std.specs.Prelude.{◌≡◌, ◌↔◌, ◌+◌, ◌*◌, ◌<◌, ◌≤◌, IsTrue};
+ghost use Rattle.build_book.specs.Layers.{stripe_count, stripe_length};
 
 use mesh_weld::Solid;
 use raster::{Grid, Rule};
@@ -63,8 +63,23 @@ impl<A: Allocator> Job<A> {
 
     /// How many stripes there are: stripe s is the layers from 8 s up to 8 s + 7, as far as there are such.
     pub fn stripes(&self) -> u64
-        ensures { result ≡ stripe_count self.now.grid }
+        ensures value { result ≡ stripe_count self.now.grid }
+        ensures few { result ≤ 8192 }
     {
         u64::from(self.grid.layers().div_ceil(STRIPE))
+    }
+
+    /// The first layer of a stripe, and the one behind its last.
+    pub(crate) fn bounds(&self, s: u64) -> (u32, u32)
+        requires { s < stripe_count self.now.grid }
+        ensures first { result.0 ≡ 8 * s }
+        ensures end { result.1 ≡ 8 * s + stripe_length self.now.grid s }
+        ensures some { result.0 < result.1 }
+        ensures within { result.1 ≤ self.now.grid.layers }
+        ensures few { result.1 ≤ 65535 }
+    {
+        let all = self.grid.layers();
+        let first = s as u32 * STRIPE;
+        (first, all.min(first + STRIPE))
     }
 }

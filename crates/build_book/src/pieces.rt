@@ -8,7 +8,7 @@ use raster::{Span, area, fill};
 use std::alloc::{AllocError, Allocator};
 use std::marker::Model;
 
-use crate::jobs::{Job, STRIPE};
+use crate::jobs::Job;
 use crate::layers::Layer;
 
 /// The layers of one stripe of a job, each lawful for it.
@@ -41,9 +41,7 @@ pub fn slice_stripe<'m, A: Allocator + Copy + Send + Sync>(
     ensures stripe { IfOk result (λ piece. piece.stripe ≡ s) }
     ensures lawful { IfOk result (λ piece. IsStripe piece.work piece.stripe piece.layers) }
 {
-    let all = job.grid().layers();
-    let first = s as u32 * STRIPE;
-    let end = all.min(first + STRIPE);
+    let (first, end) = job.bounds(s);
     let layers = slice_layers(alloc, job, first, end)?;
     Ok(Piece {
         job,
