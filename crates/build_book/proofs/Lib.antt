@@ -1,0 +1,4 @@
+pub mod OneLayer
+pub mod Areas
+pub mod Stripes
+pub mod Places
