@@ -2,3 +2,4 @@ pub mod OneLayer
 pub mod Areas
 pub mod Stripes
 pub mod Places
+pub mod Alike
