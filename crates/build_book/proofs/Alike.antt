@@ -26,10 +26,10 @@ alike_self : (a : Lattice) → are_alike a a ≡ true
 alike_self a =
     all_of _ _
     (all_of _ _ ((Decides-int_eq a.origin.x a.origin.x).1 refl)
-      (all_of _ _ ((Decides-int_eq a.origin.y a.origin.y).1 refl) ((Decides-int_eq a.origin.z a.origin.z).1 refl)))
+    (all_of _ _ ((Decides-int_eq a.origin.y a.origin.y).1 refl) ((Decides-int_eq a.origin.z a.origin.z).1 refl)))
     (all_of _ _ (equal_self a.pitch)
-      (all_of _ _ (equal_self a.layer_height)
-        (all_of _ _ (equal_self a.columns) (all_of _ _ (equal_self a.rows) (equal_self a.layers)))))
+    (all_of _ _ (equal_self a.layer_height)
+    (all_of _ _ (equal_self a.columns) (all_of _ _ (equal_self a.rows) (equal_self a.layers)))))
 
 alike-is : (a b : Lattice) → are_alike a b ≡ true → a ≡ b
 alike-is a b h =

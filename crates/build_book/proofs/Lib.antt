@@ -3,3 +3,4 @@ pub mod Areas
 pub mod Stripes
 pub mod Places
 pub mod Alike
+pub mod Totals
