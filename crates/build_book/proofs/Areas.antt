@@ -124,7 +124,7 @@ spans_sum columns rows (s ∷ ss) within apart =
     let first : sum_by (λ j. count_by (λ i. holds i j s) (below columns)) (below rows) ≡ s.to - s.from = span_sum columns rows s inside.0 in
     let rest : sum_by (λ j. count_by (λ i. covers ss i j) (below columns)) (below rows) ≡ span_area ss = spans_sum columns rows ss inside.1 ahead.1 in
     let both : sum_by (λ j. count_by (λ i. covers (s ∷ ss) i j) (below columns)) (below rows)
-        ≡ sum_by (λ j. count_by (λ i. holds i j s) (below columns)) (below rows) + sum_by (λ j. count_by (λ i. covers ss i j) (below columns)) (below rows) =
+    ≡ sum_by (λ j. count_by (λ i. holds i j s) (below columns)) (below rows) + sum_by (λ j. count_by (λ i. covers ss i j) (below columns)) (below rows) =
     added_sums (λ j. count_by (λ i. holds i j s) (below columns)) (λ j. count_by (λ i. covers ss i j) (below columns)) (λ j. count_by (λ i. covers (s ∷ ss) i j) (below columns)) 0 rows
     (λ j l. added_sums (λ i. one_if (holds i j s)) (λ i. one_if (covers ss i j)) (λ i. one_if (covers (s ∷ ss) i j)) 0 columns (λ i m. one_span s ss i j ahead.0)) in
     both ∙ simp sum_by-cons (omega (arith, first, rest))
@@ -138,7 +138,7 @@ span_area-is g rule facets k spans form filled =
     sym (spans_sum g.columns g.rows spans form.within form.apart)
     ∙ same_sums (λ j. count_by (λ i. covers spans i j) (below g.columns)) (λ j. count_by (λ i. is_filled rule facets (centre g i j k)) (below g.columns)) 0 g.rows
     (λ j y. same_sums (λ i. one_if (covers spans i j)) (λ i. one_if (is_filled rule facets (centre g i j k))) 0 g.columns
-      (λ i x. ap one_if (filled i j (omega (arith, x)) (omega (arith, y)))))
+    (λ i x. ap one_if (filled i j (omega (arith, x)) (omega (arith, y)))))
 
 small_sum : (f : ℕ → ℕ) (m a n : ℕ) → ((i : ℕ) → f i ≤ m) → sum_by f (range_with_len a n) ≤ n * m
 small_sum f m a zero small = omega arith

@@ -128,14 +128,14 @@ lawful_filled work at zero (y ∷ ys) (p ∷ ps) old new zero place e =
 lawful_filled work at zero (y ∷ ys) (p ∷ ps) old new (suc n) place e =
     subst (λ k. IsLawfulPlace work k place) (omega arith)
     (lawful_filled work (at + 1) zero ys ps
-      (λ k q h. subst (λ j. IsLawfulPlace work j q) (omega arith) (old (suc k) q h))
-      (subst (λ k. AreLawfulFrom work k ys) (omega arith) new.1) n place e)
+    (λ k q h. subst (λ j. IsLawfulPlace work j q) (omega arith) (old (suc k) q h))
+    (subst (λ k. AreLawfulFrom work k ys) (omega arith) new.1) n place e)
 lawful_filled work at (suc f) ys (p ∷ ps) old new zero place e = old zero place e
 lawful_filled work at (suc f) ys (p ∷ ps) old new (suc n) place e =
     subst (λ k. IsLawfulPlace work k place) (omega arith)
     (lawful_filled work (at + 1) f ys ps
-      (λ k q h. subst (λ j. IsLawfulPlace work j q) (omega arith) (old (suc k) q h))
-      (subst (λ k. AreLawfulFrom work k ys) (omega arith) new) n place e)
+    (λ k q h. subst (λ j. IsLawfulPlace work j q) (omega arith) (old (suc k) q h))
+    (subst (λ k. AreLawfulFrom work k ys) (omega arith) new) n place e)
 
 -- a lawful book stays so
 pub lawful_shelf : (work : Work) (f : ℕ) (ys : List Layer) (ps : List (Option Layer)) → IsLawfulShelf (record { work = work; places = ps })
@@ -144,7 +144,7 @@ unfolding AreLawfulPlaces
 lawful_shelf work f ys ps old new = record {
   one_each = length-filled f ys ps ∙ old.one_each;
   lawful = λ n place e. subst (λ k. IsLawfulPlace work k place) (omega arith)
-    (lawful_filled work 0 f ys ps (λ k q h. subst (λ j. IsLawfulPlace work j q) (omega arith) (old.lawful k q h))
+      (lawful_filled work 0 f ys ps (λ k q h. subst (λ j. IsLawfulPlace work j q) (omega arith) (old.lawful k q h))
       (subst (λ k. AreLawfulFrom work k ys) (omega arith) new) n place e);
 }
 
@@ -186,9 +186,12 @@ unfolding AreLawfulPlaces
 kept_lawful work at [] lawful taken = tt
 kept_lawful work at (p ∷ ps) lawful taken =
     by_layer (λ q. IsLawfulPlace work at q → AreLawfulFrom work at (option_to_list q ++ flat_map option_to_list ps))
-    (λ x first. (first, kept_lawful work (at + 1) ps
-      (λ k q h. subst (λ j. IsLawfulPlace work j q) (omega arith) (lawful (suc k) q h))
-      (λ k h. taken (suc k) (omega (arith, h)))))
+    (λ x first. (
+      first,
+      kept_lawful work (at + 1) ps
+          (λ k q h. subst (λ j. IsLawfulPlace work j q) (omega arith) (lawful (suc k) q h))
+          (λ k h. taken (suc k) (omega (arith, h))),
+    ))
     p ps (taken zero (omega arith))
     (subst (λ j. IsLawfulPlace work j p) (omega arith) (lawful zero p refl))
 
@@ -267,7 +270,7 @@ stripe_filled work s first ys ps new lawful at stripe is below k near low =
     let early : k < length ps = omega (arith, low, long) in
     subst (λ l. IsTaken l k) (sym is)
     (taken_filled first (first + length ys) ys ps refl k early (λ h. below k (omega (arith, h, at)) early)
-      (omega (arith, at, stripe.whole, near, early, lawful.one_each)))
+    (omega (arith, at, stripe.whole, near, early, lawful.one_each)))
 
 pub few_layers : (work : Work) (ps : List (Option Layer)) → IsLawfulShelf (record { work = work; places = ps }) → (n : ℕ) → n ≡ stripe_count work.grid → n ≤ 8192
     → filed_count ps ≤ 65536

@@ -71,6 +71,9 @@ place_area (Some layer) = layer.area
 abbrev pub total_area : List (Option Layer) → ℕ
 total_area places = sum_by place_area places
 
+abbrev pub layers_area : List Layer → ℕ
+layers_area layers = sum_by (λ layer. layer.area) layers
+
 -- all layers of the work
 pub record IsComplete (work : Work) (layers : List Layer) : Type 0 where
   pub whole : length layers ≡ work.grid.layers

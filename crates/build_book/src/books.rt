@@ -1,16 +1,17 @@
 ghost use Rattle.std.specs.Prelude.{◌≡◌, ◌≢◌, ◌+◌, IfErr, IfOk, IfSome, None, OnErr, OnOk, Some, replicate, slice_get};
 ghost use Rattle.build_book.specs.Filing.{Files, IsFileFault};
-ghost use Rattle.build_book.specs.Layers.{IsComplete, IsLawfulShelf, Layer as LayerView, filed_count};
-
-use std::alloc::{AllocError, Allocator};
-use std::marker::Model;
+ghost use Rattle.build_book.specs.Layers.{IsComplete, IsLawfulShelf, Layer as LayerView, filed_count, total_area};
 
 use crate::builds::Build;
 use crate::faults::FileFault;
-use crate::gaps::{all_layers, empty_places, filed_count, fill_gaps, first_taken, make_missing};
+use crate::gaps::{
+    all_layers, empty_places, filed_count, fill_gaps, first_taken, make_missing, total_area,
+};
 use crate::jobs::Job;
 use crate::layers::Layer;
 use crate::pieces::Piece;
+use std::alloc::{AllocError, Allocator};
+use std::marker::Model;
 
 /// A place for each layer of a job, empty or with the layer that belongs there.
 #[derive(Drop)]
@@ -88,6 +89,17 @@ impl<'m, A: Allocator + Copy + Send + Sync> Book<'m, A> {
         // There are as many places as layers.
         let _layers = self.job.grid().layers();
         filed_count(self.places.as_slice())
+    }
+
+    /// The sum of the areas of the layers in taken places, in pixels.
+    pub fn total_area(&self) -> u64
+        ensures { result ≡ total_area self.now.places }
+    {
+        // There are as many places as layers, and an area is one of columns and rows.
+        let _layers = self.job.grid().layers();
+        let _columns = self.job.grid().columns();
+        let _rows = self.job.grid().rows();
+        total_area(self.places.as_slice())
     }
 
     /// The complete build of a job: the layers of the book where its job is the same in content, and whatever is

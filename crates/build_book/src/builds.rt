@@ -1,11 +1,10 @@
 ghost use Rattle.std.specs.Prelude.{◌≡◌, ◌<◌, ◌≤◌, IfNone, IfSome, Some, slice_get};
-ghost use Rattle.build_book.specs.Layers.{IsComplete};
-
-use std::alloc::Allocator;
-use std::marker::Model;
+ghost use Rattle.build_book.specs.Layers.{IsComplete, layers_area};
 
 use crate::jobs::Job;
-use crate::layers::Layer;
+use crate::layers::{Layer, layers_area};
+use std::alloc::Allocator;
+use std::marker::Model;
 
 /// All layers of a job, each lawful for it.
 #[derive(Drop)]
@@ -57,6 +56,17 @@ impl<'m, A: Allocator> Build<'m, A> {
         ensures complete { IsComplete self.now.work self.now.layers }
     {
         self.layers.as_slice()
+    }
+
+    /// The sum of the areas of all layers, in pixels.
+    pub fn total_area(&self) -> u64
+        ensures { result ≡ layers_area self.now.layers }
+    {
+        // There are as many layers as the grid has, and an area is one of columns and rows.
+        let _layers = self.job.grid().layers();
+        let _columns = self.job.grid().columns();
+        let _rows = self.job.grid().rows();
+        layers_area(self.layers.as_slice())
     }
 
     /// How many layers were made when the book was finished.

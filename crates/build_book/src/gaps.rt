@@ -1,12 +1,11 @@
 ghost use Rattle.std.specs.Prelude.{◌≡◌, ◌+◌, ◌*◌, ◌<◌, ◌≤◌, ℕ, IfOk, IfNone, IfSome, IsTrue, None, length, replicate, not, is_some, flat_map, option_to_list};
 ghost use Rattle.build_book.specs.Filing.{AreFree, IsTaken, IsTakenAt, filled, or_layer};
-ghost use Rattle.build_book.specs.Layers.{IsComplete, IsLawfulShelf, filed_count, stripe_count};
-
-use std::alloc::{AllocError, Allocator};
+ghost use Rattle.build_book.specs.Layers.{IsComplete, IsLawfulShelf, filed_count, place_area, stripe_count, total_area};
 
 use crate::jobs::Job;
 use crate::layers::Layer;
 use crate::pieces::slice_stripe;
+use std::alloc::{AllocError, Allocator};
 
 /// So many empty places.
 pub(crate) fn empty_places<A: Allocator>(
@@ -28,6 +27,28 @@ pub(crate) fn filed_count<A: Allocator>(places: &[Option<Layer<A>>]) -> u32
     ensures { result ≡ filed_count places.now }
 {
     places.iter().filter(|place| place.is_some()).count() as u32
+}
+
+/// The sum of the areas in the places.
+pub(crate) fn total_area<A: Allocator>(places: &[Option<Layer<A>>]) -> u64
+    requires { total_area places.now < 18446744073709551616 }
+    ensures { result ≡ total_area places.now }
+{
+    let mut sum = 0;
+    for place in places {
+        sum += place_area(place);
+    }
+    sum
+}
+
+/// The area of a place's layer, or 0 where it is empty.
+fn place_area<A: Allocator>(place: &Option<Layer<A>>) -> u64
+    ensures { result ≡ place_area place.now }
+{
+    match place {
+        Some(layer) => layer.area(),
+        None => 0,
+    }
 }
 
 /// The least of the places from `first` up to and without `end` that is taken.

@@ -58,6 +58,13 @@ impl<A: Allocator> Job<A> {
     pub fn same(&self, other: &Job<A>) -> bool
         ensures { IsTrue result ↔ (self.now ≡ other.now) }
     {
+        self.has_cells_of(other) && self.solid.same(&other.solid)
+    }
+
+    /// Whether grid and rule are equal.
+    fn has_cells_of(&self, other: &Job<A>) -> bool
+        ensures { IsTrue result ↔ ((self.now.grid ≡ other.now.grid) × (self.now.rule ≡ other.now.rule)) }
+    {
         self.grid == other.grid && self.rule == other.rule
     }
 

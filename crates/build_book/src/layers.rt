@@ -1,4 +1,5 @@
-ghost use Rattle.std.specs.Prelude.{◌≡◌};
+ghost use Rattle.std.specs.Prelude.{◌≡◌, ◌<◌};
+ghost use Rattle.build_book.specs.Layers.{layers_area};
 
 use contour::Loops;
 use raster::Span;
@@ -62,4 +63,16 @@ impl<A: Allocator> Layer<A> {
     {
         self.area
     }
+}
+
+/// The sum of the areas of layers.
+pub(crate) fn layers_area<A: Allocator>(layers: &[Layer<A>]) -> u64
+    requires { layers_area layers.now < 18446744073709551616 }
+    ensures { result ≡ layers_area layers.now }
+{
+    let mut sum = 0;
+    for layer in layers {
+        sum += layer.area();
+    }
+    sum
 }

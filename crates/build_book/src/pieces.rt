@@ -3,13 +3,12 @@ ghost use Rattle.raster.specs.Fill.{AreSpans, area_of, covers, is_filled};
 ghost use Rattle.raster.specs.Lattice.{centre, plane};
 ghost use Rattle.build_book.specs.Layers.{AreLawfulFrom, IsLawful, IsStripe, stripe_count};
 
+use crate::jobs::Job;
+use crate::layers::Layer;
 use contour::{Linker, Sweep};
 use raster::{Span, area, fill};
 use std::alloc::{AllocError, Allocator};
 use std::marker::Model;
-
-use crate::jobs::Job;
-use crate::layers::Layer;
 
 /// The layers of one stripe of a job, each lawful for it.
 #[derive(Drop)]
@@ -101,7 +100,14 @@ fn slice_layer<A: Allocator + Copy + Send + Sync>(
     ensures { IfOk result (λ layer. IsLawful job.now k layer) }
 {
     let list = sweep.segments()?;
-    let spans = fill(alloc, job.solid(), job.grid(), job.rule(), k, list.as_slice())?;
+    let spans = fill(
+        alloc,
+        job.solid(),
+        job.grid(),
+        job.rule(),
+        k,
+        list.as_slice(),
+    )?;
     let area = filled_area(job, k, spans.as_slice());
     let loops = linker.loops(alloc, job.solid(), list.as_slice())?;
     Ok(Layer::of(k, loops, spans, area))

@@ -46,7 +46,7 @@ loop-layer-preserved g c =
       here = omega (arith, c.loop-layer.invariant.here, length_step c.loop-layer.yielded c.in-Some.layer);
       few = omega (arith, one, one_at_most c.index-places-at.result, c.loop-layer.invariant.few, length_step c.loop-layer.yielded c.in-Some.layer);
       places = rw (put, c.loop-layer.invariant.places)
-        (filled_step _ _ _ _ _ _ c.loop-layer.invariant.here
+          (filled_step _ _ _ _ _ _ c.loop-layer.invariant.here
           (omega (arith, low, ap length c.loop-layer.invariant.places, length-filled c.args.first c.loop-layer.yielded c.args.places.now))
           (c.index-places-at.is ∙ ap (λ ps. get_or ps c.loop-layer.at c.index-places-at.result) c.loop-layer.invariant.places));
       made = rw put (omega (arith, one, c.loop-layer.invariant.made, count_step c.loop-layer.places c.loop-layer.at c.in-Some.layer c.index-places-at.result low c.index-places-at.is));

@@ -3,10 +3,12 @@ use Rattle.build_book.proofs.Places.{one_further, taken_at, free_at}
 use Rattle.build_book.proofs.gaps.first_taken.Goals as goal
 
 pub returns-then-is_some-clause-some : goal.returns-then-is_some-clause-some
-returns-then-is_some-clause-some g c =
-    (c.loop-k.auto.k, c.loop-k-test.true,
-     taken_at c.args.places.now c.loop-k.k c.index-places-k.result (omega (arith, c.loop-k-test.true, c.requires)) c.index-places-k.is (sym c.if-is_some.ensures),
-     c.loop-k.invariant)
+returns-then-is_some-clause-some g c = (
+  c.loop-k.auto.k,
+  c.loop-k-test.true,
+  taken_at c.args.places.now c.loop-k.k c.index-places-k.result (omega (arith, c.loop-k-test.true, c.requires)) c.index-places-k.is (sym c.if-is_some.ensures),
+  c.loop-k.invariant,
+)
 
 pub loop-k-preserved : goal.loop-k-preserved
 loop-k-preserved g c =

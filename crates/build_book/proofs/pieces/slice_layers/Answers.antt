@@ -16,5 +16,5 @@ loop-k-preserved g c = record {
   height = let this : c.loop-k.k + 1 - 1 ≡ c.loop-k.k = omega arith in rw this (search rules);
   whole = search rules;
   lawful = rw c.in_ok-push-2.ensures.items (lawful_push _ _ _ _ c.loop-k.invariant.lawful
-    (let at : c.args.first + length c.loop-k.layers.items ≡ c.loop-k.k = c.loop-k.invariant.whole in rw at c.in_ok-slice_layer-2.ensures));
+      (let at : c.args.first + length c.loop-k.layers.items ≡ c.loop-k.k = c.loop-k.invariant.whole in rw at c.in_ok-slice_layer-2.ensures));
 }

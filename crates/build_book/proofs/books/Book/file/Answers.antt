@@ -29,7 +29,7 @@ invariant_of-self g c =
     let d = (goal.at.invariant_of-self g c).After-fill_gaps in
     rw (whole_places g d)
     (stripe_lawful d.self.inside.job.now d.args.piece.stripe _ _ d.self.inside.places.items _ d.self.invariant (first_place g d) (piece_stripe g d)
-      (filed_places g d))
+    (filed_places g d))
 
 last_place : (g : _) (c : After-fill_gaps g)
     → c.bounds-first.result.1 ≡ 8 * c.args.piece.stripe + stripe_length c.self.inside.job.now.grid c.args.piece.stripe
@@ -44,10 +44,10 @@ returns-clause-ok g c =
     record {
       same = same_work g d ∙ ap (λ s. s.work) d.self.view_is;
       free = λ k at. stripe_free _ _ _ _ _ _ _ (piece_stripe g d) (first_place g d) (last_place g d) (ap (λ s. s.places) d.self.view_is)
-        (free_places g d) k at.0 (subst (λ l. k < 8 * d.args.piece.stripe + length l) (sym d.into_layers.ensures) at.1);
+          (free_places g d) k at.0 (subst (λ l. k < 8 * d.args.piece.stripe + length l) (sym d.into_layers.ensures) at.1);
       work = ap (λ s. s.work) d.self.view_is;
       places = whole_places g d
-        ∙ stripe_filed d.self.inside.job.now d.args.piece.stripe d.bounds-first.result.0 d.bounds-first.result.1 _ _ _ _
+          ∙ stripe_filed d.self.inside.job.now d.args.piece.stripe d.bounds-first.result.0 d.bounds-first.result.1 _ _ _ _
           _ d.self.invariant (piece_stripe g d) (first_place g d) (last_place g d) (filed_places g d) (free_places g d)
           d.into_layers.ensures (ap (λ s. s.places) d.self.view_is);
     }

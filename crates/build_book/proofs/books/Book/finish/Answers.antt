@@ -28,11 +28,22 @@ returns-clause-complete g c = rw c.of.ensures (complete g (goal.at.returns-claus
 pub returns-clause-late : goal.returns-clause-late
 returns-clause-late g c same =
     let d = (goal.at.returns-clause-late g c).In_ok-layers in
-    omega (arith, ap (λ b. b.late) c.of.ensures, d.in_ok-late.ensures.late,
-      ap filed_count (d.as_mut_slice.ensures.value ∙ d.in_ok-places.ensures.same same), all_places g d)
+    omega (
+      arith,
+      ap (λ b. b.late) c.of.ensures,
+      d.in_ok-late.ensures.late,
+      ap filed_count (d.as_mut_slice.ensures.value ∙ d.in_ok-places.ensures.same same),
+      all_places g d,
+    )
 
 pub returns-clause-all_late : goal.returns-clause-all_late
 returns-clause-all_late g c other =
     let d = (goal.at.returns-clause-all_late g c).In_ok-layers in
-    omega (arith, ap (λ b. b.late) c.of.ensures, d.in_ok-late.ensures.late,
-      ap filed_count d.as_mut_slice.ensures.value, d.in_ok-places.ensures.other other, all_places g d)
+    omega (
+      arith,
+      ap (λ b. b.late) c.of.ensures,
+      d.in_ok-late.ensures.late,
+      ap filed_count d.as_mut_slice.ensures.value,
+      d.in_ok-places.ensures.other other,
+      all_places g d,
+    )
