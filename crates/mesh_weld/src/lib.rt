@@ -4,6 +4,8 @@
 mod corners;
 mod faults;
 mod laws;
+#[cfg(test)]
+mod ray_rows;
 mod rays;
 mod sides;
 mod solid;
