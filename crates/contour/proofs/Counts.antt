@@ -133,9 +133,10 @@ NotBelow-from_get_or x (y ∷ ys) h =
 
 pub Ascends-from_sorted : (xs : List ℕ) → IsNonDecreasing xs → Ascends xs
 Ascends-from_sorted [] h = tt
-Ascends-from_sorted (x ∷ xs) h =
-    (NotBelow-from_get_or x xs (λ k l. h 0 (suc k) 0 (omega arith) (omega arith)),
-    Ascends-from_sorted xs (λ i j d le l. h (suc i) (suc j) d (omega arith) (omega arith)))
+Ascends-from_sorted (x ∷ xs) h = (
+  NotBelow-from_get_or x xs (λ k l. h 0 (suc k) 0 (omega arith) (omega arith)),
+  Ascends-from_sorted xs (λ i j d le l. h (suc i) (suc j) d (omega arith) (omega arith)),
+)
 
 NotBelow-filter : (p : ℕ → Bool) (x : ℕ) (ys : List ℕ) → NotBelow x ys → NotBelow x (filter p ys)
 NotBelow-filter p x [] h = tt

@@ -4,3 +4,8 @@ pub mod Parts
 pub mod Counts
 pub mod Swept
 pub mod Pushes
+pub mod Sweeps
+pub mod Links
+pub mod Within
+pub mod LoopRays
+pub mod Rows

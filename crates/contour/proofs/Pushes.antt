@@ -1,8 +1,8 @@
 -- One more element at the end: a map, a search and a front, as loops take them.
 use Rattle.std.proofs.Common.{◌≡◌, ℕ, zero, suc, ◌+◌, ◌-◌, ◌<◌, ◌≤◌, Bool, true, false, cond, List, [], ◌∷◌, ◌++◌, refl, sym, ◌∙◌, ap, length, take, drop, get_or, arith, map, Some, None}
-use Rattle.std.specs.Prelude.{Option, ℤ, pos, ◌*ℤ◌, filter, filter_map, slice_get, int_le, int_lt}
+use Rattle.std.specs.Prelude.{Option, ℤ, pos, ◌*ℤ◌, filter, filter_map, slice_get, int_le, int_lt, nat_lt}
 use Rattle.std.specs.List.{prefix_len, cons_option}
-use Rattle.std.proofs.lemmas.List.{take_more, map_more, append_assoc, append-nil, drop_more}
+use Rattle.std.proofs.lemmas.List.{take_more, map_more, append_assoc, append-nil, drop_more, drop_all, get_or-map}
 use Rattle.std.proofs.lemmas.List.Elements.{filter_map-append, filter_more}
 use Rattle.std.proofs.lemmas.List.Sums.{prefix_len-drop_yes, prefix_len-drop_no}
 use Rattle.stl_text.specs.Triangle.{Triangle}
@@ -76,3 +76,29 @@ topped-none facets z xs i t l e f =
     filter_more (is_topped facets z) xs i 0 l
     ∙ ap (λ b. filter (is_topped facets z) (take i xs) ++ cond b (get_or xs i 0 ∷ []) []) (topped-at facets z (get_or xs i 0) t false e f)
     ∙ append-nil (filter (is_topped facets z) (take i xs))
+
+-- ---- two ascending lists as one
+pub top_read : (facets : List Triangle) (tops : List ℤ) (ns : List ℕ) (i : ℕ) (top : ℤ) → i < length ns
+    → tops ≡ map (top_of facets) ns → top ≡ get_or tops i top → top ≡ top_of facets (get_or ns i 0)
+top_read facets tops ns i top l e f =
+    f ∙ ap (λ ts. get_or ts i top) e ∙ get_or-map (top_of facets) ns i 0 top l
+
+pub topped_next : (facets : List Triangle) (z : ℤ) (ns : List ℕ) (i : ℕ) → i < length ns
+    → filter (is_topped facets z) (drop i ns)
+    ≡ cond (is_topped facets z (get_or ns i 0)) (get_or ns i 0 ∷ filter (is_topped facets z) (drop (i + 1) ns)) (filter (is_topped facets z) (drop (i + 1) ns))
+topped_next facets z ns i l = ap (filter (is_topped facets z)) (drop_more ns i 0 l)
+
+pub woven-passes : (old ms later : List ℕ) (n : ℕ) (b : Bool) → b ≡ false → old ++ weave later ms ≡ old ++ weave (cond b (n ∷ later) later) ms
+woven-passes old ms later n b e = ap (λ c. old ++ weave (cond c (n ∷ later) later) ms) (sym e)
+
+pub woven-takes : (old ms later : List ℕ) (n : ℕ) (b : Bool) → b ≡ true
+    → (old ++ (take (prefix_len (λ m. nat_lt m n) ms) ms ++ n ∷ [])) ++ weave later (drop (prefix_len (λ m. nat_lt m n) ms) ms)
+    ≡ old ++ weave (cond b (n ∷ later) later) ms
+woven-takes old ms later n b e =
+    append_assoc old (take (prefix_len (λ m. nat_lt m n) ms) ms ++ n ∷ []) _
+    ∙ ap (λ ks. old ++ ks) (append_assoc (take (prefix_len (λ m. nat_lt m n) ms) ms) (n ∷ []) _)
+    ∙ ap (λ c. old ++ weave (cond c (n ∷ later) later) ms) (sym e)
+
+pub woven-all : (facets : List Triangle) (z : ℤ) (ns ms done : List ℕ) (i : ℕ) → length ns ≤ i
+    → done ++ weave (filter (is_topped facets z) (drop i ns)) ms ≡ done ++ ms
+woven-all facets z ns ms done i l = ap (λ ks. done ++ weave (filter (is_topped facets z) ks) ms) (drop_all i ns l)

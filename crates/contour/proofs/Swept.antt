@@ -31,9 +31,10 @@ fails_on R p step x (y ∷ ys) h e =
 pub Fades-from_pairs : {X : Type 0} (R : X → X → Type 0) (p : X → Bool) → ((x y : X) → R x y → p x ≡ false → p y ≡ false)
     → (xs : List X) → AllPairs R xs → Fades p xs
 Fades-from_pairs R p step [] h = tt
-Fades-from_pairs R p step (x ∷ xs) h =
-    (fails_on R p step x xs (λ k d l. h 0 (suc k) d (omega arith) (omega arith)),
-    Fades-from_pairs R p step xs (λ i j d less l. h (suc i) (suc j) d (omega arith) (omega arith)))
+Fades-from_pairs R p step (x ∷ xs) h = (
+  fails_on R p step x xs (λ k d l. h 0 (suc k) d (omega arith) (omega arith)),
+  Fades-from_pairs R p step xs (λ i j d less l. h (suc i) (suc j) d (omega arith) (omega arith)),
+)
 
 pub Fades-drop : {X : Type 0} (p : X → Bool) (k : ℕ) (xs : List X) → Fades p xs → Fades p (drop k xs)
 Fades-drop p zero xs h = h
@@ -101,7 +102,7 @@ counted_beyond p q wider (x ∷ xs) = by_test (counted_beyond p q wider xs) (p x
 
 -- ---- facets by number
 -- f gives the elements of xs from k on
-abbrev Gives : {X : Type 0} → (ℕ → X) → ℕ → List X → Type 0
+abbrev pub Gives : {X : Type 0} → (ℕ → X) → ℕ → List X → Type 0
 Gives f k [] = Unit {0}
 Gives f k (x ∷ xs) = (f k ≡ x) × Gives f (k + 1) xs
 
@@ -119,7 +120,7 @@ Gives-shift f g k m (x ∷ xs) h t =
     here : f k ≡ g m
     here = ap f (plain k) ∙ h 0 ∙ ap g (sym (plain m))
 
-Gives-get_or : {X : Type 0} (xs : List X) (d : X) → Gives (λ n. get_or xs n d) 0 xs
+pub Gives-get_or : {X : Type 0} (xs : List X) (d : X) → Gives (λ n. get_or xs n d) 0 xs
 Gives-get_or [] d = tt
 Gives-get_or (x ∷ xs) d =
     (refl, Gives-shift (λ n. get_or (x ∷ xs) n d) (λ n. get_or xs n d) (0 + 1) 0 xs shifted (Gives-get_or xs d))
@@ -165,12 +166,12 @@ either false true c d h = ap (λ e. e || c) h
 either false false true d h = ap (λ e. e || true) h
 either false false false d h = ap (λ e. e || false) h
 
-begun-is : (t : Triangle) (z : ℤ) → list_any (λ p. int_le (height p) z) (corners t) ≡ int_le (pos 2 *ℤ least_z t) z
+pub begun-is : (t : Triangle) (z : ℤ) → list_any (λ p. int_le (height p) z) (corners t) ≡ int_le (pos 2 *ℤ least_z t) z
 begun-is t z =
     either (int_le (height t.a) z) (int_le (height t.b) z) (int_le (height t.c) z) _ (le_least t.a.z t.b.z z)
     ∙ le_least (int_min t.a.z t.b.z) t.c.z z
 
-topped-is : (t : Triangle) (z : ℤ) → list_any (λ p. int_lt z (height p)) (corners t) ≡ int_lt z (pos 2 *ℤ greatest_z t)
+pub topped-is : (t : Triangle) (z : ℤ) → list_any (λ p. int_lt z (height p)) (corners t) ≡ int_lt z (pos 2 *ℤ greatest_z t)
 topped-is t z =
     either (int_lt z (height t.a)) (int_lt z (height t.b)) (int_lt z (height t.c)) _ (lt_greatest t.a.z t.b.z z)
     ∙ lt_greatest (int_max t.a.z t.b.z) t.c.z z

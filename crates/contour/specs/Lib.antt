@@ -1,2 +1,3 @@
 pub mod Contour
+pub mod Linking
 pub mod Sweeping

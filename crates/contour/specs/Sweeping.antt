@@ -39,4 +39,3 @@ pub record IsSwept (facets : List Triangle) (height : ℤ) (passed : ℕ) (activ
   pub passed_is : passed ≡ passed_count facets height
   pub active_is : active ≡ active_facets facets height
   pub tops_are : tops ≡ map (top_of facets) active
-  pub few : passed ≤ 1048576

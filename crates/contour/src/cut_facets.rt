@@ -1,4 +1,4 @@
-ghost use Rattle.std.specs.Prelude.{◌≡◌, ◌<◌, ◌++◌, ◌∷◌, [], All, IfOk, OnOk, drop, filter, length, map, nat_lt, take};
+ghost use Rattle.std.specs.Prelude.{◌≡◌, ◌<◌, ◌≤◌, ◌++◌, ◌∷◌, [], All, IfOk, List, OnOk, drop, filter, if◌then◌else◌, length, map, nat_lt, take, ℕ};
 ghost use Rattle.std.specs.List.{prefix_len};
 ghost use Rattle.contour.specs.Sweeping.{is_begun, is_topped, top_of, weave};
 
@@ -71,10 +71,33 @@ impl<A: Allocator + Copy + Send + Sync> CutFacets<A> {
             → self.new.tops.items ≡ map (top_of s.now.facets) self.new.numbers.items) }
         ensures left { IfOk result (λ left. left.now ≡ drop (prefix_len (λ m. nat_lt m number) rest.now) rest.now) }
     {
-        let before = rest.iter().take_while(|m| **m < number).count();
-        let (first, left) = rest.split_at(before);
+        let (first, left) = rest.split_at(count_before(rest, number));
         self.push_all(s, first)?;
         self.push(number, top)?;
+        Ok(left)
+    }
+
+    /// The same where the facet ends above the height `z2`, and nothing where not.
+    fn push_if_above<'r>(
+        &mut self,
+        s: &Solid<A>,
+        rest: &'r [u32],
+        number: u32,
+        top: i32,
+        z2: i64,
+    ) -> Result<&'r [u32], AllocError>
+        requires rest { All (λ n. n < length s.now.facets) rest.now }
+        requires top { top ≡ top_of s.now.facets number }
+        ensures numbers { IfOk result (λ left. (later : List ℕ) → self.new.numbers.items ++ weave later left.now
+            ≡ self.old.numbers.items ++ weave (if is_topped s.now.facets z2 number then number ∷ later else later) rest.now) }
+        ensures tops { OnOk result (self.old.tops.items ≡ map (top_of s.now.facets) self.old.numbers.items
+            → self.new.tops.items ≡ map (top_of s.now.facets) self.new.numbers.items) }
+        ensures left { IfOk result (λ left. All (λ n. n < length s.now.facets) left.now) }
+    {
+        if !is_above(top, z2) {
+            return Ok(rest);
+        }
+        let left = self.push_in_order(s, rest, number, top)?;
         Ok(left)
     }
 
@@ -96,10 +119,7 @@ impl<A: Allocator + Copy + Send + Sync> CutFacets<A> {
         let mut merged = CutFacets::with_capacity(alloc, self.numbers.len() + fresh.len())?;
         let mut rest = fresh;
         for (i, n) in self.numbers.iter().enumerate() {
-            let top = self.tops[i];
-            if is_above(top, z2) {
-                rest = merged.push_in_order(s, rest, *n, top)?;
-            }
+            rest = merged.push_if_above(s, rest, *n, self.tops[i], z2)?;
         }
         merged.push_all(s, rest)?;
         Ok(merged)
@@ -116,12 +136,7 @@ pub struct Begun<A: Allocator> {
 
 impl<A: Allocator + Copy + Send + Sync> Begun<A> {
     /// Looks at facets up to the first that has no corner at most at `z2`, doubled micrometres.
-    pub fn find(
-        alloc: A,
-        s: &Solid<A>,
-        order: &[u32],
-        z2: i64,
-    ) -> Result<Begun<A>, AllocError>
+    pub fn find(alloc: A, s: &Solid<A>, order: &[u32], z2: i64) -> Result<Begun<A>, AllocError>
         requires { All (λ n. n < length s.now.facets) order.now }
         ensures count { IfOk result (λ b. b.count ≡ prefix_len (is_begun s.now.facets z2) order.now) }
         ensures cut { IfOk result (λ b. b.cut.items ≡ filter (is_topped s.now.facets z2) (take b.count order.now)) }
@@ -141,4 +156,12 @@ impl<A: Allocator + Copy + Send + Sync> Begun<A> {
             cut,
         })
     }
+}
+
+/// How many stand before a number, from the front on.
+fn count_before(list: &[u32], number: u32) -> usize
+    ensures value { result ≡ prefix_len (λ m. nat_lt m number) list.now }
+    ensures within { result ≤ length list.now }
+{
+    list.iter().take_while(|m| **m < number).count()
 }

@@ -60,10 +60,12 @@ impl<'m, A: Allocator + Copy + Send + Sync> Sweep<'m, A> {
         ensures at { OnOk result (self.new.height ≡ z2) }
         ensures err { OnErr result (self.new ≡ self.old) }
     {
-        let rest = &self.solid.by_height()[self.passed..];
+        let (_, rest) = self.solid.by_height().split_at(self.passed);
         let mut begun = Begun::find(self.alloc, self.solid, rest, z2)?;
         begun.cut.sort_unstable();
-        self.cut = self.cut.risen(self.alloc, self.solid, begun.cut.as_slice(), z2)?;
+        self.cut = self
+            .cut
+            .risen(self.alloc, self.solid, begun.cut.as_slice(), z2)?;
         self.passed += begun.count;
         self.height = z2;
         Ok(())
@@ -80,6 +82,8 @@ impl<'m, A: Allocator + Copy + Send + Sync> Sweep<'m, A> {
     pub fn passed(&self) -> u32
         ensures { result ≡ passed_count self.now.facets self.now.height }
     {
+        let facets = self.solid.count();
+        prove!(self.passed <= facets);
         self.passed as u32
     }
 
@@ -95,7 +99,9 @@ impl<'m, A: Allocator + Copy + Send + Sync> Sweep<'m, A> {
     pub fn segments(&self) -> Result<Vec<Segment, A>, AllocError>
         ensures { IfOk result (λ list. list.items ≡ segments self.now.facets self.now.height) }
     {
-        segments_of(self.alloc, self.solid, self.cut.numbers.as_slice(), self.height)
+        let numbers = self.cut.numbers.as_slice();
+        let list = segments_of(self.alloc, self.solid, numbers, self.height)?;
+        Ok(list)
     }
 }
 

@@ -3,10 +3,14 @@
 
 mod claims;
 mod laws;
+mod gates;
 mod machine;
+mod pool;
 
 pub use crate::claims::{Claims, Pass};
+pub use crate::gates::{Gate, OpenGate};
 pub use crate::laws::claims_laws;
+pub use crate::pool::build;
 
 #[cfg(test)]
 mod tests;

@@ -1,5 +1,5 @@
 -- When two points and two facets compare as equal.
-use Rattle.std.proofs.Common.{◌≡◌, Bool, true, false, ◌&&◌, Decides, refl, ap, ◌∙◌, subst}
+use Rattle.std.proofs.Common.{◌≡◌, Bool, true, false, ◌&&◌, Decides, refl, subst}
 use Rattle.std.specs.Ordering.{int_eq}
 use Rattle.std.proofs.lemmas.Bool.Decides.{Decides-int_eq}
 use Rattle.stl_text.specs.Position.{Position}

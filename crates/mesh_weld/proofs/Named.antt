@@ -1,13 +1,12 @@
 -- Numbers of pairs of vertex numbers, in threes, are edge numbers.
-use Rattle.std.proofs.Common.{◌≡◌, ◌↔◌, ℕ, zero, suc, ◌≤◌, ◌<◌, ◌+◌, ◌*◌, ◌^◌, ◌/◌, ◌%◌, min, max, true, List, [], ◌∷◌, length, map, get_or, refl, sym, ap, ◌∙◌, subst, inl, inr, ◌⊎◌, arith}
-use Rattle.std.specs.List.{All, flat_map}
-use Rattle.std.proofs.lemmas.List.{get_or_default, length-map}
+use Rattle.std.proofs.Common.{◌≡◌, ℕ, zero, suc, ◌≤◌, ◌<◌, ◌+◌, ◌*◌, ◌^◌, ◌/◌, ◌%◌, min, max, true, List, [], ◌∷◌, length, map, get_or, refl, sym, ap, ◌∙◌, subst, inl, inr, ◌⊎◌, arith}
+use Rattle.std.specs.List.{flat_map}
+use Rattle.std.proofs.lemmas.List.{length-map}
 use Rattle.stl_text.specs.Position.{Position, origin}
-use Rattle.stl_text.specs.Triangle.{Triangle, Edge, edge, corners, edges, sides}
-use Rattle.mesh_weld.specs.declared.sides.Side.{Side}
+use Rattle.stl_text.specs.Triangle.{Triangle, Edge, edge, corners, edges}
 use Rattle.mesh_weld.specs.Entries.{pair_key, sides_from, threes, ArePairNumbers}
 use Rattle.mesh_weld.specs.EdgeNumbers.{AreEdgeNumbers, HaveSameEnds, edge_of, edge_number}
-use Rattle.mesh_weld.specs.Mesh.{vertices, number_of, triples, facet_at}
+use Rattle.mesh_weld.specs.Mesh.{vertices, number_of, triples}
 use Rattle.mesh_weld.proofs.InOrder.{is_in}
 use Rattle.mesh_weld.proofs.Pairs.{sides_from-length, nowhere}
 use Rattle.mesh_weld.proofs.Transfer.{number_found, ends_are_vertices, numbered}

@@ -1,22 +1,21 @@
 -- What sides between vertex numbers say of the edges between points.
-use Rattle.std.proofs.Common.{◌≡◌, ◌≢◌, ◌↔◌, ℕ, zero, suc, ◌≤◌, ◌<◌, ◌+◌, ◌-◌, ◌*◌, ◌^◌, min, max, Bool, true, false, cond, not, ◌==◌, ◌&&◌, ◌||◌, List, [], ◌∷◌, ◌++◌, length, map, get_or, count_by, refl, sym, ap, ◌∙◌, subst, inl, inr, ◌⊎◌, arith}
+use Rattle.std.proofs.Common.{◌≡◌, ◌≢◌, ℕ, zero, suc, ◌≤◌, ◌<◌, ◌+◌, ◌^◌, Bool, true, false, cond, not, ◌==◌, ◌&&◌, ◌||◌, List, [], ◌∷◌, length, map, get_or, count_by, refl, sym, ap, ◌∙◌, subst, inl, inr, ◌⊎◌, arith}
 use Rattle.std.specs.List.{All, flat_map}
 use Rattle.std.specs.List.Sorted.{IsPermutation}
-use Rattle.std.proofs.lemmas.Bool.{cases_eq, cases_lt, cases_order, cases_Bool}
+use Rattle.std.proofs.lemmas.Bool.{cases_lt, cases_order, cases_Bool}
 use Rattle.std.proofs.lemmas.Bool.Decides.{nat_tests}
-use Rattle.std.proofs.lemmas.List.{get_or_default}
-use Rattle.std.proofs.lemmas.List.Elements.{All-head, All-tail, All-cons, All-weaker, All-append}
+use Rattle.std.proofs.lemmas.List.Elements.{All-head, All-tail, All-cons, All-weaker}
 use Rattle.std.proofs.lemmas.List.Sorted.{sum_by-IsPermutation}
 use Rattle.std.proofs.lemmas.List.Sums.{sum_by-cons, position_or_len_is}
 use Rattle.stl_text.specs.Position.{Position, origin, same, is_before}
-use Rattle.stl_text.specs.Triangle.{Triangle, Edge, edge, corners, edges, sides}
+use Rattle.stl_text.specs.Triangle.{Triangle, Edge, edge, corners, edges}
 use Rattle.mesh_weld.specs.declared.sides.Side.{Side}
 use Rattle.mesh_weld.specs.Balance.{edge_count, IsBalanced, IsLeastOpen, is_edge_before}
-use Rattle.mesh_weld.specs.Entries.{pair_key, sides_from, between, IsEven, IsLeastUneven, ArePairNumbers}
-use Rattle.mesh_weld.specs.Mesh.{vertices, number_of, triples, in_order}
+use Rattle.mesh_weld.specs.Entries.{sides_from, between, IsEven, IsLeastUneven}
+use Rattle.mesh_weld.specs.Mesh.{vertices, number_of, triples}
 use Rattle.mesh_weld.proofs.Edges.{same-is}
 use Rattle.mesh_weld.proofs.Order.{before-not_same, before-not_back, before-irreflexive, same-sym, same-self}
-use Rattle.mesh_weld.proofs.InOrder.{is_in, Ascends, Up, Above, Up-in_order, in_order-members, contains_from_is_in}
+use Rattle.mesh_weld.proofs.InOrder.{is_in, Ascends, Up, Above, Up-in_order, in_order-members}
 use Rattle.mesh_weld.proofs.Pairs.{count_none}
 
 -- in order, by index

@@ -1,17 +1,17 @@
 -- What welding has at its end, from what its steps give.
-use Rattle.std.proofs.Common.{◌≡◌, ◌≢◌, ℕ, ◌≤◌, ◌+◌, ◌*◌, ◌^◌, Bool, true, false, cond, not, List, [], ◌∷◌, length, map, count_by, refl, sym, ap, ◌∙◌, subst, arith}
+use Rattle.std.proofs.Common.{◌≡◌, ℕ, ◌≤◌, ◌+◌, ◌*◌, Bool, true, false, cond, not, List, [], ◌∷◌, length, map, count_by, refl, sym, ap, ◌∙◌, subst, arith}
 use Rattle.std.specs.List.{filter, flat_map}
 use Rattle.std.proofs.lemmas.List.{length-map}
 use Rattle.std.proofs.lemmas.List.Sums.{length-filter, count_by-le-length}
-use Rattle.stl_text.specs.Position.{Position, is_before}
-use Rattle.stl_text.specs.Triangle.{Triangle, Edge, corners, edges, sides}
-use Rattle.mesh_weld.specs.Balance.{edge_count, IsBalanced, IsLeastOpen, is_edge_before}
+use Rattle.stl_text.specs.Position.{Position}
+use Rattle.stl_text.specs.Triangle.{Triangle, corners}
+use Rattle.mesh_weld.specs.Balance.{edge_count, IsBalanced, IsLeastOpen}
 use Rattle.mesh_weld.specs.Mesh.{is_kept, kept_facets, vertices, number_of, triples}
-use Rattle.mesh_weld.specs.Entries.{threes, sides_from}
+use Rattle.mesh_weld.specs.Entries.{sides_from}
 use Rattle.mesh_weld.specs.Welding.{IsKeptFault, IsWeldFault}
 use Rattle.mesh_weld.specs.declared.faults.WeldFault.{WeldFault}
 use Rattle.mesh_weld.specs.declared.faults.WeldFault.TheVariants as fault
-use Rattle.mesh_weld.proofs.Flat.{edge_count-cons, Dropped, dropped, own_count}
+use Rattle.mesh_weld.proofs.Flat.{edge_count-cons, dropped, own_count}
 use Rattle.mesh_weld.proofs.InOrder.{length-in_order}
 use Rattle.mesh_weld.proofs.Points.{length-corners}
 use Rattle.mesh_weld.proofs.Pairs.{sides_from-length}

@@ -1,7 +1,7 @@
 -- A closed mesh as its kept facets and the count of dropped ones; its vertices and their numbers follow from these.
-use Rattle.std.specs.Prelude.{◌≡◌, ℕ, Bool, true, not, ◌&&◌, ◌||◌, List, [], ◌∷◌, length, map, Option, Some, None, filter, flat_map, count_by, IsPermutation, ℤ, if◌then◌else◌, slice_index_or, nat_lt, int_lt, fold}
+use Rattle.std.specs.Prelude.{◌≡◌, ℕ, Bool, true, not, ◌&&◌, ◌||◌, List, [], ◌∷◌, length, map, filter, flat_map, count_by, IsPermutation, ℤ, if◌then◌else◌, slice_index_or, nat_lt, int_lt}
 use Rattle.std.specs.Ordering.{int_eq}
-use Rattle.std.specs.Int.{int_min, int_max}
+use Rattle.std.specs.Int.{int_min}
 use Rattle.std.specs.List.{position_or_len, range_with_len, AllPairs}
 use Rattle.stl_text.specs.Position.{Position, origin, same, is_before}
 use Rattle.stl_text.specs.Triangle.{Triangle, triangle, corners}

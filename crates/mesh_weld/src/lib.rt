@@ -6,6 +6,8 @@ mod counts;
 mod faults;
 mod heights;
 mod laws;
+#[cfg(test)]
+mod ray_rows;
 mod rays;
 mod sides;
 mod solid;

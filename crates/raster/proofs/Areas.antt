@@ -1,12 +1,11 @@
 -- Spans of one layer hold no more pixels than the layer.
-use Rattle.std.proofs.Common.{◌≡◌, ℕ, ◌+◌, ◌-◌, ◌*◌, ◌<◌, ◌≤◌, ◌⊎◌, inl, inr, List, [], ◌∷◌, Bool, true, false, ◌&&◌, ◌||◌, ap, arith}
-use Rattle.std.specs.Prelude.{sum_by, nat_lt, nat_le, ◌==◌}
+use Rattle.std.proofs.Common.{◌≡◌, ℕ, ◌+◌, ◌-◌, ◌*◌, ◌<◌, ◌≤◌, ◌⊎◌, inl, inr, List, [], ◌∷◌, Bool, true, false, ◌&&◌, ap, arith}
 use Rattle.std.specs.List.{list_all}
 use Rattle.std.proofs.lemmas.List.Sums.{sum_by-cons}
 use Rattle.std.proofs.lemmas.Bool.Decides.{nat_tests}
 use Rattle.std.proofs.Math.Nat.{mul-le-mul, mul-le-mul_right}
 use Rattle.raster.specs.declared.spans.Span.{Span}
-use Rattle.raster.specs.Fill.{AreSpans, IsLayerOfSpans, are_apart, is_span_before, is_span_within, span_area}
+use Rattle.raster.specs.Fill.{IsLayerOfSpans, are_apart, is_span_before, is_span_within, span_area}
 
 -- what the tests of a span say
 pub record IsWithin (columns rows : ℕ) (s : Span) : Type 0 where

@@ -7,3 +7,5 @@ pub mod Decimals
 pub mod Sent
 pub mod Written
 pub mod Sweeps
+pub mod Courses
+pub mod Layers

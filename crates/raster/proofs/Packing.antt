@@ -1,6 +1,6 @@
 -- A row is known by the bits of its pixels.
-use Rattle.std.proofs.Common.{◌≡◌, ℕ, ◌+◌, ◌-◌, ◌*◌, ◌/◌, ◌%◌, ◌^◌, ◌<◌, ◌≤◌, Bool, true, false, cond, List, length, get_or, refl, arith, ap, sym, ◌∙◌, ◌&&◌}
-use Rattle.std.specs.Prelude.{sum_by, nat_lt}
+use Rattle.std.proofs.Common.{◌≡◌, ℕ, ◌+◌, ◌-◌, ◌*◌, ◌/◌, ◌%◌, ◌<◌, Bool, true, false, cond, List, length, get_or, arith, ap, sym, ◌∙◌, ◌&&◌}
+use Rattle.std.specs.Prelude.{nat_lt}
 use Rattle.std.specs.Int.{bit_at, div_ceil}
 use Rattle.std.proofs.lemmas.List.FromFn.{fill_by_all}
 use Rattle.raster.specs.Bits.{pixel_bit}

@@ -2,7 +2,7 @@
 --     IsLattice         what every grid keeps: counts within their limits, and centres within 256,200,000 of 0
 --     fitted_grid       the grid that a mesh fits in
 --     given_grid        the grid that was handed in, or why it is none
-use Rattle.std.specs.Prelude.{◌≡◌, ◌≤◌, ◌≤ℤ◌, ℕ, ◌+◌, ◌*◌, ◌-◌, max, Bool, ◌||◌, Option, Some, None, Result, Ok, Err, ℤ, pos, ◌+ℤ◌, ◌-ℤ◌, ◌*ℤ◌, nat_abs, nat_lt, ◌==◌, int_lt, if◌then◌else◌, List}
+use Rattle.std.specs.Prelude.{◌≤◌, ◌≤ℤ◌, ℕ, ◌+◌, ◌*◌, ◌-◌, max, Bool, ◌||◌, Option, Some, None, Result, Ok, Err, ℤ, pos, ◌+ℤ◌, ◌-ℤ◌, ◌*ℤ◌, nat_abs, nat_lt, ◌==◌, int_lt, if◌then◌else◌, List}
 use Rattle.std.specs.Int.{div_ceil}
 use Rattle.raster.specs.declared.grid_faults.GridFault.{GridFault}
 use Rattle.raster.specs.declared.grid_faults.GridFault.TheVariants.{EmptyMesh, TooLarge, NoCells, FarCentre}

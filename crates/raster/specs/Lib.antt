@@ -5,3 +5,4 @@ pub mod Picture
 pub mod Bits
 pub mod Rows
 pub mod Marks
+pub mod Crossings

@@ -2,7 +2,7 @@
 --     signs marks         the sum of all their signs
 --     passed marks i      the sum of the signs of those in column i or left of it
 --     AreRowSpans         the spans of a row by its marks
-use Rattle.std.specs.Prelude.{◌≡◌, ◌++◌, ℕ, Bool, true, false, List, [], ◌∷◌, Option, Some, None, ℤ, pos, negsuc, ◌+ℤ◌, neg_ℤ, nat_le, ◌==◌, if◌then◌else◌}
+use Rattle.std.specs.Prelude.{◌≡◌, ℕ, Bool, true, false, List, [], ◌∷◌, Option, Some, None, ℤ, pos, negsuc, neg_ℤ, nat_le, ◌==◌, if◌then◌else◌}
 use Rattle.std.specs.List.{list_all}
 use Rattle.stl_text.specs.Winding.{total}
 use Rattle.raster.specs.declared.rules.Rule.{Rule}

@@ -1,5 +1,5 @@
 -- The spans of one row among those of a layer.
-use Rattle.std.specs.Prelude.{◌≡◌, ◌<◌, ◌≤◌, ℕ, Bool, true, ◌&&◌, List, length, slice_index_or, nat_lt, nat_le}
+use Rattle.std.specs.Prelude.{◌<◌, ◌≤◌, ℕ, Bool, ◌&&◌, List, length, slice_index_or, nat_lt, nat_le}
 use Rattle.std.specs.List.{list_any, list_all}
 use Rattle.raster.specs.declared.spans.Span.{Span}
 

@@ -3,11 +3,14 @@
 
 mod bits;
 mod chunk;
+mod crossed;
 mod devices;
 mod filling;
+mod fills;
 mod grid;
 mod grid_faults;
 mod image;
+mod layer;
 mod rows;
 mod rules;
 mod spans;
@@ -16,6 +19,7 @@ mod tests;
 mod write_fault;
 
 pub use devices::{Counted, Failed, Failures, Sink, Source};
+pub use fills::fill;
 pub use grid::Grid;
 pub use grid_faults::GridFault;
 pub use image::write_layer;

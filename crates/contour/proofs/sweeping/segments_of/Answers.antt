@@ -6,6 +6,6 @@ use Rattle.contour.proofs.sweeping.segments_of.Goals.{in-Some+in_ok-push, in_def
 
 pub loop-n-preserved : goal.loop-n-preserved
 loop-n-preserved g c = elim c.match-segment_at.branch [
-  in-Some+in_ok-push w ↦ grind (arith, to_z-of_z, picked-some, w.in_ok-push.ensures.items)
+  | in-Some+in_ok-push w ↦ grind (arith, to_z-of_z, picked-some, w.in_ok-push.ensures.items)
   | in_default w ↦ grind (arith, to_z-of_z, picked-none)
 ]

@@ -1,5 +1,4 @@
-use Rattle.std.proofs.Common.{◌∙◌, ◌+◌, ◌*◌, ◌<◌, length, arith}
-use Rattle.std.proofs.lemmas.List.{get_or_default}
+use Rattle.std.proofs.Common.{◌+◌, ◌*◌, ◌<◌, length, arith}
 use Rattle.mesh_weld.proofs.Points.{threes_pushed, threes_done}
 use Rattle.mesh_weld.proofs.corners.in_threes.Goals as goal
 

@@ -1,9 +1,8 @@
-use Rattle.std.proofs.Common.{arith, length, get_or, set, sym, ap, subst, ◌∙◌, ◌+◌, ◌-◌, ◌*◌, ◌<◌, ◌≤◌, ◌≡◌}
+use Rattle.std.proofs.Common.{arith, length, set, sym, subst, ◌∙◌, ◌+◌, ◌-◌, ◌*◌, ◌<◌, ◌≤◌, ◌≡◌}
 use Rattle.std.specs.List.{flat_map}
 use Rattle.std.proofs.lemmas.List.{get_or_default}
 use Rattle.stl_text.specs.Triangle.{corners}
-use Rattle.mesh_weld.proofs.Points.{IsJoined, IsCornerOf, joined_none, joined_more, own_corner, joined_points, joined_numbers, added_few, sorted_count, length-corners, corners_from-length}
-use Rattle.std.proofs.lemmas.List.Sorted.{length_permutation}
+use Rattle.mesh_weld.proofs.Points.{IsJoined, IsCornerOf, joined_none, joined_more, own_corner, joined_points, joined_numbers, added_few, sorted_count, length-corners}
 use Rattle.mesh_weld.proofs.corners.join_corners.Goals as goal
 
 pub loop-corner-init : goal.loop-corner-init

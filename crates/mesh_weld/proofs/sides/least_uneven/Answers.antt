@@ -1,7 +1,7 @@
 use Rattle.std.proofs.Common.{arith, ◌+◌, ◌*◌, ◌^◌, ◌<◌, ◌≡◌, refl, length, get_or}
 use Rattle.std.proofs.lemmas.List.{get_or_default}
 use Rattle.mesh_weld.specs.declared.sides.Side.{Side}
-use Rattle.mesh_weld.proofs.Pairs.{IsCounted, counted_none, counted_more, counted_next, past_run, uneven_run, all_even}
+use Rattle.mesh_weld.proofs.Pairs.{counted_none, counted_more, counted_next, past_run, uneven_run, all_even}
 use Rattle.mesh_weld.proofs.sides.least_uneven.Goals as goal
 use Rattle.mesh_weld.proofs.sides.least_uneven.Goals.{then-not-has_ends_of+else-run, else-not-has_ends_of}
 

@@ -1,7 +1,6 @@
-use Rattle.std.proofs.Common.{arith, ◌<◌, ◌≡◌, ◌+◌, ◌-◌, ◌*◌, ◌∙◌, sym, ap, length, set, get_or, inl, inr, subst, ◌⊎◌}
+use Rattle.std.proofs.Common.{arith, ◌≡◌, ◌∙◌, sym, length, inl, inr, subst, ◌⊎◌}
 use Rattle.std.specs.List.{All}
 use Rattle.std.proofs.lemmas.List.Sorted.{All-permutation, length_permutation}
-use Rattle.mesh_weld.specs.declared.sides.Side.{Side}
 use Rattle.mesh_weld.specs.Entries.{sides_from}
 use Rattle.mesh_weld.proofs.Pairs.{IsNamed, IsSideOf, key_at, named_none, named_next, named_same, named_all, own_sides, sides_from-length, nowhere}
 use Rattle.mesh_weld.proofs.sides.number_sides.Goals as goal

@@ -1,14 +1,11 @@
-use Rattle.std.proofs.Common.{◌≡◌, ◌≤◌, List, length, not, sym, ap, ◌∙◌, subst, arith, IfErr}
-use Rattle.std.specs.List.{filter}
+use Rattle.std.proofs.Common.{◌≡◌, ◌≤◌, List, length, ap, ◌∙◌, subst, arith}
 use Rattle.std.proofs.lemmas.Result.{err_from_is_err_and}
-use Rattle.stl_text.specs.Position.{Position}
 use Rattle.stl_text.specs.Triangle.{Triangle}
 use Rattle.stl_text.specs.Winding.{ray}
 use Rattle.mesh_weld.specs.Balance.{IsBalanced}
 use Rattle.mesh_weld.specs.EdgeNumbers.{AreEdgeNumbers}
-use Rattle.mesh_weld.specs.Mesh.{Mesh, IsByHeight, is_kept, kept_facets, mesh_of, triples, vertices}
+use Rattle.mesh_weld.specs.Mesh.{IsByHeight, kept_facets, mesh_of, triples, vertices}
 use Rattle.mesh_weld.specs.Welding.{IsWeldFault}
-use Rattle.mesh_weld.specs.declared.faults.WeldFault.{WeldFault}
 use Rattle.mesh_weld.proofs.Flat.{balanced_by_kept, kept_ray}
 use Rattle.mesh_weld.proofs.Welds.{flat_facets, kept_few, flat_few, flat_count, weld_fault, only_memory}
 use Rattle.mesh_weld.proofs.welding.weld.Given.{Over}

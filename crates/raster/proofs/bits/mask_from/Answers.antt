@@ -1,4 +1,4 @@
-use Rattle.std.proofs.Common.{◌%◌, ◌-◌, ◌≤◌, ◌<◌, arith}
+use Rattle.std.proofs.Common.{◌%◌, ◌-◌, arith}
 use Rattle.std.proofs.lemmas.Nat.Bits.{ones_shr, bit_at_ones, bit_at_ones_above}
 use Rattle.raster.proofs.bits.mask_from.Goals as goal
 

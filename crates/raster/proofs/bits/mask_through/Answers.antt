@@ -1,4 +1,4 @@
-use Rattle.std.proofs.Common.{◌%◌, ◌-◌, ◌≤◌, ◌<◌, arith}
+use Rattle.std.proofs.Common.{◌%◌, ◌-◌, arith}
 use Rattle.std.proofs.lemmas.Nat.Bits.{ones_shl, bit_at_mask_inside, bit_at_mask_below}
 use Rattle.raster.proofs.bits.mask_through.Goals as goal
 

@@ -1,6 +1,5 @@
-use Rattle.std.proofs.Common.{◌≡◌, ℕ, ◌-◌, ◌/◌, ◌%◌, ◌<◌, ◌≤◌, ◌∙◌, max, List, inl, inr, arith}
+use Rattle.std.proofs.Common.{◌/◌, ◌%◌, ◌∙◌, inl, inr, arith}
 use Rattle.std.proofs.lemmas.Bool.{cases_eq}
-use Rattle.raster.specs.Bits.{pixel_bit}
 use Rattle.raster.proofs.Masks.{bit_at-both, bit_at-first, bit_at-second, max-one, max-none}
 use Rattle.raster.proofs.bits.set_pixels.Goals as goal
 

@@ -1,9 +1,8 @@
-use Rattle.std.proofs.Common.{◌≡◌, ◌-◌, ◌++◌, ℕ, Bool, true, List, take, drop, ap, subst, sym, ◌∙◌}
+use Rattle.std.proofs.Common.{◌≡◌, ◌-◌, ◌++◌, ℕ, Bool, true, take, drop, ap, subst, sym, ◌∙◌}
 use Rattle.std.proofs.Math.Path.{fun_ext}
-use Rattle.raster.specs.Fill.{covers}
 use Rattle.raster.specs.Rows.{are_within, crosses}
 use Rattle.raster.specs.Picture.{row_bytes}
-use Rattle.raster.proofs.Covered.{all-drop, all-take, covers-part, within-columns, within-part}
+use Rattle.raster.proofs.Covered.{covers-part, within-part}
 use Rattle.raster.proofs.image.push_row.Goals as goal
 
 pub push_row-requires-clause-within : goal.push_row-requires-clause-within

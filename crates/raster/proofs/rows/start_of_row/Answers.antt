@@ -1,4 +1,3 @@
-use Rattle.std.proofs.Common.{arith}
 use Rattle.raster.proofs.Ordered.{split-here}
 use Rattle.raster.proofs.rows.start_of_row.Goals as goal
 

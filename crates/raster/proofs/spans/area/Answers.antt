@@ -1,4 +1,4 @@
-use Rattle.std.proofs.Common.{◌-◌, arith, Fits}
+use Rattle.std.proofs.Common.{◌-◌, arith}
 use Rattle.std.proofs.lemmas.List.Sums.{sum_by_more_le}
 use Rattle.raster.specs.declared.spans.Span.{Span}
 use Rattle.raster.proofs.Areas.{span_area-fits}

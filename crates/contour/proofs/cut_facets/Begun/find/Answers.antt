@@ -11,7 +11,7 @@ pub loop-i-preserved : goal.loop-i-preserved
 loop-i-preserved g c = record {
   passed = grind (arith, to_z-of_z, begun-goes);
   topped = elim c.if-is_above.branch [
-    then-is_above+in_ok-push w ↦ grind (arith, to_z-of_z, topped-some, w.in_ok-push.ensures.items)
+    | then-is_above+in_ok-push w ↦ grind (arith, to_z-of_z, topped-some, w.in_ok-push.ensures.items)
     | else-is_above w ↦ grind (arith, to_z-of_z, topped-none)
   ];
 }

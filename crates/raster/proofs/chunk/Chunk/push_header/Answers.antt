@@ -1,4 +1,4 @@
-use Rattle.std.proofs.Common.{◌≡◌, ◌+◌, ◌∷◌, [], ◌++◌, List, ℕ, length, length-append, ap, ◌∙◌, arith}
+use Rattle.std.proofs.Common.{◌≡◌, ◌∷◌, [], List, ℕ, length, ap, arith}
 use Rattle.std.specs.Prelude.{decimal}
 use Rattle.raster.proofs.Decimals.{length-five, longer}
 use Rattle.raster.proofs.chunk.Chunk.push_header.Goals as goal

@@ -1,0 +1,53 @@
+use Rattle.std.proofs.Common.{◌≡◌, ◌∙◌, ◌+◌, ◌*◌, ◌++◌, length, refl, sym, ap, map, Some, None, slice_get, subst, ◌<◌}
+use Rattle.std.specs.Vec.{with_items}
+use Rattle.std.proofs.lemmas.List.{with_items_is}
+use Rattle.build_book.specs.Filing.{filled, AreFree}
+use Rattle.build_book.specs.Layers.{IsStripe, stripe_length}
+use Rattle.build_book.proofs.Places.{moved_stripe, stripe_lawful, stripe_free, stripe_filed, length-filled}
+use Rattle.build_book.proofs.books.Book.file.Goals as goal
+use Rattle.build_book.proofs.books.Book.file.Goals.{After-fill_gaps}
+
+same_work : (g : _) (c : After-fill_gaps g) → c.args.piece.work ≡ c.self.inside.job.now
+same_work g c = sym (c.if-not-same.ensures.0 refl ∙ c.job.ensures)
+
+piece_stripe : (g : _) (c : After-fill_gaps g) → IsStripe c.self.inside.job.now c.args.piece.stripe c.into_layers.result.items
+piece_stripe g c = moved_stripe _ _ _ _ _ _ (same_work g c) refl c.into_layers.ensures c.layers-layers.ensures.lawful
+
+first_place : (g : _) (c : After-fill_gaps g) → c.bounds-first.result.0 ≡ 8 * c.args.piece.stripe
+first_place g c = c.bounds-first.ensures.first ∙ ap (λ n. 8 * n) c.stripe.ensures
+
+filed_places : (g : _) (c : After-fill_gaps g) → c.fill_gaps.new.places ≡ filled c.bounds-first.result.0 c.into_layers.result.items c.self.inside.places.items
+filed_places g c = c.fill_gaps.ensures.places ∙ ap (filled c.bounds-first.result.0 c.into_layers.result.items) c.as_mut_slice-places.ensures.value
+
+whole_places : (g : _) (c : After-fill_gaps g) → (with_items c.self.inside.places c.fill_gaps.new.places).items ≡ c.fill_gaps.new.places
+whole_places g c =
+    with_items_is c.self.inside.places c.fill_gaps.new.places
+    (ap length (filed_places g c) ∙ length-filled c.bounds-first.result.0 c.into_layers.result.items c.self.inside.places.items ∙ sym c.self.inside.places.ok.0)
+
+pub invariant_of-self : goal.invariant_of-self
+invariant_of-self g c =
+    let d = (goal.at.invariant_of-self g c).After-fill_gaps in
+    rw (whole_places g d)
+    (stripe_lawful d.self.inside.job.now d.args.piece.stripe _ _ d.self.inside.places.items _ d.self.invariant (first_place g d) (piece_stripe g d)
+    (filed_places g d))
+
+last_place : (g : _) (c : After-fill_gaps g)
+    → c.bounds-first.result.1 ≡ 8 * c.args.piece.stripe + stripe_length c.self.inside.job.now.grid c.args.piece.stripe
+last_place g c = c.bounds-first.ensures.end ∙ ap (λ n. 8 * n + stripe_length c.self.inside.job.now.grid n) c.stripe.ensures
+
+free_places : (g : _) (c : After-fill_gaps g) → AreFree c.self.inside.places.items c.bounds-first.result.0 c.bounds-first.result.1
+free_places g c k low high = subst (λ l. slice_get l k ≡ Some None) c.as_slice-places.ensures.value (c.in_default.ensures.none k low high)
+
+pub returns-clause-ok : goal.returns-clause-ok
+returns-clause-ok g c =
+    let d = (goal.at.returns-clause-ok g c).After-fill_gaps in
+    record {
+      same = same_work g d ∙ ap (λ s. s.work) d.self.view_is;
+      free = λ k at. stripe_free _ _ _ _ _ _ _ (piece_stripe g d) (first_place g d) (last_place g d) (ap (λ s. s.places) d.self.view_is)
+          (free_places g d) k at.0 (subst (λ l. k < 8 * d.args.piece.stripe + length l) (sym d.into_layers.ensures) at.1);
+      work = ap (λ s. s.work) d.self.view_is;
+      places = whole_places g d
+          ∙ stripe_filed d.self.inside.job.now d.args.piece.stripe d.bounds-first.result.0 d.bounds-first.result.1 _ _ _ _
+          _ d.self.invariant (piece_stripe g d) (first_place g d) (last_place g d) (filed_places g d) (free_places g d)
+          d.into_layers.ensures (ap (λ s. s.places) d.self.view_is);
+    }

@@ -1,0 +1,13 @@
+-- What callers see of a job's stripe, and of a whole build.
+use Rattle.std.specs.Prelude.{ℕ, List}
+use Rattle.build_book.specs.Layers.{Work, Layer}
+
+pub record StripeView : Type 0 where
+  pub work : Work
+  pub stripe : ℕ
+  pub layers : List Layer
+
+pub record BuildView : Type 0 where
+  pub work : Work
+  pub layers : List Layer
+  pub late : ℕ

@@ -1,0 +1,92 @@
+ghost use Rattle.std.specs.Prelude.{◌≡◌, ◌↔◌, ◌+◌, ◌*◌, ◌<◌, ◌≤◌, IsTrue};
+ghost use Rattle.build_book.specs.Layers.{stripe_count, stripe_length};
+
+use mesh_weld::Solid;
+use raster::{Grid, Rule};
+use std::alloc::Allocator;
+use std::marker::Model;
+
+/// What is to be sliced, in which grid, by which rule.
+#[derive(Drop)]
+pub struct Job<A: Allocator> {
+    solid: Solid<A>,
+    grid: Grid,
+    rule: Rule,
+}
+
+impl<A: Allocator> Model for Job<A> {
+    ghost use Rattle.build_book.specs.Layers.{Work};
+
+    ghost Value = { Work };
+
+    ghost view = { λ j. record { mesh = j.solid; grid = j.grid; rule = j.rule } };
+}
+
+/// How many layers a stripe has; the last one may have fewer.
+pub const STRIPE: u32 = 8;
+
+impl<A: Allocator> Job<A> {
+    /// The job of slicing a solid in a grid by a rule.
+    pub fn new(solid: Solid<A>, grid: Grid, rule: Rule) -> Job<A>
+        ensures { result ≡ record { mesh = solid; grid = grid; rule = rule } }
+    {
+        Job { solid, grid, rule }
+    }
+
+    /// The solid.
+    pub fn solid(&self) -> &Solid<A>
+        ensures { result.now ≡ self.now.mesh }
+    {
+        &self.solid
+    }
+
+    /// The grid.
+    pub fn grid(&self) -> &Grid
+        ensures { result.now ≡ self.now.grid }
+    {
+        &self.grid
+    }
+
+    /// The rule.
+    pub fn rule(&self) -> Rule
+        ensures { result ≡ self.now.rule }
+    {
+        self.rule
+    }
+
+    /// Whether solid, grid and rule are equal in content.
+    pub fn same(&self, other: &Job<A>) -> bool
+        ensures { IsTrue result ↔ (self.now ≡ other.now) }
+    {
+        self.has_cells_of(other) && self.solid.same(&other.solid)
+    }
+
+    /// Whether grid and rule are equal.
+    fn has_cells_of(&self, other: &Job<A>) -> bool
+        ensures { IsTrue result ↔ ((self.now.grid ≡ other.now.grid) × (self.now.rule ≡ other.now.rule)) }
+    {
+        self.grid == other.grid && self.rule == other.rule
+    }
+
+    /// How many stripes there are: stripe s is the layers from 8 s up to 8 s + 7, as far as there are such.
+    pub fn stripes(&self) -> u64
+        ensures value { result ≡ stripe_count self.now.grid }
+        ensures few { result ≤ 8192 }
+    {
+        u64::from(self.grid.layers().div_ceil(STRIPE))
+    }
+
+    /// The first layer of a stripe, and the one behind its last.
+    pub(crate) fn bounds(&self, s: u64) -> (u32, u32)
+        requires { s < stripe_count self.now.grid }
+        ensures first { result.0 ≡ 8 * s }
+        ensures end { result.1 ≡ 8 * s + stripe_length self.now.grid s }
+        ensures some { result.0 < result.1 }
+        ensures within { result.1 ≤ self.now.grid.layers }
+        ensures few { result.1 ≤ 65535 }
+    {
+        let all = self.grid.layers();
+        let first = s as u32 * STRIPE;
+        (first, all.min(first + STRIPE))
+    }
+}

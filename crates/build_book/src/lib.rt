@@ -1,0 +1,19 @@
+//! Jobs of slicing, the pieces that workers make of them, and the book in which pieces are filed.
+#![tactic(auto)]
+
+mod books;
+mod builds;
+mod faults;
+mod gaps;
+mod jobs;
+mod laws;
+mod layers;
+mod pieces;
+
+pub use books::Book;
+pub use builds::Build;
+pub use faults::FileFault;
+pub use jobs::Job;
+pub use laws::one_picture;
+pub use layers::Layer;
+pub use pieces::{Piece, slice_stripe};

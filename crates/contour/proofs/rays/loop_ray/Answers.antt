@@ -1,0 +1,29 @@
+use Rattle.std.proofs.Common.{arith}
+use Rattle.contour.proofs.LoopRays.{IsLoopOf, is_loop, sum_more}
+use Rattle.contour.proofs.rays.loop_ray.Goals as goal
+
+pub prove-unreachable-requires : goal.prove-unreachable-requires
+prove-unreachable-requires g c =
+    let is : IsLoopOf c.args.s.now.facets c.args.list.now =
+    is_loop c.args.s.now.facets c.args.c.now.z c.args.list.now c.requires.0 c.requires.1 in
+    let few = is.few in
+    omega arith
+
+pub facet-requires : goal.facet-requires
+facet-requires g c =
+    let is : IsLoopOf c.args.s.now.facets c.args.list.now =
+    is_loop c.args.s.now.facets c.args.c.now.z c.args.list.now c.requires.0 c.requires.1 in
+    let below = c.loop-segment-test.true in
+    is.within c.loop-segment.segment-index _ (omega arith)
+
+pub loop-segment-preserved : goal.loop-segment-preserved
+loop-segment-preserved g c =
+    let is : IsLoopOf c.args.s.now.facets c.args.list.now =
+    is_loop c.args.s.now.facets c.args.c.now.z c.args.list.now c.requires.0 c.requires.1 in
+    let few = is.few in
+    let many = c.count-facets.ensures.few in
+    let below = c.loop-segment-test.true in
+    sum_more c.args.s.now.facets c.args.c.now c.args.list.now c.loop-segment.segment-index _ c.facet.result _ c.ray_hit-sum.result
+    (omega arith) (omega arith) c.facet.ensures
+    (record { sum_is = c.loop-segment.invariant.sum_is; small = c.loop-segment.invariant.small })
+    c.ray_hit-sum.ensures.value c.ray_hit-sum.ensures.unit

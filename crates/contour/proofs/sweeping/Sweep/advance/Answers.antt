@@ -1,0 +1,39 @@
+use Rattle.std.proofs.Common.{◌≡◌, ◌≤◌, ◌∙◌, sym, subst, ℤ, length, arith, to_z, of_z, w64}
+use Rattle.std.specs.Prelude.{◌≤ℤ◌}
+use Rattle.std.proofs.lemmas.Int.{to_z-of_z, ints}
+use Rattle.contour.specs.Sweeping.{SweepView}
+use Rattle.contour.proofs.Sweeps.{order_in, rest_in, found_in, passed_within, swept_next}
+use Rattle.contour.proofs.sweeping.Sweep.advance.Goals as goal
+
+pub split_at-requires : goal.split_at-requires
+split_at-requires g c =
+    let le = passed_within c.self.inside.solid.now.facets c.by_height.result.now c.self.inside.height c.by_height.ensures in
+    let is = c.self.invariant.passed_is in
+    omega arith
+
+pub find-requires-after_bounds : goal.find-requires-after_bounds
+find-requires-after_bounds g c κs within =
+    rw c.split_at.ensures.back
+    (rest_in c.self.inside.solid.now.facets c.self.inside.passed c.by_height.result.now c.by_height.ensures)
+
+pub risen-requires-clause-fresh : goal.risen-requires-clause-fresh
+risen-requires-clause-fresh g c κs within =
+    rw c.as_slice.ensures.value
+    (found_in c.self.inside.solid.now.facets _ c.in_ok-begun.begun.count c.split_at.result.1.now c.in_ok-begun.begun.cut.items
+    c.sort_unstable.new.self.items
+    (rw c.split_at.ensures.back (rest_in c.self.inside.solid.now.facets c.self.inside.passed c.by_height.result.now c.by_height.ensures))
+    c.in_ok-begun.ensures.cut c.sort_unstable.ensures.permutation)
+
+pub invariant_of-self : goal.invariant_of-self
+invariant_of-self g c =
+    let same : to_z w64 (of_z w64 c.args.z2) ≡ c.args.z2 = to_z-of_z w64 c.args.z2 c.ranges.z2 in
+    let up : c.self.inside.height ≤ℤ c.args.z2 = subst (λ (v : SweepView). v.height ≤ℤ c.args.z2) (sym c.self.view_is) c.requires.up in
+    let swept = swept_next c.self.inside.solid.now.facets c.by_height.result.now c.self.inside.height c.args.z2 c.self.inside.passed
+    c.in_ok-begun.begun.count c.self.inside.cut.numbers.items c.self.inside.cut.tops.items
+    c.in_ok-begun.begun.cut.items c.sort_unstable.new.self.items
+    c.in_ok-self-inside.field-0.numbers.items c.in_ok-self-inside.field-0.tops.items
+    c.by_height.ensures c.self.invariant up c.requires.height
+    (rw (same, c.split_at.ensures.back) at c.in_ok-begun.ensures.count) (rw (same, c.split_at.ensures.back) at c.in_ok-begun.ensures.cut)
+    c.sort_unstable.ensures.permutation c.sort_unstable.ensures.sorted
+    (rw (same, c.as_slice.ensures.value) at c.in_ok-self-inside.ensures.numbers) c.in_ok-self-inside.ensures.tops in
+    rw same swept

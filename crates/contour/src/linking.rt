@@ -1,0 +1,241 @@
+ghost use Rattle.std.specs.Prelude.{◌≡◌, ◌<◌, ◌≤◌, ℕ, ℤ, All, List, IfOk, OnOk, length};
+ghost use Rattle.micro_num.specs.Bounds.{IsAtMost};
+ghost use Rattle.mesh_weld.specs.Balance.{IsBalanced};
+ghost use Rattle.mesh_weld.specs.EdgeNumbers.{AreEdgeNumbers};
+ghost use Rattle.contour.specs.Contour.{segments};
+ghost use Rattle.contour.specs.Linking.{ArePassedEdges, edge_at_node};
+
+use crate::nodes::{Node, Segment};
+use crate::rings::Loops;
+use mesh_weld::Solid;
+use std::alloc::{AllocError, Allocator};
+
+/// No segment.
+const NONE: u32 = u32::MAX;
+
+/// Links the segments of planes to loops. For each edge of the mesh it keeps the first segment that
+/// starts there and has no predecessor yet; between two planes there is none.
+#[derive(Drop)]
+pub struct Linker<A: Allocator> {
+    heads: Vec<u32, A>,
+}
+
+impl<A: Allocator + Copy + Send + Sync> Linker<A> {
+    /// A linker for the planes of a mesh. `Err` comes only where a growth was refused.
+    pub fn new(alloc: A, s: &Solid<A>) -> Result<Linker<A>, AllocError> {
+        Ok(Linker {
+            heads: vec![in alloc; NONE; s.edge_count() as usize]?,
+        })
+    }
+
+    /// The loops of the segments of one plane. `Err` comes only where a growth was refused.
+    pub fn loops(
+        &mut self,
+        alloc: A,
+        s: &Solid<A>,
+        list: &[Segment],
+    ) -> Result<Loops<A>, AllocError>
+        requires { (z : ℤ) × (list.now ≡ segments s.now.facets z) }
+    {
+        let mut next = self.followers(alloc, s, list)?;
+        gathered(alloc, list, next.as_mut_slice())
+    }
+
+    /// For each segment the place of the one behind it: at each node the n-th that ends there is
+    /// followed by the n-th that starts there.
+    fn followers(
+        &mut self,
+        alloc: A,
+        s: &Solid<A>,
+        list: &[Segment],
+    ) -> Result<Vec<u32, A>, AllocError>
+        requires { (z : ℤ) × (list.now ≡ segments s.now.facets z) }
+        ensures { IfOk result (λ next. length next.items ≡ length list.now) }
+    {
+        self.fit(alloc, s)?;
+        let edges = PassedEdges::of(alloc, s, list)?;
+        linked(
+            alloc,
+            self.heads.as_mut_slice(),
+            &edges,
+            place_count(s, list) as usize,
+        )
+    }
+
+    /// Makes room for the edges of a mesh.
+    fn fit(&mut self, alloc: A, s: &Solid<A>) -> Result<(), AllocError>
+        ensures room { OnOk result ((numbers : List (List ℕ)) (count : ℕ) → AreEdgeNumbers s.now.facets numbers count
+            → count ≤ length self.new.heads.items) }
+    {
+        let count = s.edge_count() as usize;
+        if self.heads.len() < count {
+            self.heads = vec![in alloc; NONE; count]?;
+        }
+        Ok(())
+    }
+}
+
+/// How many segments there are: at most one a kept facet, so that their places fit `u32`.
+fn place_count<A: Allocator>(s: &Solid<A>, list: &[Segment]) -> u32
+    requires { (z : ℤ) × (list.now ≡ segments s.now.facets z) }
+    ensures count { result ≡ length list.now }
+    ensures few { result ≤ 1048576 }
+    ensures closed { IsBalanced s.now.facets }
+{
+    list.len().min(s.count()) as u32
+}
+
+/// For each segment the place of the one behind it.
+fn linked<A: Allocator + Copy + Send + Sync>(
+    alloc: A,
+    heads: &mut [u32],
+    edges: &PassedEdges<A>,
+    count: usize,
+) -> Result<Vec<u32, A>, AllocError>
+    requires starts { All (λ e. e < length heads.old) edges.now.starts.items }
+    requires finishes { All (λ e. e < length heads.old) edges.now.finishes.items }
+    requires starts_count { length edges.now.starts.items ≡ count }
+    requires finishes_count { length edges.now.finishes.items ≡ count }
+    requires few { count ≤ 1048576 }
+    ensures count { IfOk result (λ next. length next.items ≡ count) }
+{
+    let mut after = vec![in alloc; NONE; count]?;
+    let mut next = vec![in alloc; NONE; count]?;
+    put_starters(heads, edges, after.as_mut_slice());
+    take_starters(heads, edges, after.as_slice(), next.as_mut_slice());
+    clear(heads, edges);
+    Ok(next)
+}
+
+/// For each segment the numbers of the edges where it starts and where it ends.
+#[derive(Drop)]
+struct PassedEdges<A: Allocator> {
+    starts: Vec<u32, A>,
+    finishes: Vec<u32, A>,
+}
+
+impl<A: Allocator + Copy + Send + Sync> PassedEdges<A> {
+    fn of(alloc: A, s: &Solid<A>, list: &[Segment]) -> Result<PassedEdges<A>, AllocError>
+        requires { All (λ t. t.facet < length s.now.facets) list.now }
+        ensures { IfOk result (λ edges. ArePassedEdges s.now.facets list.now edges.starts.items edges.finishes.items) }
+    {
+        let corners = s.triples();
+        let numbers = s.edge_numbers();
+        let mut starts = Vec::with_capacity(alloc, list.len())?;
+        let mut finishes = Vec::with_capacity(alloc, list.len())?;
+        for t in list {
+            let facet = t.facet as usize;
+            starts.push(edge_at(&corners[facet], &numbers[facet], t.from))?;
+            finishes.push(edge_at(&corners[facet], &numbers[facet], t.to))?;
+        }
+        Ok(PassedEdges { starts, finishes })
+    }
+}
+
+/// The number of a facet's edge that is this node.
+fn edge_at(corners: &[u32; 3], numbers: &[u32; 3], node: Node) -> u32
+    ensures { result ≡ edge_at_node corners.now numbers.now node }
+{
+    if Node::between(corners[0], corners[1]) == node {
+        numbers[0]
+    } else if Node::between(corners[1], corners[2]) == node {
+        numbers[1]
+    } else {
+        numbers[2]
+    }
+}
+
+/// Puts each place into the list of those that start at its edge, from the last to the first: `heads`
+/// has the first place of each edge, `after` the next one of each place.
+fn put_starters<A: Allocator>(heads: &mut [u32], edges: &PassedEdges<A>, after: &mut [u32])
+    requires edges { All (λ e. e < length heads.old) edges.now.starts.items }
+    requires room { length after.old ≡ length edges.now.starts.items }
+    requires few { length edges.now.starts.items ≤ 1048576 }
+{
+    for i in (0..edges.starts.len()).rev() {
+        let edge = edges.starts[i] as usize;
+        after[i] = heads[edge];
+        heads[edge] = i as u32;
+    }
+}
+
+/// Takes for each place the first that is left of those that start where it ends.
+fn take_starters<A: Allocator>(
+    heads: &mut [u32],
+    edges: &PassedEdges<A>,
+    after: &[u32],
+    next: &mut [u32],
+)
+    requires edges { All (λ e. e < length heads.old) edges.now.finishes.items }
+    requires room { length next.old ≡ length edges.now.finishes.items }
+{
+    for (i, edge) in edges.finishes.iter().enumerate() {
+        let first = heads[*edge as usize];
+        next[i] = first;
+        heads[*edge as usize] = after.get(first as usize).copied().unwrap_or(NONE);
+    }
+}
+
+/// Forgets what starts at these edges.
+fn clear<A: Allocator>(heads: &mut [u32], edges: &PassedEdges<A>)
+    requires { All (λ e. e < length heads.old) edges.now.starts.items }
+{
+    for edge in &edges.starts {
+        heads[*edge as usize] = NONE;
+    }
+}
+
+/// The loops, each from its first segment, in order of these; `next` has the place of each one's
+/// follower.
+fn gathered<A: Allocator + Copy + Send + Sync>(
+    alloc: A,
+    list: &[Segment],
+    next: &mut [u32],
+) -> Result<Loops<A>, AllocError>
+    requires { length next.old ≡ length list.now }
+{
+    let mut flat = Vec::with_capacity(alloc, list.len())?;
+    let mut ends = Vec::new(alloc);
+    for first in 0..list.len() {
+        if next[first] != NONE {
+            take_loop(list, next, first, &mut flat)?;
+            ends.push(flat.len())?;
+        }
+    }
+    Ok(Loops::of(flat, ends))
+}
+
+/// Moves the loop that begins at the place `first` behind `flat`, and strikes out its places in `next`.
+fn take_loop<A: Allocator>(
+    list: &[Segment],
+    next: &mut [u32],
+    first: usize,
+    flat: &mut Vec<Segment, A>,
+) -> Result<(), AllocError>
+    requires { length next.old ≡ length list.now }
+    ensures { OnOk result (length flat.old.items ≤ length flat.new.items) }
+{
+    let mut at = first;
+    while at < list.len() && next[at] != NONE {
+        flat.push(list[at])?;
+        let follower = next[at];
+        next[at] = NONE;
+        at = follower as usize;
+    }
+    Ok(())
+}
+
+/// The loops of a mesh at the height `z2`, doubled micrometres, from -256,200,000 to 256,200,000;
+/// `list` is its segments there. `Err` comes only where a growth was refused; the list is used up
+/// in either case.
+pub fn loops<A: Allocator + Copy + Send + Sync>(
+    alloc: A,
+    s: &Solid<A>,
+    z2: i64,
+    list: Vec<Segment, A>,
+) -> Result<Loops<A>, AllocError>
+    requires height { IsAtMost 256200000 z2 }
+    requires list { list.items ≡ segments s.now.facets z2 }
+{
+    Linker::new(alloc, s)?.loops(alloc, s, list.as_slice())
+}

@@ -1,0 +1,229 @@
+//! What no clause says: worked meshes with ample memory, and memory that is refused.
+ghost use Rattle.std.specs.Prelude.{◌≤◌, ◌+◌, length, vec_len};
+
+use crate::{Segment, Sweep, loops, segments};
+use mesh_weld::{Solid, weld};
+use short_memory::ShortMemory;
+use std::alloc::{AllocError, Allocator, Global};
+use std::test::Fail;
+use stl_text::{Facet, Point};
+
+// The corners of a box by their numbers in ascending order: 4 for x, 2 for y, 1 for z.
+fn box_corners(low: i32, high: i32) -> [[i32; 3]; 8] {
+    [
+        [low, low, low],
+        [low, low, high],
+        [low, high, low],
+        [low, high, high],
+        [high, low, low],
+        [high, low, high],
+        [high, high, low],
+        [high, high, high],
+    ]
+}
+
+const BOX: [[u8; 3]; 12] = [
+    [0, 2, 6],
+    [0, 6, 4],
+    [1, 5, 7],
+    [1, 7, 3],
+    [0, 4, 5],
+    [0, 5, 1],
+    [2, 3, 7],
+    [2, 7, 6],
+    [0, 1, 3],
+    [0, 3, 2],
+    [4, 6, 7],
+    [4, 7, 5],
+];
+
+// facet 10 of a box once more, and its mirror
+const PAIR: [[u8; 3]; 2] = [[4, 6, 7], [4, 7, 6]];
+
+const OCTAHEDRON_CORNERS: [[i32; 3]; 6] = [
+    [2, 0, 0],
+    [0, 2, 0],
+    [-2, 0, 0],
+    [0, -2, 0],
+    [0, 0, 2],
+    [0, 0, -2],
+];
+
+const OCTAHEDRON: [[u8; 3]; 8] = [
+    [0, 1, 4],
+    [1, 2, 4],
+    [2, 3, 4],
+    [3, 0, 4],
+    [1, 0, 5],
+    [2, 1, 5],
+    [3, 2, 5],
+    [0, 3, 5],
+];
+
+fn corner(corners: &[[i32; 3]], number: u8) -> Result<Point, AllocError> {
+    let [x, y, z] = *corners.get(usize::from(number)).ok_or(AllocError)?;
+    Point::new(x, y, z).ok_or(AllocError)
+}
+
+fn push_facets<A: Allocator>(
+    list: &mut Vec<Facet, A>,
+    corners: &[[i32; 3]],
+    table: &[[u8; 3]],
+) -> Result<(), AllocError>
+    requires { length table.now ≤ 16 }
+    ensures { vec_len list.new ≤ vec_len list.old + 16 }
+{
+    for [a, b, c] in table {
+        let facet = Facet::of(
+            corner(corners, *a)?,
+            corner(corners, *b)?,
+            corner(corners, *c)?,
+        );
+        list.push(facet)?;
+    }
+    Ok(())
+}
+
+// The solid of the facets of two tables, each with corners of its own.
+fn joined<A: Allocator + Copy + Send + Sync>(
+    alloc: A,
+    first: (&[[i32; 3]], &[[u8; 3]]),
+    second: (&[[i32; 3]], &[[u8; 3]]),
+) -> Result<Solid<A>, AllocError>
+    requires first { length first.1.now ≤ 16 }
+    requires second { length second.1.now ≤ 16 }
+{
+    let mut list = Vec::new(alloc);
+    push_facets(&mut list, first.0, first.1)?;
+    push_facets(&mut list, second.0, second.1)?;
+    weld(alloc, list).ok().ok_or(AllocError)
+}
+
+fn is_of_facets(part: Option<&[Segment]>, facets: &[u32]) -> bool {
+    let Some(part) = part else {
+        return false;
+    };
+    part.len() == facets.len()
+        && part
+            .iter()
+            .zip(facets)
+            .all(|(segment, n)| segment.facet == *n)
+}
+
+const ROUND: [u32; 8] = [4, 11, 10, 7, 6, 9, 8, 5];
+
+#[test]
+fn loops_of_a_box(rt: HostRuntime) -> Result<(), Fail> {
+    let alloc = rt.alloc();
+    let corners = box_corners(0, 2);
+    let solid = joined(alloc, (&corners, &BOX), (&corners, &PAIR))?;
+    let list = segments(alloc, &solid, 1)?;
+    assert_eq!(rt; list.len(), 10);
+    let found = loops(alloc, &solid, 1, list)?;
+    assert_eq!(rt; found.count(), 2);
+    assert!(rt; is_of_facets(found.get(0), &ROUND));
+    assert!(rt; is_of_facets(found.get(1), &[12, 13]));
+    assert!(rt; found.get(2).is_none());
+    Ok(())
+}
+
+#[test]
+fn loops_of_an_octahedron(rt: HostRuntime) -> Result<(), Fail> {
+    let alloc = rt.alloc();
+    let solid = joined(
+        alloc,
+        (&OCTAHEDRON_CORNERS, &OCTAHEDRON),
+        (&OCTAHEDRON_CORNERS, &[]),
+    )?;
+    let list = segments(alloc, &solid, 0)?;
+    let found = loops(alloc, &solid, 0, list)?;
+    assert_eq!(rt; found.count(), 1);
+    assert!(rt; is_of_facets(found.get(0), &[0, 1, 2, 3]));
+    let none = segments(alloc, &solid, 4)?;
+    assert!(rt; none.is_empty());
+    let empty = loops(alloc, &solid, 4, none)?;
+    assert_eq!(rt; empty.count(), 0);
+    Ok(())
+}
+
+const LOW: [u32; 8] = [4, 5, 6, 7, 8, 9, 10, 11];
+
+const HIGH: [u32; 8] = [16, 17, 18, 19, 20, 21, 22, 23];
+
+const BOTH: [u32; 16] = [4, 5, 6, 7, 8, 9, 10, 11, 16, 17, 18, 19, 20, 21, 22, 23];
+
+#[test]
+fn plane_through_two_boxes(rt: HostRuntime) -> Result<(), Fail> {
+    let alloc = rt.alloc();
+    let (low, high) = (box_corners(0, 4), box_corners(2, 6));
+    let solid = joined(alloc, (&low, &BOX), (&high, &BOX))?;
+    let mut sweep = Sweep::start(alloc, &solid, 2)?;
+    assert_eq!(rt; (sweep.height(), sweep.passed()), (2, 10));
+    assert_eq!(rt; sweep.active(), LOW.as_slice());
+    sweep.advance(6)?;
+    assert_eq!(rt; (sweep.height(), sweep.passed()), (6, 20));
+    assert_eq!(rt; sweep.active(), BOTH.as_slice());
+    let list = sweep.segments()?;
+    assert_eq!(rt; list.len(), 16);
+    sweep.advance(10)?;
+    assert_eq!(rt; sweep.passed(), 22);
+    assert_eq!(rt; sweep.active(), HIGH.as_slice());
+    sweep.advance(12)?;
+    assert_eq!(rt; sweep.passed(), 24);
+    assert!(rt; sweep.active().is_empty());
+    Ok(())
+}
+
+// How many loops a box has at its middle, if no memory was refused.
+fn count_loops(memory: &ShortMemory<Global>) -> Result<usize, AllocError> {
+    let corners = box_corners(0, 2);
+    let solid = joined(memory, (&corners, &BOX), (&corners, &PAIR))?;
+    let list = segments(memory, &solid, 1)?;
+    let found = loops(memory, &solid, 1, list)?;
+    Ok(found.count())
+}
+
+#[test]
+fn each_growth_of_loops_refused(rt: HostRuntime) -> Result<(), Fail> {
+    for turn in 1..200 {
+        let memory = ShortMemory::new(rt.alloc(), turn);
+        let count = count_loops(&memory);
+        if !memory.has_refused() {
+            assert!(rt; turn > 8);
+            assert_eq!(rt; count.ok(), Some(2));
+            return Ok(());
+        }
+        assert!(rt; count.is_err());
+    }
+    assert!(rt; false);
+    Ok(())
+}
+
+// Where the sweep stands after a rise, and how many segments it has there; if only the rise was
+// refused memory, it stands as before.
+fn rise(memory: &ShortMemory<Global>) -> Result<(i64, usize), AllocError> {
+    let (low, high) = (box_corners(0, 4), box_corners(2, 6));
+    let solid = joined(memory, (&low, &BOX), (&high, &BOX))?;
+    let mut sweep = Sweep::start(memory, &solid, 2)?;
+    let _refused = sweep.advance(6).is_err();
+    let list = sweep.segments()?;
+    Ok((sweep.height(), list.len()))
+}
+
+#[test]
+fn each_growth_of_a_sweep_refused(rt: HostRuntime) -> Result<(), Fail> {
+    let mut kept = false;
+    for turn in 1..200 {
+        let memory = ShortMemory::new(rt.alloc(), turn);
+        let risen = rise(&memory).ok();
+        if !memory.has_refused() {
+            assert!(rt; kept);
+            assert_eq!(rt; risen, Some((6, 16)));
+            return Ok(());
+        }
+        assert!(rt; risen.is_none() || risen == Some((2, 8)));
+        kept = kept || risen.is_some();
+    }
+    assert!(rt; false);
+    Ok(())
+}

@@ -1,0 +1,95 @@
+ghost use Rattle.std.specs.Prelude.{◌≡◌, ◌≤◌, ◌<◌, All, IfOk, length};
+ghost use Rattle.build_book.specs.Layers.{IsComplete, stripe_count};
+ghost use Rattle.layer_pool.specs.Passes.{IsOwned};
+
+use crate::claims::{Claims, Pass};
+use crate::gates::Gate;
+use build_book::{Book, Build, Job, slice_stripe};
+use std::alloc::{AllocError, Allocator};
+use std::sync::{Mutex, Wait};
+use std::thread;
+use std::thread::Threads;
+
+/// The complete build of a job, for 1 to 64 workers and every gate.
+///
+/// Each worker draws stripes from claims without a lock; the lock round the book is taken for filing
+/// alone. A stripe that a worker couldn't make for want of memory, and the share of a worker that
+/// couldn't be started, fall to the others and to the caller's thread at the end.
+pub fn build<'m, R: Threads + Wait + Sync, A: Allocator + Copy + Send + Sync, G: Gate<A> + Sync>(
+    rt: &R,
+    alloc: A,
+    job: &'m Job<A>,
+    workers: u32,
+    gate: &G,
+) -> Result<Build<'m, A>, AllocError>
+    requires some { 1 ≤ workers }
+    requires few { workers ≤ 64 }
+    ensures work { IfOk result (λ build. build.work ≡ job.now) }
+    ensures complete { IfOk result (λ build. IsComplete build.work build.layers) }
+{
+    let (claims, passes) = Claims::open(alloc, job.stripes(), workers)?;
+    let book = Mutex::new(Book::open(alloc, job)?);
+    run(rt, alloc, job, &claims, &book, gate, passes);
+    book.into_inner().finish(job)
+}
+
+/// Runs a worker for each pass, and returns when all have ended.
+fn run<'m, R: Threads + Wait + Sync, A: Allocator + Copy + Send + Sync, G: Gate<A> + Sync>(
+    rt: &R,
+    alloc: A,
+    job: &'m Job<A>,
+    claims: &Claims<A>,
+    book: &Mutex<Book<'m, A>>,
+    gate: &G,
+    mut passes: Vec<Pass, A>,
+)
+    requires owned { All (IsOwned claims.now) passes.items }
+    requires count { length passes.items ≤ 64 }
+    requires stripes { claims.now.stripes ≡ stripe_count job.now.grid }
+{
+    thread::scope(
+        thread::scope_env(),
+        rt,
+        |scope|
+            requires { All (IsOwned claims.now) passes.items × (length passes.items ≤ 64) × (claims.now.stripes ≡ stripe_count job.now.grid) }
+        {
+            while let Some(pass) = passes.pop() {
+                let worker = passes.len() as u32;
+                let started = scope.spawn(
+                    move ||
+                        requires { IsOwned claims.now pass × (claims.now.stripes ≡ stripe_count job.now.grid) }
+                    { work(rt, alloc, job, claims, book, gate, worker, pass) },
+                );
+                drop(started);
+            }
+        },
+    );
+}
+
+/// What one worker does with its pass.
+fn work<'m, R: Wait, A: Allocator + Copy + Send + Sync, G: Gate<A>>(
+    rt: &R,
+    alloc: A,
+    job: &'m Job<A>,
+    claims: &Claims<A>,
+    book: &Mutex<Book<'m, A>>,
+    gate: &G,
+    worker: u32,
+    mut pass: Pass,
+)
+    requires owned { IsOwned claims.now pass }
+    requires stripes { claims.now.stripes ≡ stripe_count job.now.grid }
+{
+    for _ in 0..=job.stripes() {
+        let Some(stripe) = claims.draw(&mut pass) else {
+            return;
+        };
+        gate.arrived(worker, stripe);
+        // A piece that was refused memory is left to `finish`.
+        let Ok(piece) = slice_stripe(alloc, job, stripe) else {
+            continue;
+        };
+        gate.made(worker, &piece);
+        let _ = book.lock(rt).file(piece);
+    }
+}
