@@ -14,14 +14,11 @@ use Rattle.stlslice.specs.declared.task.Task.{Task}
 use Rattle.stlslice.specs.declared.task.Task.TheVariants as task
 use Rattle.stlslice.specs.declared.run_faults.RunFault.{RunFault}
 use Rattle.stlslice.specs.declared.run_faults.RunFault.TheVariants as fault
-use Rattle.stlslice.specs.Program.{IsOutcome, closed, grid_for, is_box, misread, open_mesh, outside, probed, probed_text, unit_of}
-use Rattle.stlslice.specs.Running.{IsLoadFault, IsRunFault}
+use Rattle.stlslice.specs.Program.{IsMade, IsOutcome, closed, grid_for, is_box, misread, open_mesh, outside, probed_text, unit_of}
+use Rattle.stlslice.specs.Running.{IsLoadFault, IsWorkFault}
 
 abbrev pub IsTextFault : LengthUnit → List ℕ → RunFault → Type 0
 IsTextFault unit input f = (f ≡ fault.Memory) ⊎ ((cause : StlFault) × (f ≡ fault.Stl cause) × IsFaultOf facet_limit unit input cause)
-
-abbrev pub IsWorkFault : Task → List ℕ → RunFault → Type 0
-IsWorkFault t input f = IsRunFault t input f × (f ≢ fault.Read) × ((written : ℕ) → f ≢ fault.Write written)
 
 -- a text that is no mesh is the outcome of a box
 pub misread_box : (unit : LengthUnit) (input : List ℕ) (f : RunFault) → IsTextFault unit input f → IsWorkFault (task.Box unit) input f
@@ -49,30 +46,25 @@ abbrev pub IsGridFault : Option Given → ℕ → ℕ → List Triangle → RunF
 IsGridFault given pitch layer facets f =
     (f ≡ fault.Memory) ⊎ ((cause : GridFault) × (f ≡ fault.Grid cause) × (grid_for given pitch layer facets ≡ Err cause))
 
--- what holds of the mesh's facets holds of those that were kept
-kept : (mesh : Mesh) (facets : List Triangle) (P : List Triangle → Type 0) → mesh ≡ mesh_of facets → P mesh.facets → P (kept_facets facets)
-kept mesh facets P is h = subst P (ap (λ (m : Mesh). m.facets) is) h
+-- what is made of the mesh is the outcome
+pub made_there : (t : Task) (input : List ℕ) (mesh : Mesh) (answer : Result (List ℕ) RunFault) → is_box t ≡ false
+    → IsSolidOf (unit_of t) input mesh → IsMade t mesh answer → IsOutcome t input answer
+made_there t input mesh answer other s made = closed s.0 s.1 other s.2 (subst (λ (m : Mesh). IsMade t m answer) s.3 made)
 
--- where there is no grid, that is the outcome of a probe
-pub unplaced : (unit : LengthUnit) (pitch layer : ℕ) (given : Option Given) (i j k : ℕ) (input : List ℕ) (mesh : Mesh) (f : RunFault)
-    → IsSolidOf unit input mesh → IsGridFault given pitch layer mesh.facets f
-    → IsWorkFault (task.Probe unit pitch layer given i j k) input f
-unplaced unit pitch layer given i j k input mesh f s (inl is) = rw is (tt, (λ e. cc), (λ w e. cc))
-unplaced unit pitch layer given i j k input mesh f s (inr h) =
-    let none : grid_for given pitch layer (kept_facets s.0) ≡ Err h.0 =
-    kept mesh s.0 (λ (facets : List Triangle). grid_for given pitch layer facets ≡ Err h.0) s.3 h.2 in
-    rw h.1 (closed s.0 s.1 refl s.2 (rw none refl), (λ e. cc), (λ w e. cc))
+-- where there is no grid, that is the outcome of a probe, and of slicing
+pub unplaced : (t : Task) (pitch layer : ℕ) (given : Option Given) (input : List ℕ) (mesh : Mesh) (f : RunFault) → is_box t ≡ false
+    → ((cause : GridFault) → grid_for given pitch layer mesh.facets ≡ Err cause → IsMade t mesh (Err (fault.Grid cause)))
+    → IsSolidOf (unit_of t) input mesh → IsGridFault given pitch layer mesh.facets f → IsWorkFault t input f
+unplaced t pitch layer given input mesh f other made s (inl is) = rw is (tt, (λ e. cc), (λ w e. cc))
+unplaced t pitch layer given input mesh f other made s (inr h) =
+    rw h.1 (made_there t input mesh (Err (fault.Grid h.0)) other s (made h.0 h.2), (λ e. cc), (λ w e. cc))
 
 -- what a probe answers in its grid is its outcome
 pub probed_there : (unit : LengthUnit) (pitch layer : ℕ) (given : Option Given) (i j k : ℕ) (input : List ℕ) (mesh : Mesh) (g : Lattice)
     (answer : Result (List ℕ) RunFault) → IsSolidOf unit input mesh → grid_for given pitch layer mesh.facets ≡ Ok g
     → answer ≡ probed_text i j k mesh.facets g → IsOutcome (task.Probe unit pitch layer given i j k) input answer
 probed_there unit pitch layer given i j k input mesh g answer s placed is =
-    let there : grid_for given pitch layer (kept_facets s.0) ≡ Ok g =
-    kept mesh s.0 (λ (facets : List Triangle). grid_for given pitch layer facets ≡ Ok g) s.3 placed in
-    let said : answer ≡ probed_text i j k (kept_facets s.0) g =
-    kept mesh s.0 (λ (facets : List Triangle). answer ≡ probed_text i j k facets g) s.3 is in
-    closed s.0 s.1 refl s.2 (rw there said)
+    made_there (task.Probe unit pitch layer given i j k) input mesh answer refl s (rw placed is)
 
 -- so is its fault, unless memory is short
 pub probed_fault : (unit : LengthUnit) (pitch layer : ℕ) (given : Option Given) (i j k : ℕ) (input : List ℕ) (mesh : Mesh) (g : Lattice)

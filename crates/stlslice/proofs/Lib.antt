@@ -1,4 +1,5 @@
 mod Bytes
+mod Ends
 mod Faults
 mod Pictures
 mod Stream

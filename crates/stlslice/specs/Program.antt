@@ -9,9 +9,12 @@ use Rattle.stl_text.specs.Extent.{bounds}
 use Rattle.stl_text.specs.Text.{facet_limit, Reads, IsFaultOf}
 use Rattle.stl_text.specs.Winding.{ray, ray_y}
 use Rattle.mesh_weld.specs.Balance.{IsBalanced, IsLeastOpen}
-use Rattle.mesh_weld.specs.Mesh.{kept_facets}
+use Rattle.mesh_weld.specs.Mesh.{Mesh, mesh_of}
 use Rattle.raster.specs.declared.grid_faults.GridFault.{GridFault}
 use Rattle.raster.specs.Lattice.{Lattice, centre, fitted_grid, given_grid, lattice}
+use Rattle.raster.specs.declared.rules.Rule.{Rule}
+use Rattle.build_book.specs.Layers.{IsComplete, Layer}
+use Rattle.stlslice.specs.Stream.{sliced_text}
 use Rattle.stlslice.specs.declared.task.Given.{Given}
 use Rattle.stlslice.specs.declared.task.Task.{Task}
 use Rattle.stlslice.specs.declared.task.Task.TheVariants as task
@@ -73,11 +76,19 @@ probed_text i j k facets g = if is_voxel g i j k then Ok (probe_text g facets i 
 abbrev pub probed : Option Given → ℕ → ℕ → ℕ → ℕ → ℕ → List Triangle → Result (List ℕ) RunFault
 probed grid pitch layer i j k facets = with_grid (probed_text i j k facets) (grid_for grid pitch layer facets)
 
+-- with a grid, the images or the report of all layers that the work makes there; without one, the grid's fault
+abbrev pub IsSliced : Rule → Bool → Mesh → Result Lattice GridFault → Result (List ℕ) RunFault → Type 0
+IsSliced rule report mesh (Err cause) answer = answer ≡ Err (fault.Grid cause)
+IsSliced rule report mesh (Ok g) answer =
+    (layers : List Layer) × IsComplete (record { mesh = mesh; grid = g; rule = rule }) layers
+    × (answer ≡ Ok (sliced_text report g layers))
+
 -- what comes of the kept facets of a closed mesh
-abbrev pub IsMade : Task → List Triangle → Result (List ℕ) RunFault → Type 0
-IsMade (task.Box unit) facets answer = ⊥
-IsMade (task.Slice unit pitch layer rule workers report grid) facets answer = ⊥
-IsMade (task.Probe unit pitch layer grid i j k) facets answer = answer ≡ probed grid pitch layer i j k facets
+abbrev pub IsMade : Task → Mesh → Result (List ℕ) RunFault → Type 0
+IsMade (task.Box unit) mesh answer = ⊥
+IsMade (task.Slice unit pitch layer rule workers report grid) mesh answer =
+    IsSliced rule report mesh (grid_for grid pitch layer mesh.facets) answer
+IsMade (task.Probe unit pitch layer grid i j k) mesh answer = answer ≡ probed grid pitch layer i j k mesh.facets
 
 -- The program's answer to a task and an input, by the order of its checks: the text has to read as facets, and for a
 -- box that is all; else the mesh has to be closed, and then the grid and the voxel decide.
@@ -90,4 +101,4 @@ pub data IsOutcome (t : Task) (bytes : List ℕ) (answer : Result (List ℕ) Run
       → (from to : Position) (there back : ℕ) → IsLeastOpen facets from to there back
       → answer ≡ Err (fault.Open from to there back) → IsOutcome t bytes answer
   closed : (facets : List Triangle) → Reads facet_limit (unit_of t) bytes facets → is_box t ≡ false
-      → IsBalanced facets → IsMade t (kept_facets facets) answer → IsOutcome t bytes answer
+      → IsBalanced facets → IsMade t (mesh_of facets) answer → IsOutcome t bytes answer

@@ -1,5 +1,7 @@
 -- Which tasks a run takes, and which of its faults come when, beside those of its devices and of memory.
-use Rattle.std.specs.Prelude.{ℕ, ◌≤◌, List, Err}
+use Rattle.std.specs.Prelude.{◌≡◌, ◌≢◌, ℕ, ◌≤◌, ◌⊎◌, List, Option, Err, Ok, length}
+use Rattle.std.specs.Io.KnownBytes.{Keeps}
+use Rattle.raster.specs.Devices.{AppendsFirst, HasFailed}
 use Rattle.stlslice.specs.declared.task.Task.{Task}
 use Rattle.stlslice.specs.declared.task.Task.TheVariants as task
 use Rattle.stlslice.specs.declared.run_faults.RunFault.{RunFault}
@@ -38,3 +40,25 @@ IsLoadFault unit bytes (fault.Grid cause) = ⊥
 IsLoadFault unit bytes fault.Memory = Unit {0}
 IsLoadFault unit bytes (fault.Write written) = ⊥
 IsLoadFault unit bytes (fault.Outside columns rows layers) = ⊥
+
+-- a device before and after
+pub record Turn : Type 0 where
+  pub old : Option (List ℕ)
+  pub new : Option (List ℕ)
+  pub failed_before : ℕ
+  pub failed : ℕ
+
+-- just so many bytes of a text went out, since the device failed
+abbrev pub IsUnwritten : Turn → List ℕ → RunFault → Type 0
+IsUnwritten turn text f =
+    (written : ℕ) × (f ≡ fault.Write written) × (written ≤ length text) × AppendsFirst turn.old turn.new written text
+    × HasFailed turn.failed_before turn.failed
+
+-- a fault of a run that read its input and has written nothing
+abbrev pub IsWorkFault : Task → List ℕ → RunFault → Type 0
+IsWorkFault t input f = IsRunFault t input f × (f ≢ fault.Read) × ((written : ℕ) → f ≢ fault.Write written)
+
+-- nothing was written, or a part of the outcome was
+abbrev pub IsEnd : Task → List ℕ → Turn → RunFault → Type 0
+IsEnd t input turn f =
+    (IsWorkFault t input f × Keeps turn.old turn.new) ⊎ ((text : List ℕ) × IsOutcome t input (Ok text) × IsUnwritten turn text f)

@@ -11,6 +11,7 @@ mod reading;
 mod report;
 mod run_faults;
 mod running;
+mod slicing;
 mod task;
 mod texts;
 mod word_faults;

@@ -2,7 +2,7 @@ ghost use Rattle.std.specs.Prelude.{◌≡◌, ◌≢◌, ◌≤◌, ◌⊎◌, 
 ghost use Rattle.std.specs.Io.KnownBytes.{Appends, IsAtEnd, Keeps};
 ghost use Rattle.raster.specs.Devices.{AppendsFirst, HasFailed};
 ghost use Rattle.stlslice.specs.Program.{IsOutcome};
-ghost use Rattle.stlslice.specs.Running.{IsInRange, IsLoadFault, IsRunFault};
+ghost use Rattle.stlslice.specs.Running.{IsEnd, IsInRange, IsLoadFault, IsRunFault};
 ghost use Rattle.stlslice.specs.declared.run_faults.RunFault.TheVariants.{Memory, Read, Stl, Write};
 ghost use Rattle.mesh_weld.specs.Balance.{IsBalanced};
 ghost use Rattle.mesh_weld.specs.Mesh.{mesh_of};
@@ -15,8 +15,11 @@ use crate::placing::grid_for;
 use crate::probing::probe_voxel;
 use crate::reading::read_all;
 use crate::run_faults::RunFault;
+use crate::slicing::write_build;
 use crate::task::Task;
 use crate::writing::write_all;
+use build_book::Job;
+use layer_pool::{OpenGate, build};
 use mesh_weld::{Solid, weld};
 use micro_num::Unit;
 use raster::{Sink, Source};
@@ -30,7 +33,7 @@ use stl_text::{Facet, read_stl};
 /// After each fault but `Write` nothing was written. Each call of a device is tried once, so an interruption is a
 /// fault too. A growth may be refused at each step before the first byte is written.
 pub fn run<R: Threads + Wait + Sync, A: Allocator + Copy + Send + Sync, I: Source, O: Sink>(
-    _rt: &R,
+    rt: &R,
     alloc: A,
     task: &Task,
     source: &mut I,
@@ -57,11 +60,52 @@ pub fn run<R: Threads + Wait + Sync, A: Allocator + Copy + Send + Sync, I: Sourc
         → Keeps (O.contents sink.old) (O.contents sink.new)) }
 {
     let input = read_all(alloc, source)?;
-    let text = outcome(alloc, task, input)?;
-    write_all(sink, text.as_bytes())
+    respond(rt, alloc, task, input, sink)
 }
 
-/// The text that a task has for an input.
+/// Writes and flushes what a task answers for an input. The input's bytes are freed once its facets are read.
+fn respond<R: Threads + Wait + Sync, A: Allocator + Copy + Send + Sync, O: Sink>(
+    rt: &R,
+    alloc: A,
+    task: &Task,
+    input: Vec<u8, A>,
+    sink: &mut O,
+) -> Result<(), RunFault>
+    requires { IsInRange task.now }
+    ensures flushed { OnOk result (O.is_settled sink.new ≡ true) }
+    ensures ok { OnOk result ((text : List ℕ) × IsOutcome task.now input.items (Ok text)
+        × Appends (O.contents sink.old) (O.contents sink.new) text) }
+    ensures err { IfErr result (IsEnd task.now input.items (record {
+      old = O.contents sink.old;
+      new = O.contents sink.new;
+      failed_before = O.Failures.failure_count sink.old;
+      failed = O.Failures.failure_count sink.new;
+    })) }
+{
+    match task {
+        Task::Box { .. } | Task::Probe { .. } => {
+            let text = outcome(alloc, task, input)?;
+            write_all(sink, text.as_bytes())
+        }
+        Task::Slice {
+            unit,
+            pitch,
+            layer,
+            rule,
+            workers,
+            report,
+            grid,
+        } => {
+            let solid = read_solid(alloc, input, *unit)?;
+            let grid = grid_for(&solid, *grid, *pitch, *layer)?;
+            let job = Job::new(solid, grid, *rule);
+            let build = build(rt, alloc, &job, *workers, &OpenGate)?;
+            write_build(alloc, &build, *report, sink)
+        }
+    }
+}
+
+/// The text that a task other than slicing has for an input.
 fn outcome<A: Allocator + Copy + Send + Sync>(
     alloc: A,
     task: &Task,

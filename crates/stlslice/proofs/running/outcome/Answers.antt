@@ -2,7 +2,8 @@ use Rattle.std.proofs.Common.{refl, rules}
 use Rattle.std.specs.Prelude.{Ok, string_bytes}
 use Rattle.std.proofs.lemmas.Result.{IfErr-weaker, IfOk-weaker}
 use Rattle.stlslice.specs.Program.{boxed}
-use Rattle.stlslice.proofs.Faults.{IsWorkFault, misread_box, passed_on, probed_fault, probed_there, unloaded, unplaced}
+use Rattle.stlslice.specs.Running.{IsWorkFault}
+use Rattle.stlslice.proofs.Faults.{misread_box, passed_on, probed_fault, probed_there, unloaded, unplaced}
 use Rattle.stlslice.specs.declared.task.Task.TheVariants as task
 use Rattle.stlslice.proofs.running.outcome.Goals as goal
 
@@ -28,8 +29,9 @@ pub returns-in_err-grid-in-Probe-clause-err : goal.returns-in_err-grid-in-Probe-
 returns-in_err-grid-in-Probe-clause-err g c =
     let known : IsWorkFault c.args.task.now c.args.input.items c.in_err-grid-in-Probe.field-0.0 =
     rw c.in-Probe.is
-    (unplaced c.in-Probe.unit c.in-Probe.pitch c.in-Probe.layer c.in-Probe.grid c.in-Probe.i c.in-Probe.j c.in-Probe.k c.args.input.items
-    c.in_ok-solid-in-Probe.solid c.in_err-grid-in-Probe.field-0.0 c.in_ok-solid-in-Probe.ensures.ok c.in_err-grid-in-Probe.ensures.err) in
+    (unplaced (task.Probe c.in-Probe.unit c.in-Probe.pitch c.in-Probe.layer c.in-Probe.grid c.in-Probe.i c.in-Probe.j c.in-Probe.k)
+    c.in-Probe.pitch c.in-Probe.layer c.in-Probe.grid c.args.input.items c.in_ok-solid-in-Probe.solid c.in_err-grid-in-Probe.field-0.0 refl
+    (λ cause none. rw none refl) c.in_ok-solid-in-Probe.ensures.ok c.in_err-grid-in-Probe.ensures.err) in
     passed_on c.from_residual-in_err-grid-in-Probe.result _ _ (λ f is. rw is known) c.from_residual-in_err-grid-in-Probe.ensures.1
 
 pub returns-in_ok-grid-in-Probe-clause-ok : goal.returns-in_ok-grid-in-Probe-clause-ok
