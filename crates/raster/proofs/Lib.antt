@@ -9,3 +9,4 @@ pub mod Written
 pub mod Sweeps
 pub mod Courses
 pub mod Layers
+pub mod Boxes
