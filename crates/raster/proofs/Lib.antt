@@ -10,3 +10,5 @@ pub mod Sweeps
 pub mod Courses
 pub mod Layers
 pub mod Boxes
+pub mod Segs
+pub mod Pixels

@@ -3,7 +3,7 @@ ghost use Rattle.micro_num.specs.Bounds.{IsAtMost};
 ghost use Rattle.raster.specs.Lattice.{IsBox, cell_count, centre, exceeds, fitted_grid, given_grid, grid_within, lattice, middle, plane, reaches_too_far, within_limits};
 
 use crate::grid_faults::GridFault;
-use exact_cut::Centre;
+use exact_cut::{Centre, Lattice as Pixels};
 use mesh_weld::Solid;
 use std::alloc::Allocator;
 use std::marker::Model;
@@ -175,6 +175,23 @@ impl Grid {
         match Centre::new(x2, y2, z2) {
             Some(centre) => centre,
             None => unreachable!(),
+        }
+    }
+
+    /// The centres of a layer's pixels.
+    pub(crate) fn pixels(&self) -> Pixels
+        ensures columns { result.columns ≡ self.now.columns }
+        ensures rows { result.rows ≡ self.now.rows }
+        ensures x2 { result.x2 ≡ middle self.now.origin.x self.now.pitch 0 }
+        ensures y2 { result.y2 ≡ middle self.now.origin.y self.now.pitch 0 }
+        ensures step { result.step ≡ self.now.pitch }
+    {
+        Pixels {
+            x2: middle_before(self.origin.x(), self.pitch, 0, self.columns),
+            y2: middle_before(self.origin.y(), self.pitch, 0, self.rows),
+            step: self.pitch,
+            columns: self.columns,
+            rows: self.rows,
         }
     }
 

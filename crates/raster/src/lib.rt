@@ -5,6 +5,7 @@ mod bits;
 mod chunk;
 mod crossed;
 mod devices;
+mod filled;
 mod filling;
 mod grid;
 mod grid_faults;
@@ -18,6 +19,7 @@ mod tests;
 mod write_fault;
 
 pub use devices::{Counted, Failed, Failures, Sink, Source};
+pub use filled::fill;
 pub use grid::Grid;
 pub use grid_faults::GridFault;
 pub use image::write_layer;
