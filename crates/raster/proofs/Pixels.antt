@@ -14,7 +14,7 @@ use Rattle.mesh_weld.proofs.Sums.{ray_from_left}
 use Rattle.raster.specs.declared.crossed.Crossed.{Crossed}
 use Rattle.raster.specs.declared.rules.Rule.{Rule}
 use Rattle.raster.specs.declared.spans.Span.{Span}
-use Rattle.raster.specs.Crossings.{AreSpansBelow, row_passed}
+use Rattle.raster.specs.Crossings.{AreSpansBelow, are_crossings_within, row_passed}
 use Rattle.raster.specs.Fill.{AreSpans, covers, is_filled, is_inside, is_span_within}
 use Rattle.raster.specs.Lattice.{Lattice, centre, middle, plane}
 use Rattle.raster.proofs.Areas.{and-left, and-right}
@@ -71,14 +71,29 @@ spans-form rule columns rows list spans h =
       apart = h.apart;
     }
 
+-- the spans of all rows of a grid
+pub spans-below : (rule : Rule) (g : Lattice) (l : Pixels) (rows : ℕ) (list now : List Crossed) (spans : List Span) → ArePixels g l → rows ≡ g.rows → now ≡ list
+    → are_crossings_within l.columns l.rows list ≡ true
+    → ((columns : ℕ) → are_crossings_within columns rows now ≡ true → AreSpansBelow rule columns rows now spans)
+    → AreSpansBelow rule g.columns g.rows list spans
+spans-below rule g l rows list now spans same count kept inside below =
+    let within : are_crossings_within g.columns g.rows list ≡ true =
+        subst (λ (n : ℕ). are_crossings_within g.columns n list ≡ true) same.rows
+        (subst (λ (n : ℕ). are_crossings_within n l.rows list ≡ true) same.columns inside) in
+    let within_now : are_crossings_within g.columns rows now ≡ true =
+        subst (λ (x : List Crossed). are_crossings_within g.columns rows x ≡ true) (sym kept)
+        (subst (λ (n : ℕ). are_crossings_within g.columns n list ≡ true) (sym count) within) in
+    subst (λ (x : List Crossed). AreSpansBelow rule g.columns g.rows x spans) kept
+    (subst (λ (n : ℕ). AreSpansBelow rule g.columns n now spans) count (below g.columns within_now))
+
 -- where the sums of a row are those over all facets, its spans cover what is inside by the crossings that don't lie ahead
-pub spans-swept : (facets : List Triangle) (g : Lattice) (l : Pixels) (k : ℕ) (z : ℤ) (rule : Rule) (rows : ℕ) (list : List Crossed) (spans : List Span)
-    → ArePixels g l → z ≡ plane g k → rows ≡ g.rows
+pub spans-swept : (facets : List Triangle) (g : Lattice) (l : Pixels) (k : ℕ) (z : ℤ) (rule : Rule) (list : List Crossed) (spans : List Span)
+    → ArePixels g l → z ≡ plane g k
     → ((i j : ℕ) → i < l.columns → j < l.rows → row_passed list j i ≡ total (λ t. wind (twice t) (row_y l j) z -ℤ hit (twice t) (pixel l z i j)) facets)
-    → AreSpansBelow rule g.columns rows list spans
+    → AreSpansBelow rule g.columns g.rows list spans
     → (i j : ℕ) → i < g.columns → j < g.rows → covers spans i j ≡ is_inside rule (neg_ray_back facets (centre g i j k))
-spans-swept facets g l k z rule rows list spans same height count sums below i j inside low =
-    below.filled i j (omega (arith, count, low))
+spans-swept facets g l k z rule list spans same height sums below i j inside low =
+    below.filled i j low
     ∙ ap (λ (a : ℤ). is_inside rule (neg_ℤ a))
     (sums i j (omega (arith, same.columns, inside)) (omega (arith, same.rows, low)) ∙ ap (λ (c : Position). ray_back facets c) (pixel-is g l k z same height i j))
 
