@@ -78,11 +78,11 @@ pub spans-below : (rule : Rule) (g : Lattice) (l : Pixels) (rows : ℕ) (list no
     → AreSpansBelow rule g.columns g.rows list spans
 spans-below rule g l rows list now spans same count kept inside below =
     let within : are_crossings_within g.columns g.rows list ≡ true =
-        subst (λ (n : ℕ). are_crossings_within g.columns n list ≡ true) same.rows
-        (subst (λ (n : ℕ). are_crossings_within n l.rows list ≡ true) same.columns inside) in
+    subst (λ (n : ℕ). are_crossings_within g.columns n list ≡ true) same.rows
+    (subst (λ (n : ℕ). are_crossings_within n l.rows list ≡ true) same.columns inside) in
     let within_now : are_crossings_within g.columns rows now ≡ true =
-        subst (λ (x : List Crossed). are_crossings_within g.columns rows x ≡ true) (sym kept)
-        (subst (λ (n : ℕ). are_crossings_within g.columns n list ≡ true) (sym count) within) in
+    subst (λ (x : List Crossed). are_crossings_within g.columns rows x ≡ true) (sym kept)
+    (subst (λ (n : ℕ). are_crossings_within g.columns n list ≡ true) (sym count) within) in
     subst (λ (x : List Crossed). AreSpansBelow rule g.columns g.rows x spans) kept
     (subst (λ (n : ℕ). AreSpansBelow rule g.columns n now spans) count (below g.columns within_now))
 

@@ -77,9 +77,10 @@ Reads h a (t ∷ ts) = (h a ≡ t) × Reads h (a + 1) ts
 reads : (h : ℕ → Triangle) (a : ℕ) (ts : List Triangle) → ((k : ℕ) → k < length ts → h (a + k) ≡ facet_at ts k) → Reads h a ts
 reads h a [] f = tt
 reads h a (t ∷ ts) f =
-    let first : a ≡ a + 0 = omega arith in
-    (ap h first ∙ f 0 (omega arith),
-     reads h (a + 1) ts (λ k l. let next : a + 1 + k ≡ a + suc k = omega arith in ap h next ∙ f (suc k) (omega (arith, l))))
+    let first : a ≡ a + 0 = omega arith in (
+      ap h first ∙ f 0 (omega arith),
+      reads h (a + 1) ts (λ k l. let next : a + 1 + k ≡ a + suc k = omega arith in ap h next ∙ f (suc k) (omega (arith, l))),
+    )
 
 abbrev AddsNothing : (Triangle → ℤ) → ℤ → Type 0
 AddsNothing f z = (t : Triangle) → (IsBetween (twice t) z → ⊥) → f t ≡ pos 0

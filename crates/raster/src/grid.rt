@@ -55,11 +55,7 @@ impl Grid {
     ///
     /// `EmptyMesh` where no facet is kept; `TooLarge` where that takes more than 16,384 columns or rows or 65,535
     /// layers.
-    pub fn fit<A: Allocator>(
-        s: &Solid<A>,
-        pitch: u32,
-        layer_height: u32,
-    ) -> Result<Grid, GridFault>
+    pub fn fit<A: Allocator>(s: &Solid<A>, pitch: u32, layer_height: u32) -> Result<Grid, GridFault>
         requires pitch { 1 ≤ pitch }
         requires pitch_high { pitch ≤ 100000 }
         requires height { 1 ≤ layer_height }

@@ -13,8 +13,8 @@ invariant_of-result c =
     let fits-y : FitsSigned w64 c.middle_before-2.result = search rules in
     let fits : FitsSigned w32 c.y.result = search rules in
     let y2 : to_z w64 (of_z w64 c.middle_before-2.result) ≡ middle c.self.inside.origin.y c.self.inside.pitch 0 =
-        to_z-of_z w64 c.middle_before-2.result fits-y ∙ c.middle_before-2.ensures.value
-        ∙ ap (λ o. middle o c.self.inside.pitch 0) (to_z-of_z w32 c.y.result fits ∙ c.y.ensures.value) in
+    to_z-of_z w64 c.middle_before-2.result fits-y ∙ c.middle_before-2.ensures.value
+    ∙ ap (λ o. middle o c.self.inside.pitch 0) (to_z-of_z w32 c.y.result fits ∙ c.y.ensures.value) in
     record {
       x_in = rw (to_z-of_z w64 c.middle_before.result fits-x) c.middle_before.ensures.within;
       y_in = rw (to_z-of_z w64 c.middle_before-2.result fits-y) c.middle_before-2.ensures.within;
