@@ -5,6 +5,7 @@ mod bits;
 mod chunk;
 mod crossed;
 mod devices;
+mod filled;
 mod filling;
 mod fills;
 mod grid;
@@ -20,6 +21,7 @@ mod write_fault;
 
 pub use devices::{Counted, Failed, Failures, Sink, Source};
 pub use fills::fill;
+pub use filled::fill;
 pub use grid::Grid;
 pub use grid_faults::GridFault;
 pub use image::write_layer;
