@@ -7,7 +7,6 @@ mod crossed;
 mod devices;
 mod filled;
 mod filling;
-mod fills;
 mod grid;
 mod grid_faults;
 mod image;
@@ -20,7 +19,6 @@ mod tests;
 mod write_fault;
 
 pub use devices::{Counted, Failed, Failures, Sink, Source};
-pub use fills::fill;
 pub use filled::fill;
 pub use grid::Grid;
 pub use grid_faults::GridFault;
