@@ -1,3 +1,4 @@
 pub mod Statuses
+pub mod Stream
 pub mod Program
 pub mod Running

@@ -3,10 +3,12 @@
 
 mod box_line;
 mod command;
+mod images;
 mod loading;
 mod placing;
 mod probing;
 mod reading;
+mod report;
 mod run_faults;
 mod running;
 mod task;

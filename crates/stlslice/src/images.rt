@@ -1,0 +1,54 @@
+ghost use Rattle.std.specs.Prelude.{◌≡◌, ◌≤◌, ◌+◌, ◌^◌, Bool, IfErr, IfOk, OnOk, decimal, length, ℕ};
+ghost use Rattle.std.specs.Io.KnownBytes.{Appends};
+ghost use Rattle.raster.specs.Devices.{AppendsFirst, HasFailed};
+ghost use Rattle.raster.specs.Fill.{AreSpans};
+ghost use Rattle.raster.specs.Picture.{picture};
+ghost use Rattle.stlslice.specs.Stream.{image};
+ghost use Rattle.stlslice.specs.declared.run_faults.RunFault.TheVariants.{Write};
+
+use crate::run_faults::RunFault;
+use raster::{Grid, Sink, Span, write_layer};
+
+/// Writes the image of a layer, after `before` bytes of a run's output; answers how many are out then.
+pub(crate) fn write_image<O: Sink>(
+    grid: &Grid,
+    spans: &[Span],
+    sink: &mut O,
+    before: u64,
+) -> Result<u64, RunFault>
+    requires form { AreSpans grid.now.columns grid.now.rows spans.now }
+    requires before { before ≤ 2 ^ 62 }
+    ensures total { IfOk result (λ total. total ≡ before + length (image grid.now spans.now)) }
+    ensures small { length (image grid.now spans.now) ≤ 2 ^ 26 }
+    ensures ok { OnOk result (Appends (O.contents sink.old) (O.contents sink.new) (image grid.now spans.now)) }
+    ensures same { OnOk result (O.Failures.failure_count sink.new ≡ O.Failures.failure_count sink.old) }
+    ensures err { IfErr result (λ fault. (written : ℕ) × (fault ≡ Write (before + written))
+        × (written ≤ length (image grid.now spans.now))
+        × AppendsFirst (O.contents sink.old) (O.contents sink.new) written (image grid.now spans.now)
+        × HasFailed (O.Failures.failure_count sink.old) (O.Failures.failure_count sink.new)) }
+{
+    let image = image_len(grid);
+    match write_layer(grid, spans, sink) {
+        Ok(()) => Ok(before + image),
+        Err(fault) => Err(RunFault::Write {
+            written: before + fault.written,
+        }),
+    }
+}
+
+/// How many bytes the image of each layer of a grid has.
+fn image_len(grid: &Grid) -> u64
+    ensures value { (pixel : ℕ → ℕ → Bool) → length (picture grid.now.columns grid.now.rows pixel) ≡ result }
+    ensures small { result ≤ 2 ^ 26 }
+{
+    let header = 5 + digit_count(grid.columns()) + digit_count(grid.rows());
+    header + u64::from(grid.rows()) * u64::from(grid.columns().div_ceil(8))
+}
+
+/// How many digits a number has in plain decimal.
+fn digit_count(n: u32) -> u64
+    ensures value { result ≡ length (decimal n) }
+    ensures few { result ≤ 10 }
+{
+    if n < 10 { 1 } else { 1 + digit_count(n / 10) }
+}
