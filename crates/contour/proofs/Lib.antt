@@ -5,3 +5,4 @@ pub mod Counts
 pub mod Swept
 pub mod Pushes
 pub mod Links
+pub mod Places

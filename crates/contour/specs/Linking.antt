@@ -1,5 +1,5 @@
 -- How segments are linked: by the numbers of the edges where they start and end, and by places in lists.
-use Rattle.std.specs.Prelude.{◌≡◌, ℕ, ◌+◌, ◌<◌, ◌==◌, List, [], ◌∷◌, All, length, map, slice_index, slice_index_or, count_by, take, if◌then◌else◌}
+use Rattle.std.specs.Prelude.{◌≡◌, ℕ, ◌+◌, ◌<◌, ◌≤◌, ◌==◌, List, [], ◌∷◌, length, map, slice_index, slice_index_or, count_by, take, drop, if◌then◌else◌}
 use Rattle.stl_text.specs.Triangle.{Triangle}
 use Rattle.mesh_weld.specs.EdgeNumbers.{AreEdgeNumbers}
 use Rattle.mesh_weld.specs.Mesh.{triples}
@@ -30,3 +30,43 @@ pub record ArePassedEdges (facets : List Triangle) (list : List Segment) (starts
   pub numbered : AreEdgeNumbers facets numbers count
   pub starts_are : starts ≡ map (start_edge facets numbers) list
   pub finishes_are : finishes ≡ map (finish_edge facets numbers) list
+
+-- what stands for no place
+abbrev pub no_place : ℕ
+no_place = 4294967295
+
+-- the places of a number in a list, the first place being n
+abbrev pub places : ℕ → ℕ → List ℕ → List ℕ
+places n e [] = []
+places n e (x ∷ xs) = if x == e then n ∷ places (n + 1) e xs else places (n + 1) e xs
+
+-- no edge has a first place
+abbrev pub IsClear : List ℕ → Type 0
+IsClear heads = (e : ℕ) → slice_index_or heads e no_place ≡ no_place
+
+-- each edge has its first place among the starts from the n-th on
+abbrev pub HasFirsts : List ℕ → ℕ → List ℕ → Type 0
+HasFirsts heads n starts = (e : ℕ) → slice_index_or heads e no_place ≡ slice_index_or (places n e (drop n starts)) 0 no_place
+
+-- each place from the n-th on has the next place of its edge
+abbrev pub HasNexts : List ℕ → ℕ → List ℕ → Type 0
+HasNexts after n starts =
+    (j : ℕ) → n ≤ j → j < length starts
+    → slice_index_or after j no_place ≡ slice_index_or (places (j + 1) (slice_index starts j) (drop (j + 1) starts)) 0 no_place
+
+-- of the places where an edge starts, the one after as many as the first n finishes are
+abbrev pub place_after : List ℕ → List ℕ → ℕ → ℕ → ℕ
+place_after starts finishes n e = slice_index_or (places 0 e starts) (count_by (λ f. f == e) (take n finishes)) no_place
+
+-- each edge has the first place that is left after the first n finishes
+abbrev pub HasLeft : List ℕ → List ℕ → List ℕ → ℕ → Type 0
+HasLeft heads starts finishes n = (e : ℕ) → slice_index_or heads e no_place ≡ place_after starts finishes n e
+
+-- the first n finishes are followed by the places that were first when they were
+abbrev pub AreTaken : List ℕ → List ℕ → List ℕ → ℕ → Type 0
+AreTaken next starts finishes n =
+    (j : ℕ) → j < n → slice_index_or next j no_place ≡ place_after starts finishes j (slice_index finishes j)
+
+-- each edge starts as often as it finishes
+abbrev pub AreEven : List ℕ → List ℕ → Type 0
+AreEven starts finishes = (e : ℕ) → count_by (λ f. f == e) starts ≡ count_by (λ f. f == e) finishes

@@ -1,9 +1,9 @@
-ghost use Rattle.std.specs.Prelude.{◌≡◌, ◌<◌, ◌≤◌, ℕ, ℤ, All, List, IfOk, OnOk, length};
+ghost use Rattle.std.specs.Prelude.{◌≡◌, ◌<◌, ◌≤◌, ℕ, ℤ, All, List, IfOk, OnOk, length, slice_index_or};
 ghost use Rattle.micro_num.specs.Bounds.{IsAtMost};
 ghost use Rattle.mesh_weld.specs.Balance.{IsBalanced};
 ghost use Rattle.mesh_weld.specs.EdgeNumbers.{AreEdgeNumbers};
 ghost use Rattle.contour.specs.Contour.{segments};
-ghost use Rattle.contour.specs.Linking.{ArePassedEdges, edge_at_node};
+ghost use Rattle.contour.specs.Linking.{ArePassedEdges, AreEven, AreTaken, HasFirsts, HasLeft, HasNexts, IsClear, edge_at_node, no_place};
 
 use crate::nodes::{Node, Segment};
 use crate::rings::Loops;
@@ -97,13 +97,16 @@ fn linked<A: Allocator + Copy + Send + Sync>(
     requires starts_count { length edges.now.starts.items ≡ count }
     requires finishes_count { length edges.now.finishes.items ≡ count }
     requires few { count ≤ 1048576 }
+    requires clear { IsClear heads.old }
+    requires even { AreEven edges.now.starts.items edges.now.finishes.items }
     ensures count { IfOk result (λ next. length next.items ≡ count) }
+    ensures taken { IfOk result (λ next. AreTaken next.items edges.now.starts.items edges.now.finishes.items count) }
+    ensures clear { IsClear heads.new }
 {
     let mut after = vec![in alloc; NONE; count]?;
     let mut next = vec![in alloc; NONE; count]?;
     put_starters(heads, edges, after.as_mut_slice());
     take_starters(heads, edges, after.as_slice(), next.as_mut_slice());
-    clear(heads, edges);
     Ok(next)
 }
 
@@ -151,6 +154,9 @@ fn put_starters<A: Allocator>(heads: &mut [u32], edges: &PassedEdges<A>, after: 
     requires edges { All (λ e. e < length heads.old) edges.now.starts.items }
     requires room { length after.old ≡ length edges.now.starts.items }
     requires few { length edges.now.starts.items ≤ 1048576 }
+    requires clear { IsClear heads.old }
+    ensures firsts { HasFirsts heads.new 0 edges.now.starts.items }
+    ensures nexts { HasNexts after.new 0 edges.now.starts.items }
 {
     for i in (0..edges.starts.len()).rev() {
         let edge = edges.starts[i] as usize;
@@ -168,21 +174,25 @@ fn take_starters<A: Allocator>(
 )
     requires edges { All (λ e. e < length heads.old) edges.now.finishes.items }
     requires room { length next.old ≡ length edges.now.finishes.items }
+    requires size { length after.now ≡ length edges.now.starts.items }
+    requires few { length after.now ≤ 1048576 }
+    requires firsts { HasFirsts heads.old 0 edges.now.starts.items }
+    requires nexts { HasNexts after.now 0 edges.now.starts.items }
+    ensures left { HasLeft heads.new edges.now.starts.items edges.now.finishes.items (length edges.now.finishes.items) }
+    ensures taken { AreTaken next.new edges.now.starts.items edges.now.finishes.items (length edges.now.finishes.items) }
 {
     for (i, edge) in edges.finishes.iter().enumerate() {
         let first = heads[*edge as usize];
         next[i] = first;
-        heads[*edge as usize] = after.get(first as usize).copied().unwrap_or(NONE);
+        heads[*edge as usize] = place_in(after, first);
     }
 }
 
-/// Forgets what starts at these edges.
-fn clear<A: Allocator>(heads: &mut [u32], edges: &PassedEdges<A>)
-    requires { All (λ e. e < length heads.old) edges.now.starts.items }
+/// What a list has at a place; nothing where there is no such place.
+fn place_in(list: &[u32], place: u32) -> u32
+    ensures { result ≡ slice_index_or list.now place no_place }
 {
-    for edge in &edges.starts {
-        heads[*edge as usize] = NONE;
-    }
+    list.get(place as usize).copied().unwrap_or(NONE)
 }
 
 /// The loops, each from its first segment, in order of these; `next` has the place of each one's
