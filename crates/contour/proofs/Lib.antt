@@ -6,3 +6,4 @@ pub mod Swept
 pub mod Pushes
 pub mod Links
 pub mod Places
+pub mod Balanced
