@@ -20,7 +20,7 @@ use Rattle.contour.proofs.Counts.{count-cons, count-append}
 use Rattle.contour.proofs.Cutting.{triples_at}
 use Rattle.contour.proofs.Links.{AreFrom, edge_below, segments_ascend}
 use Rattle.contour.proofs.Counts.{times}
-use Rattle.contour.specs.Linking.{AreEven}
+use Rattle.contour.specs.Linking.{AreEven, ArePassedEdges}
 
 edge-at : (fs : List Triangle) (k s : ℕ) → k < length fs → s < 3
     → (3 * k + s < length (edges fs)) × (get_or (edges fs) (3 * k + s) (edge origin origin) ≡ edge_of fs k s)
@@ -179,7 +179,7 @@ either_way : (dc there back r s : Bool) → (r ≡ true → dc ≡ there) → (s
     → cond (dc && (r || s)) 1 0 ≡ cond there (cond r 1 0) 0 + cond back (cond s 1 0) 0
 either_way dc there back r s h k l = grind arith
 
-same_test : (a b : Bool) → (a ≡ true → b ≡ true) → (b ≡ true → a ≡ true) → a ≡ b
+pub same_test : (a b : Bool) → (a ≡ true → b ≡ true) → (b ≡ true → a ≡ true) → a ≡ b
 same_test true b h k = sym (h refl)
 same_test false true h k = k refl
 same_test false false h k = refl
@@ -408,3 +408,10 @@ module _ (facets : List Triangle) (numbers : List (List ℕ)) (count : ℕ) (num
       by_use (inr h) =
           none_past (start_edge facets numbers) (λ x l. edge_below facets numbers count numbered x.facet x.from l) e h 0 (segments facets z) (segments_ascend facets z)
           ∙ sym (none_past (finish_edge facets numbers) (λ x l. edge_below facets numbers count numbered x.facet x.to l) e h 0 (segments facets z) (segments_ascend facets z))
+
+pub passed_even : (facets : List Triangle) (list : List Segment) (starts finishes : List ℕ) → (z : ℤ) × (list ≡ segments facets z)
+    → ArePassedEdges facets list starts finishes → IsBalanced facets → AreEven starts finishes
+passed_even facets list starts finishes e p balanced n =
+    ap (times n) (p.starts_are ∙ ap (map (start_edge facets p.numbers)) e.1)
+    ∙ even facets p.numbers p.count p.numbered e.0 balanced n
+    ∙ sym (ap (times n) (p.finishes_are ∙ ap (map (finish_edge facets p.numbers)) e.1))

@@ -7,3 +7,4 @@ pub mod Pushes
 pub mod Links
 pub mod Places
 pub mod Balanced
+pub mod Followers

@@ -1,6 +1,6 @@
 -- The places of a number in a list, and how heads and next places keep them: put from the last place to the first, and
 -- taken from the first on.
-use Rattle.std.proofs.Common.{◌≡◌, ◌≢◌, ℕ, zero, suc, ◌+◌, ◌<◌, ◌≤◌, Bool, true, false, cond, eqb, List, [], ◌∷◌, ◌⊎◌, inl, inr, refl, sym, ◌∙◌, ap, subst, length, take, drop, get_or, set, arith, get_or-set_same, get_or-set_other}
+use Rattle.std.proofs.Common.{◌≡◌, ◌≢◌, ℕ, zero, suc, ◌+◌, ◌<◌, ◌≤◌, Bool, true, false, cond, eqb, List, [], ◌∷◌, ◌⊎◌, inl, inr, refl, sym, ◌∙◌, ap, subst, length, take, drop, get_or, set, replicate, arith, get_or-set_same, get_or-set_other}
 use Rattle.std.specs.Prelude.{count_by, ◌==◌}
 use Rattle.std.proofs.lemmas.List.{drop_more, get_or_default, get_or_past, get_or-drop, drop_all, take_all}
 use Rattle.std.proofs.lemmas.List.Sums.{count_by_more_yes, count_by_more_no}
@@ -9,7 +9,7 @@ use Rattle.contour.specs.Linking.{AreEven, AreTaken, HasFirsts, HasLeft, HasNext
 use Rattle.contour.proofs.Counts.{times, times-own, times-other}
 
 -- equal or not
-either : (a b : ℕ) → (a ≡ b) ⊎ (a ≡ b → ⊥)
+pub either : (a b : ℕ) → (a ≡ b) ⊎ (a ≡ b → ⊥)
 either a b = by_test (eqb a b) refl
   where
     by_test : (t : Bool) → eqb a b ≡ t → (a ≡ b) ⊎ (a ≡ b → ⊥)
@@ -175,3 +175,8 @@ take-clear heads starts finishes n l even left e =
     ∙ get_or_past (places 0 e starts) (times e (take n finishes)) no_place
     (let all : times e (take n finishes) ≡ times e finishes = ap (times e) (take_all n finishes l) in
     let long = length-places 0 e starts in let same = even e in omega (arith, all, long, same))
+
+pub all_clear : (n : ℕ) → IsClear (replicate n no_place)
+all_clear zero e = refl
+all_clear (suc n) zero = refl
+all_clear (suc n) (suc e) = all_clear n e

@@ -1,11 +1,11 @@
 -- How segments are linked: by the numbers of the edges where they start and end, and by places in lists.
-use Rattle.std.specs.Prelude.{◌≡◌, ℕ, ◌+◌, ◌<◌, ◌≤◌, ◌==◌, List, [], ◌∷◌, length, map, slice_index, slice_index_or, count_by, take, drop, if◌then◌else◌}
+use Rattle.std.specs.Prelude.{◌≡◌, ℕ, ◌+◌, ◌<◌, ◌≤◌, ◌==◌, List, [], ◌∷◌, length, map, slice_index, slice_index_or, count_by, take, drop, Some, if◌then◌else◌}
 use Rattle.stl_text.specs.Triangle.{Triangle}
 use Rattle.mesh_weld.specs.EdgeNumbers.{AreEdgeNumbers}
 use Rattle.mesh_weld.specs.Mesh.{triples}
 use Rattle.contour.specs.declared.nodes.Node.{Node}
 use Rattle.contour.specs.declared.nodes.Segment.{Segment}
-use Rattle.contour.specs.Contour.{edge_node, is_node}
+use Rattle.contour.specs.Contour.{edge_node, follower, is_node}
 
 -- of a facet by the numbers of its corners and of its edges, the number of the edge that is this node
 abbrev pub edge_at_node : List ℕ → List ℕ → Node → ℕ
@@ -70,3 +70,11 @@ AreTaken next starts finishes n =
 -- each edge starts as often as it finishes
 abbrev pub AreEven : List ℕ → List ℕ → Type 0
 AreEven starts finishes = (e : ℕ) → count_by (λ f. f == e) starts ≡ count_by (λ f. f == e) finishes
+
+-- each segment has the place of its follower, and no two have the same
+pub record AreLinks (list : List Segment) (next : List ℕ) : Type 0 where
+  pub size : length next ≡ length list
+  pub within : (j : ℕ) → j < length list → slice_index_or next j no_place < length list
+  pub follows : (j : ℕ) (d : Segment) → j < length list
+      → follower list (slice_index_or list j d) ≡ Some (slice_index_or list (slice_index_or next j no_place) d)
+  pub one : (i j : ℕ) → i < length list → j < length list → slice_index_or next i no_place ≡ slice_index_or next j no_place → i ≡ j

@@ -3,12 +3,13 @@ ghost use Rattle.micro_num.specs.Bounds.{IsAtMost};
 ghost use Rattle.mesh_weld.specs.Balance.{IsBalanced};
 ghost use Rattle.mesh_weld.specs.EdgeNumbers.{AreEdgeNumbers};
 ghost use Rattle.contour.specs.Contour.{segments};
-ghost use Rattle.contour.specs.Linking.{ArePassedEdges, AreEven, AreTaken, HasFirsts, HasLeft, HasNexts, IsClear, edge_at_node, no_place};
+ghost use Rattle.contour.specs.Linking.{AreLinks, ArePassedEdges, AreEven, AreTaken, HasFirsts, HasLeft, HasNexts, IsClear, edge_at_node, no_place};
 
 use crate::nodes::{Node, Segment};
 use crate::rings::Loops;
 use mesh_weld::Solid;
 use std::alloc::{AllocError, Allocator};
+use std::marker::Model;
 
 /// No segment.
 const NONE: u32 = u32::MAX;
@@ -18,6 +19,16 @@ const NONE: u32 = u32::MAX;
 #[derive(Drop)]
 pub struct Linker<A: Allocator> {
     heads: Vec<u32, A>,
+}
+
+impl<A: Allocator> Model for Linker<A> {
+    ghost use Rattle.contour.specs.Linking.{IsClear};
+
+    ghost Value = { Unit {0} };
+
+    ghost view = { λ l. tt };
+
+    ghost invariant = { λ l. IsClear l.heads.items };
 }
 
 impl<A: Allocator + Copy + Send + Sync> Linker<A> {
@@ -50,9 +61,9 @@ impl<A: Allocator + Copy + Send + Sync> Linker<A> {
         list: &[Segment],
     ) -> Result<Vec<u32, A>, AllocError>
         requires { (z : ℤ) × (list.now ≡ segments s.now.facets z) }
-        ensures { IfOk result (λ next. length next.items ≡ length list.now) }
+        ensures { IfOk result (λ next. AreLinks list.now next.items) }
     {
-        self.fit(alloc, s)?;
+        make_room(alloc, &mut self.heads, s)?;
         let edges = PassedEdges::of(alloc, s, list)?;
         linked(
             alloc,
@@ -61,18 +72,24 @@ impl<A: Allocator + Copy + Send + Sync> Linker<A> {
             place_count(s, list) as usize,
         )
     }
+}
 
-    /// Makes room for the edges of a mesh.
-    fn fit(&mut self, alloc: A, s: &Solid<A>) -> Result<(), AllocError>
-        ensures room { OnOk result ((numbers : List (List ℕ)) (count : ℕ) → AreEdgeNumbers s.now.facets numbers count
-            → count ≤ length self.new.heads.items) }
-    {
-        let count = s.edge_count() as usize;
-        if self.heads.len() < count {
-            self.heads = vec![in alloc; NONE; count]?;
-        }
-        Ok(())
+/// Makes room for the edges of a mesh.
+fn make_room<A: Allocator + Copy + Send + Sync>(
+    alloc: A,
+    heads: &mut Vec<u32, A>,
+    s: &Solid<A>,
+) -> Result<(), AllocError>
+    requires { IsClear heads.old.items }
+    ensures room { OnOk result ((numbers : List (List ℕ)) (count : ℕ) → AreEdgeNumbers s.now.facets numbers count
+        → count ≤ length heads.new.items) }
+    ensures clear { IsClear heads.new.items }
+{
+    let count = s.edge_count() as usize;
+    if heads.len() < count {
+        *heads = vec![in alloc; NONE; count]?;
     }
+    Ok(())
 }
 
 /// How many segments there are: at most one a kept facet, so that their places fit `u32`.
@@ -202,7 +219,7 @@ fn gathered<A: Allocator + Copy + Send + Sync>(
     list: &[Segment],
     next: &mut [u32],
 ) -> Result<Loops<A>, AllocError>
-    requires { length next.old ≡ length list.now }
+    requires { AreLinks list.now next.old }
 {
     let mut flat = Vec::with_capacity(alloc, list.len())?;
     let mut ends = Vec::new(alloc);
