@@ -8,3 +8,4 @@ pub mod Links
 pub mod Places
 pub mod Balanced
 pub mod Followers
+pub mod Walks

@@ -1,11 +1,12 @@
 -- How segments are linked: by the numbers of the edges where they start and end, and by places in lists.
-use Rattle.std.specs.Prelude.{◌≡◌, ℕ, ◌+◌, ◌<◌, ◌≤◌, ◌==◌, List, [], ◌∷◌, length, map, slice_index, slice_index_or, count_by, take, drop, Some, if◌then◌else◌}
+use Rattle.std.specs.Prelude.{◌≡◌, ℕ, ◌+◌, ◌<◌, ◌≤◌, ◌==◌, List, [], ◌∷◌, length, map, slice_index, slice_index_or, count_by, take, drop, Bool, true, false, nat_le, Some, if◌then◌else◌}
+use Rattle.std.specs.List.{list_all}
 use Rattle.stl_text.specs.Triangle.{Triangle}
 use Rattle.mesh_weld.specs.EdgeNumbers.{AreEdgeNumbers}
 use Rattle.mesh_weld.specs.Mesh.{triples}
 use Rattle.contour.specs.declared.nodes.Node.{Node}
 use Rattle.contour.specs.declared.nodes.Segment.{Segment}
-use Rattle.contour.specs.Contour.{edge_node, follower, is_node}
+use Rattle.contour.specs.Contour.{IsCycle, count_of, edge_node, first_facet, follower, is_node}
 
 -- of a facet by the numbers of its corners and of its edges, the number of the edge that is this node
 abbrev pub edge_at_node : List ℕ → List ℕ → Node → ℕ
@@ -78,3 +79,37 @@ pub record AreLinks (list : List Segment) (next : List ℕ) : Type 0 where
   pub follows : (j : ℕ) (d : Segment) → j < length list
       → follower list (slice_index_or list j d) ≡ Some (slice_index_or list (slice_index_or next j no_place) d)
   pub one : (i j : ℕ) → i < length list → j < length list → slice_index_or next i no_place ≡ slice_index_or next j no_place → i ≡ j
+
+abbrev pub no_segment : Segment
+no_segment = record { facet = 0; from = record { low = 0; high = 0 }; to = record { low = 0; high = 0 } }
+
+abbrev pub facet_of : List Segment → ℕ → ℕ
+facet_of list j = (slice_index_or list j no_segment).facet
+
+-- later segments are of later facets
+abbrev pub Rises : List Segment → Type 0
+Rises list = (i j : ℕ) → i < j → j < length list → facet_of list i < facet_of list j
+
+abbrev pub has_passed : List Bool → ℕ → Bool
+has_passed passed j = slice_index_or passed j true
+
+-- the segments that are not passed
+abbrev pub left : List Bool → List Segment → List Segment
+left [] list = list
+left (b ∷ passed) [] = []
+left (b ∷ passed) (x ∷ list) = if b then left passed list else x ∷ left passed list
+
+-- where a segment is not passed its follower isn't
+abbrev pub LeavesLoops : List Segment → List ℕ → List Bool → Type 0
+LeavesLoops list next passed =
+    (j : ℕ) → j < length list → has_passed passed j ≡ false → has_passed passed (slice_index_or next j no_place) ≡ false
+
+-- the whole loop from the place `first` has been passed, and nothing else
+pub record IsTakenLoop (list : List Segment) (next : List ℕ) (first : ℕ) (before after : List Bool) (part : List Segment) : Type 0 where
+  pub cycle : IsCycle list part
+  pub head : first_facet part ≡ facet_of list first
+  pub least : list_all (λ t. nat_le (facet_of list first) t.facet) part ≡ true
+  pub once : (n : ℕ) → count_of n part + count_of n (left after list) ≡ count_of n (left before list)
+  pub leaves : LeavesLoops list next after
+  pub kept : (j : ℕ) → has_passed before j ≡ true → has_passed after j ≡ true
+  pub done : has_passed after first ≡ true

@@ -1,9 +1,9 @@
-ghost use Rattle.std.specs.Prelude.{◌≡◌, ◌<◌, ◌≤◌, ℕ, ℤ, All, List, IfOk, OnOk, length, slice_index_or};
+ghost use Rattle.std.specs.Prelude.{◌++◌, Bool, true, false, ◌≡◌, ◌<◌, ◌≤◌, ℕ, ℤ, All, List, IfOk, OnOk, length, slice_index_or};
 ghost use Rattle.micro_num.specs.Bounds.{IsAtMost};
 ghost use Rattle.mesh_weld.specs.Balance.{IsBalanced};
 ghost use Rattle.mesh_weld.specs.EdgeNumbers.{AreEdgeNumbers};
 ghost use Rattle.contour.specs.Contour.{segments};
-ghost use Rattle.contour.specs.Linking.{AreLinks, ArePassedEdges, AreEven, AreTaken, HasFirsts, HasLeft, HasNexts, IsClear, edge_at_node, no_place};
+ghost use Rattle.contour.specs.Linking.{AreLinks, ArePassedEdges, AreEven, AreTaken, HasFirsts, HasLeft, HasNexts, IsClear, edge_at_node, no_place, IsTakenLoop, LeavesLoops, Rises, has_passed};
 
 use crate::nodes::{Node, Segment};
 use crate::rings::Loops;
@@ -48,8 +48,8 @@ impl<A: Allocator + Copy + Send + Sync> Linker<A> {
     ) -> Result<Loops<A>, AllocError>
         requires { (z : ℤ) × (list.now ≡ segments s.now.facets z) }
     {
-        let mut next = self.followers(alloc, s, list)?;
-        gathered(alloc, list, next.as_mut_slice())
+        let next = self.followers(alloc, s, list)?;
+        gathered(alloc, list, next.as_slice())
     }
 
     /// For each segment the place of the one behind it: at each node the n-th that ends there is
@@ -217,37 +217,46 @@ fn place_in(list: &[u32], place: u32) -> u32
 fn gathered<A: Allocator + Copy + Send + Sync>(
     alloc: A,
     list: &[Segment],
-    next: &mut [u32],
+    next: &[u32],
 ) -> Result<Loops<A>, AllocError>
-    requires { AreLinks list.now next.old }
+    requires links { AreLinks list.now next.now }
+    requires rises { Rises list.now }
 {
+    let mut passed = vec![in alloc; false; list.len()]?;
     let mut flat = Vec::with_capacity(alloc, list.len())?;
     let mut ends = Vec::new(alloc);
     for first in 0..list.len() {
-        if next[first] != NONE {
-            take_loop(list, next, first, &mut flat)?;
+        if !passed[first] {
+            take_loop(list, next, first, passed.as_mut_slice(), &mut flat)?;
             ends.push(flat.len())?;
         }
     }
     Ok(Loops::of(flat, ends))
 }
 
-/// Moves the loop that begins at the place `first` behind `flat`, and strikes out its places in `next`.
+/// Puts the loop that begins at the place `first` behind `flat`, and marks it as passed.
 fn take_loop<A: Allocator>(
     list: &[Segment],
-    next: &mut [u32],
+    next: &[u32],
     first: usize,
+    passed: &mut [bool],
     flat: &mut Vec<Segment, A>,
 ) -> Result<(), AllocError>
-    requires { length next.old ≡ length list.now }
-    ensures { OnOk result (length flat.old.items ≤ length flat.new.items) }
+    requires links { AreLinks list.now next.now }
+    requires rises { Rises list.now }
+    requires size { length passed.old ≡ length list.now }
+    requires first { first < length list.now }
+    requires begins { has_passed passed.old first ≡ false }
+    requires leaves { LeavesLoops list.now next.now passed.old }
+    requires earlier { (j : ℕ) → j < first → has_passed passed.old j ≡ true }
+    ensures { OnOk result ((part : List Segment) × (flat.new.items ≡ flat.old.items ++ part)
+        × IsTakenLoop list.now next.now first passed.old passed.new part) }
 {
     let mut at = first;
-    while at < list.len() && next[at] != NONE {
+    while !passed[at] {
         flat.push(list[at])?;
-        let follower = next[at];
-        next[at] = NONE;
-        at = follower as usize;
+        passed[at] = true;
+        at = next[at] as usize;
     }
     Ok(())
 }
