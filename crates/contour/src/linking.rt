@@ -2,7 +2,7 @@ ghost use Rattle.std.specs.Prelude.{◌++◌, Bool, true, false, ◌≡◌, ◌<
 ghost use Rattle.micro_num.specs.Bounds.{IsAtMost};
 ghost use Rattle.mesh_weld.specs.Balance.{IsBalanced};
 ghost use Rattle.mesh_weld.specs.EdgeNumbers.{AreEdgeNumbers};
-ghost use Rattle.contour.specs.Contour.{segments};
+ghost use Rattle.contour.specs.Contour.{AreLoops, segments};
 ghost use Rattle.contour.specs.Linking.{AreLinks, ArePassedEdges, AreEven, AreTaken, HasFirsts, HasLeft, HasNexts, IsClear, edge_at_node, no_place, IsTakenLoop, LeavesLoops, Rises, has_passed};
 
 use crate::nodes::{Node, Segment};
@@ -221,6 +221,7 @@ fn gathered<A: Allocator + Copy + Send + Sync>(
 ) -> Result<Loops<A>, AllocError>
     requires links { AreLinks list.now next.now }
     requires rises { Rises list.now }
+    ensures { IfOk result (AreLoops list.now) }
 {
     let mut passed = vec![in alloc; false; list.len()]?;
     let mut flat = Vec::with_capacity(alloc, list.len())?;

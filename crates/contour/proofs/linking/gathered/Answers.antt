@@ -1,10 +1,9 @@
-use Rattle.std.proofs.Common.{arith}
-use Rattle.contour.proofs.Parts.{ends-push}
+use Rattle.contour.proofs.Gathers.{gather-begins}
 use Rattle.contour.proofs.linking.gathered.Goals as goal
-use Rattle.contour.proofs.linking.gathered.Goals.{then-next-first+in_ok-take_loop+in_ok-push, else-next-first}
+use Rattle.contour.proofs.linking.gathered.Goals.{then-not-passed-first+in_ok-take_loop+in_ok-push, else-not-passed-first}
+
+pub loop-first-init : goal.loop-first-init
+loop-first-init g c = ?
 
 pub loop-first-preserved : goal.loop-first-preserved
-loop-first-preserved g c = elim c.if-next-first.branch [
-  | then-next-first+in_ok-take_loop+in_ok-push w ↦ grind (arith, ends-push, w.in_ok-push.ensures.items)
-  | else-next-first w ↦ grind arith
-]
+loop-first-preserved g c = ?
