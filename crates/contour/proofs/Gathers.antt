@@ -1,14 +1,16 @@
 -- Loops gathered one by one, in order of their first segments: what they are in the end.
 use Rattle.std.proofs.Common.{◌≡◌, ℕ, zero, suc, ◌+◌, ◌<◌, ◌≤◌, Bool, true, false, cond, ◌&&◌, List, [], ◌∷◌, ◌++◌, ◌⊎◌, inl, inr, refl, sym, ◌∙◌, ap, subst, length, take, drop, get_or, arith, map}
-use Rattle.std.specs.Prelude.{count_by, flat_map, nat_le, ◌==◌, ◌-◌}
+use Rattle.std.specs.Prelude.{count_by, flat_map, nat_le, ℤ, ◌==◌, ◌-◌}
 use Rattle.std.specs.List.{list_all, AllByRecursion}
 use Rattle.std.specs.List.Sorted.{IsStrictlyIncreasing}
-use Rattle.std.proofs.lemmas.List.{length-append, length-map, length-drop, map-append, take-append-drop, append-nil}
+use Rattle.std.proofs.lemmas.List.{length-append, length-map, length-drop, map-append, take-append-drop, take-append-le, take_all}
 use Rattle.std.proofs.lemmas.List.Folds.{list_all-append}
 use Rattle.contour.specs.declared.nodes.Segment.{Segment}
-use Rattle.contour.specs.Contour.{AreEnds, AreLoops, IsCycle, count_of, first_facet, is_from_least, parts_from}
+use Rattle.contour.specs.Contour.{AreEnds, AreLoops, IsCycle, count_of, first_facet, is_from_least, parts_from, segments}
 use Rattle.contour.specs.Linking.{AreLinks, IsTakenLoop, LeavesLoops, Rises, facet_of, has_passed, left, no_place}
 use Rattle.contour.proofs.Counts.{count-append}
+use Rattle.stl_text.specs.Triangle.{Triangle}
+use Rattle.contour.proofs.Links.{AreFrom, segments_ascend}
 use Rattle.contour.proofs.Parts.{ends-push, ends-up, parts-push}
 use Rattle.contour.proofs.Places.{either}
 
@@ -182,3 +184,21 @@ gather-ends list next first passed flat ends g l = record {
       ∙ (let a = g.once n in
       let b : count_of n (left passed list) ≡ 0 = ap (count_of n) (left-all passed list g.size (λ j m. g.earlier j (omega (arith, m, l)))) in omega (arith, a, b));
 }
+
+from_on : (a b : ℕ) (list : List Segment) (k : ℕ) → AreFrom a b list → k < length list → a ≤ facet_of list k
+from_on a b [] k h l = absurd (omega (arith, l))
+from_on a b (x ∷ list) zero h l = h.0
+from_on a b (x ∷ list) (suc k) h l =
+    let low : a ≤ x.facet = h.0 in let r = from_on (x.facet + 1) b list k h.2 (omega (arith, l)) in omega (arith, low, r)
+
+AreFrom-rises : (a b : ℕ) (list : List Segment) → AreFrom a b list → Rises list
+AreFrom-rises a b [] h i j l m = absurd (omega (arith, m))
+AreFrom-rises a b (x ∷ list) h i zero l m = absurd (omega (arith, l))
+AreFrom-rises a b (x ∷ list) h zero (suc j) l m = let r = from_on (x.facet + 1) b list j h.2 (omega (arith, m)) in omega (arith, r)
+AreFrom-rises a b (x ∷ list) h (suc i) (suc j) l m = AreFrom-rises (x.facet + 1) b list h.2 i j (omega (arith, l)) (omega (arith, m))
+
+pub segments_rise : (facets : List Triangle) (list : List Segment) → (z : ℤ) × (list ≡ segments facets z) → Rises list
+segments_rise facets list e = AreFrom-rises 0 (length facets) list (subst (AreFrom 0 (length facets)) (sym e.1) (segments_ascend facets e.0))
+
+pub cut : {X : Type 0} (n : ℕ) (xs ys : List X) → length xs ≡ n → take n (xs ++ drop (length xs) ys) ≡ xs
+cut n xs ys e = take-append-le n xs (drop (length xs) ys) (omega (arith, e)) ∙ take_all n xs (omega (arith, e))

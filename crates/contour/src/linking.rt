@@ -47,6 +47,7 @@ impl<A: Allocator + Copy + Send + Sync> Linker<A> {
         list: &[Segment],
     ) -> Result<Loops<A>, AllocError>
         requires { (z : ℤ) × (list.now ≡ segments s.now.facets z) }
+        ensures closed { IfOk result (AreLoops list.now) }
     {
         let next = self.followers(alloc, s, list)?;
         gathered(alloc, list, next.as_slice())
@@ -273,6 +274,7 @@ pub fn loops<A: Allocator + Copy + Send + Sync>(
 ) -> Result<Loops<A>, AllocError>
     requires height { IsAtMost 256200000 z2 }
     requires list { list.items ≡ segments s.now.facets z2 }
+    ensures closed { IfOk result (AreLoops list.items) }
 {
     Linker::new(alloc, s)?.loops(alloc, s, list.as_slice())
 }
