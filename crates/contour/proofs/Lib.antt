@@ -10,3 +10,4 @@ pub mod Balanced
 pub mod Followers
 pub mod Walks
 pub mod Gathers
+pub mod Cycles
