@@ -1,13 +1,13 @@
 -- Loops gathered one by one, in order of their first segments: what they are in the end.
 use Rattle.std.proofs.Common.{◌≡◌, ℕ, zero, suc, ◌+◌, ◌<◌, ◌≤◌, Bool, true, false, cond, ◌&&◌, List, [], ◌∷◌, ◌++◌, ◌⊎◌, inl, inr, refl, sym, ◌∙◌, ap, subst, length, take, drop, get_or, arith, map}
-use Rattle.std.specs.Prelude.{count_by, flat_map, nat_le, ℤ, ◌==◌, ◌-◌}
+use Rattle.std.specs.Prelude.{flat_map, nat_le, ℤ, ◌==◌, ◌-◌}
 use Rattle.std.specs.List.{list_all, AllByRecursion}
 use Rattle.std.specs.List.Sorted.{IsStrictlyIncreasing}
-use Rattle.std.proofs.lemmas.List.{length-append, length-map, length-drop, map-append, take-append-drop, take-append-le, take_all}
+use Rattle.std.proofs.lemmas.List.{length-append, length-drop, map-append, take-append-drop, take-append-le, take_all}
 use Rattle.std.proofs.lemmas.List.Folds.{list_all-append}
 use Rattle.contour.specs.declared.nodes.Segment.{Segment}
 use Rattle.contour.specs.Contour.{AreEnds, AreLoops, IsCycle, count_of, first_facet, is_from_least, parts_from, segments}
-use Rattle.contour.specs.Linking.{AreLinks, IsTakenLoop, LeavesLoops, Rises, facet_of, has_passed, left, no_place}
+use Rattle.contour.specs.Linking.{AreLinks, IsTakenLoop, LeavesLoops, Rises, facet_of, has_passed, left}
 use Rattle.contour.proofs.Counts.{count-append}
 use Rattle.stl_text.specs.Triangle.{Triangle}
 use Rattle.contour.proofs.Links.{AreFrom, segments_ascend}

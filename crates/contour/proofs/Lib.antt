@@ -14,3 +14,4 @@ pub mod Balanced
 pub mod Followers
 pub mod Walks
 pub mod Gathers
+pub mod Cycles

@@ -1,6 +1,5 @@
-use Rattle.std.proofs.Common.{rules, ◌≡◌, ◌<◌, ◌≤◌, ◌+◌, ◌++◌, ◌∷◌, ◌∙◌, [], ℕ, Bool, true, false, List, length, get_or, replicate, sym, subst, ap, arith}
+use Rattle.std.proofs.Common.{rules, ◌≡◌, ◌<◌, ◌+◌, ◌++◌, ◌∷◌, ◌∙◌, [], ℕ, true, false, length, get_or, replicate, sym, subst, ap, arith}
 use Rattle.std.proofs.lemmas.List.{get_or-replicate, get_or_read, length-replicate}
-use Rattle.contour.specs.declared.nodes.Segment.{Segment}
 use Rattle.contour.specs.Contour.{AreLoops}
 use Rattle.contour.specs.Linking.{IsTakenLoop, has_passed}
 use Rattle.contour.proofs.Gathers.{IsGathered, gather-begins, gather-skips, gather-takes, gather-ends}
@@ -27,7 +26,7 @@ loop-first-preserved g c =
     let l : first < length list = c.loop-first-test.true in
     let gathered : IsGathered list next first c.loop-first.passed.items c.loop-first.flat.items c.loop-first.ends.items = c.loop-first.invariant in
     elim c.if-not-index.branch [
-      then-not-index+in_ok-take_loop+in_ok-push w ↦
+      | then-not-index+in_ok-take_loop+in_ok-push w ↦
           let t = w.in_ok-take_loop.ensures in
           let before : w.as_mut_slice.result.now ≡ c.loop-first.passed.items = cc in
           let after : c.if-not-index.passed.items ≡ w.take_loop.new.passed = ap (λ v. v.items) w.passed-is ∙ cut c.loop-first.passed.len w.take_loop.new.passed c.loop-first.passed.items (omega (arith, w.take_loop.auto.passed, ap length before, c.loop-first.passed.ok.0)) in
