@@ -1,13 +1,41 @@
-ghost use Rattle.std.specs.Prelude.{◌≡◌, ◌≤◌, ◌+◌, ◌^◌, Bool, IfErr, IfOk, OnOk, decimal, length, ℕ};
+ghost use Rattle.std.specs.Prelude.{◌≡◌, ◌≤◌, ◌+◌, ◌^◌, Bool, IfErr, IfOk, OnOk, decimal, length, true, ℕ};
 ghost use Rattle.std.specs.Io.KnownBytes.{Appends};
 ghost use Rattle.raster.specs.Devices.{AppendsFirst, HasFailed};
 ghost use Rattle.raster.specs.Fill.{AreSpans};
 ghost use Rattle.raster.specs.Picture.{picture};
-ghost use Rattle.stlslice.specs.Stream.{image};
+ghost use Rattle.stlslice.specs.Stream.{image, images};
 ghost use Rattle.stlslice.specs.declared.run_faults.RunFault.TheVariants.{Write};
 
 use crate::run_faults::RunFault;
+use build_book::Build;
 use raster::{Grid, Sink, Span, write_layer};
+use std::alloc::Allocator;
+
+/// Writes the images of all layers of a build, one at a time, and flushes them. On a fault just the first `written`
+/// bytes of all went out; all of them where it was the flush that failed.
+pub(crate) fn write_images<A: Allocator, O: Sink>(
+    build: &Build<'_, A>,
+    sink: &mut O,
+) -> Result<(), RunFault>
+    ensures flushed { OnOk result (O.is_settled sink.new ≡ true) }
+    ensures ok { OnOk result (Appends (O.contents sink.old) (O.contents sink.new)
+        (images build.now.work.grid build.now.layers)) }
+    ensures err { IfErr result (λ fault. (written : ℕ) × (fault ≡ Write written)
+        × (written ≤ length (images build.now.work.grid build.now.layers))
+        × AppendsFirst (O.contents sink.old) (O.contents sink.new) written (images build.now.work.grid build.now.layers)
+        × HasFailed (O.Failures.failure_count sink.old) (O.Failures.failure_count sink.new)) }
+{
+    let grid = build.job().grid();
+    let _layers = grid.layers();
+    let mut written = 0;
+    for layer in build.layers() {
+        written = write_image(grid, layer.spans(), sink, written)?;
+    }
+    match sink.settle() {
+        Ok(()) => Ok(()),
+        Err(_) => Err(RunFault::Write { written }),
+    }
+}
 
 /// Writes the image of a layer, after `before` bytes of a run's output; answers how many are out then.
 pub(crate) fn write_image<O: Sink>(

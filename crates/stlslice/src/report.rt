@@ -1,11 +1,27 @@
-ghost use Rattle.std.specs.Prelude.{◌≡◌, ◌++◌, OnOk, string_bytes};
-ghost use Rattle.stlslice.specs.Stream.{line_of_layer, total_line};
+ghost use Rattle.std.specs.Prelude.{◌≡◌, ◌++◌, IfOk, OnOk, string_bytes};
+ghost use Rattle.stlslice.specs.Stream.{line_of_layer, report, total_line};
 
+use build_book::Build;
 use std::alloc::{AllocError, Allocator};
 use std::fmt::Write;
 
+/// The report of a build: a line for each layer, and one on the filled pixels of all.
+pub(crate) fn report<A: Allocator + Copy + Send + Sync>(
+    alloc: A,
+    build: &Build<'_, A>,
+) -> Result<String<A>, AllocError>
+    ensures { IfOk result (λ text. string_bytes text ≡ report build.now.layers) }
+{
+    let mut text = String::new(alloc);
+    for layer in build.layers() {
+        push_layer(&mut text, layer.number(), layer.loops().count(), layer.area())?;
+    }
+    push_total(&mut text, build.total_area())?;
+    Ok(text)
+}
+
 /// Adds the line of a layer with this number, so many loops and so many filled pixels.
-pub(crate) fn push_layer<A: Allocator>(
+fn push_layer<A: Allocator>(
     text: &mut String<A>,
     number: u32,
     loops: usize,
@@ -17,7 +33,7 @@ pub(crate) fn push_layer<A: Allocator>(
 }
 
 /// Adds the last line, on the filled pixels of all layers.
-pub(crate) fn push_total<A: Allocator>(text: &mut String<A>, total: u64) -> Result<(), AllocError>
+fn push_total<A: Allocator>(text: &mut String<A>, total: u64) -> Result<(), AllocError>
     ensures { OnOk result (string_bytes text.new ≡ string_bytes text.old ++ total_line total) }
 {
     write!(text, "total {total}\n")
