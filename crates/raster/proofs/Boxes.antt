@@ -6,7 +6,7 @@ use Rattle.std.proofs.lemmas.Int.{ints, clamps}
 use Rattle.stl_text.specs.Position.{Position}
 use Rattle.stl_text.specs.Triangle.{Triangle, corners}
 use Rattle.stl_text.specs.Extent.{Bounds, bounds, bounds_of, greatest_of, least_of}
-use Rattle.raster.specs.Lattice.{IsBox, grid_within}
+use Rattle.raster.specs.Lattice.{IsBox}
 
 wider : (a b c : ℤ) → a ≤ℤ b → int_min a c ≤ℤ int_max b c
 wider a b c h = omega (arith, ints, clamps)

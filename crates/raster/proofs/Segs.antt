@@ -1,10 +1,10 @@
 -- Sums over all facets are those over the segments of a height, where facets that aren't cut add nothing.
-use Rattle.std.proofs.Common.{◌≡◌, ℕ, zero, suc, ◌+◌, ◌*◌, ◌<◌, ◌≤◌, ◌⊎◌, inl, inr, Bool, true, false, cond, List, [], ◌∷◌, Some, None, length, drop, refl, ap, sym, subst, ◌∙◌, arith}
+use Rattle.std.proofs.Common.{◌≡◌, ℕ, zero, suc, ◌+◌, ◌<◌, ◌≤◌, ◌⊎◌, inl, inr, Bool, true, false, cond, List, [], ◌∷◌, Some, None, length, drop, refl, ap, sym, subst, ◌∙◌, arith}
 use Rattle.std.specs.Prelude.{Option, ℤ, pos, ◌+ℤ◌, ◌-ℤ◌, slice_get, slice_index_or, ◌≤ℤ◌, ◌<ℤ◌, filter_map, find}
 use Rattle.std.specs.List.{enumerate_from, cons_option}
 use Rattle.std.proofs.lemmas.Int.{ints}
-use Rattle.stl_text.specs.Position.{Position, origin}
-use Rattle.stl_text.specs.Triangle.{Triangle, Edge, edge, sides, triangle, twice}
+use Rattle.stl_text.specs.Position.{Position}
+use Rattle.stl_text.specs.Triangle.{Triangle, Edge, edge, sides, twice}
 use Rattle.stl_text.specs.Winding.{hit, total, wind}
 use Rattle.exact_cut.specs.Cutting.{IsBetween}
 use Rattle.exact_cut.specs.Lattices.{pixel, row_y}

@@ -6,6 +6,8 @@ mod chunk;
 mod crossed;
 mod devices;
 mod filled;
+#[cfg(test)]
+mod filled_boxes;
 mod filling;
 mod grid;
 mod grid_faults;

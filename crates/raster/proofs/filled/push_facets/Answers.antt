@@ -1,8 +1,7 @@
-use Rattle.std.proofs.Common.{subst, sym, arith}
-use Rattle.std.specs.Prelude.{ℤ}
+use Rattle.std.proofs.Common.{arith}
 use Rattle.std.proofs.lemmas.Int.{to_z-of_z}
 use mir.Syntax.{w64}
-use Rattle.raster.proofs.Segs.{ArePushed, below-all, pushed-more, pushed-none, pushed-passed, pushed-signs}
+use Rattle.raster.proofs.Segs.{below-all, pushed-more, pushed-none, pushed-passed, pushed-signs}
 use Rattle.raster.proofs.filled.push_facets.Goals as goal
 
 pub loop-segment-init : goal.loop-segment-init

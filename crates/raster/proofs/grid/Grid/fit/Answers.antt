@@ -1,8 +1,8 @@
-use Rattle.std.proofs.Common.{◌∙◌, ap, subst, sym}
+use Rattle.std.proofs.Common.{subst, sym}
 use Rattle.std.specs.Prelude.{IfSome, Option}
 use Rattle.stl_text.specs.Extent.{bounds}
 use Rattle.stl_text.specs.Position.{Position}
-use Rattle.raster.specs.Lattice.{IsBox, grid_within}
+use Rattle.raster.specs.Lattice.{IsBox}
 use Rattle.raster.proofs.Boxes.{bounds-back, bounds-box}
 use Rattle.raster.proofs.grid.Grid.fit.Goals as goal
 
