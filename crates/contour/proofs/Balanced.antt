@@ -3,18 +3,18 @@ use Rattle.std.proofs.Common.{◌≡◌, ℕ, zero, suc, ◌+◌, ◌*◌, ◌<�
 use Rattle.std.specs.Prelude.{Option, ℤ, filter_map, find, count_by, int_le, int_lt, ◌==◌}
 use Rattle.std.specs.List.{enumerate_from, cons_option}
 use Rattle.std.proofs.lemmas.Int.{ints}
-use Rattle.std.proofs.lemmas.Bool.{eqb-true, eq-eqb, eqb-false}
+use Rattle.std.proofs.lemmas.Bool.{eqb-true, eq-eqb}
 use Rattle.stl_text.specs.Position.{Position, origin, same}
-use Rattle.stl_text.specs.Triangle.{Triangle, triangle, Edge, edge, edges, sides, corners}
+use Rattle.stl_text.specs.Triangle.{Triangle, triangle, Edge, edge, edges, sides}
 use Rattle.mesh_weld.specs.Balance.{IsBalanced, edge_count}
-use Rattle.mesh_weld.specs.Mesh.{vertices, triples, number_of, facet_at}
+use Rattle.mesh_weld.specs.Mesh.{vertices, number_of, facet_at}
 use Rattle.mesh_weld.specs.EdgeNumbers.{AreEdgeNumbers, HaveSameEnds, edge_of, edge_number}
 use Rattle.mesh_weld.proofs.InOrder.{is_in}
 use Rattle.mesh_weld.proofs.Transfer.{number_found, ends_are_vertices}
 use Rattle.mesh_weld.proofs.Edges.{and_parts, runs, runs-is}
 use Rattle.contour.specs.declared.nodes.Node.{Node}
 use Rattle.contour.specs.declared.nodes.Segment.{Segment}
-use Rattle.contour.specs.Contour.{between, both_of, edge_node, height, is_downward, is_node, is_upward, node_of, rises_through, segment_of, segments}
+use Rattle.contour.specs.Contour.{between, both_of, height, is_downward, is_node, is_upward, node_of, rises_through, segment_of, segments}
 use Rattle.contour.specs.Linking.{edge_at_node, edge_of_facet, start_edge, finish_edge}
 use Rattle.contour.proofs.Counts.{count-cons, count-append}
 use Rattle.contour.proofs.Cutting.{triples_at}

@@ -1,24 +1,23 @@
 -- The places that linking finds are those of the followers.
-use Rattle.std.proofs.Common.{◌≡◌, ℕ, zero, suc, ◌+◌, ◌<◌, ◌≤◌, Bool, true, false, cond, not, eqb, ◌&&◌, List, [], ◌∷◌, ◌⊎◌, inl, inr, refl, sym, ◌∙◌, ap, subst, length, take, drop, get_or, arith, map, Some, None}
+use Rattle.std.proofs.Common.{◌≡◌, ℕ, zero, suc, ◌+◌, ◌<◌, ◌≤◌, Bool, true, false, cond, not, eqb, List, [], ◌∷◌, ◌⊎◌, inl, inr, refl, sym, ◌∙◌, ap, subst, length, take, drop, get_or, arith, map, Some, None}
 use Rattle.std.specs.Prelude.{Result, Ok, Err, IfOk, Option, ℤ, filter, filter_map, find, count_by, slice_get, option_map, ◌==◌}
 use Rattle.std.specs.List.{enumerate_from, cons_option, prefix_len, position_or_len}
 use Rattle.std.proofs.lemmas.List.{get_or-map, length-map, length-drop, take_all}
 use Rattle.std.proofs.lemmas.List.Sums.{count_by_more_yes}
 use Rattle.std.proofs.lemmas.Option.{slice_get-get_or, slice_get-map}
 use Rattle.std.proofs.lemmas.Bool.{eqb-true, eq-eqb, ne_eqb}
-use Rattle.stl_text.specs.Position.{Position, origin}
+use Rattle.stl_text.specs.Position.{origin}
 use Rattle.stl_text.specs.Triangle.{Triangle, triangle, Edge, edge, sides}
 use Rattle.mesh_weld.specs.Balance.{IsBalanced}
 use Rattle.mesh_weld.specs.Mesh.{vertices, facet_at}
-use Rattle.mesh_weld.specs.EdgeNumbers.{AreEdgeNumbers, HaveSameEnds, edge_of, edge_number}
-use Rattle.contour.specs.declared.nodes.Node.{Node}
+use Rattle.mesh_weld.specs.EdgeNumbers.{AreEdgeNumbers, edge_of}
 use Rattle.contour.specs.declared.nodes.Segment.{Segment}
 use Rattle.contour.specs.Contour.{both_of, follower, is_downward, is_node, is_segment, is_upward, node_of, segment_of, segments, turn_at_end}
-use Rattle.contour.specs.Linking.{AreEven, AreLinks, ArePassedEdges, AreTaken, edge_of_facet, finish_edge, no_place, place_after, places, start_edge}
+use Rattle.contour.specs.Linking.{AreEven, AreLinks, ArePassedEdges, AreTaken, edge_of_facet, finish_edge, no_place, places, start_edge}
 use Rattle.contour.proofs.Balanced.{node_at, own_edge, own_node, same_ends, same_nodes, passed_even, same_test}
-use Rattle.contour.proofs.Counts.{count-cons, times, times-own}
+use Rattle.contour.proofs.Counts.{count-cons, times}
 use Rattle.contour.proofs.Links.{AreFrom, segments_ascend}
-use Rattle.contour.proofs.Places.{AtPlace, length-places, places-at, either}
+use Rattle.contour.proofs.Places.{AtPlace, length-places, places-at}
 
 -- ---- lists by tests
 filter_by_places : {X : Type 0} (p : X → Bool) (g : X → ℕ) (e : ℕ) (at : ℕ → X) (d : X) (n : ℕ) (xs : List X)
@@ -140,16 +139,18 @@ all_pass facets z n (t ∷ ts) h =
         (filter_map (segment_of (vertices facets) z) (enumerate_from (n + 1) ts)))
     by_edges None b p q more = more
     by_edges (Some a) None p q more = more
-    by_edges (Some a) (Some b) p q more =
-        (record {
-          inside = here.0;
-          down = p.0;
-          down_in = p.1;
-          from_is = ap (node_of (vertices facets)) (p.2 ∙ ap (λ (u : Triangle). get_or (sides u) p.0 (edge origin origin)) (sym here.1));
-          up = q.0;
-          up_in = q.1;
-          to_is = ap (node_of (vertices facets)) (q.2 ∙ ap (λ (u : Triangle). get_or (sides u) q.0 (edge origin origin)) (sym here.1));
-        }, more)
+    by_edges (Some a) (Some b) p q more = (
+      record {
+        inside = here.0;
+        down = p.0;
+        down_in = p.1;
+        from_is = ap (node_of (vertices facets)) (p.2 ∙ ap (λ (u : Triangle). get_or (sides u) p.0 (edge origin origin)) (sym here.1));
+        up = q.0;
+        up_in = q.1;
+        to_is = ap (node_of (vertices facets)) (q.2 ∙ ap (λ (u : Triangle). get_or (sides u) q.0 (edge origin origin)) (sym here.1));
+      },
+      more,
+    )
 
 pass_at : (facets : List Triangle) (list : List Segment) (j : ℕ) (d : Segment) → AllPass facets list → j < length list → Passes facets (get_or list j d)
 pass_at facets [] j d h l = absurd (omega (arith, l))

@@ -9,3 +9,5 @@ pub mod Places
 pub mod Balanced
 pub mod Followers
 pub mod Walks
+pub mod Gathers
+pub mod Cycles

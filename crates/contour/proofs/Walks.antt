@@ -1,8 +1,8 @@
 -- A walk from follower to follower over segments that are not passed: it ends where it began.
-use Rattle.std.proofs.Common.{◌≡◌, ℕ, zero, suc, ◌+◌, ◌<◌, ◌≤◌, Bool, true, false, cond, not, eqb, ◌&&◌, List, [], ◌∷◌, ◌++◌, ◌⊎◌, inl, inr, refl, sym, ◌∙◌, ap, subst, length, get_or, set, arith, Some, get_or-set_same, get_or-set_other}
-use Rattle.std.specs.Prelude.{count_by, nat_le, ◌==◌}
+use Rattle.std.proofs.Common.{◌≡◌, ℕ, zero, suc, ◌+◌, ◌<◌, ◌≤◌, Bool, true, false, cond, eqb, ◌&&◌, List, [], ◌∷◌, ◌++◌, ◌⊎◌, inl, inr, refl, sym, ◌∙◌, ap, subst, length, get_or, set, arith, Some, get_or-set_same, get_or-set_other}
+use Rattle.std.specs.Prelude.{nat_le, ◌==◌}
 use Rattle.std.specs.List.{list_all}
-use Rattle.std.proofs.lemmas.List.{length-set, append_assoc, append-nil}
+use Rattle.std.proofs.lemmas.List.{length-set}
 use Rattle.std.proofs.lemmas.Bool.Decides.{nat_tests}
 use Rattle.contour.specs.declared.nodes.Segment.{Segment}
 use Rattle.contour.specs.Contour.{Closes, IsCycle, count_of, first_facet, follower}

@@ -2,7 +2,7 @@ ghost use Rattle.std.specs.Prelude.{◌++◌, Bool, true, false, ◌≡◌, ◌<
 ghost use Rattle.micro_num.specs.Bounds.{IsAtMost};
 ghost use Rattle.mesh_weld.specs.Balance.{IsBalanced};
 ghost use Rattle.mesh_weld.specs.EdgeNumbers.{AreEdgeNumbers};
-ghost use Rattle.contour.specs.Contour.{segments};
+ghost use Rattle.contour.specs.Contour.{AreLoops, segments};
 ghost use Rattle.contour.specs.Linking.{AreLinks, ArePassedEdges, AreEven, AreTaken, HasFirsts, HasLeft, HasNexts, IsClear, edge_at_node, no_place, IsTakenLoop, LeavesLoops, Rises, has_passed};
 
 use crate::nodes::{Node, Segment};
@@ -47,6 +47,7 @@ impl<A: Allocator + Copy + Send + Sync> Linker<A> {
         list: &[Segment],
     ) -> Result<Loops<A>, AllocError>
         requires { (z : ℤ) × (list.now ≡ segments s.now.facets z) }
+        ensures closed { IfOk result (AreLoops list.now) }
     {
         let next = self.followers(alloc, s, list)?;
         gathered(alloc, list, next.as_slice())
@@ -221,6 +222,7 @@ fn gathered<A: Allocator + Copy + Send + Sync>(
 ) -> Result<Loops<A>, AllocError>
     requires links { AreLinks list.now next.now }
     requires rises { Rises list.now }
+    ensures { IfOk result (AreLoops list.now) }
 {
     let mut passed = vec![in alloc; false; list.len()]?;
     let mut flat = Vec::with_capacity(alloc, list.len())?;
@@ -272,6 +274,7 @@ pub fn loops<A: Allocator + Copy + Send + Sync>(
 ) -> Result<Loops<A>, AllocError>
     requires height { IsAtMost 256200000 z2 }
     requires list { list.items ≡ segments s.now.facets z2 }
+    ensures closed { IfOk result (AreLoops list.items) }
 {
     Linker::new(alloc, s)?.loops(alloc, s, list.as_slice())
 }

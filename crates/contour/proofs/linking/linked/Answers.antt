@@ -1,4 +1,4 @@
-use Rattle.std.proofs.Common.{◌≡◌, ◌≤◌, ℕ, length, arith}
+use Rattle.std.proofs.Common.{length, arith}
 use Rattle.contour.proofs.Places.{take-clear}
 use Rattle.contour.proofs.linking.linked.Goals as goal
 

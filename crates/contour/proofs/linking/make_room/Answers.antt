@@ -1,4 +1,4 @@
-use Rattle.std.proofs.Common.{◌≡◌, ◌≤◌, arith}
+use Rattle.std.proofs.Common.{◌≡◌, arith}
 use Rattle.contour.proofs.linking.make_room.Goals as goal
 
 pub returns-in_ok-heads-clause-room : goal.returns-in_ok-heads-clause-room

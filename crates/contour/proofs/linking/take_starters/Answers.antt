@@ -1,5 +1,5 @@
 use Rattle.std.proofs.Common.{◌≡◌, ◌<◌, ◌+◌, ◌∙◌, ℕ, length, get_or, set, subst, sym, ap, arith}
-use Rattle.contour.specs.Linking.{AreTaken, HasLeft, no_place}
+use Rattle.contour.specs.Linking.{HasLeft, no_place}
 use Rattle.contour.proofs.Places.{take-taken, take-left}
 use Rattle.contour.proofs.linking.take_starters.Goals as goal
 

@@ -1,4 +1,4 @@
-use Rattle.std.proofs.Common.{◌≡◌, ◌<◌, ◌≤◌, ◌∙◌, subst, ap, length, arith, get_or}
+use Rattle.std.proofs.Common.{◌≡◌, ◌<◌, ◌∙◌, subst, length, arith, get_or}
 use Rattle.contour.specs.Linking.{AreLinks, AreTaken}
 use Rattle.contour.proofs.Links.{segments_below, passed_below}
 use Rattle.contour.proofs.Balanced.{passed_even}
