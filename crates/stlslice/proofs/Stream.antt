@@ -51,6 +51,7 @@ part_out f xs i x old middle new before written h is done within out more =
     ∙ start
     ∙ ap (λ (l : List ℕ). front ++ l) own in
     let long : length (flat_map f xs) ≡ length front + (length (f x) + length rest) =
-    ap (λ (l : List ℕ). length l) all ∙ length-append front (f x ++ rest) ∙ ap (λ (n : ℕ). length front + n) (length-append (f x) rest) in
-    ( omega (arith, done, within, long)
-    , subst (λ (l : List ℕ). Appends old new l) (sym taken) (appended old middle new front (take written (f x)) out more) )
+    ap (λ (l : List ℕ). length l) all ∙ length-append front (f x ++ rest) ∙ ap (λ (n : ℕ). length front + n) (length-append (f x) rest) in (
+      omega (arith, done, within, long),
+      subst (λ (l : List ℕ). Appends old new l) (sym taken) (appended old middle new front (take written (f x)) out more),
+    )

@@ -14,7 +14,12 @@ pub(crate) fn report<A: Allocator + Copy + Send + Sync>(
 {
     let mut text = String::new(alloc);
     for layer in build.layers() {
-        push_layer(&mut text, layer.number(), layer.loops().count(), layer.area())?;
+        push_layer(
+            &mut text,
+            layer.number(),
+            layer.loops().count(),
+            layer.area(),
+        )?;
     }
     push_total(&mut text, build.total_area())?;
     Ok(text)
