@@ -214,7 +214,8 @@ one_list columns rows xs ys a b same =
 -- two layers that are lawful for the same work and place have the same picture
 pub one_picture : (work : Work) (k : ℕ) (a b : Layer) → IsLawful work k a → IsLawful work k b
     → (a.number ≡ b.number) × (a.spans ≡ b.spans) × (a.area ≡ b.area)
-one_picture work k a b l m =
-    ( l.number ∙ sym m.number
-    , one_list work.grid.columns work.grid.rows a.spans b.spans l.spans m.spans (λ i j x y. l.filled i j x y ∙ sym (m.filled i j x y))
-    , l.area ∙ sym m.area )
+one_picture work k a b l m = (
+  l.number ∙ sym m.number,
+  one_list work.grid.columns work.grid.rows a.spans b.spans l.spans m.spans (λ i j x y. l.filled i j x y ∙ sym (m.filled i j x y)),
+  l.area ∙ sym m.area,
+)

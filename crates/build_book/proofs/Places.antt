@@ -1,10 +1,10 @@
 -- Places of a book, before and after layers are put into those that are free.
-use Rattle.std.proofs.Common.{◌≡◌, ◌≢◌, ℕ, zero, suc, ◌+◌, ◌-◌, ◌*◌, ◌<◌, ◌≤◌, min, Bool, true, false, not, ◌⊎◌, inl, inr, List, [], ◌∷◌, ◌++◌, length, append_assoc, length-append, take, drop, map, set, get_or, refl, sym, ◌∙◌, ap, subst, arith, Option, Some, None, count_by, sum_by, cond, is_some, flat_map, option_to_list, slice_get}
+use Rattle.std.proofs.Common.{◌≡◌, ℕ, zero, suc, ◌+◌, ◌*◌, ◌<◌, ◌≤◌, Bool, true, false, not, ◌⊎◌, inl, inr, List, [], ◌∷◌, ◌++◌, length, append_assoc, length-append, take, drop, map, set, get_or, refl, sym, ◌∙◌, ap, subst, arith, Option, Some, None, cond, is_some, flat_map, option_to_list, slice_get}
 use mir.Val.{bool_byte}
 use Rattle.std.specs.Prelude.{nat_le}
 use Rattle.std.proofs.lemmas.Bool.Decides.{leb_tells}
 use Rattle.std.proofs.lemmas.List.Sums.{sum_by-cons, count_by-le-length}
-use Rattle.build_book.specs.Layers.{Work, Layer, Shelf, IsStripe, stripe_length, stripe_count, IsLawful, AreLawfulFrom, IsLawfulPlace, IsLawfulShelf, IsComplete, filed_count}
+use Rattle.build_book.specs.Layers.{Work, Layer, IsStripe, stripe_length, stripe_count, IsLawful, AreLawfulFrom, IsLawfulPlace, IsLawfulShelf, IsComplete, filed_count}
 use Rattle.build_book.specs.Filing.{filled, or_layer, IsTaken, AreFree}
 
 filled_none : (places : List (Option Layer)) → filled zero [] places ≡ places

@@ -1,16 +1,15 @@
 -- The edges that pass a height are those that a search of the three edges finds.
-use Rattle.std.proofs.Common.{◌≡◌, ◌↔◌, ℕ, zero, suc, ◌<◌, Bool, true, false, ◌&&◌, List, [], ◌∷◌, refl, sym, ◌∙◌, ap, subst, arith, inl, inr, map, get_or, length}
-use Rattle.std.specs.Prelude.{Option, Some, None, ℤ, pos, ◌*ℤ◌, ◌≤ℤ◌, ◌<ℤ◌, int_le, int_lt, find, slice_get}
+use Rattle.std.proofs.Common.{◌≡◌, ℕ, zero, suc, ◌<◌, Bool, true, false, List, [], refl, sym, ◌∙◌, ap, arith, inl, inr, map, get_or, length}
+use Rattle.std.specs.Prelude.{Some, None, ℤ, ◌≤ℤ◌, ◌<ℤ◌, find, slice_get}
 use Rattle.std.proofs.lemmas.Int.{ints}
 use Rattle.std.proofs.lemmas.List.{get_or-map}
 use Rattle.std.proofs.lemmas.Option.{get_or_from_slice_get}
 use Rattle.stl_text.specs.Position.{Position, origin, doubled}
-use Rattle.stl_text.specs.Triangle.{Triangle, triangle, Edge, edge, sides, twice, corner, corners}
+use Rattle.stl_text.specs.Triangle.{Triangle, triangle, Edge, edge, sides, twice, corners}
 use Rattle.exact_cut.specs.Cut.{start, finish, Rises}
 use Rattle.exact_cut.specs.Cutting.{IsCut, IsBetween}
 use Rattle.exact_cut.specs.declared.edges.Cut.{Cut}
 use Rattle.mesh_weld.specs.Mesh.{number_of, facet_at, triples, vertices}
-use Rattle.contour.specs.declared.nodes.Segment.{Segment}
 use Rattle.contour.specs.Contour.{height, rises_through, is_upward, is_downward, node_of, edge_node, segment_of}
 
 pub rises-true : (a b z : ℤ) → a ≤ℤ z → z <ℤ b → rises_through a b z ≡ true

@@ -9,3 +9,9 @@ pub mod Links
 pub mod Within
 pub mod LoopRays
 pub mod Rows
+pub mod Places
+pub mod Balanced
+pub mod Followers
+pub mod Walks
+pub mod Gathers
+pub mod Cycles

@@ -2,7 +2,7 @@
 use Rattle.std.proofs.Common.{◌≡◌, ℕ, zero, suc, ◌+◌, ◌<◌, ◌≤◌, Bool, true, false, cond, List, [], ◌∷◌, refl, sym, ◌∙◌, ap, subst, length, get_or, arith, map, Some, None}
 use Rattle.std.specs.Prelude.{Option, ℤ, filter_map, find, All}
 use Rattle.std.specs.List.{enumerate_from, cons_option}
-use Rattle.std.proofs.lemmas.List.{get_or-map, length-map, get_or_default}
+use Rattle.std.proofs.lemmas.List.{get_or-map, length-map}
 use Rattle.stl_text.specs.Position.{Position}
 use Rattle.stl_text.specs.Triangle.{Triangle, Edge, sides}
 use Rattle.mesh_weld.specs.Mesh.{vertices, triples}
@@ -10,7 +10,7 @@ use Rattle.mesh_weld.specs.EdgeNumbers.{AreEdgeNumbers}
 use Rattle.contour.specs.declared.nodes.Node.{Node}
 use Rattle.contour.specs.declared.nodes.Segment.{Segment}
 use Rattle.contour.specs.Contour.{both_of, edge_node, is_downward, is_node, is_upward, node_of, segment_of, segments}
-use Rattle.contour.specs.Linking.{ArePassedEdges, edge_at_node, edge_of_facet, start_edge, finish_edge}
+use Rattle.contour.specs.Linking.{ArePassedEdges, edge_of_facet, start_edge, finish_edge}
 
 -- a segment from a facet has its number
 abbrev IsOf : ℕ → Option Segment → Type 0

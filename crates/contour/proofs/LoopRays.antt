@@ -1,5 +1,5 @@
 -- The rays of a loop's facets, one after another.
-use Rattle.std.proofs.Common.{◌≡◌, ℕ, zero, suc, ◌+◌, ◌<◌, ◌≤◌, ◌^◌, Bool, true, false, List, [], ◌∷◌, ◌++◌, refl, sym, ◌∙◌, ap, subst, length, take, get_or, map, arith, Some, None, to_z, of_z, w32, cond}
+use Rattle.std.proofs.Common.{◌≡◌, ℕ, zero, suc, ◌+◌, ◌<◌, ◌≤◌, ◌^◌, Bool, true, false, List, [], ◌∷◌, refl, sym, ◌∙◌, ap, subst, length, take, get_or, map, arith, Some, None, to_z, of_z, w32, cond}
 use Rattle.std.specs.Prelude.{All, Option, ℤ, pos, ◌+ℤ◌, unsigned_abs, slice_get, filter}
 use Rattle.std.specs.List.{AllByRecursion}
 use Rattle.std.proofs.lemmas.Int.{ints, to_z-of_z, fits_signed_from_abs}
@@ -7,16 +7,15 @@ use Rattle.std.proofs.lemmas.List.{map_more}
 use Rattle.std.proofs.lemmas.List.Elements.{All-filter, All-from_recursion, recursion_from_All}
 use Rattle.std.proofs.lemmas.Option.{get_or_from_slice_get, slice_get_within}
 use Rattle.micro_num.specs.Bounds.{IsAtMost}
-use Rattle.stl_text.specs.Position.{Position, origin}
-use Rattle.stl_text.specs.Triangle.{Triangle, triangle, twice}
-use Rattle.stl_text.specs.Winding.{hit, ray, total}
+use Rattle.stl_text.specs.Position.{Position}
+use Rattle.stl_text.specs.Triangle.{Triangle, twice}
+use Rattle.stl_text.specs.Winding.{hit, ray}
 use Rattle.mesh_weld.specs.Mesh.{facet_at}
 use Rattle.mesh_weld.proofs.Sums.{total-append}
 use Rattle.contour.specs.declared.nodes.Segment.{Segment}
-use Rattle.contour.specs.declared.nodes.Node.{Node}
 use Rattle.contour.specs.Contour.{loop_facets, loops, segments, cycle, run_from, follower, is_segment, is_leader, is_node, turn_at_end}
 use Rattle.contour.proofs.Cutting.{facet_at-is}
-use Rattle.contour.proofs.Within.{AreSegments, facet_within, few_segments}
+use Rattle.contour.proofs.Within.{facet_within, few_segments}
 
 -- ---- a loop is of the list's segments, and at most one longer
 module _ (list : List Segment) (P : Segment → Type 0) (all : All P list) where

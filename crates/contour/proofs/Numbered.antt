@@ -1,6 +1,6 @@
 -- Lists with their places: one more element, and what a search, a filter and a map of them give there.
-use Rattle.std.proofs.Common.{◌≡◌, ℕ, zero, suc, ◌+◌, ◌<◌, ◌≤◌, List, [], ◌∷◌, ◌++◌, refl, sym, ◌∙◌, ap, length, take, get_or, arith, map}
-use Rattle.std.specs.Prelude.{Option, Some, None, ℤ, filter_map}
+use Rattle.std.proofs.Common.{◌≡◌, ℕ, suc, ◌+◌, ◌<◌, ◌≤◌, List, [], ◌∷◌, ◌++◌, sym, ◌∙◌, ap, length, take, get_or, arith}
+use Rattle.std.specs.Prelude.{Some, None, ℤ, filter_map}
 use Rattle.std.specs.List.{enumerate_from, cons_option}
 use Rattle.std.proofs.lemmas.List.{take_more, length-take, append-nil, take_all}
 use Rattle.std.proofs.lemmas.List.Elements.{filter_map-append}

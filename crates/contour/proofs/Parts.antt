@@ -1,7 +1,7 @@
 -- What a list is cut into: how many parts there are, where each stands, and one more at the end.
 use Rattle.std.proofs.Common.{◌≡◌, ℕ, zero, suc, ◌+◌, ◌-◌, ◌<◌, ◌≤◌, List, [], ◌∷◌, ◌++◌, refl, sym, ◌∙◌, ap, length, take, drop, get_or, arith, Some, None}
 use Rattle.std.specs.Prelude.{slice_get}
-use Rattle.std.proofs.lemmas.List.{length-drop, length-append, drop-drop, take-append-le, drop-append-le, take_all, nil_from_length}
+use Rattle.std.proofs.lemmas.List.{length-drop, drop-drop, take-append-le, drop-append-le, take_all, nil_from_length}
 use Rattle.contour.specs.Contour.{parts_from, AreEnds, start_of}
 
 pub length-parts : {X : Type 0} (at : ℕ) (ends : List ℕ) (xs : List X) → length (parts_from at ends xs) ≡ length ends

@@ -1,5 +1,5 @@
 -- One more element at the end: a map, a search and a front, as loops take them.
-use Rattle.std.proofs.Common.{◌≡◌, ℕ, zero, suc, ◌+◌, ◌-◌, ◌<◌, ◌≤◌, Bool, true, false, cond, List, [], ◌∷◌, ◌++◌, refl, sym, ◌∙◌, ap, length, take, drop, get_or, arith, map, Some, None}
+use Rattle.std.proofs.Common.{◌≡◌, ℕ, ◌+◌, ◌<◌, ◌≤◌, Bool, true, false, cond, List, [], ◌∷◌, ◌++◌, sym, ◌∙◌, ap, length, take, drop, get_or, map, Some, None}
 use Rattle.std.specs.Prelude.{Option, ℤ, pos, ◌*ℤ◌, filter, filter_map, slice_get, int_le, int_lt, nat_lt}
 use Rattle.std.specs.List.{prefix_len, cons_option}
 use Rattle.std.proofs.lemmas.List.{take_more, map_more, append_assoc, append-nil, drop_more, drop_all, get_or-map}

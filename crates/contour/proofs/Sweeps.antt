@@ -1,8 +1,8 @@
 -- What a sweep keeps, at the start and at each rise, and the segments of the facets that it cuts.
-use Rattle.std.proofs.Common.{◌≡◌, ℕ, zero, suc, ◌+◌, ◌-◌, ◌<◌, ◌≤◌, Bool, true, false, cond, ◌&&◌, ◌||◌, List, [], ◌∷◌, ◌++◌, ◌⊎◌, inl, inr, refl, sym, ◌∙◌, ap, subst, length, take, drop, get_or, arith, map, None, Some}
-use Rattle.std.specs.Prelude.{All, Option, count_by, filter, filter_map, IsPermutation, ℤ, pos, ◌*ℤ◌, ◌≤ℤ◌, ◌<ℤ◌, int_le, int_lt}
+use Rattle.std.proofs.Common.{◌≡◌, ℕ, ◌+◌, ◌<◌, ◌≤◌, Bool, true, false, cond, ◌&&◌, ◌||◌, List, [], ◌∷◌, ◌⊎◌, inl, inr, refl, sym, ◌∙◌, ap, subst, length, take, drop, arith, map, None}
+use Rattle.std.specs.Prelude.{All, Option, filter, filter_map, IsPermutation, ℤ, ◌≤ℤ◌, ◌<ℤ◌, int_le, int_lt}
 use Rattle.std.specs.List.{range_with_len, prefix_len, enumerate_from, list_any, cons_option}
-use Rattle.std.specs.List.Sorted.{IsNonDecreasing, IsSorted}
+use Rattle.std.specs.List.Sorted.{IsSorted}
 use Rattle.std.specs.Ordering.{nat_cmp}
 use Rattle.std.proofs.lemmas.Int.{ints}
 use Rattle.std.proofs.lemmas.List.FromFn.{get_or-range_with_len, length-range_with_len}
@@ -14,7 +14,6 @@ use Rattle.stl_text.specs.Position.{origin}
 use Rattle.stl_text.specs.Triangle.{Triangle, triangle, corners, twice}
 use Rattle.mesh_weld.specs.Mesh.{facet_at, vertices, IsByHeight}
 use Rattle.exact_cut.specs.Cutting.{IsBetween}
-use Rattle.contour.specs.declared.nodes.Segment.{Segment}
 use Rattle.contour.specs.Contour.{height, is_cut, active_facets, passed_count, segment_of, segments}
 use Rattle.contour.specs.Sweeping.{top_of, is_begun, is_topped, weave, numbered_segment, IsSwept}
 use Rattle.contour.proofs.Cutting.{segment-none}

@@ -1,5 +1,5 @@
 -- The facets that a rising plane cuts: those that begin at most so high, the front of their order, and don't end.
-use Rattle.std.proofs.Common.{◌≡◌, ℕ, zero, suc, ◌+◌, ◌-◌, ◌<◌, ◌≤◌, Bool, true, false, cond, eqb, not, ◌&&◌, List, [], ◌∷◌, ◌++◌, refl, sym, ◌∙◌, ap, subst, length, take, drop, get_or, arith, one-add, map}
+use Rattle.std.proofs.Common.{◌≡◌, ℕ, zero, suc, ◌+◌, ◌<◌, Bool, true, false, cond, not, ◌&&◌, List, [], ◌∷◌, refl, sym, ◌∙◌, ap, subst, length, take, drop, get_or, arith, one-add, map}
 use Rattle.std.specs.Prelude.{count_by, filter, ◌==◌, nat_lt, ◌||◌, IsPermutation, ℤ, pos, ◌*ℤ◌, ◌≤ℤ◌, int_le, int_lt}
 use Rattle.std.specs.List.{range_with_len, prefix_len, AllPairs, AllByRecursion, enumerate_from, list_any}
 use Rattle.std.specs.List.Sorted.{IsNonDecreasing}
@@ -7,15 +7,12 @@ use Rattle.std.specs.Ordering.{int_eq}
 use Rattle.std.specs.Int.{int_min, int_max}
 use Rattle.std.proofs.lemmas.List.Elements.{filter_agree}
 use Rattle.std.proofs.lemmas.Int.{ints}
-use Rattle.std.proofs.lemmas.Bool.Decides.{nat_tests}
-use Rattle.std.proofs.lemmas.List.Sums.{length-filter}
-use Rattle.micro_num.specs.Bounds.{IsAtMost}
-use Rattle.stl_text.specs.Position.{Position, origin}
+use Rattle.stl_text.specs.Position.{origin}
 use Rattle.stl_text.specs.Triangle.{Triangle, triangle, corners}
 use Rattle.mesh_weld.specs.Mesh.{facet_at, least_z, IsByHeight, is_lower}
 use Rattle.contour.specs.Contour.{height, is_cut, active_facets, passed_count, greatest_z}
-use Rattle.contour.specs.Sweeping.{top_of, is_begun, is_topped, weave, IsSwept}
-use Rattle.contour.proofs.Counts.{times, times-filter, times-weave, count-cons, count-append, count-permutation, Ascends, Ascends-filter, Ascends-range, Ascends-weave, Ascends-from_sorted, same_from_counts}
+use Rattle.contour.specs.Sweeping.{top_of, is_begun, is_topped, weave}
+use Rattle.contour.proofs.Counts.{times, times-filter, times-weave, count-cons, count-permutation, Ascends, Ascends-filter, Ascends-range, Ascends-weave, Ascends-from_sorted, same_from_counts}
 
 -- ---- a test that fails for good
 abbrev pub Fades : {X : Type 0} → (X → Bool) → List X → Type 0

@@ -1,5 +1,5 @@
 -- The segments of a plane are of facets of the mesh, and not more than these.
-use Rattle.std.proofs.Common.{◌≡◌, ℕ, zero, suc, ◌+◌, ◌<◌, ◌≤◌, List, [], ◌∷◌, refl, sym, ◌∙◌, ap, subst, length, arith, Some, None}
+use Rattle.std.proofs.Common.{◌≡◌, ℕ, ◌+◌, ◌<◌, ◌≤◌, List, [], ◌∷◌, sym, ap, subst, length, arith, Some, None}
 use Rattle.std.specs.Prelude.{All, Option, ℤ, filter_map, find}
 use Rattle.std.specs.List.{enumerate_from, cons_option, AllByRecursion}
 use Rattle.std.proofs.lemmas.List.Elements.{All-from_recursion}

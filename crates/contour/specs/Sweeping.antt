@@ -1,6 +1,6 @@
 -- A plane that rises through a mesh: what it stands at, and how the facets that it cuts follow from those that it cut
 -- before.
-use Rattle.std.specs.Prelude.{◌≡◌, ℕ, ◌≤◌, Bool, Option, List, [], ◌∷◌, ◌++◌, map, take, drop, ℤ, pos, ◌*ℤ◌, int_le, int_lt, nat_lt}
+use Rattle.std.specs.Prelude.{◌≡◌, ℕ, Bool, Option, List, [], ◌∷◌, ◌++◌, map, take, drop, ℤ, pos, ◌*ℤ◌, int_le, int_lt, nat_lt}
 use Rattle.std.specs.List.{prefix_len}
 use Rattle.micro_num.specs.Bounds.{IsAtMost}
 use Rattle.stl_text.specs.Triangle.{Triangle}

@@ -1,14 +1,15 @@
-ghost use Rattle.std.specs.Prelude.{◌≡◌, ◌<◌, ◌≤◌, ℕ, ℤ, All, List, IfOk, OnOk, length};
+ghost use Rattle.std.specs.Prelude.{◌++◌, Bool, true, false, ◌≡◌, ◌<◌, ◌≤◌, ℕ, ℤ, All, List, IfOk, OnOk, length, slice_index_or};
 ghost use Rattle.micro_num.specs.Bounds.{IsAtMost};
 ghost use Rattle.mesh_weld.specs.Balance.{IsBalanced};
 ghost use Rattle.mesh_weld.specs.EdgeNumbers.{AreEdgeNumbers};
-ghost use Rattle.contour.specs.Contour.{segments};
-ghost use Rattle.contour.specs.Linking.{ArePassedEdges, edge_at_node};
+ghost use Rattle.contour.specs.Contour.{AreLoops, segments};
+ghost use Rattle.contour.specs.Linking.{AreLinks, ArePassedEdges, AreEven, AreTaken, HasFirsts, HasLeft, HasNexts, IsClear, edge_at_node, no_place, IsTakenLoop, LeavesLoops, Rises, has_passed};
 
 use crate::nodes::{Node, Segment};
 use crate::rings::Loops;
 use mesh_weld::Solid;
 use std::alloc::{AllocError, Allocator};
+use std::marker::Model;
 
 /// No segment.
 const NONE: u32 = u32::MAX;
@@ -18,6 +19,16 @@ const NONE: u32 = u32::MAX;
 #[derive(Drop)]
 pub struct Linker<A: Allocator> {
     heads: Vec<u32, A>,
+}
+
+impl<A: Allocator> Model for Linker<A> {
+    ghost use Rattle.contour.specs.Linking.{IsClear};
+
+    ghost Value = { Unit {0} };
+
+    ghost view = { λ l. tt };
+
+    ghost invariant = { λ l. IsClear l.heads.items };
 }
 
 impl<A: Allocator + Copy + Send + Sync> Linker<A> {
@@ -36,9 +47,10 @@ impl<A: Allocator + Copy + Send + Sync> Linker<A> {
         list: &[Segment],
     ) -> Result<Loops<A>, AllocError>
         requires { (z : ℤ) × (list.now ≡ segments s.now.facets z) }
+        ensures closed { IfOk result (AreLoops list.now) }
     {
-        let mut next = self.followers(alloc, s, list)?;
-        gathered(alloc, list, next.as_mut_slice())
+        let next = self.followers(alloc, s, list)?;
+        gathered(alloc, list, next.as_slice())
     }
 
     /// For each segment the place of the one behind it: at each node the n-th that ends there is
@@ -50,9 +62,9 @@ impl<A: Allocator + Copy + Send + Sync> Linker<A> {
         list: &[Segment],
     ) -> Result<Vec<u32, A>, AllocError>
         requires { (z : ℤ) × (list.now ≡ segments s.now.facets z) }
-        ensures { IfOk result (λ next. length next.items ≡ length list.now) }
+        ensures { IfOk result (λ next. AreLinks list.now next.items) }
     {
-        self.fit(alloc, s)?;
+        make_room(alloc, &mut self.heads, s)?;
         let edges = PassedEdges::of(alloc, s, list)?;
         linked(
             alloc,
@@ -61,18 +73,24 @@ impl<A: Allocator + Copy + Send + Sync> Linker<A> {
             place_count(s, list) as usize,
         )
     }
+}
 
-    /// Makes room for the edges of a mesh.
-    fn fit(&mut self, alloc: A, s: &Solid<A>) -> Result<(), AllocError>
-        ensures room { OnOk result ((numbers : List (List ℕ)) (count : ℕ) → AreEdgeNumbers s.now.facets numbers count
-            → count ≤ length self.new.heads.items) }
-    {
-        let count = s.edge_count() as usize;
-        if self.heads.len() < count {
-            self.heads = vec![in alloc; NONE; count]?;
-        }
-        Ok(())
+/// Makes room for the edges of a mesh.
+fn make_room<A: Allocator + Copy + Send + Sync>(
+    alloc: A,
+    heads: &mut Vec<u32, A>,
+    s: &Solid<A>,
+) -> Result<(), AllocError>
+    requires { IsClear heads.old.items }
+    ensures room { OnOk result ((numbers : List (List ℕ)) (count : ℕ) → AreEdgeNumbers s.now.facets numbers count
+        → count ≤ length heads.new.items) }
+    ensures clear { IsClear heads.new.items }
+{
+    let count = s.edge_count() as usize;
+    if heads.len() < count {
+        *heads = vec![in alloc; NONE; count]?;
     }
+    Ok(())
 }
 
 /// How many segments there are: at most one a kept facet, so that their places fit `u32`.
@@ -97,13 +115,16 @@ fn linked<A: Allocator + Copy + Send + Sync>(
     requires starts_count { length edges.now.starts.items ≡ count }
     requires finishes_count { length edges.now.finishes.items ≡ count }
     requires few { count ≤ 1048576 }
+    requires clear { IsClear heads.old }
+    requires even { AreEven edges.now.starts.items edges.now.finishes.items }
     ensures count { IfOk result (λ next. length next.items ≡ count) }
+    ensures taken { IfOk result (λ next. AreTaken next.items edges.now.starts.items edges.now.finishes.items count) }
+    ensures clear { IsClear heads.new }
 {
     let mut after = vec![in alloc; NONE; count]?;
     let mut next = vec![in alloc; NONE; count]?;
     put_starters(heads, edges, after.as_mut_slice());
     take_starters(heads, edges, after.as_slice(), next.as_mut_slice());
-    clear(heads, edges);
     Ok(next)
 }
 
@@ -151,6 +172,9 @@ fn put_starters<A: Allocator>(heads: &mut [u32], edges: &PassedEdges<A>, after: 
     requires edges { All (λ e. e < length heads.old) edges.now.starts.items }
     requires room { length after.old ≡ length edges.now.starts.items }
     requires few { length edges.now.starts.items ≤ 1048576 }
+    requires clear { IsClear heads.old }
+    ensures firsts { HasFirsts heads.new 0 edges.now.starts.items }
+    ensures nexts { HasNexts after.new 0 edges.now.starts.items }
 {
     for i in (0..edges.starts.len()).rev() {
         let edge = edges.starts[i] as usize;
@@ -168,21 +192,25 @@ fn take_starters<A: Allocator>(
 )
     requires edges { All (λ e. e < length heads.old) edges.now.finishes.items }
     requires room { length next.old ≡ length edges.now.finishes.items }
+    requires size { length after.now ≡ length edges.now.starts.items }
+    requires few { length after.now ≤ 1048576 }
+    requires firsts { HasFirsts heads.old 0 edges.now.starts.items }
+    requires nexts { HasNexts after.now 0 edges.now.starts.items }
+    ensures left { HasLeft heads.new edges.now.starts.items edges.now.finishes.items (length edges.now.finishes.items) }
+    ensures taken { AreTaken next.new edges.now.starts.items edges.now.finishes.items (length edges.now.finishes.items) }
 {
     for (i, edge) in edges.finishes.iter().enumerate() {
         let first = heads[*edge as usize];
         next[i] = first;
-        heads[*edge as usize] = after.get(first as usize).copied().unwrap_or(NONE);
+        heads[*edge as usize] = place_in(after, first);
     }
 }
 
-/// Forgets what starts at these edges.
-fn clear<A: Allocator>(heads: &mut [u32], edges: &PassedEdges<A>)
-    requires { All (λ e. e < length heads.old) edges.now.starts.items }
+/// What a list has at a place; nothing where there is no such place.
+fn place_in(list: &[u32], place: u32) -> u32
+    ensures { result ≡ slice_index_or list.now place no_place }
 {
-    for edge in &edges.starts {
-        heads[*edge as usize] = NONE;
-    }
+    list.get(place as usize).copied().unwrap_or(NONE)
 }
 
 /// The loops, each from its first segment, in order of these; `next` has the place of each one's
@@ -190,37 +218,47 @@ fn clear<A: Allocator>(heads: &mut [u32], edges: &PassedEdges<A>)
 fn gathered<A: Allocator + Copy + Send + Sync>(
     alloc: A,
     list: &[Segment],
-    next: &mut [u32],
+    next: &[u32],
 ) -> Result<Loops<A>, AllocError>
-    requires { length next.old ≡ length list.now }
+    requires links { AreLinks list.now next.now }
+    requires rises { Rises list.now }
+    ensures { IfOk result (AreLoops list.now) }
 {
+    let mut passed = vec![in alloc; false; list.len()]?;
     let mut flat = Vec::with_capacity(alloc, list.len())?;
     let mut ends = Vec::new(alloc);
     for first in 0..list.len() {
-        if next[first] != NONE {
-            take_loop(list, next, first, &mut flat)?;
+        if !passed[first] {
+            take_loop(list, next, first, passed.as_mut_slice(), &mut flat)?;
             ends.push(flat.len())?;
         }
     }
     Ok(Loops::of(flat, ends))
 }
 
-/// Moves the loop that begins at the place `first` behind `flat`, and strikes out its places in `next`.
+/// Puts the loop that begins at the place `first` behind `flat`, and marks it as passed.
 fn take_loop<A: Allocator>(
     list: &[Segment],
-    next: &mut [u32],
+    next: &[u32],
     first: usize,
+    passed: &mut [bool],
     flat: &mut Vec<Segment, A>,
 ) -> Result<(), AllocError>
-    requires { length next.old ≡ length list.now }
-    ensures { OnOk result (length flat.old.items ≤ length flat.new.items) }
+    requires links { AreLinks list.now next.now }
+    requires rises { Rises list.now }
+    requires size { length passed.old ≡ length list.now }
+    requires first { first < length list.now }
+    requires begins { has_passed passed.old first ≡ false }
+    requires leaves { LeavesLoops list.now next.now passed.old }
+    requires earlier { (j : ℕ) → j < first → has_passed passed.old j ≡ true }
+    ensures { OnOk result ((part : List Segment) × (flat.new.items ≡ flat.old.items ++ part)
+        × IsTakenLoop list.now next.now first passed.old passed.new part) }
 {
     let mut at = first;
-    while at < list.len() && next[at] != NONE {
+    while !passed[at] {
         flat.push(list[at])?;
-        let follower = next[at];
-        next[at] = NONE;
-        at = follower as usize;
+        passed[at] = true;
+        at = next[at] as usize;
     }
     Ok(())
 }
@@ -236,6 +274,7 @@ pub fn loops<A: Allocator + Copy + Send + Sync>(
 ) -> Result<Loops<A>, AllocError>
     requires height { IsAtMost 256200000 z2 }
     requires list { list.items ≡ segments s.now.facets z2 }
+    ensures closed { IfOk result (AreLoops list.items) }
 {
     Linker::new(alloc, s)?.loops(alloc, s, list.as_slice())
 }

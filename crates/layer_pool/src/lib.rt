@@ -2,8 +2,8 @@
 #![tactic(auto)]
 
 mod claims;
-mod laws;
 mod gates;
+mod laws;
 mod machine;
 mod pool;
 
@@ -12,5 +12,7 @@ pub use crate::gates::{Gate, OpenGate};
 pub use crate::laws::claims_laws;
 pub use crate::pool::build;
 
+#[cfg(test)]
+mod pool_tests;
 #[cfg(test)]
 mod tests;

@@ -9,3 +9,6 @@ pub mod Written
 pub mod Sweeps
 pub mod Courses
 pub mod Layers
+pub mod Boxes
+pub mod Segs
+pub mod Pixels

@@ -1,9 +1,11 @@
 ghost use Rattle.std.specs.Prelude.{◌≡◌, ◌<◌, ◌≤◌, ◌≤ℤ◌, IfSome, Some, option_map, ◌-◌, ℕ, int_lt, pos};
 ghost use Rattle.micro_num.specs.Bounds.{IsAtMost};
-ghost use Rattle.raster.specs.Lattice.{IsBox, cell_count, centre, exceeds, given_grid, grid_within, lattice, middle, plane, reaches_too_far, within_limits};
+ghost use Rattle.raster.specs.Lattice.{IsBox, cell_count, centre, exceeds, fitted_grid, given_grid, grid_within, lattice, middle, plane, reaches_too_far, within_limits};
 
 use crate::grid_faults::GridFault;
-use exact_cut::Centre;
+use exact_cut::{Centre, Lattice as Pixels};
+use mesh_weld::Solid;
+use std::alloc::Allocator;
 use std::marker::Model;
 use stl_text::Point;
 
@@ -48,6 +50,21 @@ const MOST_LAYERS: u32 = 65535;
 const FARTHEST_CENTRE: i64 = 256_200_000;
 
 impl Grid {
+    /// The grid of this pitch and layer height (micrometres, 1 to 100,000) that begins at the mesh's least x, y and z
+    /// and has as few columns, rows and layers as cover it, at least one of each.
+    ///
+    /// `EmptyMesh` where no facet is kept; `TooLarge` where that takes more than 16,384 columns or rows or 65,535
+    /// layers.
+    pub fn fit<A: Allocator>(s: &Solid<A>, pitch: u32, layer_height: u32) -> Result<Grid, GridFault>
+        requires pitch { 1 ≤ pitch }
+        requires pitch_high { pitch ≤ 100000 }
+        requires height { 1 ≤ layer_height }
+        requires height_high { layer_height ≤ 100000 }
+        ensures { result ≡ fitted_grid s.now.facets pitch layer_height }
+    {
+        fit_corners(s.corners(), pitch, layer_height)
+    }
+
     /// The grid with this origin (micrometres), pitch and layer height (micrometres, 1 to 100,000) and these counts.
     ///
     /// In this order: `NoCells` where a count is 0; `TooLarge` where there are more than 16,384 columns or rows or
@@ -154,6 +171,23 @@ impl Grid {
         match Centre::new(x2, y2, z2) {
             Some(centre) => centre,
             None => unreachable!(),
+        }
+    }
+
+    /// The centres of a layer's pixels.
+    pub(crate) fn pixels(&self) -> Pixels
+        ensures columns { result.columns ≡ self.now.columns }
+        ensures rows { result.rows ≡ self.now.rows }
+        ensures x2 { result.x2 ≡ middle self.now.origin.x self.now.pitch 0 }
+        ensures y2 { result.y2 ≡ middle self.now.origin.y self.now.pitch 0 }
+        ensures step { result.step ≡ self.now.pitch }
+    {
+        Pixels {
+            x2: middle_before(self.origin.x(), self.pitch, 0, self.columns),
+            y2: middle_before(self.origin.y(), self.pitch, 0, self.rows),
+            step: self.pitch,
+            columns: self.columns,
+            rows: self.rows,
         }
     }
 

@@ -5,8 +5,10 @@ mod bits;
 mod chunk;
 mod crossed;
 mod devices;
+mod filled;
+#[cfg(test)]
+mod filled_boxes;
 mod filling;
-mod fills;
 mod grid;
 mod grid_faults;
 mod image;
@@ -19,7 +21,7 @@ mod tests;
 mod write_fault;
 
 pub use devices::{Counted, Failed, Failures, Sink, Source};
-pub use fills::fill;
+pub use filled::fill;
 pub use grid::Grid;
 pub use grid_faults::GridFault;
 pub use image::write_layer;

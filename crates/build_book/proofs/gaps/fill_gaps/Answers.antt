@@ -1,7 +1,6 @@
-use Rattle.std.proofs.Common.{◌≡◌, ◌+◌, ◌<◌, ◌≤◌, length, arith, rules, length-set, ◌∙◌, ap, sym, subst, set}
+use Rattle.std.proofs.Common.{◌≡◌, ◌+◌, ◌<◌, ◌≤◌, length, arith, rules, length-set, ◌∙◌, ap, sym}
 use Rattle.std.specs.Prelude.{get_or}
-use Rattle.build_book.specs.Filing.{or_layer, filled}
-use Rattle.build_book.specs.Layers.{filed_count}
+use Rattle.build_book.specs.Filing.{or_layer}
 use Rattle.build_book.proofs.Places.{filled_step, filled_empty, front_step, count_step, room_here, room_after, few_front, length_step, one_if_free, one_or_none, one_at_most, length-filled}
 use Rattle.build_book.proofs.gaps.fill_gaps.Goals as goal
 use Rattle.build_book.proofs.gaps.fill_gaps.Goals.{In-Some, After-from-made}

@@ -1,4 +1,4 @@
-use Rattle.std.proofs.Common.{◌≡◌, ◌<◌, Some, None, slice_get, length, arith, sym}
+use Rattle.std.proofs.Common.{◌≡◌, Some, None, slice_get, arith, sym}
 use Rattle.build_book.proofs.Places.{one_further, taken_at, free_at}
 use Rattle.build_book.proofs.gaps.first_taken.Goals as goal
 

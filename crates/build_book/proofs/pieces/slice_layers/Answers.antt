@@ -18,3 +18,7 @@ loop-k-preserved g c = record {
   lawful = rw c.in_ok-push-2.ensures.items (lawful_push _ _ _ _ c.loop-k.invariant.lawful
       (let at : c.args.first + length c.loop-k.layers.items ≡ c.loop-k.k = c.loop-k.invariant.whole in rw at c.in_ok-slice_layer-2.ensures));
 }
+
+-- src/pieces.rt:53:1
+pub returns-clause-whole : goal.returns-clause-whole
+returns-clause-whole g c = omega (arith, c.loop-k.invariant.whole, c.loop-k.auto.k, c.loop-k.auto.k-end, c.loop-k-test.false, c.requires.some)

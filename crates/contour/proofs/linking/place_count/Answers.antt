@@ -1,4 +1,4 @@
-use Rattle.std.proofs.Common.{◌≡◌, ◌≤◌, length, min, arith}
+use Rattle.std.proofs.Common.{◌≤◌, length, arith}
 use Rattle.contour.proofs.Links.{segments_few}
 use Rattle.contour.proofs.linking.place_count.Goals as goal
 

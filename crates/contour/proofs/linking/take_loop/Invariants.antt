@@ -1,9 +1,12 @@
-use Rattle.std.proofs.Common.{◌≡◌, ◌≤◌, ℕ, length, not}
-use Rattle.std.specs.Prelude.{count_by, ◌==◌}
+use Rattle.std.proofs.Common.{◌≡◌, ◌++◌, List, not}
+use Rattle.std.specs.Prelude.{count_by}
+use Rattle.contour.specs.declared.nodes.Segment.{Segment}
+use Rattle.contour.proofs.Walks.{IsWalk}
 use Rattle.contour.proofs.linking.take_loop.Given as goal
 
-abbrev pub invariant-loop-at : goal.invariant-loop-at
-invariant-loop-at g l = length l.fn.flat.items ≤ length l.flat.items
+abbrev pub invariant-loop-passed : goal.invariant-loop-passed
+invariant-loop-passed g l =
+    (part : List Segment) × (l.flat.items ≡ l.fn.flat.items ++ part) × IsWalk l.list l.next l.first l.fn.passed l.passed l.at part
 
-abbrev pub decreases-loop-at : goal.decreases-loop-at
-decreases-loop-at g l = count_by (λ n. not (n == 4294967295)) l.next
+abbrev pub decreases-loop-passed : goal.decreases-loop-passed
+decreases-loop-passed g l = count_by (λ b. not b) l.passed

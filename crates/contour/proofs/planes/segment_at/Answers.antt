@@ -1,5 +1,4 @@
-use Rattle.std.proofs.Common.{rules, arith}
-use Rattle.std.specs.Prelude.{pos}
+use Rattle.std.proofs.Common.{arith}
 use Rattle.std.proofs.lemmas.Int.{to_z-of_z}
 use Rattle.contour.proofs.Cutting.{segment_at-some, segment_at-none}
 use Rattle.contour.proofs.planes.segment_at.Goals as goal

@@ -1,6 +1,5 @@
-use Rattle.std.proofs.Common.{arith, ◌∙◌, get_or}
-use Rattle.std.proofs.lemmas.List.{get_or_read}
-use Rattle.contour.proofs.Parts.{start_of-first, start_of-before}
+use Rattle.std.proofs.Common.{arith}
+use Rattle.contour.proofs.Parts.{start_of-before}
 use Rattle.contour.proofs.rings.start_in.Goals as goal
 
 pub returns-else-number-eq0 : goal.returns-else-number-eq0

@@ -1,4 +1,4 @@
-use Rattle.std.proofs.Common.{◌≡◌, ◌∙◌, length, arith, sym, ap, subst, flat_map, option_to_list}
+use Rattle.std.proofs.Common.{◌≡◌, ◌∙◌, arith, sym, ap, subst, flat_map, option_to_list}
 use Rattle.std.specs.Vec.{with_items}
 use Rattle.std.proofs.lemmas.List.{with_items_is}
 use Rattle.build_book.specs.Layers.{IsComplete, filed_count}

@@ -1,5 +1,4 @@
-use Rattle.std.proofs.Common.{◌≡◌, ◌∙◌, ap, sym}
-use Rattle.raster.specs.Lattice.{Lattice}
+use Rattle.std.proofs.Common.{◌∙◌, ap, sym}
 use Rattle.build_book.specs.Layers.{Work}
 use Rattle.build_book.proofs.Alike.{grids_decide, rules_decide}
 use Rattle.build_book.proofs.jobs.Job.has_cells_of.Goals as goal

@@ -1,4 +1,4 @@
-use Rattle.std.proofs.Common.{◌≡◌, ◌<◌, length, get_or, arith}
+use Rattle.std.proofs.Common.{◌≡◌, length, get_or, arith}
 use Rattle.std.proofs.lemmas.List.{get_or_read}
 use Rattle.contour.specs.Contour.{start_of}
 use Rattle.contour.proofs.Parts.{Bounds, bounds-in, part-at, part-none}

@@ -1,8 +1,8 @@
-use Rattle.std.proofs.Common.{◌≡◌, ◌≤◌, ◌∙◌, sym, subst, ℤ, length, arith, to_z, of_z, w64}
+use Rattle.std.proofs.Common.{◌≡◌, sym, subst, arith, to_z, of_z, w64}
 use Rattle.std.specs.Prelude.{◌≤ℤ◌}
-use Rattle.std.proofs.lemmas.Int.{to_z-of_z, ints}
+use Rattle.std.proofs.lemmas.Int.{to_z-of_z}
 use Rattle.contour.specs.Sweeping.{SweepView}
-use Rattle.contour.proofs.Sweeps.{order_in, rest_in, found_in, passed_within, swept_next}
+use Rattle.contour.proofs.Sweeps.{rest_in, found_in, passed_within, swept_next}
 use Rattle.contour.proofs.sweeping.Sweep.advance.Goals as goal
 
 pub split_at-requires : goal.split_at-requires

@@ -1,9 +1,6 @@
 use Rattle.std.proofs.Common.{◌≡◌, ◌∙◌, rules, to_z, of_z, SFits, w64}
 use Rattle.std.proofs.lemmas.Int.{to_z-of_z}
-use Rattle.std.specs.Prelude.{filter_map}
-use Rattle.contour.specs.Contour.{segments}
-use Rattle.contour.specs.Sweeping.{numbered_segment}
-use Rattle.contour.proofs.Sweeps.{AreNumbers, active_in, active_segments}
+use Rattle.contour.proofs.Sweeps.{active_in, active_segments}
 use Rattle.contour.proofs.sweeping.Sweep.segments.Goals as goal
 
 pub segments_of-requires-clause-numbers : goal.segments_of-requires-clause-numbers

@@ -1,4 +1,4 @@
-use Rattle.std.proofs.Common.{◌≡◌, ℤ, arith, to_z, of_z, w64}
+use Rattle.std.proofs.Common.{◌≡◌, to_z, of_z, w64}
 use Rattle.std.proofs.lemmas.Int.{to_z-of_z}
 use Rattle.contour.proofs.Sweeps.{order_in, found_in, swept_first}
 use Rattle.contour.proofs.sweeping.Sweep.start.Goals as goal

@@ -1,0 +1,274 @@
+//! What no clause says: that workers run at the same time, that none is late, and memory that is refused.
+ghost use Rattle.std.specs.Prelude.{◌≡◌, ◌≤◌, ◌<◌, length};
+
+use crate::{Gate, OpenGate, build};
+use build_book::{Book, Build, FileFault, Job, Piece, slice_stripe};
+use mesh_weld::weld;
+use raster::{Grid, Rule, Span};
+use short_memory::ShortMemory;
+use std::alloc::{AllocError, Allocator, Global};
+use std::sync::atomic::AtomicU64;
+use std::sync::atomic::Ordering::SeqCst;
+use std::sync::{Mutex, Wait};
+use std::test::Fail;
+use std::thread;
+use std::thread::Threads;
+use stl_text::{Facet, Point};
+
+// The facets of a box by its corners in ascending order: 4 for x, 2 for y, 1 for z.
+const BOX: [[u8; 3]; 12] = [
+    [0, 2, 6],
+    [0, 6, 4],
+    [1, 5, 7],
+    [1, 7, 3],
+    [0, 4, 5],
+    [0, 5, 1],
+    [2, 3, 7],
+    [2, 7, 6],
+    [0, 1, 3],
+    [0, 3, 2],
+    [4, 6, 7],
+    [4, 7, 5],
+];
+
+// How many layers the tower has, in stripes of 8, 8 and 1.
+const TOWER: i32 = 17;
+
+// A corner of the box from 0 up to so many micrometres of width and height.
+fn corner(number: u8, width: i32, height: i32) -> Result<Point, AllocError> {
+    let at = |bit: u8, length: i32| if number / bit % 2 == 1 { length } else { 0 };
+    Point::new(at(4, width), at(2, width), at(1, height)).ok_or(AllocError)
+}
+
+// The job of that box, in voxels of one micrometre. Only want of memory refuses it.
+fn box_job<A: Allocator + Copy + Send + Sync>(
+    alloc: A,
+    width: i32,
+    height: i32,
+) -> Result<Job<A>, AllocError> {
+    let mut facets = Vec::new(alloc);
+    for [a, b, c] in &BOX {
+        let at = |number: u8| corner(number, width, height);
+        facets.push(Facet::of(at(*a)?, at(*b)?, at(*c)?))?;
+    }
+    let solid = weld(alloc, facets).ok().ok_or(AllocError)?;
+    let grid = Grid::fit(&solid, 1, 1).ok().ok_or(AllocError)?;
+    Ok(Job::new(solid, grid, Rule::EvenOdd))
+}
+
+// Whether this is all of the tower: each layer is one loop round one pixel.
+fn is_tower<A: Allocator>(build: &Build<'_, A>) -> bool {
+    let pixel = [Span {
+        row: 0,
+        from: 0,
+        to: 1,
+    }];
+    for (k, layer) in build.layers().iter().enumerate() {
+        if layer.number() != k as u32
+            || layer.area() != 1
+            || layer.spans() != pixel.as_slice()
+            || layer.loops().count() != 1
+        {
+            return false;
+        }
+    }
+    build.layers().len() == TOWER as usize && build.total_area() == TOWER as u64
+}
+
+#[test]
+fn any_number_of_workers(rt: HostRuntime) -> Result<(), Fail> {
+    let alloc = rt.alloc();
+    let job = box_job(alloc, 1, TOWER)?;
+    assert_eq!(rt; job.stripes(), 3);
+    for workers in [1, 2, 64] {
+        let build = build(&rt, alloc, &job, workers, &OpenGate)?;
+        assert!(rt; is_tower(&build));
+        assert_eq!(rt; build.late(), 0);
+    }
+    Ok(())
+}
+
+// Holds the worker that arrives first until the other has made two pieces, for at most so many turns.
+#[derive(Drop)]
+struct HoldsTheFirst {
+    // Workers by their numbers plus 1, or 0 for nobody.
+    held: AtomicU64,
+    arrived: [AtomicU64; 3],
+    made: [AtomicU64; 3],
+    made_by_others: AtomicU64,
+    let_go: AtomicU64,
+    twice: AtomicU64,
+}
+
+const TURNS: u32 = 10_000_000;
+
+fn zeros() -> [AtomicU64; 3] {
+    [AtomicU64::new(0), AtomicU64::new(0), AtomicU64::new(0)]
+}
+
+impl HoldsTheFirst {
+    fn new() -> HoldsTheFirst {
+        HoldsTheFirst {
+            held: AtomicU64::new(0),
+            arrived: zeros(),
+            made: zeros(),
+            made_by_others: AtomicU64::new(0),
+            let_go: AtomicU64::new(0),
+            twice: AtomicU64::new(0),
+        }
+    }
+
+    // Notes who came to a stripe. It counts where somebody had, or where there is no such stripe.
+    fn note(&self, places: &[AtomicU64; 3], worker: u64, stripe: u64) {
+        let before = match places.get(stripe as usize) {
+            Some(place) => place.swap(worker, SeqCst),
+            None => 1,
+        };
+        if before != 0 {
+            self.twice.fetch_add(1, SeqCst);
+        }
+    }
+
+    fn hold(&self) {
+        for _ in 0..TURNS {
+            if self.made_by_others.load(SeqCst) >= 2 {
+                self.let_go.store(1, SeqCst);
+                return;
+            }
+            thread::yield_now();
+        }
+    }
+}
+
+impl Gate<Global> for HoldsTheFirst {
+    fn arrived(&self, worker: u32, stripe: u64) {
+        let me = u64::from(worker) + 1;
+        self.note(&self.arrived, me, stripe);
+        if self.held.compare_exchange(0, me, SeqCst, SeqCst).is_ok() {
+            self.hold();
+        }
+    }
+
+    fn made(&self, worker: u32, piece: &Piece<'_, Global>) {
+        let me = u64::from(worker) + 1;
+        self.note(&self.made, me, piece.stripe());
+        if self.held.load(SeqCst) != me {
+            self.made_by_others.fetch_add(1, SeqCst);
+        }
+    }
+}
+
+#[test]
+fn one_worker_is_held_while_the_other_works(rt: HostRuntime) -> Result<(), Fail> {
+    let alloc = rt.alloc();
+    let job = box_job(alloc, 1, TOWER)?;
+    let gate = HoldsTheFirst::new();
+    let build = build(&rt, alloc, &job, 2, &gate)?;
+    assert_eq!(rt; gate.let_go.load(SeqCst), 1);
+    assert_eq!(rt; gate.twice.load(SeqCst), 0);
+    for stripe in 0..3 {
+        let by = gate.made[stripe].load(SeqCst);
+        assert!(rt; by != 0 && by == gate.arrived[stripe].load(SeqCst));
+    }
+    assert!(rt; is_tower(&build));
+    assert_eq!(rt; build.late(), 0);
+    Ok(())
+}
+
+// The most growths that a build of the tower is taken to ask for.
+const GROWTHS: u64 = 1000;
+
+// Refuses each growth in turn until a build asks for no more: whether it came to that, every answer was the tower or
+// want of memory, and a build with late layers was among them.
+fn refuse_each<R: Threads + Wait + Sync>(
+    rt: &R,
+    alloc: Global,
+    workers: u32,
+) -> Result<(bool, bool), AllocError>
+    requires some { 1 ≤ workers }
+    requires few { workers ≤ 64 }
+{
+    let ample = ShortMemory::new(alloc, u64::MAX / 4);
+    let job = box_job(&ample, 1, TOWER)?;
+    let mut made_up = false;
+    for turn in 1..GROWTHS {
+        let memory = ShortMemory::new(alloc, turn);
+        let built = build(rt, &memory, &job, workers, &OpenGate);
+        let refused = memory.has_refused();
+        match built {
+            Ok(build) => {
+                if !is_tower(&build) || (build.late() > 0 && !refused) {
+                    return Ok((false, made_up));
+                }
+                made_up = made_up || build.late() > 0;
+            }
+            Err(AllocError) => {
+                if !refused {
+                    return Ok((false, made_up));
+                }
+            }
+        }
+        if !refused {
+            return Ok((turn > 1, made_up));
+        }
+    }
+    Ok((false, made_up))
+}
+
+#[test]
+fn each_growth_of_a_build_refused_in_turn(rt: HostRuntime) -> Result<(), Fail> {
+    let alloc = rt.alloc();
+    assert_eq!(rt; refuse_each(&rt, alloc, 1)?, (true, true));
+    let (kept, _) = refuse_each(&rt, alloc, 2)?;
+    assert!(rt; kept);
+    Ok(())
+}
+
+// What a book shows: how many places are taken, the area of their layers, and that of layer 8 and of layer 0.
+fn shown(book: &Book<'_, Global>) -> (u32, u64, Option<u64>, Option<u64>) {
+    let area = |k: u32| Some(book.layer(k)?.area());
+    (book.filed(), book.total_area(), area(8), area(0))
+}
+
+// Files a stripe of the job under the lock: the fault, with the stripe that came back.
+fn file<'m, R: Wait>(
+    rt: &R,
+    alloc: Global,
+    book: &Mutex<Book<'m, Global>>,
+    job: &'m Job<Global>,
+    stripe: u64,
+) -> Result<Option<(FileFault, u64)>, AllocError> {
+    if stripe >= job.stripes() {
+        return Err(AllocError);
+    }
+    let piece = slice_stripe(alloc, job, stripe)?;
+    match book.lock(rt).file(piece) {
+        Ok(()) => Ok(None),
+        Err((fault, back)) => Ok(Some((fault, back.stripe()))),
+    }
+}
+
+#[test]
+fn a_book_between_locks(rt: HostRuntime) -> Result<(), Fail> {
+    let alloc = rt.alloc();
+    let job = box_job(alloc, 1, TOWER)?;
+    let other = box_job(alloc, 2, 2)?;
+    let book = Mutex::new(Book::open(alloc, &job)?);
+    let one_stripe = (8, 8, Some(1), None);
+    assert_eq!(rt; file(&rt, alloc, &book, &job, 1)?, None);
+    assert_eq!(rt; shown(&book.lock(&rt)), one_stripe);
+    let double = FileFault::Double { layer: 8 };
+    assert_eq!(rt; file(&rt, alloc, &book, &job, 1)?, Some((double, 1)));
+    assert_eq!(rt; shown(&book.lock(&rt)), one_stripe);
+    assert_eq!(rt; file(&rt, alloc, &book, &job, 2)?, None);
+    assert_eq!(rt; shown(&book.lock(&rt)), (9, 9, Some(1), None));
+    assert_eq!(rt;
+        file(&rt, alloc, &book, &other, 0)?,
+        Some((FileFault::Stranger, 0))
+    );
+    assert_eq!(rt; shown(&book.lock(&rt)), (9, 9, Some(1), None));
+    let build = book.into_inner().finish(&job)?;
+    assert!(rt; is_tower(&build));
+    assert_eq!(rt; build.late(), 8);
+    Ok(())
+}

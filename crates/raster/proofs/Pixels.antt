@@ -1,0 +1,104 @@
+-- The centres of a layer's pixels are those of its voxels, and the rows' spans cover those that are filled.
+use Rattle.std.proofs.Common.{◌≡◌, ℕ, ◌+◌, ◌-◌, ◌*◌, ◌<◌, ◌≤◌, Bool, true, ◌&&◌, List, [], ◌∷◌, refl, ap, subst, sym, ◌∙◌, arith}
+use Rattle.std.specs.Prelude.{ℤ, pos, ◌+ℤ◌, ◌-ℤ◌, ◌≤ℤ◌, neg_ℤ, nat_lt, nat_le}
+use Rattle.std.specs.List.{list_all}
+use Rattle.std.proofs.lemmas.Int.{ints}
+use Rattle.stl_text.specs.Position.{Position}
+use Rattle.stl_text.specs.Triangle.{Triangle, twice}
+use Rattle.stl_text.specs.Winding.{hit, neg_ray_back, ray_back, total, wind}
+use Rattle.exact_cut.specs.Columns.{centre_x}
+use Rattle.exact_cut.specs.Lattices.{pixel, row_y}
+use Rattle.exact_cut.specs.declared.lattice.Lattice.{Lattice as Pixels}
+use Rattle.mesh_weld.specs.Balance.{IsBalanced}
+use Rattle.mesh_weld.proofs.Sums.{ray_from_left}
+use Rattle.raster.specs.declared.crossed.Crossed.{Crossed}
+use Rattle.raster.specs.declared.rules.Rule.{Rule}
+use Rattle.raster.specs.declared.spans.Span.{Span}
+use Rattle.raster.specs.Crossings.{AreSpansBelow, are_crossings_within, row_passed}
+use Rattle.raster.specs.Fill.{AreSpans, covers, is_filled, is_inside, is_span_within}
+use Rattle.raster.specs.Lattice.{Lattice, centre, middle, plane}
+use Rattle.raster.proofs.Areas.{and-left, and-right}
+
+step-on : (o : ℤ) (p i : ℕ) → centre_x (middle o p 0) p i ≡ middle o p i
+step-on o p i = omega (arith, ints)
+
+last-at : (o : ℤ) (p m : ℕ) → middle o p m ≤ℤ pos 256200000 → (middle o p 0 +ℤ pos (2 * p * (m + 1))) ≤ℤ pos (256200000 + 2 * p)
+last-at o p m k =
+    let far : p * (2 * m + 1) + p ≡ 2 * p * (m + 1) = products p m in
+    let near : p * (2 * 0 + 1) ≡ p = first p in
+    omega (arith, ints, far, near, k)
+  where
+    products : (p m : ℕ) → p * (2 * m + 1) + p ≡ 2 * p * (m + 1)
+    products p m = omega arith
+
+    first : (p : ℕ) → p * (2 * 0 + 1) ≡ p
+    first p = omega arith
+
+pub last-row : (o : ℤ) (p n : ℕ) → 1 ≤ n → middle o p (n - 1) ≤ℤ pos 256200000 → (middle o p 0 +ℤ pos (2 * p * n)) ≤ℤ pos (256200000 + 2 * p)
+last-row o p n h k =
+    let last : n - 1 + 1 ≡ n = omega (arith, h) in
+    subst (λ (m : ℕ). (middle o p 0 +ℤ pos (2 * p * m)) ≤ℤ pos (256200000 + 2 * p)) last (last-at o p (n - 1) k)
+
+-- a lattice with the centres of a layer's pixels
+pub record ArePixels (g : Lattice) (l : Pixels) : Type 0 where
+  pub x2 : l.x2 ≡ middle g.origin.x g.pitch 0
+  pub y2 : l.y2 ≡ middle g.origin.y g.pitch 0
+  pub step : l.step ≡ g.pitch
+  pub columns : l.columns ≡ g.columns
+  pub rows : l.rows ≡ g.rows
+
+pixel-is : (g : Lattice) (l : Pixels) (k : ℕ) (z : ℤ) → ArePixels g l → z ≡ plane g k → (i j : ℕ) → pixel l z i j ≡ centre g i j k
+pixel-is g l k z h e i j =
+    let x : centre_x l.x2 l.step i ≡ middle g.origin.x g.pitch i = (λ n. centre_x (h.x2 n) (h.step n) i) ∙ step-on g.origin.x g.pitch i in
+    let y : centre_x l.y2 l.step j ≡ middle g.origin.y g.pitch j = (λ n. centre_x (h.y2 n) (h.step n) j) ∙ step-on g.origin.y g.pitch j in
+    λ n. record { x = x n; y = y n; z = e n }
+
+all-both : (p q r : Span → Bool) → ((s : Span) → p s ≡ true → q s ≡ true → r s ≡ true) → (spans : List Span)
+    → list_all p spans ≡ true → list_all q spans ≡ true → list_all r spans ≡ true
+all-both p q r f [] h k = refl
+all-both p q r f (s ∷ spans) h k =
+    ap (λ b. b && list_all r spans) (f s (and-left (p s) (list_all p spans) h) (and-left (q s) (list_all q spans) k))
+    ∙ all-both p q r f spans (and-right (p s) (list_all p spans) h) (and-right (q s) (list_all q spans) k)
+
+all-three : (a b c : Bool) → a ≡ true → (b && c) ≡ true → (a && b && c) ≡ true
+all-three a b c e f = ap (λ d. d && b && c) e ∙ f
+
+pub spans-form : (rule : Rule) (columns rows : ℕ) (list : List Crossed) (spans : List Span) → AreSpansBelow rule columns rows list spans → AreSpans columns rows spans
+spans-form rule columns rows list spans h =
+    record {
+      within = all-both (λ s. nat_lt s.row rows) (λ s. nat_lt s.from s.to && nat_le s.to columns) (is_span_within columns rows)
+          (λ s e f. all-three (nat_lt s.row rows) (nat_lt s.from s.to) (nat_le s.to columns) e f) spans h.rows h.within;
+      apart = h.apart;
+    }
+
+-- the spans of all rows of a grid
+pub spans-below : (rule : Rule) (g : Lattice) (l : Pixels) (rows : ℕ) (list now : List Crossed) (spans : List Span) → ArePixels g l → rows ≡ g.rows → now ≡ list
+    → are_crossings_within l.columns l.rows list ≡ true
+    → ((columns : ℕ) → are_crossings_within columns rows now ≡ true → AreSpansBelow rule columns rows now spans)
+    → AreSpansBelow rule g.columns g.rows list spans
+spans-below rule g l rows list now spans same count kept inside below =
+    let within : are_crossings_within g.columns g.rows list ≡ true =
+    subst (λ (n : ℕ). are_crossings_within g.columns n list ≡ true) same.rows
+    (subst (λ (n : ℕ). are_crossings_within n l.rows list ≡ true) same.columns inside) in
+    let within_now : are_crossings_within g.columns rows now ≡ true =
+    subst (λ (x : List Crossed). are_crossings_within g.columns rows x ≡ true) (sym kept)
+    (subst (λ (n : ℕ). are_crossings_within g.columns n list ≡ true) (sym count) within) in
+    subst (λ (x : List Crossed). AreSpansBelow rule g.columns g.rows x spans) kept
+    (subst (λ (n : ℕ). AreSpansBelow rule g.columns n now spans) count (below g.columns within_now))
+
+-- where the sums of a row are those over all facets, its spans cover what is inside by the crossings that don't lie ahead
+pub spans-swept : (facets : List Triangle) (g : Lattice) (l : Pixels) (k : ℕ) (z : ℤ) (rule : Rule) (list : List Crossed) (spans : List Span)
+    → ArePixels g l → z ≡ plane g k
+    → ((i j : ℕ) → i < l.columns → j < l.rows → row_passed list j i ≡ total (λ t. wind (twice t) (row_y l j) z -ℤ hit (twice t) (pixel l z i j)) facets)
+    → AreSpansBelow rule g.columns g.rows list spans
+    → (i j : ℕ) → i < g.columns → j < g.rows → covers spans i j ≡ is_inside rule (neg_ray_back facets (centre g i j k))
+spans-swept facets g l k z rule list spans same height sums below i j inside low =
+    below.filled i j low
+    ∙ ap (λ (a : ℤ). is_inside rule (neg_ℤ a))
+    (sums i j (omega (arith, same.columns, inside)) (omega (arith, same.rows, low)) ∙ ap (λ (c : Position). ray_back facets c) (pixel-is g l k z same height i j))
+
+pub spans-filled : (facets : List Triangle) (rule : Rule) (g : Lattice) (k : ℕ) (spans : List Span) → IsBalanced facets
+    → ((i j : ℕ) → i < g.columns → j < g.rows → covers spans i j ≡ is_inside rule (neg_ray_back facets (centre g i j k)))
+    → (i j : ℕ) → i < g.columns → j < g.rows → covers spans i j ≡ is_filled rule facets (centre g i j k)
+spans-filled facets rule g k spans closed h i j inside low =
+    h i j inside low ∙ ap (is_inside rule) (ray_from_left facets closed (centre g i j k))

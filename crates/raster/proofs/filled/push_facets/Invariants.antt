@@ -1,0 +1,5 @@
+use Rattle.raster.proofs.Segs.{ArePushed}
+use Rattle.raster.proofs.filled.push_facets.Given as goal
+
+abbrev pub invariant-loop-segment : goal.invariant-loop-segment
+invariant-loop-segment g l = ArePushed l.s.facets l.z2 l.lattice l.list l.segment-index l.out.items
