@@ -1,5 +1,5 @@
 //! What no clause says: that workers run at the same time, that none is late, and memory that is refused.
-ghost use Rattle.std.specs.Prelude.{◌≡◌, ◌≤◌, ◌<◌, length};
+ghost use Rattle.std.specs.Prelude.{◌≤◌, IfOk, vec_len};
 
 use crate::{Gate, OpenGate, build};
 use build_book::{Book, Build, FileFault, Job, Piece, slice_stripe};
@@ -40,17 +40,25 @@ fn corner(number: u8, width: i32, height: i32) -> Result<Point, AllocError> {
     Point::new(at(4, width), at(2, width), at(1, height)).ok_or(AllocError)
 }
 
+// The facets of that box.
+fn box_facets<A: Allocator>(alloc: A, width: i32, height: i32) -> Result<Vec<Facet, A>, AllocError>
+    ensures { IfOk result (λ facets. vec_len facets ≤ 12) }
+{
+    let mut facets = Vec::new(alloc);
+    for [a, b, c] in &BOX {
+        let at = |number: u8| corner(number, width, height);
+        facets.push(Facet::of(at(*a)?, at(*b)?, at(*c)?))?;
+    }
+    Ok(facets)
+}
+
 // The job of that box, in voxels of one micrometre. Only want of memory refuses it.
 fn box_job<A: Allocator + Copy + Send + Sync>(
     alloc: A,
     width: i32,
     height: i32,
 ) -> Result<Job<A>, AllocError> {
-    let mut facets = Vec::new(alloc);
-    for [a, b, c] in &BOX {
-        let at = |number: u8| corner(number, width, height);
-        facets.push(Facet::of(at(*a)?, at(*b)?, at(*c)?))?;
-    }
+    let facets = box_facets(alloc, width, height)?;
     let solid = weld(alloc, facets).ok().ok_or(AllocError)?;
     let grid = Grid::fit(&solid, 1, 1).ok().ok_or(AllocError)?;
     Ok(Job::new(solid, grid, Rule::EvenOdd))
@@ -64,7 +72,7 @@ fn is_tower<A: Allocator>(build: &Build<'_, A>) -> bool {
         to: 1,
     }];
     for (k, layer) in build.layers().iter().enumerate() {
-        if layer.number() != k as u32
+        if layer.number() as usize != k
             || layer.area() != 1
             || layer.spans() != pixel.as_slice()
             || layer.loops().count() != 1
@@ -175,52 +183,52 @@ fn one_worker_is_held_while_the_other_works(rt: HostRuntime) -> Result<(), Fail>
     Ok(())
 }
 
-// The most growths that a build of the tower is taken to ask for.
-const GROWTHS: u64 = 1000;
-
-// Refuses each growth in turn until a build asks for no more: whether it came to that, every answer was the tower or
-// want of memory, and a build with late layers was among them.
-fn refuse_each<R: Threads + Wait + Sync>(
+// Whether what is built of the tower is the tower, and how many of its layers are late.
+fn build_tower<R: Threads + Wait + Sync>(
     rt: &R,
-    alloc: Global,
+    memory: &ShortMemory<Global>,
     workers: u32,
-) -> Result<(bool, bool), AllocError>
+) -> Result<(bool, u32), AllocError>
     requires some { 1 ≤ workers }
     requires few { workers ≤ 64 }
 {
-    let ample = ShortMemory::new(alloc, u64::MAX / 4);
-    let job = box_job(&ample, 1, TOWER)?;
-    let mut made_up = false;
+    let job = box_job(memory, 1, TOWER)?;
+    let build = build(rt, memory, &job, workers, &OpenGate)?;
+    Ok((is_tower(&build), build.late()))
+}
+
+// More growths than the job and the build of the tower ask for.
+const GROWTHS: u64 = 2000;
+
+// Refuses each growth in turn until none is left to refuse: whether every answer was the tower or want of memory, and
+// how many of the builds had late layers. `None` where a build without a refusal fails, or has such layers.
+fn refuse_each<R: Threads + Wait + Sync>(rt: &R, alloc: Global, workers: u32) -> Option<(bool, u32)>
+    requires some { 1 ≤ workers }
+    requires few { workers ≤ 64 }
+{
+    let mut is_usual = true;
+    let mut made_up = 0u32;
     for turn in 1..GROWTHS {
         let memory = ShortMemory::new(alloc, turn);
-        let built = build(rt, &memory, &job, workers, &OpenGate);
-        let refused = memory.has_refused();
-        match built {
-            Ok(build) => {
-                if !is_tower(&build) || (build.late() > 0 && !refused) {
-                    return Ok((false, made_up));
-                }
-                made_up = made_up || build.late() > 0;
-            }
-            Err(AllocError) => {
-                if !refused {
-                    return Ok((false, made_up));
-                }
-            }
+        let built = build_tower(rt, &memory, workers);
+        if !memory.has_refused() {
+            return (built == Ok((true, 0))).then_some((is_usual, made_up));
         }
-        if !refused {
-            return Ok((turn > 1, made_up));
+        if let Ok((is_tower, late)) = built {
+            is_usual = is_usual && is_tower;
+            made_up = made_up.saturating_add(u32::from(late > 0));
         }
     }
-    Ok((false, made_up))
+    None
 }
 
 #[test]
 fn each_growth_of_a_build_refused_in_turn(rt: HostRuntime) -> Result<(), Fail> {
     let alloc = rt.alloc();
-    assert_eq!(rt; refuse_each(&rt, alloc, 1)?, (true, true));
-    let (kept, _) = refuse_each(&rt, alloc, 2)?;
-    assert!(rt; kept);
+    let (is_usual, made_up) = refuse_each(&rt, alloc, 1).ok_or("one worker")?;
+    assert!(rt; is_usual && made_up > 0);
+    let (is_usual, _) = refuse_each(&rt, alloc, 2).ok_or("two workers")?;
+    assert!(rt; is_usual);
     Ok(())
 }
 
