@@ -9,6 +9,8 @@ mod jobs;
 mod laws;
 mod layers;
 mod pieces;
+#[cfg(test)]
+mod tests;
 
 pub use books::Book;
 pub use builds::Build;

@@ -1,0 +1,216 @@
+//! What no clause says: that there are loops and layers with ample memory, worked areas, and memory that is refused.
+ghost use Rattle.std.specs.Prelude.{◌≤◌, ◌+◌, length, vec_len};
+
+use crate::{Book, Build, FileFault, Job, Piece, slice_stripe};
+use mesh_weld::weld;
+use raster::{Grid, Rule};
+use short_memory::ShortMemory;
+use std::alloc::{AllocError, Allocator, Global};
+use std::test::Fail;
+use stl_text::{Facet, Point};
+
+// A box by its least and its greatest corner, in micrometres.
+type Corners = [[i32; 3]; 2];
+
+// The facets of a box, by the numbers of its corners: 4 for the greater x, 2 for the greater y, 1 for the greater z.
+const BOX: [[u8; 3]; 12] = [
+    [0, 2, 6],
+    [0, 6, 4],
+    [1, 5, 7],
+    [1, 7, 3],
+    [0, 4, 5],
+    [0, 5, 1],
+    [2, 3, 7],
+    [2, 7, 6],
+    [0, 1, 3],
+    [0, 3, 2],
+    [4, 6, 7],
+    [4, 7, 5],
+];
+
+const NEAR: Corners = [[0, 0, 0], [4, 4, 4]];
+
+const FAR: Corners = [[2, 2, 2], [6, 6, 6]];
+
+const CUBE: Corners = [[0, 0, 0], [2, 2, 2]];
+
+const COLUMN: Corners = [[0, 0, 0], [1, 1, 17]];
+
+fn corner(corners: &Corners, number: u8) -> Result<Point, AllocError> {
+    let [low, high] = corners;
+    let side = |bit: u8| if number / bit % 2 == 0 { low } else { high };
+    Point::new(side(4)[0], side(2)[1], side(1)[2]).ok_or(AllocError)
+}
+
+fn push_facets<A: Allocator>(
+    list: &mut Vec<Facet, A>,
+    corners: &Corners,
+    table: &[[u8; 3]],
+) -> Result<(), AllocError>
+    requires { length table.now ≤ 16 }
+    ensures { vec_len list.new ≤ vec_len list.old + 16 }
+{
+    for [a, b, c] in table {
+        let facet = Facet::of(
+            corner(corners, *a)?,
+            corner(corners, *b)?,
+            corner(corners, *c)?,
+        );
+        list.push(facet)?;
+    }
+    Ok(())
+}
+
+// The job of these facets, with voxels of one size in micrometres.
+fn job_of<A: Allocator + Copy + Send + Sync>(
+    alloc: A,
+    list: Vec<Facet, A>,
+    size: u32,
+    rule: Rule,
+) -> Result<Job<A>, AllocError>
+    requires many { vec_len list ≤ 32 }
+    requires size { 1 ≤ size }
+    requires size_high { size ≤ 2 }
+{
+    let solid = weld(alloc, list).ok().ok_or(AllocError)?;
+    let grid = Grid::fit(&solid, size, size).ok().ok_or(AllocError)?;
+    Ok(Job::new(solid, grid, rule))
+}
+
+// The job of one box in voxels of one micrometre.
+fn box_job<A: Allocator + Copy + Send + Sync>(
+    alloc: A,
+    corners: &Corners,
+) -> Result<Job<A>, AllocError> {
+    let mut list = Vec::new(alloc);
+    push_facets(&mut list, corners, &BOX)?;
+    job_of(alloc, list, 1, Rule::EvenOdd)
+}
+
+// The job of two boxes in voxels of two micrometres.
+fn two_boxes_job(alloc: Global, rule: Rule) -> Result<Job<Global>, AllocError> {
+    let mut list = Vec::new(alloc);
+    push_facets(&mut list, &NEAR, &BOX)?;
+    push_facets(&mut list, &FAR, &BOX)?;
+    job_of(alloc, list, 2, rule)
+}
+
+// A stripe of a job, which has it.
+fn piece_of<'m, A: Allocator + Copy + Send + Sync>(
+    alloc: A,
+    job: &'m Job<A>,
+    stripe: u64,
+) -> Result<Piece<'m, A>, AllocError> {
+    if stripe < job.stripes() {
+        slice_stripe(alloc, job, stripe)
+    } else {
+        Err(AllocError)
+    }
+}
+
+// The number of loops and the area of a layer.
+fn loops_and_area(build: &Build<'_, Global>, k: u32) -> Option<(usize, u64)> {
+    let layer = build.layer(k)?;
+    Some((layer.loops().count(), layer.area()))
+}
+
+#[test]
+fn two_boxes_by_each_rule(rt: HostRuntime) -> Result<(), Fail> {
+    let alloc = rt.alloc();
+    for (rule, middle, total) in [(Rule::EvenOdd, 6, 14), (Rule::NonZero, 7, 15)] {
+        let job = two_boxes_job(alloc, rule)?;
+        let build = Book::open(alloc, &job)?.finish(&job)?;
+        assert_eq!(rt; loops_and_area(&build, 0), Some((1, 4)));
+        assert_eq!(rt; loops_and_area(&build, 1), Some((2, middle)));
+        assert_eq!(rt; loops_and_area(&build, 2), Some((1, 4)));
+        assert_eq!(rt; loops_and_area(&build, 3), None);
+        assert_eq!(rt; (build.late(), build.total_area()), (3, total));
+    }
+    Ok(())
+}
+
+// Why a book didn't take a piece, and the stripe of the piece that came back.
+fn refusal<'m>(book: &mut Book<'m, Global>, piece: Piece<'m, Global>) -> Option<(FileFault, u64)> {
+    let (fault, back) = book.file(piece).err()?;
+    Some((fault, back.stripe()))
+}
+
+fn area_at(book: &Book<'_, Global>, k: u32) -> Option<u64> {
+    let layer = book.layer(k)?;
+    Some(layer.area())
+}
+
+#[test]
+fn stripes_of_a_column(rt: HostRuntime) -> Result<(), Fail> {
+    let alloc = rt.alloc();
+    let job = box_job(alloc, &COLUMN)?;
+    let mut book = Book::open(alloc, &job)?;
+    let piece = piece_of(alloc, &job, 1)?;
+    assert_eq!(rt; refusal(&mut book, piece), None);
+    assert_eq!(rt; (area_at(&book, 8), area_at(&book, 0)), (Some(1), None));
+    assert_eq!(rt; (book.filed(), book.total_area()), (8, 8));
+    let again = piece_of(alloc, &job, 1)?;
+    let double = FileFault::Double { layer: 8 };
+    assert_eq!(rt; refusal(&mut book, again), Some((double, 1)));
+    assert_eq!(rt; (book.filed(), book.total_area()), (8, 8));
+    let last = piece_of(alloc, &job, 2)?;
+    assert_eq!(rt; refusal(&mut book, last), None);
+    assert_eq!(rt; book.filed(), 9);
+    let build = book.finish(&job)?;
+    assert_eq!(rt; build.layers().len(), 17);
+    assert_eq!(rt; (build.late(), build.total_area()), (8, 17));
+    Ok(())
+}
+
+// Why an empty book of a job doesn't take the first stripe of another one.
+fn refusal_of<'m>(
+    alloc: Global,
+    job: &'m Job<Global>,
+    other: &'m Job<Global>,
+) -> Result<Option<(FileFault, u64)>, AllocError> {
+    let mut book = Book::open(alloc, job)?;
+    let piece = piece_of(alloc, other, 0)?;
+    Ok(refusal(&mut book, piece))
+}
+
+#[test]
+fn stripe_of_another_job(rt: HostRuntime) -> Result<(), Fail> {
+    let alloc = rt.alloc();
+    let job = box_job(alloc, &COLUMN)?;
+    let same = box_job(alloc, &COLUMN)?;
+    let other = box_job(alloc, &CUBE)?;
+    assert_eq!(rt; refusal_of(alloc, &job, &same)?, None);
+    assert_eq!(rt;
+        refusal_of(alloc, &job, &other)?,
+        Some((FileFault::Stranger, 0))
+    );
+    Ok(())
+}
+
+// The number of late layers and the total area where one stripe was filed, or nothing where the book refused that.
+fn finished(memory: &ShortMemory<Global>) -> Result<Option<(u32, u64)>, AllocError> {
+    let job = box_job(memory, &COLUMN)?;
+    let mut book = Book::open(memory, &job)?;
+    let piece = piece_of(memory, &job, 1)?;
+    if book.file(piece).is_err() {
+        return Ok(None);
+    }
+    let build = book.finish(&job)?;
+    Ok(Some((build.late(), build.total_area())))
+}
+
+#[test]
+fn each_growth_refused_in_turn(rt: HostRuntime) -> Result<(), Fail> {
+    for turn in 1..10_000 {
+        let memory = ShortMemory::new(rt.alloc(), turn);
+        let found = finished(&memory);
+        if !memory.has_refused() {
+            assert!(rt; turn > 17);
+            assert_eq!(rt; found, Ok(Some((9, 17))));
+            return Ok(());
+        }
+        assert_eq!(rt; found, Err(AllocError));
+    }
+    assert!(rt; false);
+    Ok(())
+}
