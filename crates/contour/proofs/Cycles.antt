@@ -1,16 +1,16 @@
 -- What closes is the cycle of its first segment.
-use Rattle.std.proofs.Common.{◌≡◌, ℕ, zero, suc, ◌≤◌, Bool, true, false, eqb, cond, List, [], ◌∷◌, refl, ◌∙◌, ap, length, arith, Some, None}
+use Rattle.std.proofs.Common.{◌≡◌, ℕ, zero, suc, ◌≤◌, false, eqb, cond, List, [], ◌∷◌, refl, ◌∙◌, ap, length, arith, Some, None}
 use Rattle.std.specs.Prelude.{Option}
 use Rattle.std.proofs.lemmas.Bool.{eq-eqb}
 use Rattle.contour.specs.declared.nodes.Segment.{Segment}
-use Rattle.contour.specs.Contour.{Closes, follower, is_segment, run_from}
+use Rattle.contour.specs.Contour.{Closes, is_segment, run_from}
 
 -- none of these is of a facet
 abbrev pub NoneOf : ℕ → List Segment → Type 0
 NoneOf n [] = Unit {0}
 NoneOf n (s ∷ list) = (eqb s.facet n ≡ false) × NoneOf n list
 
-abbrev onward : List Segment → Segment → ℕ → Option Segment → List Segment
+abbrev pub onward : List Segment → Segment → ℕ → Option Segment → List Segment
 onward list first more o = elim o [ None ↦ [] | Some t ↦ cond (is_segment t first) [] (run_from list first more t) ]
 
 pub run-is : (list : List Segment) (first s : Segment) (rest : List Segment) (fuel : ℕ) → Closes list first (s ∷ rest) → NoneOf first.facet rest

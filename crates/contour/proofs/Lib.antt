@@ -15,3 +15,4 @@ pub mod Followers
 pub mod Walks
 pub mod Gathers
 pub mod Cycles
+pub mod Unique

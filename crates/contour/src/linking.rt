@@ -2,7 +2,7 @@ ghost use Rattle.std.specs.Prelude.{◌++◌, Bool, true, false, ◌≡◌, ◌<
 ghost use Rattle.micro_num.specs.Bounds.{IsAtMost};
 ghost use Rattle.mesh_weld.specs.Balance.{IsBalanced};
 ghost use Rattle.mesh_weld.specs.EdgeNumbers.{AreEdgeNumbers};
-ghost use Rattle.contour.specs.Contour.{AreLoops, segments};
+ghost use Rattle.contour.specs.Contour.{AreLoops, loops, segments};
 ghost use Rattle.contour.specs.Linking.{AreLinks, ArePassedEdges, AreEven, AreTaken, HasFirsts, HasLeft, HasNexts, IsClear, edge_at_node, no_place, IsTakenLoop, LeavesLoops, Rises, has_passed};
 
 use crate::nodes::{Node, Segment};
@@ -48,6 +48,7 @@ impl<A: Allocator + Copy + Send + Sync> Linker<A> {
     ) -> Result<Loops<A>, AllocError>
         requires { (z : ℤ) × (list.now ≡ segments s.now.facets z) }
         ensures closed { IfOk result (AreLoops list.now) }
+        ensures loops { IfOk result (λ found. found ≡ loops list.now) }
     {
         let next = self.followers(alloc, s, list)?;
         gathered(alloc, list, next.as_slice())
@@ -275,6 +276,7 @@ pub fn loops<A: Allocator + Copy + Send + Sync>(
     requires height { IsAtMost 256200000 z2 }
     requires list { list.items ≡ segments s.now.facets z2 }
     ensures closed { IfOk result (AreLoops list.items) }
+    ensures loops { IfOk result (λ found. found ≡ loops list.items) }
 {
     Linker::new(alloc, s)?.loops(alloc, s, list.as_slice())
 }
