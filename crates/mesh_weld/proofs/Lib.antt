@@ -3,6 +3,7 @@ pub mod Order
 pub mod InOrder
 pub mod Points
 pub mod Pairs
+pub mod Placing
 pub mod Lows
 pub mod Transfer
 pub mod Named

@@ -80,7 +80,7 @@ fn number_parts<A: Allocator + Copy>(
         numbers: corners,
     } = number_corners(alloc, kept)?;
     let numbers = in_threes(alloc, corners.as_slice())?;
-    let sides = sorted_sides(alloc, numbers.as_slice())?;
+    let sides = sorted_sides(alloc, numbers.as_slice(), points.len())?;
     if let Some((low, high)) = least_uneven(sides.as_slice()) {
         return Err(open_edge(kept, flat, points[low as usize], points[high as usize]));
     }
