@@ -211,11 +211,14 @@ one_list columns rows xs ys a b same =
     everywhere i j (inr x) other = out i j (inl (omega (arith, x.1)))
     everywhere i j (inl x) (inr y) = out i j (inr (omega (arith, y.1)))
 
--- two layers that are lawful for the same work and place have the same picture
-pub one_picture : (work : Work) (k : ℕ) (a b : Layer) → IsLawful work k a → IsLawful work k b
-    → (a.number ≡ b.number) × (a.spans ≡ b.spans) × (a.area ≡ b.area)
-one_picture work k a b l m = (
-  l.number ∙ sym m.number,
-  one_list work.grid.columns work.grid.rows a.spans b.spans l.spans m.spans (λ i j x y. l.filled i j x y ∙ sym (m.filled i j x y)),
-  l.area ∙ sym m.area,
-)
+-- two layers that are lawful for the same work and place are the same
+pub one_layer : (work : Work) (k : ℕ) (a b : Layer) → IsLawful work k a → IsLawful work k b → a ≡ b
+one_layer work k a b l m =
+    let spans_are : a.spans ≡ b.spans =
+    one_list work.grid.columns work.grid.rows a.spans b.spans l.spans m.spans (λ i j x y. l.filled i j x y ∙ sym (m.filled i j x y)) in
+    λ i. record {
+      number = (l.number ∙ sym m.number) i;
+      loops = (l.loops_are ∙ sym m.loops_are) i;
+      spans = spans_are i;
+      area = (l.area ∙ sym m.area) i;
+    }

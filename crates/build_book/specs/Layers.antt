@@ -6,7 +6,7 @@ use Rattle.raster.specs.declared.spans.Span.{Span}
 use Rattle.contour.specs.declared.nodes.Segment.{Segment}
 use Rattle.mesh_weld.specs.Mesh.{Mesh}
 use Rattle.raster.specs.Lattice.{Lattice, centre, plane}
-use Rattle.contour.specs.Contour.{AreLoops, segments}
+use Rattle.contour.specs.Contour.{AreLoops, segments, loops}
 use Rattle.raster.specs.Fill.{AreSpans, covers, is_filled, area_of}
 
 -- what is to be sliced, in which grid, by which rule
@@ -21,10 +21,11 @@ pub record Layer : Type 0 where
   pub spans : List Span
   pub area : ℕ
 
--- The layer is what the work makes at place k: its loops are closed, with each segment of the plane in exactly one, and
--- a pixel lies in a span exactly where its voxel is filled.
+-- The layer is what the work makes at place k: its loops are those of the plane, closed, with each segment in exactly
+-- one, and a pixel lies in a span exactly where its voxel is filled.
 pub record IsLawful (work : Work) (k : ℕ) (layer : Layer) : Type 0 where
   pub number : layer.number ≡ k
+  pub loops_are : layer.loops ≡ loops (segments work.mesh.facets (plane work.grid k))
   pub closed : AreLoops (segments work.mesh.facets (plane work.grid k)) layer.loops
   pub spans : AreSpans work.grid.columns work.grid.rows layer.spans
   pub filled : (i j : ℕ) → i < work.grid.columns → j < work.grid.rows

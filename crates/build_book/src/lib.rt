@@ -16,6 +16,6 @@ pub use books::Book;
 pub use builds::Build;
 pub use faults::FileFault;
 pub use jobs::Job;
-pub use laws::one_picture;
+pub use laws::one_layer;
 pub use layers::Layer;
 pub use pieces::{Piece, slice_stripe};

@@ -1,3 +1,5 @@
+ghost use Rattle.stlslice.specs.Running.{IsInRange};
+
 use super::meshes::{CUBE, OCTAHEDRON, boxes_text, point, text_of};
 use crate::{Counted, Given, Task, run};
 use micro_num::Unit;
@@ -6,7 +8,10 @@ use std::test::Fail;
 use stl_text::Point;
 
 /// A probe at a voxel of a grid with these counts and this origin, whose pitch and layer height are `step`.
-fn probe_in(step: u32, counts: [u32; 3], origin: Point, voxel: [u32; 3]) -> Task {
+fn probe_in(step: u32, counts: [u32; 3], origin: Point, voxel: [u32; 3]) -> Task
+    ensures { IsInRange result }
+{
+    let step = step.max(1).min(100_000);
     let [columns, rows, layers] = counts;
     let [i, j, k] = voxel;
     Task::Probe {
@@ -156,7 +161,7 @@ fn faults_in_their_order(rt: HostRuntime) -> Result<(), Fail> {
         let mut source = Counted::new(text.as_bytes());
         let mut sink = Counted::new(Vec::new(rt.alloc()));
         match run(&rt, rt.alloc(), &task, &mut source, &mut sink) {
-            Ok(()) => assert!(rt; false, "{told}"),
+            Ok(()) => assert!(rt; false),
             Err(fault) => {
                 let line = fault.to_string(rt.alloc())?;
                 assert_eq!(rt; line.as_str(), told);
