@@ -32,10 +32,11 @@ pub sliced_there : (unit : LengthUnit) (pitch layer : ℕ) (rule : Rule) (worker
     → IsOutcome (task.Slice unit pitch layer rule workers report given) input (Ok (sliced_text report work.grid layers))
 sliced_there unit pitch layer rule workers report given input mesh g work layers s placed is complete =
     made_there (task.Slice unit pitch layer rule workers report given) input mesh (Ok (sliced_text report work.grid layers)) refl s
-    (rw placed
-    ( layers
-    , subst (λ (w : Work). IsComplete w layers) is complete
-    , ap (λ (w : Work). Ok (sliced_text report w.grid layers)) is ))
+    (rw placed (
+      layers,
+      subst (λ (w : Work). IsComplete w layers) is complete,
+      ap (λ (w : Work). Ok (sliced_text report w.grid layers)) is,
+    ))
 
 -- a text that is the outcome was written in part, or none of it for want of memory
 pub ended : (t : Task) (input : List ℕ) (turn : Turn) (text : List ℕ) (f : RunFault) → IsOutcome t input (Ok text)
