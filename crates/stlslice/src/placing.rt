@@ -33,6 +33,6 @@ pub(crate) fn grid_for<A: Allocator>(
                 origin,
             },
         ) => Ok(Grid::given(origin, pitch, layer, columns, rows, layers)?),
-        None => Err(RunFault::Memory),
+        None => Ok(Grid::fit(solid, pitch, layer)?),
     }
 }

@@ -7,4 +7,5 @@ mod lines;
 mod loads;
 mod meshes;
 mod probe_runs;
+mod slice_runs;
 mod words;
