@@ -1,3 +1,5 @@
+ghost use Rattle.stlslice.specs.Running.{IsInRange};
+
 use super::devices::OneByteWriter;
 use super::meshes::{CUBE, Corners, OCTAHEDRON, boxes_text, point, text_of};
 use crate::{Counted, Given, RunFault, Task, run};
@@ -18,7 +20,11 @@ fn slice_in(
     rule: Rule,
     workers: u32,
     report: bool,
-) -> Task {
+) -> Task
+    ensures { IsInRange result }
+{
+    let step = step.max(1).min(100_000);
+    let workers = workers.max(1).min(64);
     let [columns, rows, layers] = counts;
     Task::Slice {
         unit: Unit::Millimetre,
@@ -191,7 +197,7 @@ fn each_growth_of_a_slicing_refused(rt: HostRuntime) -> Result<(), Fail> {
     let cube = text_of(rt.alloc(), &CUBE)?;
     let told = "layer 0 loops 1 area 1\ntotal 1\n";
     let task = slice_in(2, [1, 1, 1], point([0, 0, 0])?, Rule::EvenOdd, 1, true);
-    let mut whole = 0;
+    let mut was_whole = false;
     for turn in 1..1000 {
         let memory = ShortMemory::new(rt.alloc(), turn);
         let mut source = Counted::new(cube.as_bytes());
@@ -199,7 +205,7 @@ fn each_growth_of_a_slicing_refused(rt: HostRuntime) -> Result<(), Fail> {
         match run(&rt, &memory, &task, &mut source, &mut sink) {
             Ok(()) => {
                 assert_eq!(rt; sink.inner().as_slice(), told.as_bytes());
-                whole += 1;
+                was_whole = true;
             }
             Err(fault) => {
                 assert_eq!(rt; fault, RunFault::Memory);
@@ -208,7 +214,7 @@ fn each_growth_of_a_slicing_refused(rt: HostRuntime) -> Result<(), Fail> {
         }
         if !memory.has_refused() {
             assert!(rt; turn > 20);
-            assert!(rt; whole > 0);
+            assert!(rt; was_whole);
             return Ok(());
         }
     }
