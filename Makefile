@@ -1,5 +1,5 @@
 # make            builds the program, all of it proved, and leaves it at build/stlslice
-# make demo       builds it and shows the box of each bundled part
+# make demo       builds it and slices a bundled part into build/demo
 # make test       the gate: every proof from nothing, the edits that must fail, each test, each program
 # make install    copies the program to PREFIX/bin
 # make bench      times the program on a mesh that it makes; FACETS=N says how large
@@ -23,10 +23,7 @@ $(PROGRAM): $(SOURCES)
 	cp $(CRATE)/out/stlslice_program $@
 
 demo: $(PROGRAM)
-	@for part in examples/*.stl; do \
-		echo "stlslice --box < $$part"; \
-		$(PROGRAM) --box < $$part || exit 1; \
-	done
+	bash examples/demo.sh $(PROGRAM) build/demo
 
 test:
 	rt ci
