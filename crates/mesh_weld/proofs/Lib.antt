@@ -2,8 +2,10 @@ pub mod Edges
 pub mod Order
 pub mod InOrder
 pub mod Points
+pub mod Parts
 pub mod Pairs
 pub mod Placing
+pub mod Tallies
 pub mod Lows
 pub mod Transfer
 pub mod Named

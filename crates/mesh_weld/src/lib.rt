@@ -1,14 +1,17 @@
 //! Closed meshes: facets welded at their corners, each directed edge balanced by the edge back.
 #![tactic(auto)]
 
+mod corner_groups;
 mod corners;
 mod counts;
 mod faults;
+mod grouping;
 mod heights;
 mod laws;
 #[cfg(test)]
 mod ray_rows;
 mod rays;
+mod side_groups;
 mod sides;
 mod solid;
 mod welding;

@@ -14,25 +14,8 @@ pub struct Side {
 }
 
 impl Side {
-    /// No side: its number is none that a side has.
-    const NONE: Side = Side {
-        from: 0,
-        to: 0,
-        slot: u32::MAX,
-    };
-
-    fn is_placed(&self) -> bool
-        ensures { result ≡ is_placed self.now }
-    {
-        self.slot != u32::MAX
-    }
-
-    fn low(&self) -> usize {
-        self.from.min(self.to) as usize
-    }
-
     /// A number for its two ends in either order, ascending by the lesser and then by the greater one.
-    fn pair(&self) -> u64
+    pub fn pair(&self) -> u64
         ensures { result ≡ pair_key self.now }
     {
         u64::from(self.from.min(self.to)) << 32 | u64::from(self.from.max(self.to))
@@ -73,123 +56,39 @@ fn sort_sides<A: Allocator>(list: &mut Vec<Side, A>)
     list.sort_unstable_by_key(|side| side.pair());
 }
 
-/// How many sides have a lesser end up to each of `count` vertex numbers, and how many there are.
-fn count_to_each<A: Allocator + Copy>(
-    alloc: A,
-    list: &[Side],
-    count: usize,
-) -> Result<Vec<u32, A>, AllocError> {
-    let mut ends = vec![in alloc; 0u32; count.saturating_add(1)]?;
-    for side in list {
-        count_in(ends.as_mut_slice(), side.low());
-    }
-    let mut sum = 0u32;
-    for end in ends.as_mut_slice() {
-        sum = sum.wrapping_add(*end);
-        *end = sum;
-    }
-    Ok(ends)
-}
-
-fn count_in(numbers: &mut [u32], place: usize) {
-    if place < numbers.len() {
-        numbers[place] = numbers[place].wrapping_add(1);
-    }
-}
-
-/// Puts a side at the last free place of its lesser end's, and tells whether there was one.
-fn place_side(placed: &mut [Side], ends: &mut [u32], side: Side) -> bool
-    ensures len { length placed.new ≡ length placed.old }
-    ensures more { IsTrue result → IsPermutation (side ∷ filter is_placed placed.old) (filter is_placed placed.new) }
-{
-    let low = side.low();
-    if low >= ends.len() || ends[low] == 0 || !side.is_placed() {
-        return false;
-    }
-    let end = ends[low] - 1;
-    let place = end as usize;
-    if place >= placed.len() || placed[place].is_placed() {
-        return false;
-    }
-    ends[low] = end;
-    placed[place] = side;
-    true
-}
-
-/// The sides in the order of their lesser ends, or `None` where `ends` aren't their numbers.
-fn place_sides<A: Allocator + Copy>(
-    alloc: A,
-    list: &[Side],
-    ends: &mut [u32],
-) -> Result<Option<Vec<Side, A>>, AllocError>
-    ensures { IfOk result (λ found. IfSome found (λ placed. IsPermutation list.now placed.items)) }
-{
-    let mut placed = vec![in alloc; Side::NONE; list.len()]?;
-    for side in list {
-        if !place_side(placed.as_mut_slice(), ends, *side) {
-            return Ok(None);
-        }
-    }
-    placed.retain(|side| side.is_placed());
-    Ok(Some(placed))
-}
-
-/// Sorts the sides from each start to the next one.
-fn sort_groups(list: &mut [Side], starts: &[u32])
-    ensures { IsPermutation list.old list.new }
-{
-    for group in 1..starts.len() {
-        sort_part(list, starts[group - 1] as usize, starts[group] as usize);
-    }
-}
-
-fn sort_part(list: &mut [Side], from: usize, to: usize)
-    ensures { IsPermutation list.old list.new }
-{
-    if from < to && to <= list.len() {
-        list[from..to].sort_unstable_by_key(|side| side.pair());
-    }
-}
-
-/// The directed edges of the facets, sorted by their ends in either order; of the vertex numbers there are `count`.
-/// Bringing the sides of each lesser end together first leaves little to the sort of all.
+/// The directed edges of the facets, sorted by their ends in either order.
 pub fn sorted_sides<A: Allocator + Copy>(
     alloc: A,
     triples: &[[u32; 3]],
-    count: usize,
 ) -> Result<Vec<Side, A>, AllocError>
     requires { length triples.now ≤ 1048576 }
     ensures all { IfOk result (λ list. IsPermutation (sides_from 0 triples.now) list.items) }
     ensures ascending { IfOk result (λ list. IsNonDecreasingBy pair_key list.items) }
 {
-    let list = list_sides(alloc, triples)?;
-    let mut ends = count_to_each(alloc, list.as_slice(), count)?;
-    let placed = place_sides(alloc, list.as_slice(), ends.as_mut_slice())?;
-    let mut sorted = placed.unwrap_or(list);
-    sort_groups(sorted.as_mut_slice(), ends.as_slice());
-    sort_sides(&mut sorted);
-    Ok(sorted)
+    let mut list = list_sides(alloc, triples)?;
+    sort_sides(&mut list);
+    Ok(list)
 }
 
 /// Sides with the same two ends that stand beside one another: how many run from the lesser end to the greater one, and
 /// how many back.
 #[derive(Clone, Copy)]
-struct Run {
-    low: u32,
-    high: u32,
-    there: u32,
-    back: u32,
+pub struct Run {
+    pub low: u32,
+    pub high: u32,
+    pub there: u32,
+    pub back: u32,
 }
 
 impl Run {
-    const NONE: Run = Run {
+    pub const NONE: Run = Run {
         low: 0,
         high: 0,
         there: 0,
         back: 0,
     };
 
-    fn started(side: &Side) -> Run
+    pub fn started(side: &Side) -> Run
         ensures { result ≡ started side.now }
     {
         Run {
@@ -199,7 +98,15 @@ impl Run {
         }
     }
 
-    fn has_ends_of(&self, side: &Side) -> bool
+    /// As of a side with its ends.
+    pub fn pair(&self) -> u64
+        ensures { result ≡ self.now.low * 2 ^ 32 + self.now.high }
+    {
+        let (low, high) = (self.low, self.high);
+        u64::from(low) << 32 | u64::from(high)
+    }
+
+    pub fn has_ends_of(&self, side: &Side) -> bool
         ensures in_range { (self.now.high < 2 ^ 32) × (side.now.from < 2 ^ 32) × (side.now.to < 2 ^ 32) }
         ensures value { IsTrue result ↔ (self.now.low ≡ min side.now.from side.now.to) × (self.now.high ≡ max side.now.from side.now.to) }
     {
@@ -207,7 +114,7 @@ impl Run {
         self.low == from.min(to) && high == from.max(to)
     }
 
-    fn counted(self, side: &Side) -> Run
+    pub fn counted(self, side: &Side) -> Run
         requires there { self.there < 2 ^ 32 - 1 }
         requires back { self.back < 2 ^ 32 - 1 }
         ensures { result ≡ counted self side.now }

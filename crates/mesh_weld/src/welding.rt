@@ -3,14 +3,16 @@ ghost use Rattle.stl_text.specs.Position.{Position};
 ghost use Rattle.stl_text.specs.Winding.{ray};
 ghost use Rattle.mesh_weld.specs.Balance.{IsBalanced};
 ghost use Rattle.mesh_weld.specs.EdgeNumbers.{AreEdgeNumbers};
+ghost use Rattle.mesh_weld.specs.Entries.{sides_from, ArePairNumbers};
 ghost use Rattle.mesh_weld.specs.Mesh.{IsByHeight, mesh_of, triples, vertices};
 ghost use Rattle.mesh_weld.specs.Welding.{IsKeptFault, IsWeldFault};
 ghost use Rattle.mesh_weld.specs.declared.faults.WeldFault.TheVariants.{Memory};
 
-use crate::corners::{Welded, in_threes, number_corners};
+use crate::corners::{MANY, Welded, in_threes, number_corners};
 use crate::counts::{flat_facets, keep_whole, open_edge};
 use crate::faults::WeldFault;
 use crate::heights::order_by_height;
+use crate::side_groups::grouped_numbers;
 use crate::sides::{Numbered, least_uneven, number_sides, sorted_sides};
 use crate::solid::Solid;
 use std::alloc::Allocator;
@@ -80,14 +82,10 @@ fn number_parts<A: Allocator + Copy>(
         numbers: corners,
     } = number_corners(alloc, kept)?;
     let numbers = in_threes(alloc, corners.as_slice())?;
-    let sides = sorted_sides(alloc, numbers.as_slice(), points.len())?;
-    if let Some((low, high)) = least_uneven(sides.as_slice()) {
-        return Err(open_edge(kept, flat, points[low as usize], points[high as usize]));
-    }
     let Numbered {
         numbers: named,
         count: edge_count,
-    } = number_sides(alloc, numbers.as_slice(), sides.as_slice())?;
+    } = number_edges(alloc, kept, flat, points.as_slice(), numbers.as_slice())?;
     let edges = in_threes(alloc, named.as_slice())?;
     let order = order_by_height(alloc, kept)?;
     Ok(Parts {
@@ -97,4 +95,32 @@ fn number_parts<A: Allocator + Copy>(
         edge_count,
         order,
     })
+}
+
+/// The numbers of the kept facets' edges, if those balance.
+fn number_edges<A: Allocator + Copy>(
+    alloc: A,
+    kept: &[Facet],
+    flat: &[Facet],
+    points: &[Point],
+    numbers: &[[u32; 3]],
+) -> Result<Numbered<A>, WeldFault>
+    requires kept { length kept.now ≤ 1048576 }
+    requires flat { length flat.now ≤ 1048576 }
+    requires points { points.now ≡ vertices kept.now }
+    requires numbers { numbers.now ≡ triples kept.now }
+    ensures numbers { IfOk result (λ named. ArePairNumbers (sides_from 0 (triples kept.now)) named.numbers.items named.count) }
+    ensures closed { IfOk result (λ named. IsBalanced kept.now) }
+    ensures open { IfErr result (IsKeptFault kept.now flat.now) }
+{
+    if numbers.len() >= MANY {
+        if let Some(named) = grouped_numbers(alloc, numbers, points.len())? {
+            return Ok(named);
+        }
+    }
+    let sides = sorted_sides(alloc, numbers)?;
+    if let Some((low, high)) = least_uneven(sides.as_slice()) {
+        return Err(open_edge(kept, flat, points[low as usize], points[high as usize]));
+    }
+    Ok(number_sides(alloc, numbers, sides.as_slice())?)
 }
