@@ -2,7 +2,7 @@
 use Rattle.std.proofs.Common.{◌≡◌, ℕ, ◌≤◌, ◌+◌, ◌*◌, Bool, true, false, cond, not, List, [], ◌∷◌, length, map, count_by, refl, sym, ap, ◌∙◌, subst, arith}
 use Rattle.std.specs.List.{filter, flat_map}
 use Rattle.std.proofs.lemmas.List.{length-map}
-use Rattle.std.proofs.lemmas.List.Sums.{length-filter, count_by-le-length}
+use Rattle.std.proofs.lemmas.List.Sums.{sum_by-cons, length-filter, count_by-le-length}
 use Rattle.stl_text.specs.Position.{Position}
 use Rattle.stl_text.specs.Triangle.{Triangle, corners}
 use Rattle.mesh_weld.specs.Balance.{edge_count, IsBalanced, IsLeastOpen}
@@ -57,6 +57,23 @@ flat_count fs = length-filter (λ t. not (is_kept t)) fs
 
 pub flat_few : (fs : List Triangle) → length (flat_facets fs) ≤ length fs
 flat_few fs = omega (arith, flat_count fs, count_by-le-length (λ t. not (is_kept t)) fs)
+
+-- where none is flat, all are kept
+pub all_kept : (fs : List Triangle) → count_by (λ t. not (is_kept t)) fs ≡ 0 → fs ≡ kept_facets fs
+all_kept [] h = refl
+all_kept (t ∷ ts) h = by_test (is_kept t) refl (all_kept ts)
+  where
+    count : cond (not (is_kept t)) 1 0 + count_by (λ u. not (is_kept u)) ts ≡ 0
+    count = sym (sum_by-cons (λ u. cond (not (is_kept u)) 1 0) t ts) ∙ h
+
+    by_test : (b : Bool) → is_kept t ≡ b → (count_by (λ u. not (is_kept u)) ts ≡ 0 → ts ≡ kept_facets ts)
+        → t ∷ ts ≡ cond (is_kept t) (t ∷ kept_facets ts) (kept_facets ts)
+    by_test true e rest =
+        let none : 0 + count_by (λ u. not (is_kept u)) ts ≡ 0 = ap (λ b. cond (not b) 1 0 + count_by (λ u. not (is_kept u)) ts) (sym e) ∙ count in
+        ap (λ l. t ∷ l) (rest (omega (arith, none))) ∙ ap (λ b. cond b (t ∷ kept_facets ts) (kept_facets ts)) (sym e)
+    by_test false e rest =
+        let some : 1 + count_by (λ u. not (is_kept u)) ts ≡ 0 = ap (λ b. cond (not b) 1 0 + count_by (λ u. not (is_kept u)) ts) (sym e) ∙ count in
+        absurd (omega (arith, some))
 
 -- the least open edge of kept facets is that of all, with the edges of dropped facets counted
 pub open_of_all : (fs : List Triangle) (from to : Position) (there back : ℕ)

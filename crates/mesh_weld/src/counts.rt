@@ -39,11 +39,14 @@ pub fn flat_facets<A: Allocator + Copy>(
     Ok(flat)
 }
 
-/// Drops the facets with two equal corners.
-pub fn keep_whole<A: Allocator>(facets: &mut Vec<Facet, A>)
+/// Drops the facets with two equal corners, of which there are `flat`.
+pub fn keep_whole<A: Allocator>(facets: &mut Vec<Facet, A>, flat: usize)
+    requires { flat ≡ count_by (λ t. not (is_kept t)) facets.old.items }
     ensures { facets.new.items ≡ filter is_kept facets.old.items }
 {
-    facets.retain(|facet| is_whole(facet));
+    if flat > 0 {
+        facets.retain(|facet| is_whole(facet));
+    }
 }
 
 /// How many edges run from one point to the other.

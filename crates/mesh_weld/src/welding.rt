@@ -33,7 +33,7 @@ pub fn weld<A: Allocator + Copy + Send + Sync>(
 {
     let mut facets = facets;
     let flat = flat_facets(alloc, facets.as_slice())?;
-    keep_whole(&mut facets);
+    keep_whole(&mut facets, flat.len());
     let Parts {
         points,
         numbers,

@@ -15,6 +15,10 @@ use Rattle.mesh_weld.proofs.welding.weld.Goals as goal
 flat_are : (g : Over) (c : In_ok-flat g) → c.in_ok-flat.flat.items ≡ flat_facets c.args.facets.items
 flat_are g c = c.in_ok-flat.ensures ∙ ap flat_facets c.as_slice.ensures.value
 
+pub keep_whole-requires : goal.keep_whole-requires
+keep_whole-requires g c =
+    omega (arith, ap length (flat_are g (goal.at.keep_whole-requires g c).In_ok-flat), flat_count c.args.facets.items, c.in_ok-flat.flat.ok.0)
+
 kept_are : (g : Over) (c : After-as_slice-2 g) → c.as_slice-2.result.now ≡ kept_facets c.args.facets.items
 kept_are g c = c.as_slice-2.ensures.value ∙ c.keep_whole.ensures
 
