@@ -111,7 +111,7 @@ low_at z p = int_le (height p) z
 above_is : (h z : ℤ) → int_lt z h ≡ not (int_le h z)
 above_is h z = grind (arith, ints)
 
-rises-is : (z : ℤ) (u v : Position) → rises_through (height u) (height v) z ≡ (low_at z u && not (low_at z v))
+pub rises-is : (z : ℤ) (u v : Position) → rises_through (height u) (height v) z ≡ (low_at z u && not (low_at z v))
 rises-is z u v = ap (λ b. low_at z u && b) (above_is (height v) z)
 
 abbrev pub picks : Option Edge → Option Edge → (Edge → Bool) → ℕ
@@ -119,7 +119,7 @@ picks None u P = 0
 picks (Some d) None P = 0
 picks (Some d) (Some u) P = cond (P d) 1 0
 
-abbrev first_of : (a b c : Bool) (t : Triangle) → Option Edge
+abbrev pub first_of : (a b c : Bool) (t : Triangle) → Option Edge
 first_of a b c t = cond a (Some (edge t.a t.b)) (cond b (Some (edge t.b t.c)) (cond c (Some (edge t.c t.a)) None))
 
 abbrev sum_of : (a b c : Bool) (t : Triangle) (P : Edge → Bool) → ℕ

@@ -16,3 +16,5 @@ pub mod Walks
 pub mod Gathers
 pub mod Cycles
 pub mod Unique
+pub mod LoopsClose
+pub mod LoopWinds

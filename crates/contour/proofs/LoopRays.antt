@@ -61,6 +61,16 @@ loops_in list P n all [] h = tt
 loops_in list P n all (s ∷ kept) h =
     ((run_in list P all s (length list) s h.0, run_length list s (length list) s), loops_in list P n all kept h.1)
 
+-- the segments of a loop are of the list
+pub in_loop : (list : List Segment) (P : Segment → Type 0) → All P list → (k : ℕ) (loop : List Segment) → slice_get (loops list) k ≡ Some loop
+    → AllByRecursion P loop × (length loop ≤ length list + 1)
+in_loop list P all k loop e =
+    let kept = recursion_from_All P (filter (is_leader list) list) (All-filter (is_leader list) P list all) in
+    let each = All-from_recursion (λ loop. AllByRecursion P loop × (length loop ≤ length list + 1)) (loops list)
+    (loops_in list P 0 all (filter (is_leader list) list) kept) in
+    subst (λ loop. AllByRecursion P loop × (length loop ≤ length list + 1)) (get_or_from_slice_get (loops list) k loop loop e)
+    (each k loop (slice_get_within (loops list) k loop e))
+
 -- what a loop of the segments at a height has
 pub record IsLoopOf (facets : List Triangle) (list : List Segment) : Type 0 where
   pub within : All (λ s. s.facet < length facets) list
@@ -69,15 +79,7 @@ pub record IsLoopOf (facets : List Triangle) (list : List Segment) : Type 0 wher
 pub is_loop : (facets : List Triangle) (z : ℤ) (list : List Segment) (k : ℕ) → slice_get (loops (segments facets z)) k ≡ Some list
     → IsLoopOf facets list
 is_loop facets z list k e =
-    let all = facet_within facets (segments facets z) (z, refl) in
-    let kept = recursion_from_All (λ s. s.facet < length facets) (filter (is_leader (segments facets z)) (segments facets z))
-    (All-filter (is_leader (segments facets z)) (λ s. s.facet < length facets) (segments facets z) all) in
-    let each = All-from_recursion (λ loop. AllByRecursion (λ s. s.facet < length facets) loop × (length loop ≤ length (segments facets z) + 1))
-    (loops (segments facets z)) (loops_in (segments facets z) (λ s. s.facet < length facets) 0 all _ kept) in
-    let here : AllByRecursion (λ s. s.facet < length facets) list × (length list ≤ length (segments facets z) + 1) =
-    subst (λ loop. AllByRecursion (λ s. s.facet < length facets) loop × (length loop ≤ length (segments facets z) + 1))
-    (get_or_from_slice_get (loops (segments facets z)) k list list e)
-    (each k list (slice_get_within (loops (segments facets z)) k list e)) in
+    let here = in_loop (segments facets z) (λ s. s.facet < length facets) (facet_within facets (segments facets z) (z, refl)) k list e in
     let few = few_segments facets (segments facets z) (z, refl) in
     let length_is = here.1 in
     record { within = All-from_recursion (λ s. s.facet < length facets) list here.0; few = omega arith }

@@ -14,14 +14,15 @@ pub struct CutFacets<A: Allocator> {
 }
 
 impl<A: Allocator + Copy + Send + Sync> CutFacets<A> {
-    fn with_capacity(alloc: A, room: usize) -> Result<CutFacets<A>, AllocError>
-        ensures numbers { IfOk result (λ cut. cut.numbers.items ≡ []) }
-        ensures tops { IfOk result (λ cut. cut.tops.items ≡ []) }
+    /// No facets.
+    pub fn none(alloc: A) -> CutFacets<A>
+        ensures numbers { result.numbers.items ≡ [] }
+        ensures tops { result.tops.items ≡ [] }
     {
-        Ok(CutFacets {
-            numbers: Vec::with_capacity(alloc, room)?,
-            tops: Vec::with_capacity(alloc, room)?,
-        })
+        CutFacets {
+            numbers: Vec::new(alloc),
+            tops: Vec::new(alloc),
+        }
     }
 
     /// Facets with their greatest heights.
@@ -30,9 +31,17 @@ impl<A: Allocator + Copy + Send + Sync> CutFacets<A> {
         ensures numbers { IfOk result (λ cut. cut.numbers.items ≡ numbers.now) }
         ensures tops { IfOk result (λ cut. cut.tops.items ≡ map (top_of s.now.facets) numbers.now) }
     {
-        let mut cut = CutFacets::with_capacity(alloc, numbers.len())?;
+        let mut cut = CutFacets::none(alloc);
         cut.push_all(s, numbers)?;
         Ok(cut)
+    }
+
+    fn clear(&mut self)
+        ensures numbers { self.new.numbers.items ≡ [] }
+        ensures tops { self.new.tops.items ≡ [] }
+    {
+        self.numbers.clear();
+        self.tops.clear();
     }
 
     fn push(&mut self, number: u32, top: i32) -> Result<(), AllocError>
@@ -101,28 +110,28 @@ impl<A: Allocator + Copy + Send + Sync> CutFacets<A> {
         Ok(left)
     }
 
-    /// Those that end above the height `z2`, doubled micrometres, with the fresh ones among them, in
-    /// ascending order where both lists are.
-    pub fn risen(
-        &self,
-        alloc: A,
+    /// Becomes those of `below` that end above the height `z2`, doubled micrometres, with the fresh
+    /// ones among them, in ascending order where both lists are. What was here before doesn't count.
+    pub fn rise(
+        &mut self,
         s: &Solid<A>,
+        below: &CutFacets<A>,
         fresh: &[u32],
         z2: i64,
-    ) -> Result<CutFacets<A>, AllocError>
+    ) -> Result<(), AllocError>
         requires fresh { All (λ n. n < length s.now.facets) fresh.now }
-        requires tops { self.now.tops.items ≡ map (top_of s.now.facets) self.now.numbers.items }
-        ensures numbers { IfOk result (λ cut. cut.numbers.items
-            ≡ weave (filter (is_topped s.now.facets z2) self.now.numbers.items) fresh.now) }
-        ensures tops { IfOk result (λ cut. cut.tops.items ≡ map (top_of s.now.facets) cut.numbers.items) }
+        requires tops { below.now.tops.items ≡ map (top_of s.now.facets) below.now.numbers.items }
+        ensures numbers { OnOk result (self.new.numbers.items
+            ≡ weave (filter (is_topped s.now.facets z2) below.now.numbers.items) fresh.now) }
+        ensures tops { OnOk result (self.new.tops.items ≡ map (top_of s.now.facets) self.new.numbers.items) }
     {
-        let mut merged = CutFacets::with_capacity(alloc, self.numbers.len() + fresh.len())?;
+        self.clear();
         let mut rest = fresh;
-        for (i, n) in self.numbers.iter().enumerate() {
-            rest = merged.push_if_above(s, rest, *n, self.tops[i], z2)?;
+        for (i, n) in below.numbers.iter().enumerate() {
+            rest = self.push_if_above(s, rest, *n, below.tops[i], z2)?;
         }
-        merged.push_all(s, rest)?;
-        Ok(merged)
+        self.push_all(s, rest)?;
+        Ok(())
     }
 }
 

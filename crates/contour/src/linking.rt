@@ -15,10 +15,14 @@ use std::marker::Model;
 const NONE: u32 = u32::MAX;
 
 /// Links the segments of planes to loops. For each edge of the mesh it keeps the first segment that
-/// starts there and has no predecessor yet; between two planes there is none.
+/// starts there and has no predecessor yet; between two planes there is none. All other lists are
+/// filled anew for each plane, and kept for their memory alone.
 #[derive(Drop)]
 pub struct Linker<A: Allocator> {
     heads: Vec<u32, A>,
+    links: Links<A>,
+    passed: Vec<bool, A>,
+    ends: Vec<usize, A>,
 }
 
 impl<A: Allocator> Model for Linker<A> {
@@ -36,6 +40,9 @@ impl<A: Allocator + Copy + Send + Sync> Linker<A> {
     pub fn new(alloc: A, s: &Solid<A>) -> Result<Linker<A>, AllocError> {
         Ok(Linker {
             heads: vec![in alloc; NONE; s.edge_count() as usize]?,
+            links: Links::new(alloc),
+            passed: Vec::new(alloc),
+            ends: Vec::new(alloc),
         })
     }
 
@@ -50,29 +57,10 @@ impl<A: Allocator + Copy + Send + Sync> Linker<A> {
         ensures closed { IfOk result (AreLoops list.now) }
         ensures loops { IfOk result (λ found. found ≡ loops list.now) }
     {
-        let next = self.followers(alloc, s, list)?;
-        gathered(alloc, list, next.as_slice())
-    }
-
-    /// For each segment the place of the one behind it: at each node the n-th that ends there is
-    /// followed by the n-th that starts there.
-    fn followers(
-        &mut self,
-        alloc: A,
-        s: &Solid<A>,
-        list: &[Segment],
-    ) -> Result<Vec<u32, A>, AllocError>
-        requires { (z : ℤ) × (list.now ≡ segments s.now.facets z) }
-        ensures { IfOk result (λ next. AreLinks list.now next.items) }
-    {
         make_room(alloc, &mut self.heads, s)?;
-        let edges = PassedEdges::of(alloc, s, list)?;
-        linked(
-            alloc,
-            self.heads.as_mut_slice(),
-            &edges,
-            place_count(s, list) as usize,
-        )
+        self.links.fill(s, list, self.heads.as_mut_slice())?;
+        let next = self.links.next.as_slice();
+        gathered(alloc, list, next, &mut self.passed, &mut self.ends)
     }
 }
 
@@ -104,29 +92,48 @@ fn place_count<A: Allocator>(s: &Solid<A>, list: &[Segment]) -> u32
     list.len().min(s.count()) as u32
 }
 
-/// For each segment the place of the one behind it.
-fn linked<A: Allocator + Copy + Send + Sync>(
-    alloc: A,
-    heads: &mut [u32],
-    edges: &PassedEdges<A>,
-    count: usize,
-) -> Result<Vec<u32, A>, AllocError>
-    requires starts { All (λ e. e < length heads.old) edges.now.starts.items }
-    requires finishes { All (λ e. e < length heads.old) edges.now.finishes.items }
-    requires starts_count { length edges.now.starts.items ≡ count }
-    requires finishes_count { length edges.now.finishes.items ≡ count }
-    requires few { count ≤ 1048576 }
-    requires clear { IsClear heads.old }
-    requires even { AreEven edges.now.starts.items edges.now.finishes.items }
-    ensures count { IfOk result (λ next. length next.items ≡ count) }
-    ensures taken { IfOk result (λ next. AreTaken next.items edges.now.starts.items edges.now.finishes.items count) }
-    ensures clear { IsClear heads.new }
-{
-    let mut after = vec![in alloc; NONE; count]?;
-    let mut next = vec![in alloc; NONE; count]?;
-    put_starters(heads, edges, after.as_mut_slice());
-    take_starters(heads, edges, after.as_slice(), next.as_mut_slice());
-    Ok(next)
+/// How the segments of a plane are linked: `next` has for each the place of the one behind it, `after`
+/// the place of the next one that starts at the same edge.
+#[derive(Drop)]
+struct Links<A: Allocator> {
+    edges: PassedEdges<A>,
+    after: Vec<u32, A>,
+    next: Vec<u32, A>,
+}
+
+impl<A: Allocator> Links<A> {
+    fn new(alloc: A) -> Links<A>
+    where
+        A: Copy,
+    {
+        Links {
+            edges: PassedEdges {
+                starts: Vec::new(alloc),
+                finishes: Vec::new(alloc),
+            },
+            after: Vec::new(alloc),
+            next: Vec::new(alloc),
+        }
+    }
+
+    /// Links the segments of a plane: at each node the n-th that ends there is followed by the n-th
+    /// that starts there.
+    fn fill(&mut self, s: &Solid<A>, list: &[Segment], heads: &mut [u32]) -> Result<(), AllocError>
+        requires list { (z : ℤ) × (list.now ≡ segments s.now.facets z) }
+        requires room { (numbers : List (List ℕ)) (count : ℕ) → AreEdgeNumbers s.now.facets numbers count → count ≤ length heads.old }
+        requires clear { IsClear heads.old }
+        ensures links { OnOk result (AreLinks list.now self.new.next.items) }
+        ensures clear { IsClear heads.new }
+    {
+        self.edges.fill(s, list)?;
+        let count = place_count(s, list) as usize;
+        self.after.resize(count, NONE)?;
+        self.next.resize(count, NONE)?;
+        let after = self.after.as_mut_slice();
+        put_starters(heads, &self.edges, after);
+        take_starters(heads, &self.edges, after, self.next.as_mut_slice());
+        Ok(())
+    }
 }
 
 /// For each segment the numbers of the edges where it starts and where it ends.
@@ -136,21 +143,23 @@ struct PassedEdges<A: Allocator> {
     finishes: Vec<u32, A>,
 }
 
-impl<A: Allocator + Copy + Send + Sync> PassedEdges<A> {
-    fn of(alloc: A, s: &Solid<A>, list: &[Segment]) -> Result<PassedEdges<A>, AllocError>
+impl<A: Allocator> PassedEdges<A> {
+    fn fill(&mut self, s: &Solid<A>, list: &[Segment]) -> Result<(), AllocError>
         requires { All (λ t. t.facet < length s.now.facets) list.now }
-        ensures { IfOk result (λ edges. ArePassedEdges s.now.facets list.now edges.starts.items edges.finishes.items) }
+        ensures { OnOk result (ArePassedEdges s.now.facets list.now self.new.starts.items self.new.finishes.items) }
     {
         let corners = s.triples();
         let numbers = s.edge_numbers();
-        let mut starts = Vec::with_capacity(alloc, list.len())?;
-        let mut finishes = Vec::with_capacity(alloc, list.len())?;
+        self.starts.clear();
+        self.finishes.clear();
         for t in list {
             let facet = t.facet as usize;
-            starts.push(edge_at(&corners[facet], &numbers[facet], t.from))?;
-            finishes.push(edge_at(&corners[facet], &numbers[facet], t.to))?;
+            let start = edge_at(&corners[facet], &numbers[facet], t.from);
+            let finish = edge_at(&corners[facet], &numbers[facet], t.to);
+            self.starts.push(start)?;
+            self.finishes.push(finish)?;
         }
-        Ok(PassedEdges { starts, finishes })
+        Ok(())
     }
 }
 
@@ -215,25 +224,29 @@ fn place_in(list: &[u32], place: u32) -> u32
 }
 
 /// The loops, each from its first segment, in order of these; `next` has the place of each one's
-/// follower.
+/// follower. What is in `passed` and `ends` before doesn't count; the answer has no room to spare.
 fn gathered<A: Allocator + Copy + Send + Sync>(
     alloc: A,
     list: &[Segment],
     next: &[u32],
+    passed: &mut Vec<bool, A>,
+    ends: &mut Vec<usize, A>,
 ) -> Result<Loops<A>, AllocError>
     requires links { AreLinks list.now next.now }
     requires rises { Rises list.now }
     ensures { IfOk result (AreLoops list.now) }
 {
-    let mut passed = vec![in alloc; false; list.len()]?;
+    passed.clear();
+    passed.resize(list.len(), false)?;
+    ends.clear();
     let mut flat = Vec::with_capacity(alloc, list.len())?;
-    let mut ends = Vec::new(alloc);
     for first in 0..list.len() {
         if !passed[first] {
             take_loop(list, next, first, passed.as_mut_slice(), &mut flat)?;
             ends.push(flat.len())?;
         }
     }
+    let ends = ends.as_slice().to_vec(alloc)?;
     Ok(Loops::of(flat, ends))
 }
 

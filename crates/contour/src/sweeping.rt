@@ -9,9 +9,11 @@ use crate::planes::segment_at;
 use mesh_weld::Solid;
 use std::alloc::{AllocError, Allocator};
 use std::marker::Model;
+use std::mem::swap;
 
 /// A plane that rises through a mesh, with the facets that it cuts. A step up looks at the facets
-/// that begin or are cut on the way, and at no others.
+/// that begin or are cut on the way, and at no others; it puts those that it cuts then into `spare`,
+/// whose memory stays from step to step.
 #[derive(Drop)]
 pub struct Sweep<'m, A: Allocator> {
     alloc: A,
@@ -19,6 +21,7 @@ pub struct Sweep<'m, A: Allocator> {
     height: i64,
     passed: usize,
     cut: CutFacets<A>,
+    spare: CutFacets<A>,
 }
 
 impl<'m, A: Allocator> Model for Sweep<'m, A> {
@@ -48,6 +51,7 @@ impl<'m, A: Allocator + Copy + Send + Sync> Sweep<'m, A> {
             height: z2,
             passed: begun.count,
             cut,
+            spare: CutFacets::none(alloc),
         })
     }
 
@@ -63,9 +67,9 @@ impl<'m, A: Allocator + Copy + Send + Sync> Sweep<'m, A> {
         let (_, rest) = self.solid.by_height().split_at(self.passed);
         let mut begun = Begun::find(self.alloc, self.solid, rest, z2)?;
         begun.cut.sort_unstable();
-        self.cut = self
-            .cut
-            .risen(self.alloc, self.solid, begun.cut.as_slice(), z2)?;
+        let fresh = begun.cut.as_slice();
+        self.spare.rise(self.solid, &self.cut, fresh, z2)?;
+        swap(&mut self.cut, &mut self.spare);
         self.passed += begun.count;
         self.height = z2;
         Ok(())

@@ -1,7 +1,8 @@
 //! What no clause says: worked meshes with ample memory, and memory that is refused.
 ghost use Rattle.std.specs.Prelude.{◌≤◌, ◌+◌, length, vec_len};
+ghost use Rattle.micro_num.specs.Bounds.{IsAtMost};
 
-use crate::{Segment, Sweep, loops, segments};
+use crate::{Linker, Segment, Sweep, loops, segments};
 use mesh_weld::{Solid, weld};
 use short_memory::ShortMemory;
 use std::alloc::{AllocError, Allocator, Global};
@@ -143,6 +144,33 @@ fn loops_of_an_octahedron(rt: HostRuntime) -> Result<(), Fail> {
     assert!(rt; none.is_empty());
     let empty = loops(alloc, &solid, 4, none)?;
     assert_eq!(rt; empty.count(), 0);
+    Ok(())
+}
+
+// How many loops a plane has, by a linker that may have linked others.
+fn count_by_linker<A: Allocator + Copy + Send + Sync>(
+    alloc: A,
+    linker: &mut Linker<A>,
+    solid: &Solid<A>,
+    z2: i64,
+) -> Result<usize, AllocError>
+    requires { IsAtMost 256200000 z2 }
+{
+    let list = segments(alloc, solid, z2)?;
+    let found = linker.loops(alloc, solid, list.as_slice())?;
+    Ok(found.count())
+}
+
+#[test]
+fn planes_of_one_linker(rt: HostRuntime) -> Result<(), Fail> {
+    let alloc = rt.alloc();
+    let (low, high) = (box_corners(0, 4), box_corners(2, 6));
+    let solid = joined(alloc, (&low, &BOX), (&high, &BOX))?;
+    let mut linker = Linker::new(alloc, &solid)?;
+    assert_eq!(rt; count_by_linker(alloc, &mut linker, &solid, 2)?, 1);
+    assert_eq!(rt; count_by_linker(alloc, &mut linker, &solid, 6)?, 2);
+    assert_eq!(rt; count_by_linker(alloc, &mut linker, &solid, 12)?, 0);
+    assert_eq!(rt; count_by_linker(alloc, &mut linker, &solid, 10)?, 1);
     Ok(())
 }
 

@@ -1,6 +1,6 @@
-use Rattle.std.proofs.Common.{rules, ◌≡◌, ◌<◌, ◌+◌, ◌++◌, ◌∷◌, ◌∙◌, [], ℕ, true, false, length, get_or, replicate, sym, subst, ap, arith}
-use Rattle.std.proofs.lemmas.List.{get_or-replicate, get_or_read, length-replicate}
-use Rattle.contour.specs.Contour.{AreLoops}
+use Rattle.std.proofs.Common.{refl, ◌≡◌, ◌<◌, ◌+◌, ◌++◌, ◌∷◌, ◌∙◌, [], ℕ, true, length, sym, subst, ap, arith}
+use Rattle.std.proofs.lemmas.List.{get_or_read}
+use Rattle.contour.specs.Contour.{AreLoops, parts_from}
 use Rattle.contour.specs.Linking.{IsTakenLoop, has_passed}
 use Rattle.contour.proofs.Gathers.{IsGathered, gather-begins, gather-skips, gather-takes, gather-ends}
 use Rattle.contour.proofs.Gathers.{cut}
@@ -9,14 +9,14 @@ use Rattle.contour.proofs.linking.gathered.Goals.{then-not-index+in_ok-take_loop
 
 pub loop-first-init : goal.loop-first-init
 loop-first-init g c =
-    let none : c.in_ok-passed.passed.items ≡ replicate (length c.args.list.now) false = search rules in
-    let size : length c.in_ok-passed.passed.items ≡ length c.args.list.now = ap length none ∙ length-replicate (length c.args.list.now) false in
+    let size : length c.resize.new.self.items ≡ length c.args.list.now = omega (arith, c.in_ok-resize.ensures.len, c.resize.new.self.ok.0) in
+    let empty = c.clear.ensures.len in
     let flat : c.in_ok-flat.flat.items ≡ [] = c.in_ok-flat.ensures.items in
-    let ends : c.new-ends.result.items ≡ [] = c.new-ends.ensures.items in
-    subst (λ xs. IsGathered c.args.list.now c.args.next.now 0 c.in_ok-passed.passed.items xs c.new-ends.result.items) (sym flat)
-    (subst (λ es. IsGathered c.args.list.now c.args.next.now 0 c.in_ok-passed.passed.items [] es) (sym ends)
-    (gather-begins c.args.list.now c.args.next.now c.in_ok-passed.passed.items c.requires.links size
-    (λ j l. ap (λ ps. get_or ps j true) none ∙ get_or-replicate (length c.args.list.now) j false true l)))
+    let ends : c.clear-2.new.self.items ≡ [] = c.clear-2.ensures.items in
+    subst (λ xs. IsGathered c.args.list.now c.args.next.now 0 c.resize.new.self.items xs c.clear-2.new.self.items) (sym flat)
+    (subst (λ es. IsGathered c.args.list.now c.args.next.now 0 c.resize.new.self.items [] es) (sym ends)
+    (gather-begins c.args.list.now c.args.next.now c.resize.new.self.items c.requires.links size
+    (λ j l. c.in_ok-resize.ensures.by_index.1 j true refl (omega arith) l)))
 
 pub loop-first-preserved : goal.loop-first-preserved
 loop-first-preserved g c =
@@ -56,5 +56,7 @@ loop-first-preserved g c =
 
 pub returns : goal.returns
 returns g c =
-    subst (AreLoops c.args.list.now) (sym c.of.ensures)
+    let ends : c.in_ok-ends.ends.items ≡ c.loop-first.ends.items =
+    c.in_ok-ends.ensures.items_if_clones_equal (λ x y h. h) ∙ c.as_slice.ensures.value in
+    subst (AreLoops c.args.list.now) (sym (c.of.ensures ∙ ap (λ es. parts_from 0 es c.loop-first.flat.items) ends))
     (gather-ends c.args.list.now c.args.next.now c.loop-first.first c.loop-first.passed.items c.loop-first.flat.items c.loop-first.ends.items c.loop-first.invariant (omega (arith, c.loop-first-test.false)))

@@ -1,5 +1,9 @@
-use Rattle.std.proofs.Common.{arith}
+use Rattle.std.proofs.Common.{◌≡◌, ◌∙◌, ap, arith, sym, to_z, w32}
+use Rattle.std.proofs.lemmas.List.{take_all}
+use Rattle.stl_text.specs.Winding.{ray}
+use Rattle.contour.specs.Contour.{loop_facets}
 use Rattle.contour.proofs.LoopRays.{IsLoopOf, is_loop, sum_more}
+use Rattle.contour.proofs.LoopWinds.{ray_from_back}
 use Rattle.contour.proofs.rays.loop_ray.Goals as goal
 
 pub prove-unreachable-requires : goal.prove-unreachable-requires
@@ -27,3 +31,13 @@ loop-segment-preserved g c =
     (omega arith) (omega arith) c.facet.ensures
     (record { sum_is = c.loop-segment.invariant.sum_is; small = c.loop-segment.invariant.small })
     c.ray_hit-sum.ensures.value c.ray_hit-sum.ensures.unit
+
+pub returns-clause-back : goal.returns-clause-back
+returns-clause-back g c =
+    let all = take_all c.loop-segment.segment-index c.args.list.now (omega (arith, c.loop-segment-test.false)) in
+    let ahead : to_z w32 c.loop-segment.sum-bits ≡ ray (loop_facets c.args.s.now.facets c.args.list.now) c.args.c.now =
+    c.loop-segment.invariant.sum_is ∙ ap (λ segments. ray (loop_facets c.args.s.now.facets segments) c.args.c.now) all in
+    let numbered = c.edge_numbers-numbers.ensures in
+    ahead
+    ∙ sym (ray_from_back c.args.s.now.facets c.edge_numbers-numbers.result.now numbered.0 numbered.1 c.count-facets.ensures.closed
+    c.args.c.now c.args.list.now c.requires.0 c.requires.1)

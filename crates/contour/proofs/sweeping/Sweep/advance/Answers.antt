@@ -1,7 +1,7 @@
-use Rattle.std.proofs.Common.{◌≡◌, sym, subst, arith, to_z, of_z, w64}
+use Rattle.std.proofs.Common.{◌≡◌, ◌∙◌, ap, map, sym, subst, arith, to_z, of_z, w64}
 use Rattle.std.specs.Prelude.{◌≤ℤ◌}
 use Rattle.std.proofs.lemmas.Int.{to_z-of_z}
-use Rattle.contour.specs.Sweeping.{SweepView}
+use Rattle.contour.specs.Sweeping.{SweepView, top_of}
 use Rattle.contour.proofs.Sweeps.{rest_in, found_in, passed_within, swept_next}
 use Rattle.contour.proofs.sweeping.Sweep.advance.Goals as goal
 
@@ -16,24 +16,30 @@ find-requires-after_bounds g c κs within =
     rw c.split_at.ensures.back
     (rest_in c.self.inside.solid.now.facets c.self.inside.passed c.by_height.result.now c.by_height.ensures)
 
-pub risen-requires-clause-fresh : goal.risen-requires-clause-fresh
-risen-requires-clause-fresh g c κs within =
-    rw c.as_slice.ensures.value
+pub rise-requires-clause-fresh : goal.rise-requires-clause-fresh
+rise-requires-clause-fresh g c κs within =
+    rw c.as_slice-fresh.ensures.value
     (found_in c.self.inside.solid.now.facets _ c.in_ok-begun.begun.count c.split_at.result.1.now c.in_ok-begun.begun.cut.items
     c.sort_unstable.new.self.items
     (rw c.split_at.ensures.back (rest_in c.self.inside.solid.now.facets c.self.inside.passed c.by_height.result.now c.by_height.ensures))
     c.in_ok-begun.ensures.cut c.sort_unstable.ensures.permutation)
 
 pub invariant_of-self : goal.invariant_of-self
-invariant_of-self g c =
+invariant_of-self g c = c.self.invariant
+
+pub invariant_of-self-2 : goal.invariant_of-self-2
+invariant_of-self-2 g c =
     let same : to_z w64 (of_z w64 c.args.z2) ≡ c.args.z2 = to_z-of_z w64 c.args.z2 c.ranges.z2 in
     let up : c.self.inside.height ≤ℤ c.args.z2 = subst (λ (v : SweepView). v.height ≤ℤ c.args.z2) (sym c.self.view_is) c.requires.up in
+    let risen = c.swap.ensures.x_after in
     let swept = swept_next c.self.inside.solid.now.facets c.by_height.result.now c.self.inside.height c.args.z2 c.self.inside.passed
     c.in_ok-begun.begun.count c.self.inside.cut.numbers.items c.self.inside.cut.tops.items
     c.in_ok-begun.begun.cut.items c.sort_unstable.new.self.items
-    c.in_ok-self-inside.field-0.numbers.items c.in_ok-self-inside.field-0.tops.items
+    c.swap.new.x.numbers.items c.swap.new.x.tops.items
     c.by_height.ensures c.self.invariant up c.requires.height
     (rw (same, c.split_at.ensures.back) at c.in_ok-begun.ensures.count) (rw (same, c.split_at.ensures.back) at c.in_ok-begun.ensures.cut)
     c.sort_unstable.ensures.permutation c.sort_unstable.ensures.sorted
-    (rw (same, c.as_slice.ensures.value) at c.in_ok-self-inside.ensures.numbers) c.in_ok-self-inside.ensures.tops in
+    (ap (λ cut. cut.numbers.items) risen ∙ rw (same, c.as_slice-fresh.ensures.value) at c.in_ok-rise.ensures.numbers)
+    (ap (λ cut. cut.tops.items) risen ∙ c.in_ok-rise.ensures.tops
+    ∙ ap (λ cut. map (top_of c.self.inside.solid.now.facets) cut.numbers.items) (sym risen)) in
     rw same swept

@@ -1,7 +1,7 @@
 use Rattle.std.proofs.Common.{arith, ◌≤◌, ◌∙◌, ap, map, length}
 use Rattle.std.proofs.lemmas.List.{take_all}
 use Rattle.contour.specs.Linking.{start_edge, finish_edge}
-use Rattle.contour.proofs.linking.PassedEdges.of.Goals as goal
+use Rattle.contour.proofs.linking.PassedEdges.fill.Goals as goal
 
 pub returns : goal.returns
 returns g c =
