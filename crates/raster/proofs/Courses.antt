@@ -1,6 +1,6 @@
 -- What the crossings of one facet add to each row.
-use Rattle.std.proofs.Common.{◌≡◌, ℕ, zero, suc, ◌+◌, ◌-◌, ◌<◌, ◌≤◌, ◌⊎◌, inl, inr, List, [], ◌∷◌, ◌++◌, Bool, true, false, cond, ◌&&◌, length, refl, ap, sym, subst, ◌∙◌, arith}
-use Rattle.std.specs.Prelude.{ℤ, pos, negsuc, ◌+ℤ◌, ◌-ℤ◌, nat_le, nat_lt, ◌==◌, int_lt, ◌*ℤ◌, slice_index}
+use Rattle.std.proofs.Common.{◌≡◌, ℕ, zero, suc, ◌+◌, ◌-◌, ◌<◌, ◌≤◌, ◌⊎◌, inl, inr, List, [], ◌∷◌, ◌++◌, Bool, true, false, cond, ◌&&◌, length, refl, ap, sym, subst, ◌∙◌, append_assoc, arith}
+use Rattle.std.specs.Prelude.{All, ℤ, pos, negsuc, ◌+ℤ◌, ◌-ℤ◌, nat_le, nat_lt, ◌==◌, int_lt, ◌*ℤ◌, slice_index}
 use Rattle.std.specs.Ordering.{int_eq}
 use Rattle.std.proofs.lemmas.Int.{ints}
 use Rattle.std.proofs.lemmas.List.Folds.{list_all-append}
@@ -173,3 +173,19 @@ passed-none t z l s h i j low = none s (wind t (row_y l j) z) (hit t (pixel l z 
   where
     none : (s w x : ℤ) → w ≡ pos 0 → x ≡ pos 0 → s ≡ s +ℤ (w -ℤ x)
     none s w x h' k = omega (arith, ints)
+
+-- one crossing of a course
+pub along-more : (old new all : List Crossed) (at row next column : ℕ) (up : Bool) (columns rest : List ℕ) → columns ≡ column ∷ rest → at ≡ row → next ≡ row + 1 → new ≡ old ++ (record { row = at; mark = record { column = column; is_up = up } }) ∷ [] → old ++ crossings_along row up columns ≡ all → new ++ crossings_along next up rest ≡ all
+along-more old new all at row next column up columns rest first here later pushed h =
+    ap (λ (l : List Crossed). l ++ crossings_along next up rest) pushed
+    ∙ append_assoc old ((record { row = at; mark = record { column = column; is_up = up } }) ∷ []) (crossings_along next up rest)
+    ∙ ap (λ (n : ℕ). old ++ (record { row = n; mark = record { column = column; is_up = up } }) ∷ crossings_along next up rest) here
+    ∙ ap (λ (n : ℕ). old ++ (record { row = row; mark = record { column = column; is_up = up } }) ∷ crossings_along n up rest) later
+    ∙ ap (λ (l : List ℕ). old ++ crossings_along row up l) (sym first)
+    ∙ h
+
+-- the columns that are left
+pub columns-left : (n column : ℕ) (columns rest : List ℕ) → columns ≡ column ∷ rest → All (λ c. c ≤ n) columns → All (λ c. c ≤ n) rest
+columns-left n column columns rest first h =
+    let all : All (λ c. c ≤ n) (column ∷ rest) = subst (λ (l : List ℕ). All (λ c. c ≤ n) l) first h in
+    λ k d low. all (suc k) d (omega (arith, low))

@@ -72,19 +72,18 @@ spans-form rule columns rows list spans h =
     }
 
 -- the spans of all rows of a grid
-pub spans-below : (rule : Rule) (g : Lattice) (l : Pixels) (rows : ℕ) (list now : List Crossed) (spans : List Span) → ArePixels g l → rows ≡ g.rows → now ≡ list
+pub spans-below : (rule : Rule) (g : Lattice) (l : Pixels) (rows : ℕ) (list : List Crossed) (spans copied : List Span) → ArePixels g l → rows ≡ g.rows → copied ≡ spans
     → are_crossings_within l.columns l.rows list ≡ true
-    → ((columns : ℕ) → are_crossings_within columns rows now ≡ true → AreSpansBelow rule columns rows now spans)
-    → AreSpansBelow rule g.columns g.rows list spans
-spans-below rule g l rows list now spans same count kept inside below =
+    → ((columns : ℕ) → are_crossings_within columns rows list ≡ true → AreSpansBelow rule columns rows list spans)
+    → AreSpansBelow rule g.columns g.rows list copied
+spans-below rule g l rows list spans copied same count kept inside below =
     let within : are_crossings_within g.columns g.rows list ≡ true =
     subst (λ (n : ℕ). are_crossings_within g.columns n list ≡ true) same.rows
     (subst (λ (n : ℕ). are_crossings_within n l.rows list ≡ true) same.columns inside) in
-    let within_now : are_crossings_within g.columns rows now ≡ true =
-    subst (λ (x : List Crossed). are_crossings_within g.columns rows x ≡ true) (sym kept)
-    (subst (λ (n : ℕ). are_crossings_within g.columns n list ≡ true) (sym count) within) in
-    subst (λ (x : List Crossed). AreSpansBelow rule g.columns g.rows x spans) kept
-    (subst (λ (n : ℕ). AreSpansBelow rule g.columns n now spans) count (below g.columns within_now))
+    let counted : are_crossings_within g.columns rows list ≡ true =
+    subst (λ (n : ℕ). are_crossings_within g.columns n list ≡ true) (sym count) within in
+    subst (λ (x : List Span). AreSpansBelow rule g.columns g.rows list x) (sym kept)
+    (subst (λ (n : ℕ). AreSpansBelow rule g.columns n list spans) count (below g.columns counted))
 
 -- where the sums of a row are those over all facets, its spans cover what is inside by the crossings that don't lie ahead
 pub spans-swept : (facets : List Triangle) (g : Lattice) (l : Pixels) (k : ℕ) (z : ℤ) (rule : Rule) (list : List Crossed) (spans : List Span)

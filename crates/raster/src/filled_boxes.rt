@@ -1,7 +1,7 @@
 //! Two boxes that overlap, filled, and memory that is refused.
 ghost use Rattle.std.specs.Prelude.{◌<◌, ◌≤◌, ◌+◌, vec_len};
 
-use crate::{Grid, Rule, Span, fill};
+use crate::{Filler, Grid, Rule, Span, fill};
 use contour::segments;
 use mesh_weld::{Solid, weld};
 use short_memory::ShortMemory;
@@ -54,21 +54,54 @@ fn layer<A: Allocator + Copy + Send + Sync>(
     fill(alloc, s, g, rule, k, cut.as_slice())
 }
 
-// The spans of a layer of two boxes, from 0 to 4 and from 2 to 6, in voxels of 2; `None` where memory was refused.
+// The spans of a layer, in memory that other layers were filled in.
+fn next_layer<A: Allocator + Copy + Send + Sync>(
+    filler: &mut Filler<A>,
+    alloc: A,
+    s: &Solid<A>,
+    g: &Grid,
+    rule: Rule,
+    k: u32,
+) -> Result<Vec<Span, A>, AllocError>
+    requires { k < g.now.layers }
+{
+    let cut = segments(alloc, s, g.plane(k))?;
+    filler.fill(alloc, s, g, rule, k, cut.as_slice())
+}
+
+// Two boxes, from 0 to 4 and from 2 to 6; `None` where memory was refused.
+fn welded_boxes<A: Allocator + Copy + Send + Sync>(alloc: A) -> Option<Solid<A>> {
+    let mut list = Vec::new(alloc);
+    push_box(&mut list, 0).ok()?;
+    push_box(&mut list, 2).ok()?;
+    weld(alloc, list).ok()
+}
+
+// The spans of a layer of the two boxes, in voxels of 2; `None` where memory was refused.
 fn two_boxes<A: Allocator + Copy + Send + Sync>(
     alloc: A,
     rule: Rule,
     k: u32,
 ) -> Option<Vec<Span, A>> {
-    let mut list = Vec::new(alloc);
-    push_box(&mut list, 0).ok()?;
-    push_box(&mut list, 2).ok()?;
-    let solid = weld(alloc, list).ok()?;
+    let solid = welded_boxes(alloc)?;
     let g = Grid::fit(&solid, 2, 2).ok()?;
     if k >= g.layers() {
         return None;
     }
     layer(alloc, &solid, &g, rule, k).ok()
+}
+
+// The spans of layer 1 of the two boxes and then those of layer 0, by one filler; `None` where memory was refused.
+fn two_layers<A: Allocator + Copy + Send + Sync>(alloc: A) -> Option<(Vec<Span, A>, Vec<Span, A>)> {
+    let solid = welded_boxes(alloc)?;
+    let g = Grid::fit(&solid, 2, 2).ok()?;
+    if g.layers() < 2 {
+        return None;
+    }
+    let mut filler = Filler::new(alloc);
+    let high = next_layer(&mut filler, alloc, &solid, &g, Rule::EvenOdd, 1).ok()?;
+    let low = next_layer(&mut filler, alloc, &solid, &g, Rule::EvenOdd, 0).ok()?;
+    Some((high, low))
 }
 
 /// Spans, each as `ROW: FROM, TO`.
@@ -92,6 +125,17 @@ fn layer_of_two_boxes(rt: HostRuntime) -> Result<(), Fail> {
         spans![0: 0, 2; 1: 0, 3; 2: 1, 3].as_slice()
     );
     let low = two_boxes(alloc, Rule::EvenOdd, 0).ok_or("the first box alone")?;
+    assert_eq!(rt; low.as_slice(), spans![0: 0, 2; 1: 0, 2].as_slice());
+    Ok(())
+}
+
+#[test]
+fn layers_of_one_filler(rt: HostRuntime) -> Result<(), Fail> {
+    let (high, low) = two_layers(rt.alloc()).ok_or("two layers")?;
+    assert_eq!(rt;
+        high.as_slice(),
+        spans![0: 0, 2; 1: 0, 1; 1: 2, 3; 2: 1, 3].as_slice()
+    );
     assert_eq!(rt; low.as_slice(), spans![0: 0, 2; 1: 0, 2].as_slice());
     Ok(())
 }

@@ -2,6 +2,7 @@
 #![tactic(auto)]
 
 mod bits;
+mod chains;
 mod chunk;
 mod crossed;
 mod devices;
@@ -21,7 +22,7 @@ mod tests;
 mod write_fault;
 
 pub use devices::{Counted, Failed, Failures, Sink, Source};
-pub use filled::fill;
+pub use filled::{Filler, fill};
 pub use grid::Grid;
 pub use grid_faults::GridFault;
 pub use image::write_layer;

@@ -1,5 +1,10 @@
+use Rattle.std.proofs.Common.{◌≡◌}
 use Rattle.raster.proofs.Segs.{ArePushed}
 use Rattle.raster.proofs.filled.push_facets.Given as goal
 
 abbrev pub invariant-loop-segment : goal.invariant-loop-segment
-invariant-loop-segment g l = ArePushed l.s.facets l.z2 l.lattice l.list l.segment-index l.out.items
+invariant-loop-segment g l =
+    record {
+      pushed : ArePushed l.s.facets l.z2 l.lattice l.list l.segment-index l.out.list;
+      rows : l.out.rows ≡ l.fn.out.rows;
+    }

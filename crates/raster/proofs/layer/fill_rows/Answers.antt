@@ -4,16 +4,9 @@ use Rattle.raster.proofs.layer.fill_rows.Goals as goal
 
 pub fill_row-requires-clause-balanced : goal.fill_row-requires-clause-balanced
 fill_row-requires-clause-balanced g c =
-    row-balanced c.args.crossings.now c.loop-row.start c.in_ok-start.start c.loop-row.row c.as_mut_slice.result.now
-    c.in_ok-start.ensures.order c.loop-row.invariant.split c.in_ok-start.ensures.split (c.as_mut_slice.ensures.value ∙ c.in_ok-start.ensures.marks)
-    (c.requires.balanced c.loop-row.row c.loop-row-test.true)
+    row-balanced c.args.chains.now.list c.loop-row.row c.as_mut_slice.result.now (c.as_mut_slice.ensures.value ∙ c.in_ok-take_marks.ensures) (c.requires.balanced c.loop-row.row c.loop-row-test.true)
 
 pub loop-row-preserved : goal.loop-row-preserved
-loop-row-preserved g c =
-    record {
-      split = c.in_ok-start.ensures.split;
-      spans = λ columns inside.
-          spans-more c.args.rule columns c.args.rows c.loop-row.row c.loop-row.start c.in_ok-start.start c.args.crossings.now c.loop-row.spans.items c.fill_row.new.out.items c.as_mut_slice.result.now
-          c.in_ok-start.ensures.order c.loop-row.invariant.split c.in_ok-start.ensures.split (c.as_mut_slice.ensures.value ∙ c.in_ok-start.ensures.marks) inside
-          c.in_ok-fill_row.ensures.kept c.in_ok-fill_row.ensures.added (c.loop-row.invariant.spans columns inside);
-    }
+loop-row-preserved g c = λ columns inside.
+    spans-more c.args.rule columns c.args.rows c.loop-row.row c.args.chains.now.list c.loop-row.out.items c.fill_row.new.out.items c.as_mut_slice.result.now
+    (c.as_mut_slice.ensures.value ∙ c.in_ok-take_marks.ensures) inside c.in_ok-fill_row.ensures.kept c.in_ok-fill_row.ensures.added (c.loop-row.invariant columns inside)
