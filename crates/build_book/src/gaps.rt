@@ -4,7 +4,7 @@ ghost use Rattle.build_book.specs.Layers.{IsComplete, IsLawfulShelf, filed_count
 
 use crate::jobs::Job;
 use crate::layers::Layer;
-use crate::pieces::slice_stripe;
+use crate::slicers::Slicer;
 use std::alloc::{AllocError, Allocator};
 
 /// So many empty places.
@@ -112,32 +112,38 @@ pub(crate) fn make_missing<A: Allocator + Copy + Send + Sync>(
     ensures all { IfOk result (λ late. (k : ℕ) → k < length places.new → IsTaken places.new k) }
     ensures late { IfOk result (λ late. late + filed_count places.old ≡ filed_count places.new) }
 {
+    if is_full(places, 0, places.len()) {
+        return Ok(0);
+    }
+    let mut slicer = Slicer::new(alloc, job)?;
     let mut late = 0u32;
     for s in 0..job.stripes() {
-        late += make_stripe(alloc, job, s, places)?;
+        late += make_stripe(job, &mut slicer, s, places)?;
     }
     Ok(late)
 }
 
 /// Makes what is missing in the places of a stripe, and answers how many layers that was.
 fn make_stripe<A: Allocator + Copy + Send + Sync>(
-    alloc: A,
     job: &Job<A>,
+    slicer: &mut Slicer<'_, A>,
     s: u64,
     places: &mut [Option<Layer<A>>],
 ) -> Result<u32, AllocError>
+    requires slicer { slicer.old ≡ job.now }
     requires stripe { s < stripe_count job.now.grid }
     requires lawful { IsLawfulShelf (record { work = job.now; places = places.old }) }
     requires below { (k : ℕ) → k < 8 * s → k < length places.old → IsTaken places.old k }
     ensures lawful { IfOk result (λ made. IsLawfulShelf (record { work = job.now; places = places.new })) }
     ensures below { IfOk result (λ made. (k : ℕ) → k < 8 * (s + 1) → k < length places.new → IsTaken places.new k) }
     ensures made { IfOk result (λ made. made + filed_count places.old ≡ filed_count places.new) }
+    ensures slicer { slicer.new ≡ slicer.old }
 {
     let (first, end) = job.bounds(s);
     if is_full(places, first as usize, end as usize) {
         return Ok(0);
     }
-    let piece = slice_stripe(alloc, job, s)?;
+    let piece = slicer.slice(s)?;
     Ok(fill_gaps(places, first as usize, piece.into_layers()))
 }
 

@@ -9,6 +9,7 @@ mod jobs;
 mod laws;
 mod layers;
 mod pieces;
+mod slicers;
 #[cfg(test)]
 mod tests;
 
@@ -18,4 +19,5 @@ pub use faults::FileFault;
 pub use jobs::Job;
 pub use laws::one_layer;
 pub use layers::Layer;
-pub use pieces::{Piece, slice_stripe};
+pub use pieces::Piece;
+pub use slicers::{Slicer, slice_stripe};

@@ -5,6 +5,7 @@ use Rattle.build_book.proofs.gaps.make_missing.Given as goal
 
 abbrev pub invariant-loop-s : goal.invariant-loop-s
 invariant-loop-s g l = record {
+  slicer : l.slicer ≡ l.job;
   lawful : IsLawfulShelf (record { work = l.job; places = l.places });
   below : (k : ℕ) → k < 8 * l.s → k < length l.places → IsTaken l.places k;
   late : l.late + filed_count l.initial.places ≡ filed_count l.places;

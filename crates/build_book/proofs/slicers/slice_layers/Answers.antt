@@ -1,6 +1,6 @@
 use Rattle.std.proofs.Common.{◌≡◌, ◌+◌, ◌-◌, arith, rules, length}
 use Rattle.build_book.proofs.Stripes.{lawful_push}
-use Rattle.build_book.proofs.pieces.slice_layers.Goals as goal
+use Rattle.build_book.proofs.slicers.slice_layers.Goals as goal
 
 pub loop-k-init : goal.loop-k-init
 loop-k-init g c = record {
@@ -19,6 +19,5 @@ loop-k-preserved g c = record {
       (let at : c.args.first + length c.loop-k.layers.items ≡ c.loop-k.k = c.loop-k.invariant.whole in rw at c.in_ok-slice_layer-2.ensures));
 }
 
--- src/pieces.rt:53:1
 pub returns-clause-whole : goal.returns-clause-whole
 returns-clause-whole g c = omega (arith, c.loop-k.invariant.whole, c.loop-k.auto.k, c.loop-k.auto.k-end, c.loop-k-test.false, c.requires.some)

@@ -1,7 +1,7 @@
 use Rattle.std.proofs.Common.{◌≡◌, ◌+◌, ◌-◌, length}
 use Rattle.raster.specs.Lattice.{plane}
 use Rattle.build_book.specs.Layers.{AreLawfulFrom}
-use Rattle.build_book.proofs.pieces.slice_layers.Given as goal
+use Rattle.build_book.proofs.slicers.slice_layers.Given as goal
 
 abbrev pub invariant-loop-k : goal.invariant-loop-k
 invariant-loop-k g l = record {

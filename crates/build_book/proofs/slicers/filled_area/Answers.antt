@@ -1,6 +1,6 @@
 use Rattle.std.proofs.Common.{◌∙◌}
 use Rattle.build_book.proofs.Areas.{span_area-is}
-use Rattle.build_book.proofs.pieces.filled_area.Goals as goal
+use Rattle.build_book.proofs.slicers.filled_area.Goals as goal
 
 pub returns : goal.returns
 returns g c =
