@@ -7,17 +7,18 @@ use crate::jobs::Job;
 use crate::layers::Layer;
 use crate::pieces::Piece;
 use contour::{Linker, Sweep};
-use raster::{Span, area, fill};
+use raster::{Filler, Span, area};
 use std::alloc::{AllocError, Allocator};
 use std::marker::Model;
 
 /// Slices the stripes of one job, cheapest from the lowest up: it keeps the sweep where the last stripe ended, so that a
-/// later one looks only at the facets on the way, and the room to link the segments of a plane.
+/// later one looks only at the facets on the way, and the memory in which planes are linked and filled.
 #[derive(Drop)]
 pub struct Slicer<'m, A: Allocator> {
     alloc: A,
     job: &'m Job<A>,
     linker: Linker<A>,
+    filler: Filler<A>,
     sweep: Option<Sweep<'m, A>>,
 }
 
@@ -42,6 +43,7 @@ impl<'m, A: Allocator + Copy + Send + Sync> Slicer<'m, A> {
             alloc,
             job,
             linker: Linker::new(alloc, job.solid())?,
+            filler: Filler::new(alloc),
             sweep: None,
         })
     }
@@ -63,6 +65,7 @@ impl<'m, A: Allocator + Copy + Send + Sync> Slicer<'m, A> {
             end,
             &mut sweep,
             &mut self.linker,
+            &mut self.filler,
         )?;
         self.sweep = Some(sweep);
         Ok(Piece::of(self.job, s, layers))
@@ -108,6 +111,7 @@ fn slice_layers<A: Allocator + Copy + Send + Sync>(
     end: u32,
     sweep: &mut Sweep<'_, A>,
     linker: &mut Linker<A>,
+    filler: &mut Filler<A>,
 ) -> Result<Vec<Layer<A>, A>, AllocError>
     requires some { first < end }
     requires within { end ≤ job.now.grid.layers }
@@ -118,10 +122,10 @@ fn slice_layers<A: Allocator + Copy + Send + Sync>(
     ensures mesh { sweep.new.facets ≡ sweep.old.facets }
 {
     let mut layers = Vec::with_capacity(alloc, (end - first) as usize)?;
-    layers.push(slice_layer(alloc, job, first, sweep, linker)?)?;
+    layers.push(slice_layer(alloc, job, first, sweep, linker, filler)?)?;
     for k in first + 1..end {
         rise(job, k, sweep)?;
-        layers.push(slice_layer(alloc, job, k, sweep, linker)?)?;
+        layers.push(slice_layer(alloc, job, k, sweep, linker, filler)?)?;
     }
     Ok(layers)
 }
@@ -147,6 +151,7 @@ fn slice_layer<A: Allocator + Copy + Send + Sync>(
     k: u32,
     sweep: &Sweep<'_, A>,
     linker: &mut Linker<A>,
+    filler: &mut Filler<A>,
 ) -> Result<Layer<A>, AllocError>
     requires place { k < job.now.grid.layers }
     requires mesh { sweep.now.facets ≡ job.now.mesh.facets }
@@ -154,7 +159,7 @@ fn slice_layer<A: Allocator + Copy + Send + Sync>(
     ensures { IfOk result (λ layer. IsLawful job.now k layer) }
 {
     let list = sweep.segments()?;
-    let spans = fill(
+    let spans = filler.fill(
         alloc,
         job.solid(),
         job.grid(),
