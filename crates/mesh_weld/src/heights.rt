@@ -1,17 +1,11 @@
-ghost use Rattle.std.specs.Prelude.{◌≡◌, ◌≤◌, IfOk, length, map};
-ghost use Rattle.std.specs.List.Sorted.{IsPermutation};
-ghost use Rattle.mesh_weld.specs.Entries.{heights_from, NeverSinks};
+ghost use Rattle.std.specs.Prelude.{◌≡◌, ◌≤◌, ◌<◌, ◌%◌, ◌/◌, ◌+ℤ◌, pos, IfOk, length, map};
+ghost use Rattle.std.specs.List.{range_with_len};
+ghost use Rattle.std.specs.List.Sorted.{IsPermutation, IsNonDecreasing};
+ghost use Rattle.mesh_weld.specs.Entries.{AreHeightKeys};
 ghost use Rattle.mesh_weld.specs.Mesh.{IsByHeight, least_z};
 
 use std::alloc::{AllocError, Allocator};
 use stl_text::Facet;
-
-/// The least height of a facet's corners, in micrometres, and the facet's number.
-#[derive(Clone, Copy)]
-pub struct Height {
-    pub z: i32,
-    pub facet: u32,
-}
 
 /// The numbers of the facets by ascending least height, of two as low by number.
 pub fn order_by_height<A: Allocator + Copy>(
@@ -21,27 +15,32 @@ pub fn order_by_height<A: Allocator + Copy>(
     requires { length facets.now ≤ 1048576 }
     ensures { IfOk result (λ order. IsByHeight facets.now order.items) }
 {
-    let mut list = list_heights(alloc, facets)?;
-    sort_heights(&mut list);
-    numbers_of(alloc, list.as_slice())
+    let mut keys = list_heights(alloc, facets)?;
+    sort_heights(&mut keys);
+    numbers_of(alloc, keys.as_slice())
 }
 
-fn list_heights<A: Allocator + Copy>(
-    alloc: A,
-    facets: &[Facet],
-) -> Result<Vec<Height, A>, AllocError>
+/// The keys of the facets, in their order.
+fn list_heights<A: Allocator + Copy>(alloc: A, facets: &[Facet]) -> Result<Vec<u64, A>, AllocError>
     requires { length facets.now ≤ 1048576 }
-    ensures { IfOk result (λ list. list.items ≡ heights_from 0 facets.now) }
+    ensures numbers { IfOk result (λ keys. map (λ key. key % 4294967296) keys.items ≡ range_with_len 0 (length facets.now)) }
+    ensures heights { IfOk result (λ keys. AreHeightKeys facets.now keys.items) }
 {
-    let mut list = Vec::with_capacity(alloc, facets.len())?;
+    let mut keys = Vec::with_capacity(alloc, facets.len())?;
     for facet in facets {
-        let number = list.len() as u32;
-        list.push(Height {
-            z: lowest(facet),
-            facet: number,
-        })?;
+        let number = keys.len() as u32;
+        keys.push(height_key(facet, number))?;
     }
-    Ok(list)
+    Ok(keys)
+}
+
+/// A number that ascends with a facet's least height, and of two as low with the facet's number.
+fn height_key(facet: &Facet, number: u32) -> u64
+    ensures number { result % 4294967296 ≡ number }
+    ensures height { pos (result / 4294967296) ≡ least_z facet.now +ℤ pos 2147483648 }
+{
+    let above = (i64::from(lowest(facet)) + 2147483648) as u64;
+    above * 4294967296 + u64::from(number)
 }
 
 fn lowest(facet: &Facet) -> i32
@@ -51,19 +50,19 @@ fn lowest(facet: &Facet) -> i32
     first.z().min(second.z()).min(third.z())
 }
 
-fn sort_heights<A: Allocator>(list: &mut Vec<Height, A>)
-    ensures all { IsPermutation list.old.items list.new.items }
-    ensures ascending { NeverSinks list.new.items }
+fn sort_heights<A: Allocator>(keys: &mut Vec<u64, A>)
+    ensures all { IsPermutation keys.old.items keys.new.items }
+    ensures ascending { IsNonDecreasing keys.new.items }
 {
-    list.sort_unstable_by_key(|height| (height.z, height.facet));
+    keys.sort_unstable();
 }
 
-fn numbers_of<A: Allocator + Copy>(alloc: A, list: &[Height]) -> Result<Vec<u32, A>, AllocError>
-    ensures { IfOk result (λ numbers. numbers.items ≡ map (λ height. height.facet) list.now) }
+fn numbers_of<A: Allocator + Copy>(alloc: A, keys: &[u64]) -> Result<Vec<u32, A>, AllocError>
+    ensures { IfOk result (λ numbers. numbers.items ≡ map (λ key. key % 4294967296) keys.now) }
 {
-    let mut numbers = Vec::with_capacity(alloc, list.len())?;
-    for height in list {
-        numbers.push(height.facet)?;
+    let mut numbers = Vec::with_capacity(alloc, keys.len())?;
+    for key in keys {
+        numbers.push((*key % 4294967296) as u32)?;
     }
     Ok(numbers)
 }

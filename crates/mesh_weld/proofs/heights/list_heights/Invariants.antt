@@ -1,10 +1,12 @@
-use Rattle.std.proofs.Common.{◌≡◌, ◌++◌, drop, vec_len}
-use Rattle.mesh_weld.specs.Entries.{heights_from}
+use Rattle.std.proofs.Common.{◌≡◌, ◌%◌, map, vec_len}
+use Rattle.std.specs.List.{range_with_len}
+use Rattle.mesh_weld.specs.Entries.{AreHeightKeys}
 use Rattle.mesh_weld.proofs.heights.list_heights.Given as goal
 
 abbrev pub invariant-loop-facet : goal.invariant-loop-facet
 invariant-loop-facet g l =
     record {
-      so_far : l.list.items ++ heights_from l.facet-index (drop l.facet-index l.facets) ≡ heights_from 0 l.facets;
-      count : vec_len l.list ≡ l.facet-index;
+      numbers : map (λ key. key % 4294967296) l.keys.items ≡ range_with_len 0 l.facet-index;
+      heights : AreHeightKeys l.facets l.keys.items;
+      count : vec_len l.keys ≡ l.facet-index;
     }
