@@ -1,5 +1,5 @@
 //! What no clause says: solids of boxes, the least open edge, and memory that is refused.
-ghost use Rattle.std.specs.Prelude.{◌≤◌, ◌+◌, length, vec_len};
+ghost use Rattle.std.specs.Prelude.{◌≤◌, ◌<◌, ◌+◌, length, vec_len};
 
 use crate::{Solid, WeldFault, weld};
 use short_memory::ShortMemory;
@@ -138,6 +138,91 @@ fn each_growth_refused_in_turn(rt: HostRuntime) -> Result<(), Fail> {
         if !memory.has_refused() {
             assert!(rt; turn > 8);
             assert_eq!(rt; count, Some(12));
+            return Ok(());
+        }
+        assert_eq!(rt; count, None);
+    }
+    assert!(rt; false);
+    Ok(())
+}
+
+// One of 48 by 48 points that lie in rings both ways.
+fn ring_point(row: u32, column: u32) -> Result<Point, AllocError>
+    requires row { row ≤ 48 }
+    requires column { column ≤ 48 }
+{
+    let (row, column) = ((row % 48) as i32, (column % 48) as i32);
+    Point::new(row * 5 % 48, column, row).ok_or(AllocError)
+}
+
+// The two facets between four neighbouring points.
+fn push_square<A: Allocator>(
+    list: &mut Vec<Facet, A>,
+    row: u32,
+    column: u32,
+) -> Result<(), AllocError>
+    requires row { row < 48 }
+    requires column { column < 48 }
+{
+    let (first, second) = (ring_point(row, column)?, ring_point(row + 1, column)?);
+    let (third, fourth) = (
+        ring_point(row + 1, column + 1)?,
+        ring_point(row, column + 1)?,
+    );
+    list.push(Facet::of(first, second, third))?;
+    list.push(Facet::of(first, third, fourth))?;
+    Ok(())
+}
+
+// The solid of the rings, which are closed: so many facets that they are welded by groups. Without `left_out` of them.
+fn welded_rings<A: Allocator + Copy + Send + Sync>(
+    alloc: A,
+    left_out: usize,
+) -> Result<Solid<A>, WeldFault> {
+    let mut list = Vec::new(alloc);
+    for number in 0..2304u32 {
+        push_square(&mut list, number / 48, number % 48)?;
+    }
+    list.truncate(list.len().saturating_sub(left_out));
+    if list.len() > 4608 {
+        return Err(WeldFault::Memory);
+    }
+    weld(alloc, list)
+}
+
+#[test]
+fn rings_of_many_facets(rt: HostRuntime) -> Result<(), Fail> {
+    let alloc = rt.alloc();
+    assert_eq!(rt; counts(welded_rings(alloc, 0)), Some((4608, 0, 2304, 6912)));
+    let Err(fault) = welded_rings(alloc, 1) else {
+        assert!(rt; false);
+        return Ok(());
+    };
+    // the last facet, which is left out, runs from its second corner to its third
+    let open = WeldFault::Open {
+        from: ring_point(48, 48)?,
+        to: ring_point(47, 48)?,
+        there: 0,
+        back: 1,
+    };
+    assert_eq!(rt; fault, open);
+    Ok(())
+}
+
+// How many facets of the rings were kept, if no memory was refused.
+fn kept_of_rings(memory: &ShortMemory<Global>) -> Option<usize> {
+    let solid = welded_rings(memory, 0).ok()?;
+    Some(solid.count())
+}
+
+#[test]
+fn each_growth_refused_in_turn_among_many_facets(rt: HostRuntime) -> Result<(), Fail> {
+    for turn in 1..100 {
+        let memory = ShortMemory::new(rt.alloc(), turn);
+        let count = kept_of_rings(&memory);
+        if !memory.has_refused() {
+            assert!(rt; turn > 30);
+            assert_eq!(rt; count, Some(4608));
             return Ok(());
         }
         assert_eq!(rt; count, None);

@@ -1,4 +1,4 @@
-use Rattle.std.proofs.Common.{rules, ◌∙◌, sym, arith}
+use Rattle.std.proofs.Common.{rules, arith}
 use Rattle.std.proofs.lemmas.List.Elements.{filter_from_retain}
 use Rattle.mesh_weld.specs.Mesh.{is_kept}
 use Rattle.mesh_weld.proofs.Welds.{all_kept}

@@ -1,8 +1,8 @@
-use Rattle.std.proofs.Common.{◌≡◌, ◌%◌, ◌/◌, ◌+ℤ◌, pos, arith, ◌∙◌}
+use Rattle.std.proofs.Common.{◌≡◌, ◌%◌, arith, ◌∙◌}
 use Rattle.std.proofs.lemmas.List.{get_or_default}
 use Rattle.stl_text.specs.Position.{origin}
 use Rattle.stl_text.specs.Triangle.{triangle}
-use Rattle.mesh_weld.specs.Mesh.{least_z, facet_at}
+use Rattle.mesh_weld.specs.Mesh.{facet_at}
 use Rattle.mesh_weld.proofs.Lows.{keys_more}
 use Rattle.mesh_weld.proofs.heights.list_heights.Goals as goal
 
