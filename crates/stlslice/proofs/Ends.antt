@@ -7,7 +7,7 @@ use Rattle.mesh_weld.specs.Mesh.{Mesh}
 use Rattle.raster.specs.Devices.{AppendsFirst}
 use Rattle.raster.specs.Lattice.{Lattice}
 use Rattle.raster.specs.declared.rules.Rule.{Rule}
-use Rattle.build_book.specs.Layers.{IsComplete, Layer, Work}
+use Rattle.build_book.specs.Layers.{Work}
 use Rattle.stlslice.specs.declared.task.Given.{Given}
 use Rattle.stlslice.specs.declared.task.Task.{Task}
 use Rattle.stlslice.specs.declared.task.Task.TheVariants as task
@@ -25,18 +25,15 @@ keeps_self (Some xs) = refl
 pub no_memory : (t : Task) (input : List ℕ) (f : RunFault) → f ≡ fault.Memory → IsWorkFault t input f
 no_memory t input f is = rw is (tt, (λ e. cc), (λ w e. cc))
 
--- the images or the report of all layers of the job are the outcome
+-- the images or the report of the job are the outcome
 pub sliced_there : (unit : LengthUnit) (pitch layer : ℕ) (rule : Rule) (workers : ℕ) (report : Bool) (given : Option Given) (input : List ℕ)
-    (mesh : Mesh) (g : Lattice) (work : Work) (layers : List Layer) → IsSolidOf unit input mesh → grid_for given pitch layer mesh.facets ≡ Ok g
-    → work ≡ record { mesh = mesh; grid = g; rule = rule } → IsComplete work layers
-    → IsOutcome (task.Slice unit pitch layer rule workers report given) input (Ok (sliced_text report work.grid layers))
-sliced_there unit pitch layer rule workers report given input mesh g work layers s placed is complete =
-    made_there (task.Slice unit pitch layer rule workers report given) input mesh (Ok (sliced_text report work.grid layers)) refl s
-    (rw placed (
-      layers,
-      subst (λ (w : Work). IsComplete w layers) is complete,
-      ap (λ (w : Work). Ok (sliced_text report w.grid layers)) is,
-    ))
+    (mesh : Mesh) (g : Lattice) (work : Work) → IsSolidOf unit input mesh → grid_for given pitch layer mesh.facets ≡ Ok g
+    → work ≡ record { mesh = mesh; grid = g; rule = rule }
+    → IsOutcome (task.Slice unit pitch layer rule workers report given) input (Ok (sliced_text report work.grid work.rule work.mesh.facets))
+sliced_there unit pitch layer rule workers report given input mesh g work s placed is =
+    made_there (task.Slice unit pitch layer rule workers report given) input mesh
+    (Ok (sliced_text report work.grid work.rule work.mesh.facets)) refl s
+    (rw placed (ap (λ (w : Work). Ok (sliced_text report w.grid w.rule w.mesh.facets)) is))
 
 -- a text that is the outcome was written in part, or none of it for want of memory
 pub ended : (t : Task) (input : List ℕ) (turn : Turn) (text : List ℕ) (f : RunFault) → IsOutcome t input (Ok text)

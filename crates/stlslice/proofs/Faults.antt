@@ -1,12 +1,12 @@
 -- Which faults of a run come of its input, and what a probe answers.
-use Rattle.std.proofs.Common.{◌≡◌, ◌≢◌, ◌⊎◌, ℕ, List, Option, ap, inl, inr, refl, subst, sym}
+use Rattle.std.proofs.Common.{◌≡◌, ◌⊎◌, ℕ, List, Option, inl, inr, refl, subst}
 use Rattle.std.specs.Prelude.{Err, Result, IsErrAnd, IfErr, Ok, false}
 use Rattle.micro_num.specs.declared.units.Unit.{Unit as LengthUnit}
 use Rattle.stl_text.specs.declared.faults.StlFault.{StlFault}
 use Rattle.stl_text.specs.Text.{IsFaultOf, Reads, facet_limit}
 use Rattle.stl_text.specs.Triangle.{Triangle}
 use Rattle.mesh_weld.specs.Balance.{IsBalanced}
-use Rattle.mesh_weld.specs.Mesh.{Mesh, kept_facets, mesh_of}
+use Rattle.mesh_weld.specs.Mesh.{Mesh, mesh_of}
 use Rattle.raster.specs.declared.grid_faults.GridFault.{GridFault}
 use Rattle.raster.specs.Lattice.{Lattice}
 use Rattle.stlslice.specs.declared.task.Given.{Given}
@@ -44,7 +44,7 @@ unloaded t input (fault.Outside columns rows layers) other h = absurd h
 
 abbrev pub IsGridFault : Option Given → ℕ → ℕ → List Triangle → RunFault → Type 0
 IsGridFault given pitch layer facets f =
-    (f ≡ fault.Memory) ⊎ ((cause : GridFault) × (f ≡ fault.Grid cause) × (grid_for given pitch layer facets ≡ Err cause))
+    (cause : GridFault) × (f ≡ fault.Grid cause) × (grid_for given pitch layer facets ≡ Err cause)
 
 -- what is made of the mesh is the outcome
 pub made_there : (t : Task) (input : List ℕ) (mesh : Mesh) (answer : Result (List ℕ) RunFault) → is_box t ≡ false
@@ -55,8 +55,7 @@ made_there t input mesh answer other s made = closed s.0 s.1 other s.2 (subst (�
 pub unplaced : (t : Task) (pitch layer : ℕ) (given : Option Given) (input : List ℕ) (mesh : Mesh) (f : RunFault) → is_box t ≡ false
     → ((cause : GridFault) → grid_for given pitch layer mesh.facets ≡ Err cause → IsMade t mesh (Err (fault.Grid cause)))
     → IsSolidOf (unit_of t) input mesh → IsGridFault given pitch layer mesh.facets f → IsWorkFault t input f
-unplaced t pitch layer given input mesh f other made s (inl is) = rw is (tt, (λ e. cc), (λ w e. cc))
-unplaced t pitch layer given input mesh f other made s (inr h) =
+unplaced t pitch layer given input mesh f other made s h =
     rw h.1 (made_there t input mesh (Err (fault.Grid h.0)) other s (made h.0 h.2), (λ e. cc), (λ w e. cc))
 
 -- what a probe answers in its grid is its outcome

@@ -1,8 +1,11 @@
 -- Lengths of images, and images of the same pixels.
-use Rattle.std.proofs.Common.{◌≡◌, ℕ, zero, suc, ◌+◌, ◌*◌, ◌/◌, ◌<◌, ◌≤◌, ◌^◌, Bool, List, [], ◌∷◌, ◌++◌, length, length-append, ap, ◌∙◌, arith, refl, sym}
-use Rattle.std.specs.Prelude.{codes, decimal}
+use Rattle.std.proofs.Common.{◌≡◌, ℕ, zero, suc, ◌+◌, ◌*◌, ◌<◌, Bool, List, ◌++◌, length, length-append, true, false, ap, ◌∙◌, arith, refl, sym}
+use Rattle.std.specs.Prelude.{codes, decimal, map, nat_lt, ◌&&◌}
 use Rattle.std.specs.Int.{div_ceil}
-use Rattle.raster.specs.Picture.{header, picture, row_bytes}
+use Rattle.std.proofs.Math.Path.{fun_ext}
+use Rattle.std.proofs.lemmas.Bool.{leb-true}
+use Rattle.raster.specs.Fill.{below}
+use Rattle.raster.specs.Picture.{header, packed_byte, picture, row_bytes}
 use Rattle.raster.proofs.Written.{length-row, lower_rows, rows-step}
 
 pub length-rows : (width n : ℕ) (pixel : ℕ → ℕ → Bool) → length (lower_rows width pixel n) ≡ n * div_ceil width 8
@@ -27,3 +30,32 @@ pub length-picture : (width height : ℕ) (pixel : ℕ → ℕ → Bool)
 length-picture width height pixel =
     length-append (header width height) (lower_rows width pixel height)
     ∙ omega (arith, length-header width height, length-rows width height pixel)
+
+-- pixels outside an image don't count
+
+same-row : (width : ℕ) (p q : ℕ → Bool) → ((i : ℕ) → i < width → p i ≡ q i) → row_bytes width p ≡ row_bytes width q
+same-row width p q same =
+    ap (λ (pixel : ℕ → Bool). map (packed_byte pixel) (below (div_ceil width 8))) (fun_ext guarded)
+  where
+    guarded : (i : ℕ) → (nat_lt i width && p i) ≡ (nat_lt i width && q i)
+    guarded i = by_test (nat_lt i width) refl
+      where
+        by_test : (b : Bool) → nat_lt i width ≡ b → (b && p i) ≡ (b && q i)
+        by_test true e = same i (leb-true _ _ e)
+        by_test false e = refl
+
+same-rows : (width n : ℕ) (p q : ℕ → ℕ → Bool) → ((i j : ℕ) → i < width → j < n → p i j ≡ q i j)
+    → lower_rows width p n ≡ lower_rows width q n
+same-rows width zero p q same = refl
+same-rows width (suc n) p q same =
+    let one : row_bytes width (λ i. p i n) ≡ row_bytes width (λ i. q i n) =
+    same-row width (λ i. p i n) (λ i. q i n) (λ i x. same i n x (omega arith)) in
+    let more : lower_rows width p n ≡ lower_rows width q n = same-rows width n p q (λ i j x y. same i j x (omega (arith, y))) in
+    rows-step width p n
+    ∙ ap (λ (l : List ℕ). l ++ lower_rows width p n) one
+    ∙ ap (λ (l : List ℕ). row_bytes width (λ i. q i n) ++ l) more
+    ∙ sym (rows-step width q n)
+
+pub same-picture : (width height : ℕ) (p q : ℕ → ℕ → Bool) → ((i j : ℕ) → i < width → j < height → p i j ≡ q i j)
+    → picture width height p ≡ picture width height q
+same-picture width height p q same = ap (λ (l : List ℕ). header width height ++ l) (same-rows width height p q same)

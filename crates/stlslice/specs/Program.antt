@@ -13,7 +13,6 @@ use Rattle.mesh_weld.specs.Mesh.{Mesh, mesh_of}
 use Rattle.raster.specs.declared.grid_faults.GridFault.{GridFault}
 use Rattle.raster.specs.Lattice.{Lattice, centre, fitted_grid, given_grid, lattice}
 use Rattle.raster.specs.declared.rules.Rule.{Rule}
-use Rattle.build_book.specs.Layers.{IsComplete, Layer}
 use Rattle.stlslice.specs.Stream.{sliced_text}
 use Rattle.stlslice.specs.declared.task.Given.{Given}
 use Rattle.stlslice.specs.declared.task.Task.{Task}
@@ -76,18 +75,16 @@ probed_text i j k facets g = if is_voxel g i j k then Ok (probe_text g facets i 
 abbrev pub probed : Option Given → ℕ → ℕ → ℕ → ℕ → ℕ → List Triangle → Result (List ℕ) RunFault
 probed grid pitch layer i j k facets = with_grid (probed_text i j k facets) (grid_for grid pitch layer facets)
 
--- with a grid, the images or the report of all layers that the work makes there; without one, the grid's fault
-abbrev pub IsSliced : Rule → Bool → Mesh → Result Lattice GridFault → Result (List ℕ) RunFault → Type 0
-IsSliced rule report mesh (Err cause) answer = answer ≡ Err (fault.Grid cause)
-IsSliced rule report mesh (Ok g) answer =
-    (layers : List Layer) × IsComplete (record { mesh = mesh; grid = g; rule = rule }) layers
-    × (answer ≡ Ok (sliced_text report g layers))
+-- what slicing answers for the kept facets of a closed mesh: the images of all layers, or the report
+abbrev pub sliced : Option Given → ℕ → ℕ → Rule → Bool → List Triangle → Result (List ℕ) RunFault
+sliced grid pitch layer rule report facets =
+    with_grid (λ g. Ok (sliced_text report g rule facets)) (grid_for grid pitch layer facets)
 
 -- what comes of the kept facets of a closed mesh
 abbrev pub IsMade : Task → Mesh → Result (List ℕ) RunFault → Type 0
 IsMade (task.Box unit) mesh answer = ⊥
 IsMade (task.Slice unit pitch layer rule workers report grid) mesh answer =
-    IsSliced rule report mesh (grid_for grid pitch layer mesh.facets) answer
+    answer ≡ sliced grid pitch layer rule report mesh.facets
 IsMade (task.Probe unit pitch layer grid i j k) mesh answer = answer ≡ probed grid pitch layer i j k mesh.facets
 
 -- The program's answer to a task and an input, by the order of its checks: the text has to read as facets, and for a

@@ -1,31 +1,32 @@
--- What slicing writes: the images of layers one after the other, or a line for each.
-use Rattle.std.specs.Prelude.{ℕ, Bool, List, ◌++◌, codes, decimal, flat_map, length, if◌then◌else◌}
+-- What slicing writes: the images of all layers, or a line for each.
+use Rattle.std.specs.Prelude.{ℕ, Bool, List, ◌++◌, codes, decimal, flat_map, length, sum_by, if◌then◌else◌}
+use Rattle.stl_text.specs.Triangle.{Triangle}
+use Rattle.contour.specs.Contour.{loops, segments}
+use Rattle.raster.specs.declared.rules.Rule.{Rule}
 use Rattle.raster.specs.declared.spans.Span.{Span}
-use Rattle.raster.specs.Fill.{covers}
-use Rattle.raster.specs.Lattice.{Lattice}
-use Rattle.raster.specs.Picture.{picture}
-use Rattle.build_book.specs.Layers.{Layer, layers_area}
+use Rattle.raster.specs.Fill.{area_of, below, covers}
+use Rattle.raster.specs.Lattice.{Lattice, plane}
+use Rattle.raster.specs.Picture.{picture, pictures}
 
 -- the image of the pixels that lie in the spans
 abbrev pub image : Lattice → List Span → List ℕ
 image g spans = picture g.columns g.rows (covers spans)
 
-abbrev pub images : Lattice → List Layer → List ℕ
-images g layers = flat_map (λ layer. image g layer.spans) layers
-
 abbrev pub line_of_layer : ℕ → ℕ → ℕ → List ℕ
 line_of_layer number loops area =
     codes "layer " ++ (decimal number ++ (codes " loops " ++ (decimal loops ++ (codes " area " ++ (decimal area ++ codes "\n")))))
 
-abbrev pub lines : List Layer → List ℕ
-lines layers = flat_map (λ layer. line_of_layer layer.number (length layer.loops) layer.area) layers
+-- the line of layer k: how many loops its plane has, and how many of its voxels are filled
+abbrev pub layer_line : Lattice → Rule → List Triangle → ℕ → List ℕ
+layer_line g rule facets k = line_of_layer k (length (loops (segments facets (plane g k)))) (area_of g rule facets k)
 
 abbrev pub total_line : ℕ → List ℕ
 total_line total = codes "total " ++ (decimal total ++ codes "\n")
 
--- a line for each layer, and one on the filled pixels of all
-abbrev pub report : List Layer → List ℕ
-report layers = lines layers ++ total_line (layers_area layers)
+-- the lines of all layers, from 0 up, and one on the filled voxels of all
+abbrev pub report_text : Lattice → Rule → List Triangle → List ℕ
+report_text g rule facets =
+    flat_map (layer_line g rule facets) (below g.layers) ++ total_line (sum_by (area_of g rule facets) (below g.layers))
 
-abbrev pub sliced_text : Bool → Lattice → List Layer → List ℕ
-sliced_text is_report g layers = if is_report then report layers else images g layers
+abbrev pub sliced_text : Bool → Lattice → Rule → List Triangle → List ℕ
+sliced_text is_report g rule facets = if is_report then report_text g rule facets else pictures g rule facets

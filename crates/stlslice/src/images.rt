@@ -2,8 +2,8 @@ ghost use Rattle.std.specs.Prelude.{◌≡◌, ◌≤◌, ◌+◌, ◌^◌, Bool
 ghost use Rattle.std.specs.Io.KnownBytes.{Appends};
 ghost use Rattle.raster.specs.Devices.{AppendsFirst, HasFailed};
 ghost use Rattle.raster.specs.Fill.{AreSpans};
-ghost use Rattle.raster.specs.Picture.{picture};
-ghost use Rattle.stlslice.specs.Stream.{image, images};
+ghost use Rattle.raster.specs.Picture.{picture, pictures};
+ghost use Rattle.stlslice.specs.Stream.{image};
 ghost use Rattle.stlslice.specs.declared.run_faults.RunFault.TheVariants.{Write};
 
 use crate::run_faults::RunFault;
@@ -19,10 +19,11 @@ pub(crate) fn write_images<A: Allocator, O: Sink>(
 ) -> Result<(), RunFault>
     ensures flushed { OnOk result (O.is_settled sink.new ≡ true) }
     ensures ok { OnOk result (Appends (O.contents sink.old) (O.contents sink.new)
-        (images build.now.work.grid build.now.layers)) }
+        (pictures build.now.work.grid build.now.work.rule build.now.work.mesh.facets)) }
     ensures err { IfErr result (λ fault. (written : ℕ) × (fault ≡ Write written)
-        × (written ≤ length (images build.now.work.grid build.now.layers))
-        × AppendsFirst (O.contents sink.old) (O.contents sink.new) written (images build.now.work.grid build.now.layers)
+        × (written ≤ length (pictures build.now.work.grid build.now.work.rule build.now.work.mesh.facets))
+        × AppendsFirst (O.contents sink.old) (O.contents sink.new) written
+        (pictures build.now.work.grid build.now.work.rule build.now.work.mesh.facets)
         × HasFailed (O.Failures.failure_count sink.old) (O.Failures.failure_count sink.new)) }
 {
     let grid = build.job().grid();

@@ -1,7 +1,7 @@
-ghost use Rattle.std.specs.Prelude.{◌≡◌, ◌⊎◌, ◌≤◌, Err, IfErr, IfOk, Ok};
+ghost use Rattle.std.specs.Prelude.{◌≡◌, ◌≤◌, Err, IfErr, IfOk, Ok};
 ghost use Rattle.raster.specs.declared.grid_faults.GridFault.{GridFault as NoGrid};
 ghost use Rattle.stlslice.specs.Program.{grid_for};
-ghost use Rattle.stlslice.specs.declared.run_faults.RunFault.TheVariants.{Grid as NoGridOf, Memory};
+ghost use Rattle.stlslice.specs.declared.run_faults.RunFault.TheVariants.{Grid as NoGridOf};
 
 use crate::run_faults::RunFault;
 use crate::task::Given;
@@ -21,8 +21,8 @@ pub(crate) fn grid_for<A: Allocator>(
     requires layer { 1 ≤ layer }
     requires layer_high { layer ≤ 100000 }
     ensures ok { IfOk result (λ grid. grid_for given pitch layer solid.now.facets ≡ Ok grid) }
-    ensures err { IfErr result (λ fault. (fault ≡ Memory) ⊎ ((cause : NoGrid) × (fault ≡ NoGridOf cause)
-        × (grid_for given pitch layer solid.now.facets ≡ Err cause))) }
+    ensures err { IfErr result (λ fault. (cause : NoGrid) × (fault ≡ NoGridOf cause)
+        × (grid_for given pitch layer solid.now.facets ≡ Err cause)) }
 {
     match given {
         Some(

@@ -1,5 +1,5 @@
 ghost use Rattle.std.specs.Prelude.{◌≡◌, ◌++◌, IfOk, OnOk, string_bytes};
-ghost use Rattle.stlslice.specs.Stream.{line_of_layer, report, total_line};
+ghost use Rattle.stlslice.specs.Stream.{line_of_layer, report_text, total_line};
 
 use build_book::Build;
 use std::alloc::{AllocError, Allocator};
@@ -10,7 +10,8 @@ pub(crate) fn report<A: Allocator + Copy + Send + Sync>(
     alloc: A,
     build: &Build<'_, A>,
 ) -> Result<String<A>, AllocError>
-    ensures { IfOk result (λ text. string_bytes text ≡ report build.now.layers) }
+    ensures { IfOk result (λ text. string_bytes text
+        ≡ report_text build.now.work.grid build.now.work.rule build.now.work.mesh.facets) }
 {
     let mut text = String::new(alloc);
     for layer in build.layers() {

@@ -22,7 +22,7 @@ pub(crate) fn write_build<A: Allocator + Copy + Send + Sync, O: Sink>(
 ) -> Result<(), RunFault>
     ensures flushed { OnOk result (O.is_settled sink.new ≡ true) }
     ensures ok { OnOk result (Appends (O.contents sink.old) (O.contents sink.new)
-        (sliced_text is_report build.now.work.grid build.now.layers)) }
+        (sliced_text is_report build.now.work.grid build.now.work.rule build.now.work.mesh.facets)) }
     ensures err { IfErr result (λ fault. ((fault ≡ Memory) × Keeps (O.contents sink.old) (O.contents sink.new))
         ⊎ IsUnwritten
         (record {
@@ -31,7 +31,7 @@ pub(crate) fn write_build<A: Allocator + Copy + Send + Sync, O: Sink>(
           failed_before = O.Failures.failure_count sink.old;
           failed = O.Failures.failure_count sink.new;
         })
-        (sliced_text is_report build.now.work.grid build.now.layers) fault) }
+        (sliced_text is_report build.now.work.grid build.now.work.rule build.now.work.mesh.facets) fault) }
 {
     if is_report {
         let text = report(alloc, build)?;

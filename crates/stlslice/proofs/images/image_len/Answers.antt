@@ -1,4 +1,4 @@
-use Rattle.std.proofs.Common.{◌≡◌, ◌+◌, ◌*◌, ◌/◌, ℕ, length, ap, sym, ◌∙◌, arith, rules}
+use Rattle.std.proofs.Common.{◌∙◌, rules}
 use Rattle.stlslice.proofs.Pictures.{length-picture}
 use Rattle.stlslice.proofs.images.image_len.Goals as goal
 

@@ -1,7 +1,9 @@
-use Rattle.std.proofs.Common.{◌≡◌, take}
-use Rattle.std.specs.Prelude.{string_bytes}
-use Rattle.stlslice.specs.Stream.{lines}
+use Rattle.std.proofs.Common.{◌≡◌}
+use Rattle.std.specs.Prelude.{flat_map, string_bytes}
+use Rattle.raster.specs.Fill.{below}
+use Rattle.stlslice.specs.Stream.{layer_line}
 use Rattle.stlslice.proofs.report.report.Given as goal
 
 abbrev pub invariant-loop-layer : goal.invariant-loop-layer
-invariant-loop-layer g l = string_bytes l.text ≡ lines (take l.layer-index l.layer-items)
+invariant-loop-layer g l =
+    string_bytes l.text ≡ flat_map (layer_line l.build.work.grid l.build.work.rule l.build.work.mesh.facets) (below l.layer-index)

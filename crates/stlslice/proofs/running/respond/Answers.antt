@@ -1,6 +1,7 @@
-use Rattle.std.proofs.Common.{◌≡◌, ◌∙◌, inl, inr, refl}
+use Rattle.std.proofs.Common.{◌∙◌, inl, inr, refl}
 use Rattle.std.specs.Prelude.{Ok, string_bytes}
 use Rattle.std.proofs.lemmas.Result.{IfErr-weaker, on_ok_weaker}
+use Rattle.build_book.specs.Layers.{Work}
 use Rattle.stlslice.specs.Program.{IsOutcome}
 use Rattle.stlslice.specs.Running.{IsWorkFault}
 use Rattle.stlslice.specs.Stream.{sliced_text}
@@ -36,24 +37,22 @@ returns-in_err-build-in-Slice-clause-err g c =
 
 pub returns-in_ok-build-in-Slice-clause-ok : goal.returns-in_ok-build-in-Slice-clause-ok
 returns-in_ok-build-in-Slice-clause-ok g c =
-    let known : IsOutcome c.args.task.now c.args.input.items
-    (Ok (sliced_text c.in-Slice.report c.in_ok-build-in-Slice.build.work.grid c.in_ok-build-in-Slice.build.layers)) =
+    let work : Work = c.in_ok-build-in-Slice.build.work in
+    let known : IsOutcome c.args.task.now c.args.input.items (Ok (sliced_text c.in-Slice.report work.grid work.rule work.mesh.facets)) =
     rw c.in-Slice.is
     (sliced_there c.in-Slice.unit c.in-Slice.pitch c.in-Slice.layer c.in-Slice.rule c.in-Slice.workers c.in-Slice.report c.in-Slice.grid
-    c.args.input.items c.in_ok-solid-in-Slice.solid c.in_ok-grid-in-Slice.grid c.in_ok-build-in-Slice.build.work
-    c.in_ok-build-in-Slice.build.layers c.in_ok-solid-in-Slice.ensures.ok c.in_ok-grid-in-Slice.ensures.ok
-    (c.in_ok-build-in-Slice.ensures.work ∙ c.new-job.ensures) c.in_ok-build-in-Slice.ensures.complete) in
+    c.args.input.items c.in_ok-solid-in-Slice.solid c.in_ok-grid-in-Slice.grid work
+    c.in_ok-solid-in-Slice.ensures.ok c.in_ok-grid-in-Slice.ensures.ok (c.in_ok-build-in-Slice.ensures.work ∙ c.new-job.ensures)) in
     on_ok_weaker c.write_build.result (λ out. (_, known, out)) c.write_build.ensures.ok
 
 pub returns-in_ok-build-in-Slice-clause-err : goal.returns-in_ok-build-in-Slice-clause-err
 returns-in_ok-build-in-Slice-clause-err g c =
-    let known : IsOutcome c.args.task.now c.args.input.items
-    (Ok (sliced_text c.in-Slice.report c.in_ok-build-in-Slice.build.work.grid c.in_ok-build-in-Slice.build.layers)) =
+    let work : Work = c.in_ok-build-in-Slice.build.work in
+    let known : IsOutcome c.args.task.now c.args.input.items (Ok (sliced_text c.in-Slice.report work.grid work.rule work.mesh.facets)) =
     rw c.in-Slice.is
     (sliced_there c.in-Slice.unit c.in-Slice.pitch c.in-Slice.layer c.in-Slice.rule c.in-Slice.workers c.in-Slice.report c.in-Slice.grid
-    c.args.input.items c.in_ok-solid-in-Slice.solid c.in_ok-grid-in-Slice.grid c.in_ok-build-in-Slice.build.work
-    c.in_ok-build-in-Slice.build.layers c.in_ok-solid-in-Slice.ensures.ok c.in_ok-grid-in-Slice.ensures.ok
-    (c.in_ok-build-in-Slice.ensures.work ∙ c.new-job.ensures) c.in_ok-build-in-Slice.ensures.complete) in
+    c.args.input.items c.in_ok-solid-in-Slice.solid c.in_ok-grid-in-Slice.grid work
+    c.in_ok-solid-in-Slice.ensures.ok c.in_ok-grid-in-Slice.ensures.ok (c.in_ok-build-in-Slice.ensures.work ∙ c.new-job.ensures)) in
     IfErr-weaker c.write_build.result _ _ (λ f h. ended c.args.task.now c.args.input.items _ _ f known h) c.write_build.ensures.err
 
 pub returns-in_ok-text-in-Box-clause-ok : goal.returns-in_ok-text-in-Box-clause-ok
