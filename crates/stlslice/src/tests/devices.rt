@@ -1,17 +1,18 @@
 use std::alloc::{Allocator, Global};
 use std::io::{Error, ErrorKind, Read, Result, Write};
 
-/// Gives one byte a call, and fails at the call after the first `calls`.
+/// Gives one byte a call, and fails with `fault` at the call after the first `calls`.
 #[derive(Drop)]
 pub(crate) struct OneByteReader<'a> {
     pub(crate) bytes: &'a [u8],
     pub(crate) calls: u64,
+    pub(crate) fault: ErrorKind,
 }
 
 impl<'a> Read for OneByteReader<'a> {
     fn read(&mut self, buf: &mut [u8]) -> Result<usize> {
         if self.calls == 0 {
-            return Err(Error::from(ErrorKind::Other));
+            return Err(Error::from(self.fault));
         }
         self.calls -= 1;
         match (self.bytes.split_first(), buf.first_mut()) {
@@ -25,38 +26,45 @@ impl<'a> Read for OneByteReader<'a> {
     }
 }
 
-/// Takes one byte a call, and fails with `fault` at the call after the first `calls`; or else at the flush.
+/// Takes at most `piece` bytes a call while it has room. Then it fails with `fault`; or, without one, it takes nothing
+/// and calls that no error.
 #[derive(Drop)]
-pub(crate) struct OneByteWriter {
+pub(crate) struct SmallWriter {
     pub(crate) taken: Vec<u8>,
-    pub(crate) calls: u64,
-    pub(crate) fault: ErrorKind,
+    pub(crate) room: usize,
+    pub(crate) piece: usize,
+    pub(crate) fault: Option<ErrorKind>,
     pub(crate) flushes: bool,
 }
 
-impl OneByteWriter {
-    pub(crate) fn new(alloc: Global, calls: u64, fault: ErrorKind, flushes: bool) -> OneByteWriter {
-        OneByteWriter {
+impl SmallWriter {
+    /// One that can be flushed.
+    pub(crate) fn new(
+        alloc: Global,
+        room: usize,
+        piece: usize,
+        fault: Option<ErrorKind>,
+    ) -> SmallWriter {
+        SmallWriter {
             taken: Vec::new(alloc),
-            calls,
+            room,
+            piece,
             fault,
-            flushes,
+            flushes: true,
         }
     }
 }
 
-impl Write for OneByteWriter {
+impl Write for SmallWriter {
     fn write(&mut self, buf: &[u8]) -> Result<usize> {
-        if self.calls == 0 {
-            return Err(Error::from(self.fault));
-        }
-        self.calls -= 1;
-        match buf.first() {
-            Some(byte) => {
-                self.taken.push(*byte)?;
-                Ok(1)
+        match self.fault {
+            Some(fault) if self.room == 0 => Err(Error::from(fault)),
+            _ => {
+                let count = buf.len().min(self.piece).min(self.room);
+                self.taken.extend_from_slice(&buf[..count])?;
+                self.room -= count;
+                Ok(count)
             }
-            None => Ok(0),
         }
     }
 
@@ -64,21 +72,7 @@ impl Write for OneByteWriter {
         if self.flushes {
             Ok(())
         } else {
-            Err(Error::from(self.fault))
+            Err(Error::from(ErrorKind::Other))
         }
-    }
-}
-
-/// Takes nothing, and calls that no error.
-#[derive(Drop)]
-pub(crate) struct FullWriter;
-
-impl Write for FullWriter {
-    fn write(&mut self, _buf: &[u8]) -> Result<usize> {
-        Ok(0)
-    }
-
-    fn flush(&mut self) -> Result<()> {
-        Ok(())
     }
 }

@@ -1,37 +1,25 @@
-use super::meshes::{CUBE, point, text_of};
+use super::meshes::{CUBE, FLAT, PAIR, SHEET, joined_text, point, text_of};
 use crate::{RunFault, load};
 use micro_num::Unit;
 use short_memory::ShortMemory;
 use std::test::Fail;
 use stl_text::{StlFault, Word};
 
-/// The cube and a facet with two equal corners.
-const CUBE_AND_FLAT: [&str; 13] = [
-    "000010110",
-    "000110100",
-    "001101111",
-    "001111011",
-    "000100101",
-    "000101001",
-    "010011111",
-    "010111110",
-    "000001011",
-    "000011010",
-    "100110111",
-    "100111101",
-    "000000100",
-];
-
 #[test]
 fn solids_of_texts(rt: HostRuntime) -> Result<(), Fail> {
-    for (facets, dropped) in [(&CUBE_AND_FLAT[..12], 0), (&CUBE_AND_FLAT[..], 1)] {
-        let text = text_of(rt.alloc(), facets)?;
+    let rows = [
+        (joined_text(rt.alloc(), &CUBE, &[])?, 12, 0, 2),
+        (joined_text(rt.alloc(), &CUBE, &PAIR)?, 14, 0, 2),
+        (joined_text(rt.alloc(), &CUBE, &FLAT)?, 12, 1, 2),
+        (joined_text(rt.alloc(), &SHEET, &[])?, 2, 0, 0),
+    ];
+    for (text, kept, dropped, top) in rows {
         match load(rt.alloc(), text.as_bytes(), Unit::Millimetre) {
             Ok(solid) => {
-                assert_eq!(rt; (solid.count(), solid.dropped()), (12, dropped));
+                assert_eq!(rt; (solid.count(), solid.dropped()), (kept, dropped));
                 assert_eq!(rt;
                     solid.corners(),
-                    Some((point([0, 0, 0])?, point([2, 2, 2])?))
+                    Some((point([0, 0, 0])?, point([2, 2, top])?))
                 );
             }
             Err(_) => assert!(rt; false),
@@ -67,7 +55,7 @@ fn texts_of_no_solid(rt: HostRuntime) -> Result<(), Fail> {
 
 #[test]
 fn each_growth_of_a_load_refused(rt: HostRuntime) -> Result<(), Fail> {
-    let text = text_of(rt.alloc(), &CUBE_AND_FLAT)?;
+    let text = joined_text(rt.alloc(), &CUBE, &FLAT)?;
     for turn in 1..1000 {
         let memory = ShortMemory::new(rt.alloc(), turn);
         match load(&memory, text.as_bytes(), Unit::Millimetre) {

@@ -19,16 +19,56 @@ pub(crate) static CUBE: [&str; 12] = [
     "100111101",
 ];
 
+/// The same facets inward: each with its last two corners exchanged.
+pub(crate) static INWARD: [&str; 12] = [
+    "000110010",
+    "000100110",
+    "001111101",
+    "001011111",
+    "000101100",
+    "000001101",
+    "010111011",
+    "010110111",
+    "000011001",
+    "000010011",
+    "100111110",
+    "100101111",
+];
+
+/// A facet of the cube once more, and its inward one.
+pub(crate) static PAIR: [&str; 2] = ["100110111", "100111110"];
+
+/// A facet with two equal corners.
+pub(crate) static FLAT: [&str; 1] = ["000000100"];
+
+/// Two facets back to back, below the cube.
+pub(crate) static SHEET: [&str; 2] = ["000100010", "000010100"];
+
 /// An ASCII STL text of such facets, in millimetres with three decimals.
 pub(crate) fn text_of(alloc: Global, facets: &[&str]) -> Result<String, AllocError> {
+    joined_text(alloc, facets, &[])
+}
+
+/// Such a text of the facets of two tables.
+pub(crate) fn joined_text(
+    alloc: Global,
+    first: &[&str],
+    second: &[&str],
+) -> Result<String, AllocError> {
     let mut text = String::from_str(alloc, "solid t\n")?;
-    for facet in facets {
-        text.push_str("facet normal 0 0 0\nouter loop\n")?;
-        push_corners(&mut text, facet)?;
-        text.push_str("endloop\nendfacet\n")?;
-    }
+    push_facets(&mut text, first)?;
+    push_facets(&mut text, second)?;
     text.push_str("endsolid t\n")?;
     Ok(text)
+}
+
+fn push_facets(text: &mut String, facets: &[&str]) -> Result<(), AllocError> {
+    for facet in facets {
+        text.push_str("facet normal 0 0 0\nouter loop\n")?;
+        push_corners(text, facet)?;
+        text.push_str("endloop\nendfacet\n")?;
+    }
+    Ok(())
 }
 
 fn push_corners(text: &mut String, facet: &str) -> Result<(), AllocError> {
@@ -64,14 +104,51 @@ pub(crate) type Corners = [[i32; 3]; 2];
 pub(crate) fn boxes_text(alloc: Global, boxes: &[Corners]) -> Result<String, AllocError> {
     let mut text = String::from_str(alloc, "solid b\n")?;
     for corners in boxes {
-        push_box(&mut text, corners)?;
+        push_box(&mut text, corners, &CUBE)?;
     }
     text.push_str("endsolid b\n")?;
     Ok(text)
 }
 
-fn push_box(text: &mut String, corners: &Corners) -> Result<(), AllocError> {
-    for facet in CUBE {
+/// Such a text of a box, and of one whose facets are inward.
+pub(crate) fn hollow_text(
+    alloc: Global,
+    outward: &Corners,
+    inward: &Corners,
+) -> Result<String, AllocError> {
+    let mut text = String::from_str(alloc, "solid h\n")?;
+    push_box(&mut text, outward, &CUBE)?;
+    push_box(&mut text, inward, &INWARD)?;
+    text.push_str("endsolid h\n")?;
+    Ok(text)
+}
+
+/// Such a text with a solid for each box, in capitals, with normals that are no numbers, and with lines that end in CR
+/// LF.
+pub(crate) fn loud_text(alloc: Global, boxes: &[Corners]) -> Result<String, AllocError> {
+    let mut text = String::new(alloc);
+    for corners in boxes {
+        let solid = boxes_text(alloc, &[*corners])?;
+        for line in solid.lines() {
+            push_loud(&mut text, line)?;
+        }
+    }
+    Ok(text)
+}
+
+fn push_loud(text: &mut String, line: &str) -> Result<(), AllocError> {
+    if line.starts_with("facet") {
+        text.push_str("FACET NORMAL nan nan nan")?;
+    } else {
+        for letter in line.chars() {
+            text.push(letter.to_ascii_uppercase())?;
+        }
+    }
+    text.push_str("\r\n")
+}
+
+fn push_box(text: &mut String, corners: &Corners, facets: &[&str]) -> Result<(), AllocError> {
+    for facet in facets {
         text.push_str("facet normal 0 0 0\nouter loop\n")?;
         push_box_corners(text, corners, facet)?;
         text.push_str("endloop\nendfacet\n")?;

@@ -1,22 +1,9 @@
-use crate::{Given, Task, WordFault, read_words};
+use super::answers::task_of;
+use crate::{Given, Task, WordFault};
 use micro_num::Unit;
 use raster::Rule;
-use std::alloc::{AllocError, Global};
 use std::test::Fail;
 use stl_text::Point;
-
-fn split(alloc: Global, line: &str) -> Result<Vec<String>, AllocError> {
-    let mut words = Vec::new(alloc);
-    for word in line.split_whitespace() {
-        words.push(String::from_str(alloc, word)?)?;
-    }
-    Ok(words)
-}
-
-fn task_of(alloc: Global, line: &str) -> Result<Task, WordFault> {
-    let words = split(alloc, line)?;
-    read_words(alloc, words.as_slice())
-}
 
 #[test]
 fn words_are_tasks(rt: HostRuntime) -> Result<(), Fail> {
