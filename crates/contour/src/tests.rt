@@ -2,7 +2,8 @@
 ghost use Rattle.std.specs.Prelude.{◌≤◌, ◌+◌, length, vec_len};
 ghost use Rattle.micro_num.specs.Bounds.{IsAtMost};
 
-use crate::{Linker, Segment, Sweep, loops, segments};
+use crate::{Linker, Segment, Sweep, loop_ray, loops, segments};
+use exact_cut::Centre;
 use mesh_weld::{Solid, weld};
 use short_memory::ShortMemory;
 use std::alloc::{AllocError, Allocator, Global};
@@ -179,6 +180,40 @@ const LOW: [u32; 8] = [4, 5, 6, 7, 8, 9, 10, 11];
 const HIGH: [u32; 8] = [16, 17, 18, 19, 20, 21, 22, 23];
 
 const BOTH: [u32; 16] = [4, 5, 6, 7, 8, 9, 10, 11, 16, 17, 18, 19, 20, 21, 22, 23];
+
+// The rays from a centre, in half micrometres, through the first two loops of its plane.
+fn rays_of_loops(
+    alloc: Global,
+    s: &Solid<Global>,
+    centre: &Centre,
+) -> Result<[Option<i32>; 2], AllocError> {
+    let list = segments(alloc, s, centre.z2())?;
+    let found = loops(alloc, s, centre.z2(), list)?;
+    let mut rays = [None; 2];
+    if let Some(first) = found.get(0) {
+        rays[0] = Some(loop_ray(s, first, centre));
+    }
+    if let Some(second) = found.get(1) {
+        rays[1] = Some(loop_ray(s, second, centre));
+    }
+    Ok(rays)
+}
+
+#[test]
+fn rays_through_loops(rt: HostRuntime) -> Result<(), Fail> {
+    let alloc = rt.alloc();
+    let (low, high) = (box_corners(0, 4), box_corners(2, 6));
+    let boxes = joined(alloc, (&low, &BOX), (&high, &BOX))?;
+    let both = Centre::new(6, 6, 6).ok_or("both")?;
+    assert_eq!(rt; rays_of_loops(alloc, &boxes, &both)?, [Some(1), Some(1)]);
+    let one = Centre::new(2, 2, 6).ok_or("one")?;
+    assert_eq!(rt; rays_of_loops(alloc, &boxes, &one)?, [Some(1), Some(0)]);
+    let corners = box_corners(0, 2);
+    let pair = joined(alloc, (&corners, &BOX), (&corners, &PAIR))?;
+    let middle = Centre::new(1, 1, 1).ok_or("middle")?;
+    assert_eq!(rt; rays_of_loops(alloc, &pair, &middle)?, [Some(1), Some(0)]);
+    Ok(())
+}
 
 #[test]
 fn plane_through_two_boxes(rt: HostRuntime) -> Result<(), Fail> {
