@@ -45,3 +45,18 @@ IsFileFault shelf piece fault.Stranger = piece.work ≢ shelf.work
 IsFileFault shelf piece (fault.Double layer) =
     (piece.work ≡ shelf.work) × IsPlaceOf piece layer × IsTaken shelf.places layer
     × ((k : ℕ) → IsPlaceOf piece k → IsTaken shelf.places k → layer ≤ k)
+
+-- each piece in turn is filed
+abbrev pub FilesAll : Shelf → List StripeView → Shelf → Type 0
+FilesAll old [] new = new ≡ old
+FilesAll old (piece ∷ pieces) new = (next : Shelf) × Files old piece next × FilesAll next pieces new
+
+-- each piece in turn is filed, up to the rest
+pub record FilesUpTo (old : Shelf) (pieces rest : List StripeView) (new : Shelf) : Type 0 where
+  pub filed : List StripeView
+  pub all : pieces ≡ filed ++ rest
+  pub in_turn : FilesAll old filed new
+
+-- there is a first one of the pieces, and this is why it isn't filed
+abbrev pub IsFirstFault : Shelf → List StripeView → FileFault → Type 0
+IsFirstFault shelf pieces fault = (first : StripeView) × (slice_get pieces 0 ≡ Some first) × IsFileFault shelf first fault

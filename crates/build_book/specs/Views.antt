@@ -1,4 +1,4 @@
--- What callers see of a job's stripe, and of a whole build.
+-- What callers see of a job's stripe, of stripes that are filed together, and of a whole build.
 use Rattle.std.specs.Prelude.{ℕ, List}
 use Rattle.build_book.specs.Layers.{Work, Layer}
 
@@ -6,6 +6,10 @@ pub record StripeView : Type 0 where
   pub work : Work
   pub stripe : ℕ
   pub layers : List Layer
+
+pub record SheafView : Type 0 where
+  pub work : Work
+  pub pieces : List StripeView
 
 pub record BuildView : Type 0 where
   pub work : Work

@@ -1,5 +1,5 @@
-ghost use Rattle.std.specs.Prelude.{◌≡◌, ◌≢◌, ◌+◌, IfErr, IfOk, IfSome, None, OnErr, OnOk, Some, replicate, slice_get};
-ghost use Rattle.build_book.specs.Filing.{Files, IsFileFault};
+ghost use Rattle.std.specs.Prelude.{◌≡◌, ◌≢◌, ◌+◌, ℕ, [], IfErr, IfNone, IfOk, IfSome, None, OnErr, OnOk, Some, replicate, slice_get};
+ghost use Rattle.build_book.specs.Filing.{Files, FilesAll, FilesUpTo, IsFileFault, IsFirstFault, IsPlaceOf};
 ghost use Rattle.build_book.specs.Layers.{IsComplete, IsLawfulShelf, Layer as LayerView, filed_count, total_area};
 
 use crate::builds::Build;
@@ -10,6 +10,7 @@ use crate::gaps::{
 use crate::jobs::Job;
 use crate::layers::Layer;
 use crate::pieces::Piece;
+use crate::sheaves::Sheaf;
 use std::alloc::{AllocError, Allocator};
 use std::marker::Model;
 
@@ -60,17 +61,82 @@ impl<'m, A: Allocator + Copy + Send + Sync> Book<'m, A> {
         if !self.job.same(piece.job()) {
             return Err((FileFault::Stranger, piece));
         }
+        if let Some(fault) = self.fault_of(&piece) {
+            return Err((fault, piece));
+        }
+        self.put(piece);
+        Ok(())
+    }
+
+    /// Files the pieces of a sheaf one after the other as `file` does, but looks at the jobs only once; that takes a
+    /// pass over their meshes.
+    ///
+    /// Where a piece isn't filed, those before it are; it and those behind it come back, with its fault. So `Stranger`
+    /// comes back with all pieces. An empty sheaf changes nothing and has no fault, whatever its job.
+    pub fn file_all(&mut self, mut sheaf: Sheaf<'m, A>) -> Result<(), (FileFault, Sheaf<'m, A>)>
+        ensures ok { OnOk result (FilesAll self.old sheaf.entry.pieces self.new) }
+        ensures fault { IfErr result (λ refusal. IsFirstFault self.new refusal.1.pieces refusal.0) }
+        ensures rest { IfErr result (λ refusal. FilesUpTo self.old sheaf.entry.pieces refusal.1.pieces self.new) }
+        ensures back { IfErr result (λ refusal. refusal.1.work ≡ sheaf.entry.work) }
+    {
+        let Some(first) = sheaf.first() else {
+            return Ok(());
+        };
+        if !self.job.same(first.job()) {
+            return Err((FileFault::Stranger, sheaf));
+        }
+        match self.file_own(&mut sheaf) {
+            Ok(()) => Ok(()),
+            Err(fault) => Err((fault, sheaf)),
+        }
+    }
+
+    /// Files the pieces of a sheaf of its own job, and leaves those in it from the first on that isn't filed.
+    fn file_own(&mut self, sheaf: &mut Sheaf<'m, A>) -> Result<(), FileFault>
+        requires { sheaf.old.work ≡ self.old.work }
+        ensures ok { OnOk result (sheaf.new.pieces ≡ []) }
+        ensures fault { IfErr result (λ fault. IsFirstFault self.new sheaf.new.pieces fault) }
+        ensures rest { FilesUpTo self.old sheaf.old.pieces sheaf.new.pieces self.new }
+        ensures work { sheaf.new.work ≡ sheaf.old.work }
+    {
+        while let Some(first) = sheaf.first() {
+            if let Some(fault) = self.fault_of(first) {
+                return Err(fault);
+            }
+            let Some(piece) = sheaf.pop_first() else {
+                return Ok(());
+            };
+            self.put(piece);
+        }
+        Ok(())
+    }
+
+    /// Why a piece of its own job isn't filed, where a place of the piece is taken.
+    fn fault_of(&self, piece: &Piece<'m, A>) -> Option<FileFault>
+        requires { piece.now.work ≡ self.now.work }
+        ensures fault { IfSome result (λ fault. IsFileFault self.now piece.now fault) }
+        ensures free { IfNone result ((k : ℕ) → IsPlaceOf piece.now k → slice_get self.now.places k ≡ Some None) }
+    {
         // A piece holds just the layers of its stripe.
         let _layers = piece.layers();
         let (first, end) = self.job.bounds(piece.stripe());
         let places = self.places.as_slice();
-        if let Some(taken) = first_taken(places, first as usize, end as usize) {
-            let layer = taken as u32;
-            return Err((FileFault::Double { layer }, piece));
-        }
+        let taken = first_taken(places, first as usize, end as usize)?;
+        let layer = taken as u32;
+        Some(FileFault::Double { layer })
+    }
+
+    /// Puts the layers of a piece of its own job into their places, which are free.
+    fn put(&mut self, piece: Piece<'m, A>)
+        requires work { piece.work ≡ self.old.work }
+        requires free { (k : ℕ) → IsPlaceOf piece k → slice_get self.old.places k ≡ Some None }
+        ensures { Files self.old piece.entry self.new }
+    {
+        // A piece holds just the layers of its stripe.
+        let _layers = piece.layers();
+        let (first, _) = self.job.bounds(piece.stripe());
         let places = self.places.as_mut_slice();
         fill_gaps(places, first as usize, piece.into_layers());
-        Ok(())
     }
 
     /// The layer in a place, or `None` where the place is empty or isn't in the grid.

@@ -9,6 +9,7 @@ mod jobs;
 mod laws;
 mod layers;
 mod pieces;
+mod sheaves;
 mod slicers;
 #[cfg(test)]
 mod tests;
@@ -20,4 +21,5 @@ pub use jobs::Job;
 pub use laws::one_layer;
 pub use layers::Layer;
 pub use pieces::Piece;
+pub use sheaves::Sheaf;
 pub use slicers::{Slicer, slice_stripe};

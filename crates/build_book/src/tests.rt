@@ -1,7 +1,7 @@
 //! What no clause says: that there are loops and layers with ample memory, worked areas, and memory that is refused.
-ghost use Rattle.std.specs.Prelude.{◌≤◌, ◌+◌, length, vec_len};
+ghost use Rattle.std.specs.Prelude.{◌≡◌, ◌≤◌, ◌+◌, IfOk, length, vec_len};
 
-use crate::{Book, Build, FileFault, Job, Piece, slice_stripe};
+use crate::{Book, Build, FileFault, Job, Piece, Sheaf, Slicer, slice_stripe};
 use mesh_weld::weld;
 use raster::{Grid, Rule};
 use short_memory::ShortMemory;
@@ -100,7 +100,9 @@ fn piece_of<'m, A: Allocator + Copy + Send + Sync>(
     alloc: A,
     job: &'m Job<A>,
     stripe: u64,
-) -> Result<Piece<'m, A>, AllocError> {
+) -> Result<Piece<'m, A>, AllocError>
+    ensures { IfOk result (λ piece. piece.work ≡ job.now) }
+{
     if stripe < job.stripes() {
         slice_stripe(alloc, job, stripe)
     } else {
@@ -162,6 +164,34 @@ fn stripes_of_a_column(rt: HostRuntime) -> Result<(), Fail> {
     Ok(())
 }
 
+// A book of a job with the stripes that one slicer made in this order.
+fn sliced_in_order<'m>(
+    alloc: Global,
+    job: &'m Job<Global>,
+    order: &[u64],
+) -> Result<Book<'m, Global>, AllocError> {
+    let mut book = Book::open(alloc, job)?;
+    let mut slicer = Slicer::new(alloc, job)?;
+    for stripe in order {
+        if *stripe >= job.stripes() || book.file(slicer.slice(*stripe)?).is_err() {
+            return Err(AllocError);
+        }
+    }
+    Ok(book)
+}
+
+#[test]
+fn one_slicer_in_any_order(rt: HostRuntime) -> Result<(), Fail> {
+    let alloc = rt.alloc();
+    let job = box_job(alloc, &COLUMN)?;
+    for order in [[0, 1, 2], [0, 2, 1], [2, 1, 0]] {
+        let book = sliced_in_order(alloc, &job, &order)?;
+        assert_eq!(rt; (book.filed(), book.total_area()), (17, 17));
+        assert_eq!(rt; book.finish(&job)?.late(), 0);
+    }
+    Ok(())
+}
+
 // Why an empty book of a job doesn't take the first stripe of another one.
 fn refusal_of<'m>(
     alloc: Global,
@@ -187,12 +217,87 @@ fn stripe_of_another_job(rt: HostRuntime) -> Result<(), Fail> {
     Ok(())
 }
 
+// A sheaf of a job with these stripes.
+fn sheaf_of<'m>(
+    alloc: Global,
+    job: &'m Job<Global>,
+    stripes: &[u64],
+) -> Result<Sheaf<'m, Global>, AllocError> {
+    let mut sheaf = Sheaf::new(alloc, job, 2)?;
+    for stripe in stripes {
+        sheaf.push(piece_of(alloc, job, *stripe)?)?;
+    }
+    Ok(sheaf)
+}
+
+// Why a book didn't take all of a sheaf, and the first stripe of those that came back.
+fn first_refused<'m>(
+    book: &mut Book<'m, Global>,
+    sheaf: Sheaf<'m, Global>,
+) -> Option<(FileFault, u64)> {
+    let (fault, rest) = book.file_all(sheaf).err()?;
+    Some((fault, rest.first()?.stripe()))
+}
+
+#[test]
+fn sheaves_of_a_column(rt: HostRuntime) -> Result<(), Fail> {
+    let alloc = rt.alloc();
+    let job = box_job(alloc, &COLUMN)?;
+    let mut book = Book::open(alloc, &job)?;
+    let sheaf = sheaf_of(alloc, &job, &[2, 0])?;
+    assert_eq!(rt; first_refused(&mut book, sheaf), None);
+    assert_eq!(rt; (book.filed(), book.total_area()), (9, 9));
+    let taken = sheaf_of(alloc, &job, &[1, 0, 2])?;
+    let double = FileFault::Double { layer: 0 };
+    assert_eq!(rt; first_refused(&mut book, taken), Some((double, 0)));
+    assert_eq!(rt; (book.filed(), book.total_area()), (17, 17));
+    Ok(())
+}
+
+#[test]
+fn a_sheaf_with_one_stripe_twice(rt: HostRuntime) -> Result<(), Fail> {
+    let alloc = rt.alloc();
+    let job = box_job(alloc, &COLUMN)?;
+    let mut book = Book::open(alloc, &job)?;
+    let sheaf = sheaf_of(alloc, &job, &[1, 1])?;
+    let double = FileFault::Double { layer: 8 };
+    assert_eq!(rt; first_refused(&mut book, sheaf), Some((double, 1)));
+    assert_eq!(rt; book.filed(), 8);
+    Ok(())
+}
+
+// Why an empty book of a job doesn't take all of a sheaf of another one.
+fn first_refused_of<'m>(
+    alloc: Global,
+    job: &'m Job<Global>,
+    other: &'m Job<Global>,
+    stripes: &[u64],
+) -> Result<Option<(FileFault, u64)>, AllocError> {
+    let mut book = Book::open(alloc, job)?;
+    let sheaf = sheaf_of(alloc, other, stripes)?;
+    Ok(first_refused(&mut book, sheaf))
+}
+
+#[test]
+fn sheaves_of_another_job(rt: HostRuntime) -> Result<(), Fail> {
+    let alloc = rt.alloc();
+    let job = box_job(alloc, &COLUMN)?;
+    let same = box_job(alloc, &COLUMN)?;
+    let other = box_job(alloc, &CUBE)?;
+    let stranger = Some((FileFault::Stranger, 0));
+    assert_eq!(rt; first_refused_of(alloc, &job, &other, &[0])?, stranger);
+    assert_eq!(rt; first_refused_of(alloc, &job, &other, &[])?, None);
+    assert_eq!(rt; first_refused_of(alloc, &job, &same, &[0, 2])?, None);
+    Ok(())
+}
+
 // The number of late layers and the total area where one stripe was filed, or nothing where the book refused that.
 fn finished(memory: &ShortMemory<Global>) -> Result<Option<(u32, u64)>, AllocError> {
     let job = box_job(memory, &COLUMN)?;
     let mut book = Book::open(memory, &job)?;
-    let piece = piece_of(memory, &job, 1)?;
-    if book.file(piece).is_err() {
+    let mut sheaf = Sheaf::new(memory, &job, 1)?;
+    sheaf.push(piece_of(memory, &job, 1)?)?;
+    if book.file_all(sheaf).is_err() {
         return Ok(None);
     }
     let build = book.finish(&job)?;

@@ -4,7 +4,7 @@ ghost use Rattle.layer_pool.specs.Passes.{IsOwned};
 
 use crate::claims::{Claims, Pass};
 use crate::gates::Gate;
-use build_book::{Book, Build, Job, slice_stripe};
+use build_book::{Book, Build, Job, Sheaf, Slicer};
 use std::alloc::{AllocError, Allocator};
 use std::sync::{Mutex, Wait};
 use std::thread;
@@ -13,8 +13,8 @@ use std::thread::Threads;
 /// The complete build of a job, for 1 to 64 workers and every gate.
 ///
 /// Each worker draws stripes from claims without a lock; the lock round the book is taken for filing
-/// alone. A stripe that a worker couldn't make for want of memory, and the share of a worker that
-/// couldn't be started, fall to the others and to the caller's thread at the end.
+/// alone, of several pieces at once. A stripe that a worker couldn't make for want of memory, and the
+/// share of a worker that couldn't be started, fall to the others and to the caller's thread at the end.
 pub fn build<'m, R: Threads + Wait + Sync, A: Allocator + Copy + Send + Sync, G: Gate<A> + Sync>(
     rt: &R,
     alloc: A,
@@ -66,7 +66,11 @@ fn run<'m, R: Threads + Wait + Sync, A: Allocator + Copy + Send + Sync, G: Gate<
     );
 }
 
-/// What one worker does with its pass.
+/// How many pieces a worker files at once. Comparing the jobs of book and pieces takes a pass over
+/// their meshes under the lock, so it is done once for several pieces.
+const SHEAF: usize = 8;
+
+/// What one worker does with its pass. Where it gets no memory to begin with, its share falls to the others.
 fn work<'m, R: Wait, A: Allocator + Copy + Send + Sync, G: Gate<A>>(
     rt: &R,
     alloc: A,
@@ -80,16 +84,52 @@ fn work<'m, R: Wait, A: Allocator + Copy + Send + Sync, G: Gate<A>>(
     requires owned { IsOwned claims.now pass }
     requires stripes { claims.now.stripes ≡ stripe_count job.now.grid }
 {
+    let Ok(mut slicer) = Slicer::new(alloc, job) else {
+        return;
+    };
     for _ in 0..=job.stripes() {
-        let Some(stripe) = claims.draw(&mut pass) else {
+        let Ok(mut sheaf) = Sheaf::new(alloc, job, SHEAF) else {
             return;
         };
+        let is_last = gather(claims, gate, worker, &mut pass, &mut slicer, &mut sheaf);
+        if !sheaf.is_empty() {
+            let _ = book.lock(rt).file_all(sheaf);
+        }
+        if is_last {
+            return;
+        }
+    }
+}
+
+/// Draws stripes and gathers their pieces in a sheaf, until that is full, a piece was refused memory,
+/// or no stripe is left. Answers whether none is left. A piece that was refused memory is left to
+/// `finish`.
+fn gather<'m, A: Allocator + Copy + Send + Sync, G: Gate<A>>(
+    claims: &Claims<A>,
+    gate: &G,
+    worker: u32,
+    pass: &mut Pass,
+    slicer: &mut Slicer<'m, A>,
+    sheaf: &mut Sheaf<'m, A>,
+) -> bool
+    requires owned { IsOwned claims.now pass.old }
+    requires stripes { claims.now.stripes ≡ stripe_count slicer.old.grid }
+    requires sheaf { sheaf.old.work ≡ slicer.old }
+    ensures owned { IsOwned claims.now pass.new }
+    ensures slicer { slicer.new ≡ slicer.old }
+{
+    for _ in 0..SHEAF {
+        let Some(stripe) = claims.draw(pass) else {
+            return true;
+        };
         gate.arrived(worker, stripe);
-        // A piece that was refused memory is left to `finish`.
-        let Ok(piece) = slice_stripe(alloc, job, stripe) else {
-            continue;
+        let Ok(piece) = slicer.slice(stripe) else {
+            return false;
         };
         gate.made(worker, &piece);
-        let _ = book.lock(rt).file(piece);
+        if sheaf.push(piece).is_err() {
+            return false;
+        }
     }
+    false
 }

@@ -1,14 +1,14 @@
-use Rattle.std.proofs.Common.{◌≡◌, ◌∙◌, ◌+◌, ◌*◌, length, refl, sym, ap, Some, None, slice_get, subst, ◌<◌}
+use Rattle.std.proofs.Common.{◌≡◌, ◌∙◌, ◌+◌, ◌*◌, length, refl, sym, ap, Some, None, slice_get, subst, arith}
 use Rattle.std.specs.Vec.{with_items}
 use Rattle.std.proofs.lemmas.List.{with_items_is}
 use Rattle.build_book.specs.Filing.{filled, AreFree}
 use Rattle.build_book.specs.Layers.{IsStripe, stripe_length}
-use Rattle.build_book.proofs.Places.{moved_stripe, stripe_lawful, stripe_free, stripe_filed, length-filled}
-use Rattle.build_book.proofs.books.Book.file.Goals as goal
-use Rattle.build_book.proofs.books.Book.file.Goals.{After-fill_gaps}
+use Rattle.build_book.proofs.Places.{moved_stripe, stripe_lawful, stripe_filed, length-filled}
+use Rattle.build_book.proofs.books.Book.put.Goals as goal
+use Rattle.build_book.proofs.books.Book.put.Goals.{After-fill_gaps}
 
 same_work : (g : _) (c : After-fill_gaps g) → c.args.piece.work ≡ c.self.inside.job.now
-same_work g c = sym (c.if-not-same.ensures.0 refl ∙ c.job.ensures)
+same_work g c = c.requires.work ∙ sym (ap (λ s. s.work) c.self.view_is)
 
 piece_stripe : (g : _) (c : After-fill_gaps g) → IsStripe c.self.inside.job.now c.args.piece.stripe c.into_layers.result.items
 piece_stripe g c = moved_stripe _ _ _ _ _ _ (same_work g c) refl c.into_layers.ensures c.layers-layers.ensures.lawful
@@ -31,23 +31,24 @@ invariant_of-self g c =
     (stripe_lawful d.self.inside.job.now d.args.piece.stripe _ _ d.self.inside.places.items _ d.self.invariant (first_place g d) (piece_stripe g d)
     (filed_places g d))
 
-last_place : (g : _) (c : After-fill_gaps g)
-    → c.bounds-first.result.1 ≡ 8 * c.args.piece.stripe + stripe_length c.self.inside.job.now.grid c.args.piece.stripe
-last_place g c = c.bounds-first.ensures.end ∙ ap (λ n. 8 * n + stripe_length c.self.inside.job.now.grid n) c.stripe.ensures
+free_places : (g : _) (c : After-fill_gaps g)
+    → AreFree c.self.inside.places.items c.bounds-first.result.0 (8 * c.args.piece.stripe + stripe_length c.self.inside.job.now.grid c.args.piece.stripe)
+free_places g c k low high =
+    subst (λ l. slice_get l k ≡ Some None) (sym (ap (λ s. s.places) c.self.view_is))
+    (c.requires.free k (
+      omega (arith, low, first_place g c),
+      omega (arith, high, (piece_stripe g c).whole, ap length c.into_layers.ensures),
+    ))
 
-free_places : (g : _) (c : After-fill_gaps g) → AreFree c.self.inside.places.items c.bounds-first.result.0 c.bounds-first.result.1
-free_places g c k low high = subst (λ l. slice_get l k ≡ Some None) c.as_slice-places.ensures.value (c.in_default.ensures.none k low high)
-
-pub returns-clause-ok : goal.returns-clause-ok
-returns-clause-ok g c =
-    let d = (goal.at.returns-clause-ok g c).After-fill_gaps in
+pub returns : goal.returns
+returns g c =
+    let d = (goal.at.returns g c).After-fill_gaps in
     record {
-      same = same_work g d ∙ ap (λ s. s.work) d.self.view_is;
-      free = λ k at. stripe_free _ _ _ _ _ _ _ (piece_stripe g d) (first_place g d) (last_place g d) (ap (λ s. s.places) d.self.view_is)
-          (free_places g d) k at.0 (subst (λ l. k < 8 * d.args.piece.stripe + length l) (sym d.into_layers.ensures) at.1);
+      same = c.requires.work;
+      free = c.requires.free;
       work = ap (λ s. s.work) d.self.view_is;
       places = whole_places g d
-          ∙ stripe_filed d.self.inside.job.now d.args.piece.stripe d.bounds-first.result.0 d.bounds-first.result.1 _ _ _ _
-          _ d.self.invariant (piece_stripe g d) (first_place g d) (last_place g d) (filed_places g d) (free_places g d)
+          ∙ stripe_filed d.self.inside.job.now d.args.piece.stripe d.bounds-first.result.0 (8 * d.args.piece.stripe + stripe_length d.self.inside.job.now.grid d.args.piece.stripe) _ _ _ _
+          _ d.self.invariant (piece_stripe g d) (first_place g d) refl (filed_places g d) (free_places g d)
           d.into_layers.ensures (ap (λ s. s.places) d.self.view_is);
     }

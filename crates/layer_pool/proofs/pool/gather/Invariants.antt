@@ -1,0 +1,10 @@
+use Rattle.std.proofs.Common.{◌≡◌}
+use Rattle.layer_pool.specs.Passes.{IsOwned}
+use Rattle.layer_pool.proofs.pool.gather.Given as goal
+
+abbrev pub invariant-loop : goal.invariant-loop
+invariant-loop g l = record {
+  owned : IsOwned l.claims l.pass;
+  slicer : l.slicer ≡ l.initial.slicer;
+  sheaf : l.sheaf.work ≡ l.slicer;
+}
