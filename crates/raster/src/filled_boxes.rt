@@ -30,12 +30,18 @@ const BOX: [[u8; 3]; 12] = [
     [4, 7, 5],
 ];
 
-// The facets of a box of side 4.
-fn push_box<A: Allocator>(list: &mut Vec<Facet, A>, least: u8) -> Result<(), AllocError>
+// The facets of a box of side 4, or, where it is inward, these turned inside out.
+fn push_box<A: Allocator>(
+    list: &mut Vec<Facet, A>,
+    least: u8,
+    is_inward: bool,
+) -> Result<(), AllocError>
     ensures { vec_len list.new ≤ vec_len list.old + 12 }
 {
     for [a, b, c] in &BOX {
-        list.push(Facet::of(corner(least, *a)?, corner(least, *b)?, corner(least, *c)?))?;
+        let (second, third) = if is_inward { (c, b) } else { (b, c) };
+        let at = |number: &u8| corner(least, *number);
+        list.push(Facet::of(at(a)?, at(second)?, at(third)?))?;
     }
     Ok(())
 }
@@ -72,8 +78,8 @@ fn next_layer<A: Allocator + Copy + Send + Sync>(
 // Two boxes, from 0 to 4 and from 2 to 6; `None` where memory was refused.
 fn welded_boxes<A: Allocator + Copy + Send + Sync>(alloc: A) -> Option<Solid<A>> {
     let mut list = Vec::new(alloc);
-    push_box(&mut list, 0).ok()?;
-    push_box(&mut list, 2).ok()?;
+    push_box(&mut list, 0, false).ok()?;
+    push_box(&mut list, 2, false).ok()?;
     weld(alloc, list).ok()
 }
 
@@ -104,6 +110,19 @@ fn two_layers<A: Allocator + Copy + Send + Sync>(alloc: A) -> Option<(Vec<Span, 
     Some((high, low))
 }
 
+// The spans of layer 1 of a box from 0 to 4 and an inward one from 2 to 6; `None` where memory was refused.
+fn box_with_an_inward_one(alloc: Global, rule: Rule) -> Option<Vec<Span>> {
+    let mut list = Vec::new(alloc);
+    push_box(&mut list, 0, false).ok()?;
+    push_box(&mut list, 2, true).ok()?;
+    let solid = weld(alloc, list).ok()?;
+    let g = Grid::fit(&solid, 2, 2).ok()?;
+    if g.layers() < 2 {
+        return None;
+    }
+    layer(alloc, &solid, &g, rule, 1).ok()
+}
+
 /// Spans, each as `ROW: FROM, TO`.
 macro_rules! spans {
     ($($row:literal: $from:literal, $to:literal);*) => {
@@ -126,6 +145,19 @@ fn layer_of_two_boxes(rt: HostRuntime) -> Result<(), Fail> {
     );
     let low = two_boxes(alloc, Rule::EvenOdd, 0).ok_or("the first box alone")?;
     assert_eq!(rt; low.as_slice(), spans![0: 0, 2; 1: 0, 2].as_slice());
+    Ok(())
+}
+
+#[test]
+fn layer_of_a_box_and_an_inward_one(rt: HostRuntime) -> Result<(), Fail> {
+    let alloc = rt.alloc();
+    let above = box_with_an_inward_one(alloc, Rule::Positive).ok_or("positive")?;
+    assert_eq!(rt; above.as_slice(), spans![0: 0, 2; 1: 0, 1].as_slice());
+    let some = box_with_an_inward_one(alloc, Rule::NonZero).ok_or("not zero")?;
+    assert_eq!(rt;
+        some.as_slice(),
+        spans![0: 0, 2; 1: 0, 1; 1: 2, 3; 2: 1, 3].as_slice()
+    );
     Ok(())
 }
 
