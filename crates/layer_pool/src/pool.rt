@@ -68,7 +68,7 @@ fn run<'m, R: Threads + Wait + Sync, A: Allocator + Copy + Send + Sync, G: Gate<
 
 /// How many pieces a worker files at once. Comparing the jobs of book and pieces takes a pass over
 /// their meshes under the lock, so it is done once for several pieces.
-const SHEAF: usize = 8;
+const SHEAF: usize = 32;
 
 /// What one worker does with its pass. Where it gets no memory to begin with, its share falls to the others.
 fn work<'m, R: Wait, A: Allocator + Copy + Send + Sync, G: Gate<A>>(
