@@ -254,43 +254,6 @@ fn sheaves_of_a_column(rt: HostRuntime) -> Result<(), Fail> {
     Ok(())
 }
 
-#[test]
-fn a_sheaf_with_one_stripe_twice(rt: HostRuntime) -> Result<(), Fail> {
-    let alloc = rt.alloc();
-    let job = box_job(alloc, &COLUMN)?;
-    let mut book = Book::open(alloc, &job)?;
-    let sheaf = sheaf_of(alloc, &job, &[1, 1])?;
-    let double = FileFault::Double { layer: 8 };
-    assert_eq!(rt; first_refused(&mut book, sheaf), Some((double, 1)));
-    assert_eq!(rt; book.filed(), 8);
-    Ok(())
-}
-
-// Why an empty book of a job doesn't take all of a sheaf of another one.
-fn first_refused_of<'m>(
-    alloc: Global,
-    job: &'m Job<Global>,
-    other: &'m Job<Global>,
-    stripes: &[u64],
-) -> Result<Option<(FileFault, u64)>, AllocError> {
-    let mut book = Book::open(alloc, job)?;
-    let sheaf = sheaf_of(alloc, other, stripes)?;
-    Ok(first_refused(&mut book, sheaf))
-}
-
-#[test]
-fn sheaves_of_another_job(rt: HostRuntime) -> Result<(), Fail> {
-    let alloc = rt.alloc();
-    let job = box_job(alloc, &COLUMN)?;
-    let same = box_job(alloc, &COLUMN)?;
-    let other = box_job(alloc, &CUBE)?;
-    let stranger = Some((FileFault::Stranger, 0));
-    assert_eq!(rt; first_refused_of(alloc, &job, &other, &[0])?, stranger);
-    assert_eq!(rt; first_refused_of(alloc, &job, &other, &[])?, None);
-    assert_eq!(rt; first_refused_of(alloc, &job, &same, &[0, 2])?, None);
-    Ok(())
-}
-
 // The number of late layers and the total area where one stripe was filed, or nothing where the book refused that.
 fn finished(memory: &ShortMemory<Global>) -> Result<Option<(u32, u64)>, AllocError> {
     let job = box_job(memory, &COLUMN)?;
