@@ -1,17 +1,18 @@
 -- The coordinate that a word stands for, from the size that its text has.
-use Rattle.std.proofs.Common.{◌≡◌, ◌≢◌, ◌↔◌, ◌⊎◌, inl, inr, ℕ, zero, suc, ◌+◌, ◌*◌, ◌<◌, ◌≤◌, Bool, true, false, List, ◌++◌, length, length-append, ℤ, pos, negsuc, neg_ℤ, ◌+ℤ◌, ◌-ℤ◌, arith, ap, subst, sym, ◌∙◌, refl}
+use Rattle.std.proofs.Common.{◌≡◌, ◌≢◌, ◌↔◌, ◌⊎◌, inl, inr, ℕ, zero, suc, ◌+◌, ◌*◌, ◌-◌, ◌<◌, ◌≤◌, Bool, true, false, List, [], ◌∷◌, ◌++◌, take, length, length-append, append_assoc, append-nil, ℤ, pos, negsuc, neg_ℤ, ◌+ℤ◌, ◌-ℤ◌, arith, ap, subst, sym, ◌∙◌, refl}
 use Rattle.std.specs.Prelude.{Option, Some, None, Result, Ok, Err, unsigned_abs, ◌&&◌, nat_lt, nat_le, if◌then◌else◌}
 use Rattle.std.specs.Char.{is_ascii_digit}
-use Rattle.std.specs.List.{list_all, before_first}
+use Rattle.std.specs.List.{list_all, before_first, position_or_len}
+use Rattle.std.proofs.lemmas.List.{take-append-drop, take_at}
 use Rattle.std.proofs.lemmas.Bool.{cases_lt, lt-ltb, le-ltb, lt-leb, le-leb}
 use Rattle.micro_num.specs.declared.units.Unit.{Unit as LengthUnit}
 use Rattle.micro_num.specs.declared.faults.NumFault.{NumFault}
 use Rattle.micro_num.specs.declared.faults.NumFault.TheVariants.{NotNumber, TooLong, OutOfRange}
-use Rattle.micro_num.specs.Numeral.{Sign, unsigned, plus, minus, Numeral, IsNumeral, IsSpelled, sign_of, after_sign, numeral_of, numeral_text, from_first, fraction_digits, mantissa_digits, is_exponent, exponent_of}
+use Rattle.micro_num.specs.Numeral.{Sign, unsigned, plus, minus, Numeral, IsNumeral, IsSpelled, sign_of, after_sign, numeral_of, numeral_text, sign_text, fraction_text, exponent_text, from_first, fraction_digits, mantissa_digits}
 use Rattle.micro_num.specs.Micrometres.{with_sign, magnitude, unit_factor, unit_power, digits_value, exponent_value, coordinate_or_fault, numeral_coordinate, coordinate_of, micro, is_coordinate}
-use Rattle.micro_num.specs.Scan.{is_other, digits_behind, rest_behind, IsCapped, scanned, is_numeral, size, size_or_fault, size_of}
-use Rattle.micro_num.proofs.Grammar.{numeral_of-is, numeral_of-text}
-use Rattle.micro_num.proofs.Scanning.{numeral_of-scanned, scanned_digits}
+use Rattle.micro_num.specs.Scan.{is_other, digits_behind, rest_behind, IsCapped, IsExponentFront, IsNumberFront, scanned, is_numeral, size, size_or_fault, size_of}
+use Rattle.micro_num.proofs.Grammar.{numeral_of-is, numeral_of-text, regrouped, sign-text}
+use Rattle.micro_num.proofs.Scanning.{numeral_of-scanned, scanned_digits, behind-text, scanned-is}
 
 -- what is read of a size
 module _ (unit : LengthUnit) (text : List ℕ) (r : ℕ) (is : is_numeral (scanned unsigned text) ≡ true)
@@ -45,24 +46,51 @@ module _ (unit : LengthUnit) (text : List ℕ) (r : ℕ) (is : is_numeral (scann
 module _ (text whole fraction behind : List ℕ) (whole_is : whole ≡ before_first is_other text)
     (fraction_is : fraction ≡ fraction_digits (digits_behind (from_first is_other text)))
     (behind_is : behind ≡ rest_behind (from_first is_other text)) where
-  pub met_numeral : 0 < length whole + length fraction → is_exponent (exponent_of behind) ≡ true → is_numeral (scanned unsigned text) ≡ true
-  met_numeral some exponent =
-      let n : Numeral = scanned unsigned text in
+  pub met_front : (unit : LengthUnit) (rest : List ℕ) (e : ℤ) (r : ℕ) → 0 < length whole + length fraction → (x : IsExponentFront behind rest e)
+      → IsCapped (magnitude (unit_factor unit * digits_value (whole ++ fraction)) ((exponent_value x.exponent -ℤ pos (length fraction)) +ℤ pos (unit_power unit))) r
+      → IsNumberFront unit text rest r
+  met_front unit rest e r some x capped =
+      let w : List ℕ = before_first is_other text in
+      let from : List ℕ = from_first is_other text in
+      let f : List ℕ = fraction_text (digits_behind from) in
+      let t : List ℕ = exponent_text x.exponent in
+      let n : Numeral = record { sign = unsigned; whole = w; fraction = digits_behind from; exponent = x.exponent } in
       let sizes : length (mantissa_digits n) ≡ length whole + length fraction =
       (λ i. length (sym whole_is i ++ sym fraction_is i)) ∙ length-append whole fraction in
       let long : nat_lt 0 (length (mantissa_digits n)) ≡ true = lt-ltb 0 (length (mantissa_digits n)) (omega arith) in
       let digits : list_all is_ascii_digit (mantissa_digits n) ≡ true = scanned_digits unsigned text in
-      let last : is_exponent n.exponent ≡ true = ap (λ b. is_exponent (exponent_of b)) (sym behind_is) ∙ exponent in
-      (λ i. (long i && digits i) && last i)
+      record {
+        number = n;
+        is = (λ i. long i && digits i, x.is);
+        no_sign = refl;
+        spelled = sym (ap (λ t. t ++ rest) (regrouped [] w f t) ∙ append_assoc w (f ++ t) rest ∙ ap (λ t. w ++ t) (append_assoc f t rest)
+            ∙ ap (λ t. w ++ (f ++ t)) (sym x.spelled ∙ behind_is) ∙ ap (λ t. w ++ t) (behind-text from)
+            ∙ take-append-drop (position_or_len is_other text) text);
+        capped = subst (λ m. IsCapped m r)
+            (λ i. magnitude (unit_factor unit * digits_value (whole_is i ++ fraction_is i))
+            ((exponent_value x.exponent -ℤ pos (length (fraction_is i))) +ℤ pos (unit_power unit)))
+            capped;
+      }
 
-  pub met_size : (unit : LengthUnit) (r : ℕ)
-      → IsCapped (magnitude (unit_factor unit * digits_value (whole ++ fraction)) ((exponent_value (exponent_of behind) -ℤ pos (length fraction)) +ℤ pos (unit_power unit))) r
-      → IsCapped (size unit (scanned unsigned text)) r
-  met_size unit r h =
-      subst (λ m. IsCapped m r)
-      (λ i. magnitude (unit_factor unit * digits_value (whole_is i ++ fraction_is i))
-      ((exponent_value (exponent_of (behind_is i)) -ℤ pos (length (fraction_is i))) +ℤ pos (unit_power unit)))
-      h
+-- the text of a number without a sign
+unsigned_text : (n : Numeral) → n.sign ≡ unsigned → numeral_text n ≡ n.whole ++ (fraction_text n.fraction ++ exponent_text n.exponent)
+unsigned_text n no_sign =
+    let behind : List ℕ = n.whole ++ (fraction_text n.fraction ++ exponent_text n.exponent) in
+    regrouped (sign_text n.sign) n.whole (fraction_text n.fraction) (exponent_text n.exponent) ∙ ap (λ s. sign_text s ++ behind) no_sign
+
+-- a number at the front with nothing behind it is what is met in the text
+pub whole_front : (unit : LengthUnit) (text rest : List ℕ) (r : ℕ) → IsNumberFront unit text rest r → length rest ≡ 0
+    → (is_numeral (scanned unsigned text) ≡ true) × IsCapped (size unit (scanned unsigned text)) r
+whole_front unit text rest r front none =
+    let n : Numeral = front.number in
+    let spelled : text ≡ n.whole ++ (fraction_text n.fraction ++ exponent_text n.exponent) =
+    front.spelled ∙ ap (λ t. numeral_text n ++ t) (nothing rest none) ∙ append-nil (numeral_text n) ∙ unsigned_text n front.no_sign in
+    let met : scanned unsigned text ≡ n = (λ i. scanned (sym front.no_sign i) (spelled i)) ∙ scanned-is n front.is in
+    subst (λ n. (is_numeral n ≡ true) × IsCapped (size unit n) r) (sym met) (rw (front.is.0, front.is.1) refl, front.capped)
+  where
+    nothing : (xs : List ℕ) → length xs ≡ 0 → xs ≡ []
+    nothing [] h = refl
+    nothing (x ∷ xs) h = absurd (omega (arith, h))
 
 abbrev pub turned : Sign → ℤ → ℤ
 turned unsigned z = z
@@ -181,3 +209,28 @@ module _ (unit : LengthUnit) (word : List ℕ) where
       back n is spelled short far =
           spelled_coordinate n is spelled short
           ∙ ap (λ b. if b then Ok (micro unit n) else Err OutOfRange) (lt-leb (unsigned_abs (micro unit n)) 128000000 far)
+
+-- A number at the front of a text, behind a sign or none, stands for its size with that sign.
+pub front_coordinate : (unit : LengthUnit) (text rest : List ℕ) (r : ℕ) → IsNumberFront unit (after_sign text) rest r → length text ≤ 255
+    → r ≤ 128000000 → coordinate_of unit (take (length text - length rest) text) ≡ Ok (turned (sign_of text) (pos r))
+front_coordinate unit text rest r front short near =
+    let n : Numeral = front.number in
+    let s : Sign = sign_of text in
+    let k : Numeral = record { sign = s; whole = n.whole; fraction = n.fraction; exponent = n.exponent } in
+    let behind : List ℕ = n.whole ++ (fraction_text n.fraction ++ exponent_text n.exponent) in
+    let spelled : text ≡ numeral_text k ++ rest =
+    sym (sign-text text) ∙ ap (λ t. sign_text s ++ t) (front.spelled ∙ ap (λ t. t ++ rest) (unsigned_text n front.no_sign))
+    ∙ sym (append_assoc (sign_text s) behind rest)
+    ∙ ap (λ t. t ++ rest) (sym (regrouped (sign_text s) n.whole (fraction_text n.fraction) (exponent_text n.exponent))) in
+    let sizes : length text ≡ length (numeral_text k) + length rest = ap length spelled ∙ length-append (numeral_text k) rest in
+    let count : length (numeral_text k) ≡ length text - length rest = omega arith in
+    let cut : take (length text - length rest) text ≡ numeral_text k =
+    ap (take (length text - length rest)) spelled ∙ take_at (numeral_text k) rest (length text - length rest) count in
+    spelled_coordinate unit (take (length text - length rest) text) k front.is cut (omega (arith, ap length cut))
+    ∙ sized s (size unit n) ∙ ap (signed s) (by_cases (cases_lt 128000000 (size unit n)))
+  where
+    by_cases : (128000000 < size unit front.number) ⊎ (size unit front.number ≤ 128000000) → size_or_fault (size unit front.number) ≡ Ok (pos r)
+    by_cases (inl far) = absurd (omega (arith, front.capped.beyond far))
+    by_cases (inr within) =
+        ap (λ b. if b then Ok (pos (size unit front.number)) else Err OutOfRange) (le-leb (size unit front.number) 128000000 within)
+        ∙ ap (λ m. Ok (pos m)) (sym (front.capped.within within))

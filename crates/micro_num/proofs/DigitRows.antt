@@ -101,20 +101,6 @@ IsCarry-all xs ys v c leading digits carry =
       high = omega (arith, carry.high);
     }
 
--- a row that is no longer than its digits at the front is all digits
-pub all_digits : (ds : List ℕ) → length ds ≤ position_or_len is_other ds → list_all is_ascii_digit ds ≡ true
-all_digits [] h = refl
-all_digits (d ∷ ds) h = by_test (all_digits ds) (is_ascii_digit d) refl
-  where
-    by_test : (length ds ≤ position_or_len is_other ds → list_all is_ascii_digit ds ≡ true)
-        → (b : Bool) → is_ascii_digit d ≡ b → list_all is_ascii_digit (d ∷ ds) ≡ true
-    by_test rest true e =
-        let h' = rw e at h in
-        rw e (rest (omega arith))
-    by_test rest false e =
-        let h' = rw e at h in
-        absurd (omega arith)
-
 not_true : (b : Bool) → not b ≡ true → b ≡ false
 not_true false h = refl
 not_true true h = cc

@@ -1,14 +1,17 @@
 -- An exponent as it is read.
-use Rattle.std.proofs.Common.{◌≡◌, ◌≢◌, ◌⊎◌, inl, inr, ℕ, ◌<◌, ◌≤◌, Bool, true, false, List, [], ◌∷◌, length, ℤ, pos, neg_ℤ, arith, ap, subst, sym, ◌∙◌, refl}
-use Rattle.std.specs.Prelude.{◌&&◌, nat_lt}
+use Rattle.std.proofs.Common.{◌≡◌, ◌≢◌, ◌⊎◌, inl, inr, ℕ, zero, suc, ◌<◌, ◌≤◌, Bool, true, false, List, [], ◌∷◌, ◌++◌, length, take, drop, ℤ, pos, neg_ℤ, arith, ap, subst, sym, ◌∙◌, refl, append_assoc}
+use Rattle.std.specs.Prelude.{◌&&◌, nat_lt, Some}
 use Rattle.std.specs.Char.{is_ascii_digit}
 use Rattle.std.specs.List.{list_all, position_or_len}
 use Rattle.std.proofs.lemmas.Int.{ints}
 use Rattle.std.proofs.lemmas.Bool.{lt-ltb}
-use Rattle.micro_num.specs.Numeral.{Sign, unsigned, plus, minus, are_digits, is_exponent_mark, after_sign, exponent_of, is_exponent, sign_of}
-use Rattle.micro_num.specs.Micrometres.{with_sign, exponent_value, digits_value}
-use Rattle.micro_num.specs.Scan.{IsLeading, IsNear, is_other}
-use Rattle.micro_num.proofs.DigitRows.{all_digits, not_all_digits, near}
+use Rattle.std.proofs.lemmas.List.{take-append-drop}
+use Rattle.micro_num.specs.Numeral.{Sign, unsigned, plus, minus, are_digits, is_exponent_mark, after_sign, exponent_of, is_exponent, sign_of, sign_text}
+use Rattle.micro_num.specs.Micrometres.{with_sign, digits_value}
+use Rattle.micro_num.specs.Scan.{IsExponentFront, IsLeading, IsNear, is_other}
+use Rattle.micro_num.proofs.Grammar.{sign-text}
+use Rattle.micro_num.proofs.Scanning.{front_digits}
+use Rattle.micro_num.proofs.DigitRows.{not_all_digits, near}
 
 and_false : (a : Bool) → (a && false) ≡ false
 and_false true = refl
@@ -28,20 +31,27 @@ no_exponent bytes mark text ds spelled behind none =
     ∙ ap (λ a. is_exponent_mark mark && a) (ap are_digits (sym behind) ∙ none)
     ∙ and_false (is_exponent_mark mark)
 
-pub some_exponent : (bytes : List ℕ) (mark : ℕ) (text ds : List ℕ) (e : ℤ) → bytes ≡ mark ∷ text → ds ≡ after_sign text
-    → is_exponent_mark mark ≡ true → 0 < position_or_len is_other ds → length ds ≤ position_or_len is_other ds
-    → IsNear e (with_sign (sign_of text) (digits_value ds))
-    → (is_exponent (exponent_of bytes) ≡ true) × IsNear e (exponent_value (exponent_of bytes))
-some_exponent bytes mark text ds e spelled behind is some all is_near =
-    let digits : list_all is_ascii_digit ds ≡ true = all_digits ds all in
-    let long : nat_lt 0 (length ds) ≡ true = is_long ds some in
-    let exponent : is_exponent (exponent_of (mark ∷ text)) ≡ true = rw (is, ← behind, long) digits in
-    subst (λ b. (is_exponent (exponent_of b) ≡ true) × IsNear e (exponent_value (exponent_of b))) (sym spelled)
-    (exponent, subst (λ ds. IsNear e (with_sign (sign_of text) (digits_value ds))) behind is_near)
+-- the digits behind a mark, as far as they go, are an exponent's
+pub front_exponent : (bytes : List ℕ) (mark : ℕ) (text ds : List ℕ) (n : ℕ) (e : ℤ) → bytes ≡ mark ∷ text → ds ≡ after_sign text
+    → is_exponent_mark mark ≡ true → n ≡ position_or_len is_other ds → 0 < n → IsNear e (with_sign (sign_of text) (digits_value (take n ds)))
+    → IsExponentFront bytes (drop n ds) e
+front_exponent bytes mark text ds n e spelled behind is count some is_near =
+    let digits : list_all is_ascii_digit (take n ds) ≡ true = rw count (front_digits ds) in
+    let long : nat_lt 0 (length (take n ds)) ≡ true = is_long n ds count some in
+    record {
+      exponent = Some (record { mark = mark; sign = sign_of text; digits = take n ds });
+      is = rw (is, long) digits;
+      spelled = spelled
+          ∙ ap {B = List ℕ} (λ t. mark ∷ t) (sym (sign-text text))
+          ∙ ap {B = List ℕ} (λ t. mark ∷ (sign_text (sign_of text) ++ t)) (sym behind ∙ sym (take-append-drop n ds))
+          ∙ ap {B = List ℕ} (λ t. mark ∷ t) (sym (append_assoc (sign_text (sign_of text)) (take n ds) (drop n ds)));
+      near = is_near;
+    }
   where
-    is_long : (ds : List ℕ) → 0 < position_or_len is_other ds → nat_lt 0 (length ds) ≡ true
-    is_long [] h = absurd (omega arith)
-    is_long (d ∷ ds) h = lt-ltb 0 (length (d ∷ ds)) (omega arith)
+    is_long : (n : ℕ) (ds : List ℕ) → n ≡ position_or_len is_other ds → 0 < n → nat_lt 0 (length (take n ds)) ≡ true
+    is_long n [] count h = absurd (omega (arith, count))
+    is_long zero (d ∷ ds) count h = absurd (omega arith)
+    is_long (suc n) (d ∷ ds) count h = lt-ltb 0 (length (take (suc n) (d ∷ ds))) (omega arith)
 
 pub mark_101 : (mark : ℕ) → mark ≡ 101 → is_exponent_mark mark ≡ true
 mark_101 mark e = rw e refl

@@ -36,7 +36,7 @@ scanned_digits s text =
 
 -- A text is what is met in it.
 
-behind-text : (bytes : List ℕ) → fraction_text (digits_behind bytes) ++ rest_behind bytes ≡ bytes
+pub behind-text : (bytes : List ℕ) → fraction_text (digits_behind bytes) ++ rest_behind bytes ≡ bytes
 behind-text [] = refl
 behind-text (byte ∷ bytes) = by_test (byte == 46) refl
   where
@@ -92,7 +92,7 @@ rest-is None (Some e) digits h = rw ((mark_other e.mark (and_parts _ _ h).0).1) 
 rest-is (Some ds) exponent digits h =
     from-is is_other ds (exponent_text exponent) (all-weaker is_ascii_digit (λ x. not (is_other x)) twice_not ds digits) (mark_starts exponent h)
 
-scanned-is : (n : Numeral) → IsNumeral n → scanned n.sign (n.whole ++ (fraction_text n.fraction ++ exponent_text n.exponent)) ≡ n
+pub scanned-is : (n : Numeral) → IsNumeral n → scanned n.sign (n.whole ++ (fraction_text n.fraction ++ exponent_text n.exponent)) ≡ n
 scanned-is n (mantissa, exponent) =
     (λ i. record {
       sign = n.sign;

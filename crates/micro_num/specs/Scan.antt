@@ -7,14 +7,16 @@
 --     IsCapped                  a number, or one that is no coordinate where that is none
 --     IsCut                     such first digits in a unit
 --     IsNear                    a power of ten, or one as far out
+--     IsExponentFront           a text begins with an exponent, or with none
+--     IsNumberFront             a text begins with a number that has no sign
 use Rattle.std.specs.Prelude.{◌≡◌, ℕ, ◌+◌, ◌*◌, ◌^◌, ◌-◌, ◌<◌, ◌≤◌, ◌==◌, Bool, true, ◌&&◌, List, [], ◌∷◌, ◌++◌, length, Option, Some, None, Result, Ok, Err, not, fold, nat_le, if◌then◌else◌, ℤ, pos, neg_ℤ, ◌≤ℤ◌, ◌⊎◌}
 use Rattle.std.specs.Char.{is_ascii_digit}
 use Rattle.std.specs.List.{before_first, list_all}
 use Rattle.micro_num.specs.declared.units.Unit.{Unit as LengthUnit}
 use Rattle.micro_num.specs.declared.faults.NumFault.{NumFault}
 use Rattle.micro_num.specs.declared.faults.NumFault.TheVariants.{NotNumber, OutOfRange}
-use Rattle.micro_num.specs.Numeral.{Sign, unsigned, Numeral, from_first, exponent_of, mantissa_digits, are_digits, is_exponent}
-use Rattle.micro_num.specs.Micrometres.{digits_value, magnitude, unit_factor, power_of}
+use Rattle.micro_num.specs.Numeral.{Sign, unsigned, Exponent, Numeral, IsNumeral, exponent_text, numeral_text, from_first, exponent_of, mantissa_digits, are_digits, is_exponent}
+use Rattle.micro_num.specs.Micrometres.{digits_value, exponent_value, magnitude, unit_factor, power_of}
 
 abbrev pub is_other : ℕ → Bool
 is_other byte = not (is_ascii_digit byte)
@@ -96,3 +98,18 @@ IsNear a b =
 pub record IsCapped (a b : ℕ) : Type 0 where
   pub within : a ≤ 128000000 → b ≡ a
   pub beyond : 128000000 < a → 128000000 < b
+
+-- the text begins with an exponent near e, or with none, which is 0, and this is left behind it
+pub record IsExponentFront (text rest : List ℕ) (e : ℤ) : Type 0 where
+  pub exponent : Option Exponent
+  pub is : is_exponent exponent ≡ true
+  pub spelled : text ≡ exponent_text exponent ++ rest
+  pub near : IsNear e (exponent_value exponent)
+
+-- the text begins with a number that has no sign, whose size is m where that is a coordinate, and this is left behind it
+pub record IsNumberFront (unit : LengthUnit) (text rest : List ℕ) (m : ℕ) : Type 0 where
+  pub number : Numeral
+  pub is : IsNumeral number
+  pub no_sign : number.sign ≡ unsigned
+  pub spelled : text ≡ numeral_text number ++ rest
+  pub capped : IsCapped (size unit number) m

@@ -1,4 +1,4 @@
-ghost use Rattle.std.specs.Prelude.{◌≡◌, ◌≤◌, ◌<◌, ◌+◌, ◌*◌, ◌-◌, ℕ, length, take, true};
+ghost use Rattle.std.specs.Prelude.{◌≡◌, ◌≤◌, ◌<◌, ◌+◌, ◌*◌, ◌-◌, IfSome, ℕ, length, take, true};
 ghost use Rattle.std.specs.List.{position_or_len};
 ghost use Rattle.std.specs.Char.{is_ascii_digit};
 ghost use Rattle.micro_num.specs.Scan.{IsLeading, digits_after, is_other};
@@ -23,6 +23,22 @@ impl Leading {
         dropped: 0,
     };
 
+    /// With one more digit behind, which still fits.
+    #[inline(always)]
+    fn extended(self, digit: u8) -> Self
+        requires digit { is_ascii_digit digit ≡ true }
+        requires room { self.value < 1000000000000000 }
+        ensures leads { (n : ℕ) → IsLeading self.value self.dropped n
+            → IsLeading result.value result.dropped (10 * n + (digit - 48)) }
+        ensures value { result.value ≡ 10 * self.value + (digit - 48) }
+        ensures same { result.dropped ≡ self.dropped }
+    {
+        Self {
+            value: 10 * self.value + u64::from(digit - b'0'),
+            dropped: self.dropped,
+        }
+    }
+
     /// With one more digit behind.
     fn followed_by(self, digit: u8) -> Self
         requires digit { is_ascii_digit digit ≡ true }
@@ -32,10 +48,7 @@ impl Leading {
         ensures few { result.dropped ≤ self.dropped + 1 }
     {
         if self.value < ROOM {
-            Self {
-                value: 10 * self.value + u64::from(digit - b'0'),
-                dropped: self.dropped,
-            }
+            self.extended(digit)
         } else {
             Self {
                 value: self.value,
@@ -54,7 +67,52 @@ pub struct Digits {
 }
 
 /// Reads the digits at the front of a text, behind those in `before`.
+#[inline(always)]
 pub fn read_digits(bytes: &[u8], before: Leading) -> Digits
+    requires { before.dropped + length bytes.now < 1000000 }
+    ensures count { result.count ≡ position_or_len is_other bytes.now }
+    ensures leads { (n : ℕ) → IsLeading before.value before.dropped n
+        → IsLeading result.leading.value result.leading.dropped (digits_after n (take result.count bytes.now)) }
+    ensures few { result.leading.dropped ≤ before.dropped + result.count }
+{
+    match few_digits(bytes, before) {
+        Some(digits) => digits,
+        None => many_digits(bytes, before),
+    }
+}
+
+/// Fewer digits than this at a time are read with no look at the room that is left.
+const FEW: usize = 10;
+
+/// Reads the digits at the front of a text, behind those in `before`, where these and those are few.
+#[inline(always)]
+fn few_digits(bytes: &[u8], before: Leading) -> Option<Digits>
+    ensures count { IfSome result (λ digits. digits.count ≡ position_or_len is_other bytes.now) }
+    ensures leads { IfSome result (λ digits. (n : ℕ) → IsLeading before.value before.dropped n
+        → IsLeading digits.leading.value digits.leading.dropped (digits_after n (take digits.count bytes.now))) }
+    ensures few { IfSome result (λ digits. digits.leading.dropped ≡ before.dropped) }
+{
+    if bytes.len() < FEW || before.value >= 1_000_000 {
+        return None;
+    }
+    let mut leading = before;
+    for index in 0..FEW {
+        let byte = bytes[index];
+        if !byte.is_ascii_digit() {
+            return Some(Digits {
+                leading,
+                count: index,
+            });
+        }
+        leading = leading.extended(byte);
+    }
+    None
+}
+
+/// Reads the digits at the front of a text, behind those in `before`, however many they are.
+#[cold]
+#[inline(never)]
+fn many_digits(bytes: &[u8], before: Leading) -> Digits
     requires { before.dropped + length bytes.now < 1000000 }
     ensures count { result.count ≡ position_or_len is_other bytes.now }
     ensures leads { (n : ℕ) → IsLeading before.value before.dropped n

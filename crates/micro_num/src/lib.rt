@@ -13,7 +13,7 @@ mod units;
 
 pub use division::ceil_div;
 pub use faults::NumFault;
-pub use reading::read_micro;
+pub use reading::{read_front, read_micro};
 pub use spelling::one_spelling;
 pub use units::Unit;
 

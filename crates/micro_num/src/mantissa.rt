@@ -2,20 +2,24 @@ ghost use Rattle.std.specs.Prelude.{◌≡◌, ◌≤◌, ◌<◌, ◌+◌, ◌+
 ghost use Rattle.std.specs.List.{before_first};
 ghost use Rattle.micro_num.specs.Numeral.{Sign, minus, after_sign, sign_of, exponent_of, is_exponent, from_first, fraction_digits};
 ghost use Rattle.micro_num.specs.Micrometres.{exponent_value, digits_value};
-ghost use Rattle.micro_num.specs.Scan.{IsLeading, IsNear, is_other, digits_behind, rest_behind};
+ghost use Rattle.micro_num.specs.Scan.{IsExponentFront, IsLeading, IsNear, is_other, digits_behind, rest_behind};
 
 use crate::digits::{Leading, read_digits};
 
 /// A sign or none at the front of a text: whether it is a minus, and what stands behind it.
+#[inline(always)]
 pub fn split_sign(bytes: &[u8]) -> (bool, &[u8])
     ensures minus { (result.0 ≡ true) ↔ (sign_of bytes.now ≡ minus) }
     ensures behind { result.1.now ≡ after_sign bytes.now }
 {
-    match bytes.split_first() {
-        Some((b'-', behind)) => (true, behind),
-        Some((b'+', behind)) => (false, behind),
-        _ => (false, bytes),
-    }
+    let Some(first) = bytes.first() else {
+        return (false, bytes);
+    };
+    let negative = *first == b'-';
+    // signs come in no order, so a jump would be guessed wrong half of the time
+    let signed = negative | (*first == b'+');
+    let (_, behind) = bytes.split_at(usize::from(signed));
+    (negative, behind)
 }
 
 /// The digits of a number, and what stands behind them.
@@ -28,6 +32,7 @@ pub struct Mantissa<'a> {
 }
 
 /// Reads digits, with a point among them or none, at the front of a text.
+#[inline(always)]
 pub fn read_mantissa(bytes: &[u8]) -> Mantissa<'_>
     requires { length bytes.now ≤ 255 }
     ensures whole { result.whole.now ≡ before_first is_other bytes.now }
@@ -58,24 +63,28 @@ pub fn read_mantissa(bytes: &[u8]) -> Mantissa<'_>
     }
 }
 
-/// Reads the exponent that is the rest of a word, or 0 where nothing is left. One far out is another far out.
-pub fn read_exponent(bytes: &[u8]) -> Option<i64>
+/// Reads the exponent at the front of a text, or 0 where none stands there, and gives what stands behind it. One far
+/// out is another far out.
+#[inline(always)]
+pub fn exponent_front(bytes: &[u8]) -> Option<(i64, &[u8])>
     requires { length bytes.now ≤ 255 }
-    ensures near { MatchOption result (is_exponent (exponent_of bytes.now) ≡ false)
-        (λ e. (is_exponent (exponent_of bytes.now) ≡ true) × IsNear e (exponent_value (exponent_of bytes.now))) }
-    ensures small { IfSome result (λ e. unsigned_abs e < 10000000000000000) }
+    ensures front { IfSome result (λ found. IsExponentFront bytes.now found.1.now found.0) }
+    ensures small { IfSome result (λ found. unsigned_abs found.0 < 10000000000000000) }
+    ensures other { MatchOption result (is_exponent (exponent_of bytes.now) ≡ false)
+        (λ found. 0 < length found.1.now → is_exponent (exponent_of bytes.now) ≡ false) }
 {
     let Some((mark, text)) = bytes.split_first() else {
-        return Some(0);
+        return Some((0, bytes));
     };
     if *mark != b'e' && *mark != b'E' {
-        return None;
+        return Some((0, bytes));
     }
     let (negative, text) = split_sign(text);
     let digits = read_digits(text, Leading::NONE);
-    if digits.count == 0 || digits.count < text.len() {
+    if digits.count == 0 {
         return None;
     }
     let size = digits.leading.value as i64;
-    Some(if negative { -size } else { size })
+    let (_, behind) = text.split_at(digits.count);
+    Some((if negative { -size } else { size }, behind))
 }

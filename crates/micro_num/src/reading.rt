@@ -1,12 +1,12 @@
-ghost use Rattle.std.specs.Prelude.{◌≡◌, ◌≤◌, ◌<◌, ◌↔◌, ◌≤ℤ◌, Err, IfOk, List, length, ℕ, pos, unsigned_abs};
-ghost use Rattle.micro_num.specs.Scan.{size_of};
-ghost use Rattle.micro_num.specs.Numeral.{Numeral, IsNumeral, IsSpelled, numeral_text};
+ghost use Rattle.std.specs.Prelude.{◌≡◌, ◌≤◌, ◌<◌, ◌↔◌, ◌≤ℤ◌, Err, IfOk, IfSome, List, MatchOption, Ok, false, length, ℕ, pos, take, unsigned_abs};
+ghost use Rattle.micro_num.specs.Scan.{IsNumberFront, is_numeral, scanned, size_of};
+ghost use Rattle.micro_num.specs.Numeral.{Numeral, IsNumeral, IsSpelled, numeral_text, unsigned};
 ghost use Rattle.micro_num.specs.Micrometres.{coordinate_of, coordinate_or_fault, micro};
 ghost use Rattle.micro_num.specs.declared.faults.NumFault.TheVariants.{NotNumber, OutOfRange, TooLong};
 
 use crate::faults::NumFault;
 use crate::lengths::size_in;
-use crate::mantissa::{read_exponent, read_mantissa, split_sign};
+use crate::mantissa::{exponent_front, read_mantissa, split_sign};
 use crate::scaling::LIMIT;
 use crate::units::Unit;
 
@@ -48,17 +48,50 @@ fn read_unsigned(text: &[u8], unit: Unit) -> Result<i32, NumFault>
     ensures exact { result ≡ size_of unit text.now }
     ensures small { IfOk result (λ z. (pos 0 ≤ℤ z) × (z ≤ℤ pos 128000000)) }
 {
+    match size_front(text, unit) {
+        Some((size, behind)) if behind.is_empty() => {
+            if size > LIMIT {
+                Err(NumFault::OutOfRange)
+            } else {
+                Ok(size as i32)
+            }
+        }
+        _ => Err(NumFault::NotNumber),
+    }
+}
+
+/// The number at the front of a text in whole micrometres, as `read_micro` reads it, and how many bytes it takes.
+///
+/// It goes on as far as its bytes may belong to it. `None` says only that it was not read here.
+#[inline(always)]
+pub fn read_front(bytes: &[u8], unit: Unit) -> Option<(i32, usize)>
+    ensures exact { IfSome result (λ found. coordinate_of unit (take found.1 bytes.now) ≡ Ok found.0) }
+    ensures within { IfSome result (λ found. found.1 ≤ length bytes.now) }
+{
+    let (text, _) = bytes.split_at(bytes.len().min(255));
+    let (negative, digits) = split_sign(text);
+    let (size, behind) = size_front(digits, unit)?;
+    if LIMIT < size {
+        return None;
+    }
+    let size = size as i32;
+    let count = text.len() - behind.len();
+    Some((if negative { -size } else { size }, count))
+}
+
+/// How far from 0 the number at the front of a text behind a sign is, or more than the greatest coordinate where it is
+/// more, and what stands behind it.
+#[inline(always)]
+fn size_front(text: &[u8], unit: Unit) -> Option<(u64, &[u8])>
+    requires { length text.now ≤ 255 }
+    ensures front { IfSome result (λ found. IsNumberFront unit text.now found.1.now found.0) }
+    ensures other { MatchOption result (is_numeral (scanned unsigned text.now) ≡ false)
+        (λ found. 0 < length found.1.now → is_numeral (scanned unsigned text.now) ≡ false) }
+{
     let mantissa = read_mantissa(text);
     if mantissa.whole.len() + mantissa.fraction.len() == 0 {
-        return Err(NumFault::NotNumber);
+        return None;
     }
-    let Some(exponent) = read_exponent(mantissa.behind) else {
-        return Err(NumFault::NotNumber);
-    };
-    let size = size_in(&mantissa, exponent, unit);
-    if size > LIMIT {
-        Err(NumFault::OutOfRange)
-    } else {
-        Ok(size as i32)
-    }
+    let (exponent, behind) = exponent_front(mantissa.behind)?;
+    Some((size_in(&mantissa, exponent, unit), behind))
 }

@@ -29,6 +29,7 @@ static POWERS: [u64; 20] = [
     10_000_000_000_000_000_000,
 ];
 
+#[inline(always)]
 fn power_of_ten(power: u64) -> u64
     requires { power < 20 }
     ensures { result ≡ 10 ^ power }
@@ -37,6 +38,7 @@ fn power_of_ten(power: u64) -> u64
 }
 
 /// `value` divided by ten to the power `power`, to the nearest whole number, halves upward.
+#[inline(always)]
 fn shrunk(value: u64, power: u64) -> u64
     requires some { 0 < power }
     requires small { value < 3000000000000000000 }
@@ -51,6 +53,7 @@ fn shrunk(value: u64, power: u64) -> u64
 }
 
 /// `value` times ten to the power `power`, or more than `LIMIT` where that is more.
+#[inline(always)]
 fn grown(value: u64, power: u64) -> u64
     ensures { IsCapped (value * 10 ^ power) result }
 {
@@ -65,6 +68,7 @@ fn grown(value: u64, power: u64) -> u64
 
 /// `value` times ten to the power `power`, to the nearest whole number, halves upward, or more than `LIMIT` where
 /// that is more.
+#[inline(always)]
 pub fn scaled(value: u64, power: i64) -> u64
     requires { value < 3000000000000000000 }
     ensures { IsCapped (magnitude value power) result }

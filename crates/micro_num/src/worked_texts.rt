@@ -32,6 +32,21 @@ fn spellings(rt: HostRuntime) {
 }
 
 #[test]
+fn numbers_at_the_front(rt: HostRuntime) {
+    let rows: [(&[u8], Option<(i32, usize)>); 6] = [
+        (b"1.422800e+01 5.552000e+01", Some((14_228, 12))),
+        (b"-0.0533 0", Some((-53, 7))),
+        (b"123456789012.25e-8 and more", Some((1_234_568, 18))),
+        (b"1.5.5", Some((1500, 3))),
+        (b"1e9 2 3 4 5 6 7", None),
+        (b"x", None),
+    ];
+    for (text, wanted) in rows {
+        assert!(rt; read_front(text, Unit::Millimetre) == wanted);
+    }
+}
+
+#[test]
 fn inches(rt: HostRuntime) {
     let rows: [(&[u8], Result<i32, NumFault>); 8] = [
         (b"1", Ok(25_400)),

@@ -1,6 +1,6 @@
 use Rattle.std.proofs.Common.{◌≡◌, ℕ, ◌≤◌, ◌<◌, ◌+◌, take, get_or, false}
 use Rattle.micro_num.specs.Scan.{IsLeading, digits_after, is_other}
-use Rattle.micro_num.proofs.digits.read_digits.Given as goal
+use Rattle.micro_num.proofs.digits.many_digits.Given as goal
 
 abbrev pub invariant-loop-index : goal.invariant-loop-index
 invariant-loop-index l = record {

@@ -1,0 +1,41 @@
+use Rattle.std.proofs.Common.{ℕ, ◌≡◌, ◌<◌, List, take, arith, subst, sym, ◌∙◌, true, inl, inr, ℤ, pos, neg_ℤ, w64, to_z, of_z, ◌-ℤ◌}
+use Rattle.std.proofs.lemmas.Int.{ints}
+use Rattle.micro_num.specs.Micrometres.{with_sign, digits_value}
+use Rattle.micro_num.specs.Scan.{IsExponentFront, IsLeading, IsNear, digits_after}
+use Rattle.micro_num.specs.Numeral.{sign_of, is_exponent_mark}
+use Rattle.micro_num.proofs.Leading.{IsLeading-none}
+use Rattle.micro_num.proofs.Exponents.{no_digits, no_exponent, front_exponent, IsNear-minus, IsNear-plus, mark_69, mark_101}
+use Rattle.micro_num.proofs.mantissa.exponent_front.Goals.{else-mark-ne101-via-then-mark-ne101+else-mark-ne69, else-mark-ne101-via-else-mark-ne101, then-negative, else-negative}
+use Rattle.micro_num.proofs.mantissa.exponent_front.Goals as goal
+
+pub returns-then-digits-eq0-clause-other : goal.returns-then-digits-eq0-clause-other
+returns-then-digits-eq0-clause-other c =
+    no_exponent c.args.bytes.now c.in-Some.mark.now c.in-Some.text.now _ c.in-Some.ensures.cases.0 c.split_sign-negative.ensures.behind
+    (no_digits c.split_sign-negative.result.1.now (inl (sym c.read_digits-digits.ensures.count ∙ c.if-digits-eq0.true)))
+
+pub returns-clause-front : goal.returns-clause-front
+returns-clause-front c =
+    let ds : List ℕ = c.split_sign-negative.result.1.now in
+    let n : ℕ = c.read_digits-digits.result.count in
+    let v : ℕ = c.read_digits-digits.result.leading.value in
+    let e : ℤ = to_z w64 c.if-negative.result-bits in
+    let mark : is_exponent_mark c.in-Some.mark.now ≡ true =
+    elim c.else-mark-ne101.branch [ else-mark-ne101-via-then-mark-ne101+else-mark-ne69 w ↦ mark_69 c.in-Some.mark.now w.if-mark-ne69.false | else-mark-ne101-via-else-mark-ne101 w ↦ mark_101 c.in-Some.mark.now w.if-mark-ne101.false ] in
+    let leads : IsLeading v c.read_digits-digits.result.leading.dropped (digits_after 0 (take n ds)) = c.read_digits-digits.ensures.leads 0 IsLeading-none in
+    let size : v < 10000000000000000 = leads.short in
+    let low : to_z w64 (of_z w64 (pos 0 -ℤ to_z w64 v)) ≡ neg_ℤ (pos v) = omega (arith, ints) in
+    let high : to_z w64 v ≡ pos v = omega (arith, ints) in
+    let is_near : IsNear e (with_sign (sign_of c.in-Some.text.now) (digits_value (take n ds))) =
+    elim c.if-negative.branch [
+      | then-negative w ↦ IsNear-minus e v _ _ (sign_of c.in-Some.text.now) leads (w.result-is ∙ low) (c.split_sign-negative.ensures.minus.0 w.if-negative.true)
+      | else-negative w ↦ IsNear-plus e v _ _ (sign_of c.in-Some.text.now) leads (w.result-is ∙ high) (λ h. let both = c.split_sign-negative.ensures.minus.1 h in let other = w.if-negative.false in cc)
+    ] in
+    let front : IsExponentFront c.args.bytes.now _ e =
+    front_exponent c.args.bytes.now c.in-Some.mark.now c.in-Some.text.now ds n e c.in-Some.ensures.cases.0 c.split_sign-negative.ensures.behind mark
+    c.read_digits-digits.ensures.count (omega (arith, c.if-digits-eq0.false)) is_near in
+    subst (λ r. IsExponentFront c.args.bytes.now r e) (sym c.split_at.ensures.back) front
+
+pub returns-clause-other : goal.returns-clause-other
+returns-clause-other c = λ more.
+    no_exponent c.args.bytes.now c.in-Some.mark.now c.in-Some.text.now _ c.in-Some.ensures.cases.0 c.split_sign-negative.ensures.behind
+    (no_digits c.split_sign-negative.result.1.now (inr (omega (arith, more, c.read_digits-digits.ensures.count, c.split_at.ensures.back_len))))
