@@ -3,6 +3,7 @@ pub mod Ranges
 pub mod Meshes
 mod Rows
 mod Texts
+mod Fronts
 pub mod Determined
 pub mod OneReading
 pub mod OneFault

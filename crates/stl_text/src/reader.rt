@@ -10,7 +10,9 @@ ghost use Rattle.stl_text.specs.Triangle.{Triangle};
 
 use crate::faults::StlFault;
 use crate::points::{Facet, Point};
-use crate::scanning::{is_keyword, skip_line, skip_space, split_word};
+use crate::scanning::{
+    behind_coordinate, behind_keyword, is_keyword, skip_line, skip_space, split_word,
+};
 use crate::words::Word;
 use micro_num::{NumFault, Unit, read_micro};
 use std::alloc::Allocator;
@@ -118,7 +120,23 @@ impl<'t> Reader<'t> {
     }
 
     /// Passes the keyword `text`, which is what `wanted` names.
+    #[inline(always)]
     fn keyword(&mut self, wanted: Word, text: &[u8]) -> Result<(), StlFault>
+        requires { keyword_text wanted ≡ Some text.now }
+        ensures read { IfOk result (λ _. Spells (keyword wanted text.now ∷ []) self.old self.new) }
+        ensures fault { IfErr result (Breaks (keyword wanted text.now ∷ []) self.old) }
+    {
+        if let Some(rest) = behind_keyword(self.rest, text) {
+            self.rest = rest;
+            return Ok(());
+        }
+        self.keyword_word(wanted, text)
+    }
+
+    /// Passes a word, which may be the keyword `text`, which is what `wanted` names.
+    #[cold]
+    #[inline(never)]
+    fn keyword_word(&mut self, wanted: Word, text: &[u8]) -> Result<(), StlFault>
         requires { keyword_text wanted ≡ Some text.now }
         ensures read { IfOk result (λ _. Spells (keyword wanted text.now ∷ []) self.old self.new) }
         ensures fault { IfErr result (Breaks (keyword wanted text.now ∷ []) self.old) }
@@ -144,7 +162,23 @@ impl<'t> Reader<'t> {
     }
 
     /// Passes a coordinate, and gives it in whole micrometres.
+    #[inline(always)]
     fn coordinate(&mut self) -> Result<i32, StlFault>
+        ensures read { IfOk result (λ z. Spells (coordinate z ∷ []) self.old self.new) }
+        ensures within { IfOk result (IsAtMost 128000000) }
+        ensures fault { IfErr result (λ fault. (z : ℤ) × Breaks (coordinate z ∷ []) self.old fault) }
+    {
+        if let Some((z, rest)) = behind_coordinate(self.rest, self.unit) {
+            self.rest = rest;
+            return Ok(z);
+        }
+        self.coordinate_word()
+    }
+
+    /// Passes a word, which may stand for a coordinate, and gives that in whole micrometres.
+    #[cold]
+    #[inline(never)]
+    fn coordinate_word(&mut self) -> Result<i32, StlFault>
         ensures read { IfOk result (λ z. Spells (coordinate z ∷ []) self.old self.new) }
         ensures within { IfOk result (IsAtMost 128000000) }
         ensures fault { IfErr result (λ fault. (z : ℤ) × Breaks (coordinate z ∷ []) self.old fault) }
@@ -209,7 +243,27 @@ impl<'t> Reader<'t> {
 
     /// Passes the first word of a facet, of which at most `room` may begin, or the word at the end
     /// of a solid. Whether it is a facet's.
+    #[inline(always)]
     fn begins_facet(&mut self, room: usize) -> Result<bool, StlFault>
+        ensures read { IfOk result (λ more. MatchBool more
+            (Spells (facet_word ∷ []) self.old self.new) (Spells (end_word ∷ []) self.old self.new)) }
+        ensures room { IfOk result (λ more. IsTrue more → 0 < room) }
+        ensures fault { IfErr result (Stops room (facet_word ∷ []) self.old) }
+    {
+        if room > 0 {
+            if let Some(rest) = behind_keyword(self.rest, b"facet") {
+                self.rest = rest;
+                return Ok(true);
+            }
+        }
+        self.begins_word(room)
+    }
+
+    /// Passes the word at the front of a facet, of which at most `room` may begin, or at the end of a solid.
+    /// Whether it is a facet's.
+    #[cold]
+    #[inline(never)]
+    fn begins_word(&mut self, room: usize) -> Result<bool, StlFault>
         ensures read { IfOk result (λ more. MatchBool more
             (Spells (facet_word ∷ []) self.old self.new) (Spells (end_word ∷ []) self.old self.new)) }
         ensures room { IfOk result (λ more. IsTrue more → 0 < room) }

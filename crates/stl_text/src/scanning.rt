@@ -1,14 +1,18 @@
 //! Words, white space and lines at the front of a text.
 
-ghost use Rattle.std.specs.Prelude.{◌≡◌, ◌+◌, ◌≤◌, length};
+ghost use Rattle.std.specs.Prelude.{◌≡◌, ◌+◌, ◌≤◌, IfSome, Ok, length, not, true};
 ghost use Rattle.std.specs.Str.{str_to_ascii_lowercase};
-ghost use Rattle.std.specs.List.{position_or_len, prefix_len};
+ghost use Rattle.std.specs.List.{list_all, position_or_len, prefix_len};
+ghost use Rattle.micro_num.specs.Micrometres.{coordinate_of};
 ghost use Rattle.stl_text.specs.Text as Text;
 ghost use Rattle.stl_text.specs.Text.{after_line, after_space, after_word, first_word, is_line_end};
+ghost use Rattle.stl_text.specs.Written.{IsApart};
 
 use memchr::memchr2;
+use micro_num::{Unit, read_front};
 
 /// Whether a byte is white space.
+#[inline(always)]
 fn is_white(byte: u8) -> bool
     ensures { result ≡ Text.is_white byte }
 {
@@ -16,6 +20,7 @@ fn is_white(byte: u8) -> bool
 }
 
 /// How many white bytes stand at the front.
+#[inline(always)]
 fn space_len(bytes: &[u8]) -> usize
     ensures len { result ≡ prefix_len Text.is_white bytes.now }
     ensures within { result ≤ length bytes.now }
@@ -32,6 +37,7 @@ fn word_len(bytes: &[u8]) -> usize
 }
 
 /// What is left behind the white space at the front.
+#[inline(always)]
 pub fn skip_space(bytes: &[u8]) -> &[u8]
     ensures { result.now ≡ after_space bytes.now }
 {
@@ -72,9 +78,61 @@ pub fn skip_line(bytes: &[u8]) -> &[u8]
 }
 
 /// Whether a word is this keyword, in any case.
+#[inline(always)]
 pub fn is_keyword(word: &[u8], text: &[u8]) -> bool
     requires { str_to_ascii_lowercase text.now ≡ text.now }
     ensures { result ≡ Text.is_keyword text.now word.now }
 {
-    word.eq_ignore_ascii_case(text)
+    // most texts have them in lower case, and this is the quicker look
+    word == text || word.eq_ignore_ascii_case(text)
+}
+
+/// Whether no word goes on at the front of a text.
+#[inline(always)]
+fn ends_word(bytes: &[u8]) -> bool
+    ensures { result ≡ true → IsApart bytes.now }
+{
+    match bytes.first() {
+        Some(byte) => is_white(*byte),
+        None => true,
+    }
+}
+
+/// What is left behind the first word, where that is this keyword. `None` says only that it was not seen here.
+#[inline(always)]
+pub fn behind_keyword<'t>(bytes: &'t [u8], text: &[u8]) -> Option<&'t [u8]>
+    requires lower { str_to_ascii_lowercase text.now ≡ text.now }
+    requires word { list_all (λ byte. not (Text.is_white byte)) text.now ≡ true }
+    ensures keyword { IfSome result (λ rest. Text.is_keyword text.now (first_word bytes.now) ≡ true) }
+    ensures rest { IfSome result (λ rest. rest.now ≡ after_word bytes.now) }
+    ensures within { IfSome result (λ rest. length rest.now ≤ length bytes.now) }
+{
+    let front = skip_space(bytes);
+    if front.len() < text.len() {
+        return None;
+    }
+    let (word, rest) = front.split_at(text.len());
+    if ends_word(rest) && is_keyword(word, text) {
+        Some(rest)
+    } else {
+        None
+    }
+}
+
+/// The coordinate that the first word stands for, and what is left behind it. `None` says only that it was not read
+/// here.
+#[inline(always)]
+pub fn behind_coordinate(bytes: &[u8], unit: Unit) -> Option<(i32, &[u8])>
+    ensures read { IfSome result (λ found. coordinate_of unit (first_word bytes.now) ≡ Ok found.0) }
+    ensures rest { IfSome result (λ found. found.1.now ≡ after_word bytes.now) }
+    ensures within { IfSome result (λ found. length found.1.now ≤ length bytes.now) }
+{
+    let front = skip_space(bytes);
+    let (z, count) = read_front(front, unit)?;
+    let (_, rest) = front.split_at(count);
+    if ends_word(rest) {
+        Some((z, rest))
+    } else {
+        None
+    }
 }

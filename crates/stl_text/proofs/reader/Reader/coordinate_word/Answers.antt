@@ -1,6 +1,6 @@
 use Rattle.std.proofs.Common.{◌≡◌, pos, sym, ◌∙◌, ap}
 use Rattle.stl_text.proofs.Steps.{coordinate_breaks, coordinate-within-bits}
-use Rattle.stl_text.proofs.reader.Reader.coordinate.Goals as goal
+use Rattle.stl_text.proofs.reader.Reader.coordinate_word.Goals as goal
 
 pub returns-in-Ok-clause-within : goal.returns-in-Ok-clause-within
 returns-in-Ok-clause-within c =

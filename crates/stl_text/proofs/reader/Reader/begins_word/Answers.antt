@@ -3,7 +3,7 @@ use Rattle.std.specs.Prelude.{codes}
 use Rattle.stl_text.specs.declared.words.Word.TheVariants.{FacetOrEnd}
 use Rattle.stl_text.specs.Text.{facet_word, is_keyword}
 use Rattle.stl_text.proofs.Steps.{stops_at, taken_place, unfit}
-use Rattle.stl_text.proofs.reader.Reader.begins_facet.Goals as goal
+use Rattle.stl_text.proofs.reader.Reader.begins_word.Goals as goal
 
 pub returns-then-room-eq0-clause-fault : goal.returns-then-room-eq0-clause-fault
 returns-then-room-eq0-clause-fault c =

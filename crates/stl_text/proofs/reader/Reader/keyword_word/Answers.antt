@@ -1,6 +1,6 @@
 use Rattle.std.proofs.Common.{sym, ◌∙◌}
 use Rattle.stl_text.proofs.Steps.{keyword_breaks}
-use Rattle.stl_text.proofs.reader.Reader.keyword.Goals as goal
+use Rattle.stl_text.proofs.reader.Reader.keyword_word.Goals as goal
 
 pub returns-else-is_keyword-clause-fault : goal.returns-else-is_keyword-clause-fault
 returns-else-is_keyword-clause-fault c =
