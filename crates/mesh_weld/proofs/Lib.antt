@@ -3,6 +3,7 @@ pub mod Order
 pub mod InOrder
 pub mod Points
 pub mod Parts
+pub mod Ranks
 pub mod Pairs
 pub mod Placing
 pub mod Tallies

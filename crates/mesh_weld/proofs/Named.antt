@@ -1,15 +1,18 @@
 -- Numbers of pairs of vertex numbers, in threes, are edge numbers.
 use Rattle.std.proofs.Common.{◌≡◌, ℕ, zero, suc, ◌≤◌, ◌<◌, ◌+◌, ◌*◌, ◌^◌, ◌/◌, ◌%◌, min, max, true, List, [], ◌∷◌, length, map, get_or, refl, sym, ap, ◌∙◌, subst, inl, inr, ◌⊎◌, arith}
-use Rattle.std.specs.List.{flat_map}
+use Rattle.std.specs.List.{Contains, flat_map}
+use Rattle.std.proofs.lemmas.List.Elements.{All-contains}
 use Rattle.std.proofs.lemmas.List.{length-map}
+use Rattle.std.specs.Simd.{first_chunks}
 use Rattle.stl_text.specs.Position.{Position, origin}
 use Rattle.stl_text.specs.Triangle.{Triangle, Edge, edge, corners, edges}
-use Rattle.mesh_weld.specs.Entries.{pair_key, sides_from, threes, ArePairNumbers}
+use Rattle.mesh_weld.specs.Entries.{pair_key, sides_from, threes, AreNames, ArePairNumbers, IsEven}
+use Rattle.mesh_weld.specs.Balance.{IsBalanced}
 use Rattle.mesh_weld.specs.EdgeNumbers.{AreEdgeNumbers, HaveSameEnds, edge_of, edge_number}
 use Rattle.mesh_weld.specs.Mesh.{vertices, number_of, triples}
-use Rattle.mesh_weld.proofs.InOrder.{is_in}
+use Rattle.mesh_weld.proofs.InOrder.{is_in, in_order-members, is_in-from_contains, contains_from_is_in}
 use Rattle.mesh_weld.proofs.Pairs.{sides_from-length, nowhere}
-use Rattle.mesh_weld.proofs.Transfer.{number_found, ends_are_vertices, numbered}
+use Rattle.mesh_weld.proofs.Transfer.{number_found, ends_are_vertices, numbered, balanced_by_names}
 
 pub triples-by_number : (f : Position → ℕ) (fs : List Triangle) → threes (map f (flat_map corners fs)) ≡ map (λ t. map f (corners t)) fs
 triples-by_number f [] = refl
@@ -72,9 +75,12 @@ key_tells a b c d k l m n e = by_parts a b c d (parts (min a b) (max a b) (min c
     by_parts : (a b c d : ℕ) → (min a b ≡ min c d) × (max a b ≡ max c d) → ((a ≡ c) × (b ≡ d)) ⊎ ((a ≡ d) × (b ≡ c))
     by_parts a b c d h = grind arith
 
-module _ (fs : List Triangle) (few : length (vertices fs) ≤ 2 ^ 32) (flat : List ℕ) (count : ℕ) (h : ArePairNumbers (sides_from 0 (triples fs)) flat count) where
-  size : length (sides_from 0 (triples fs)) ≡ 3 * length fs
-  size = sides_from-length 0 (triples fs) ∙ ap (λ n. 3 * n) (length-map fs (numbered (number_of (vertices fs))))
+-- by whatever names that differ for different vertices
+module _ (fs : List Triangle) (name : Position → ℕ) (small : (p : Position) → is_in p (vertices fs) ≡ true → name p < 2 ^ 32)
+    (apart : (p q : Position) → is_in p (vertices fs) ≡ true → is_in q (vertices fs) ≡ true → name p ≡ name q → p ≡ q)
+    (flat : List ℕ) (count : ℕ) (h : ArePairNumbers (sides_from 0 (map (numbered name) fs)) flat count) where
+  size : length (sides_from 0 (map (numbered name) fs)) ≡ 3 * length fs
+  size = sides_from-length 0 (map (numbered name) fs) ∙ ap (λ n. 3 * n) (length-map fs (numbered name))
 
   at_number : (k s : ℕ) → k < length fs → s < 3 → edge_number (threes flat) k s ≡ get_or flat (3 * k + s) 0
   at_number k s l m = threes-at flat (length fs) k s (h.each_side ∙ size) l m
@@ -85,22 +91,19 @@ module _ (fs : List Triangle) (few : length (vertices fs) ≤ 2 ^ 32) (flat : Li
       subst (λ (e : Edge). (is_in e.from (vertices fs) ≡ true) × (is_in e.to (vertices fs) ≡ true)) at.1 (ends_are_vertices fs (3 * k + s) (edge origin origin) at.0)
 
   key_of : (k s : ℕ) → k < length fs → s < 3
-      → pair_key (get_or (sides_from 0 (triples fs)) (3 * k + s) nowhere) ≡ pair_key (record { from = number_of (vertices fs) (edge_of fs k s).from; to = number_of (vertices fs) (edge_of fs k s).to; slot = 0 })
+      → pair_key (get_or (sides_from 0 (map (numbered name) fs)) (3 * k + s) nowhere) ≡ pair_key (record { from = name (edge_of fs k s).from; to = name (edge_of fs k s).to; slot = 0 })
   key_of k s l m =
-      let ends = side_ends (number_of (vertices fs)) 0 fs k s l m in
+      let ends = side_ends name 0 fs k s l m in
       λ i. pair_key (record { from = ends.0 i; to = ends.1 i; slot = 0 })
 
-  same_number : (p q : Position) → is_in p (vertices fs) ≡ true → is_in q (vertices fs) ≡ true → number_of (vertices fs) p ≡ number_of (vertices fs) q → p ≡ q
-  same_number p q k l e = sym (number_found p (vertices fs) k).1 ∙ ap (λ n. get_or (vertices fs) n origin) e ∙ (number_found q (vertices fs) l).1
-
-  pub edge_numbers : AreEdgeNumbers fs (threes flat) count
-  edge_numbers =
+  pub named_edge_numbers : AreEdgeNumbers fs (threes flat) count
+  named_edge_numbers =
       record {
         each_facet = threes-length flat (length fs) (h.each_side ∙ size);
         below = λ k s l m. let b : get_or flat (3 * k + s) 0 < count = h.below (3 * k + s) (omega (arith, size, l, m)) in omega (arith, b, at_number k s l m);
         used = λ n l.
-            let u : (s : ℕ) × (s < length (sides_from 0 (triples fs))) × (get_or flat s 0 ≡ n) = h.used n l in
-            let inside : u.0 < length (sides_from 0 (triples fs)) = u.1 in
+            let u : (s : ℕ) × (s < length (sides_from 0 (map (numbered name) fs))) × (get_or flat s 0 ≡ n) = h.used n l in
+            let inside : u.0 < length (sides_from 0 (map (numbered name) fs)) = u.1 in
             let k : ℕ = u.0 / 3 in let s : ℕ = u.0 % 3 in
             let low : k < length fs = omega (arith, inside, size) in
             let small : s < 3 = omega arith in
@@ -113,25 +116,22 @@ module _ (fs : List Triangle) (few : length (vertices fs) ≤ 2 ^ 32) (flat : Li
           by_key (edge_of fs f s) (edge_of fs g t) (ends_in f s l m) (ends_in g t p q)
           (sym (key_of f s l m) ∙ (h.shared (3 * f + s) (3 * g + t) nowhere (omega (arith, size, l, m)) (omega (arith, size, p, q))).0 (sym (at_number f s l m) ∙ e ∙ at_number g t p q) ∙ key_of g t p q)
         where
-          within : (r : Position) → is_in r (vertices fs) ≡ true → number_of (vertices fs) r < 2 ^ 32
-          within r k = omega (arith, few, (number_found r (vertices fs) k).0)
-
           by_key : (d c : Edge) → (is_in d.from (vertices fs) ≡ true) × (is_in d.to (vertices fs) ≡ true) → (is_in c.from (vertices fs) ≡ true) × (is_in c.to (vertices fs) ≡ true)
-              → pair_key (record { from = number_of (vertices fs) d.from; to = number_of (vertices fs) d.to; slot = 0 }) ≡ pair_key (record { from = number_of (vertices fs) c.from; to = number_of (vertices fs) c.to; slot = 0 })
+              → pair_key (record { from = name d.from; to = name d.to; slot = 0 }) ≡ pair_key (record { from = name c.from; to = name c.to; slot = 0 })
               → HaveSameEnds d c
           by_key d c a b k =
-              by_ends (key_tells (number_of (vertices fs) d.from) (number_of (vertices fs) d.to) (number_of (vertices fs) c.from) (number_of (vertices fs) c.to)
-              (within d.from a.0) (within d.to a.1) (within c.from b.0) (within c.to b.1) k)
+              by_ends (key_tells (name d.from) (name d.to) (name c.from) (name c.to)
+              (small d.from a.0) (small d.to a.1) (small c.from b.0) (small c.to b.1) k)
             where
-              by_ends : ((number_of (vertices fs) d.from ≡ number_of (vertices fs) c.from) × (number_of (vertices fs) d.to ≡ number_of (vertices fs) c.to)) ⊎ ((number_of (vertices fs) d.from ≡ number_of (vertices fs) c.to) × (number_of (vertices fs) d.to ≡ number_of (vertices fs) c.from)) → HaveSameEnds d c
-              by_ends (inl n) = inl (same_number d.from c.from a.0 b.0 n.0, same_number d.to c.to a.1 b.1 n.1)
-              by_ends (inr n) = inr (same_number d.from c.to a.0 b.1 n.0, same_number d.to c.from a.1 b.0 n.1)
+              by_ends : ((name d.from ≡ name c.from) × (name d.to ≡ name c.to)) ⊎ ((name d.from ≡ name c.to) × (name d.to ≡ name c.from)) → HaveSameEnds d c
+              by_ends (inl n) = inl (apart d.from c.from a.0 b.0 n.0, apart d.to c.to a.1 b.1 n.1)
+              by_ends (inr n) = inr (apart d.from c.to a.0 b.1 n.0, apart d.to c.from a.1 b.0 n.1)
 
-      same_key : (d c : Edge) → HaveSameEnds d c → pair_key (record { from = number_of (vertices fs) d.from; to = number_of (vertices fs) d.to; slot = 0 }) ≡ pair_key (record { from = number_of (vertices fs) c.from; to = number_of (vertices fs) c.to; slot = 0 })
-      same_key d c (inl k) = λ i. pair_key (record { from = number_of (vertices fs) (k.0 i); to = number_of (vertices fs) (k.1 i); slot = 0 })
+      same_key : (d c : Edge) → HaveSameEnds d c → pair_key (record { from = name d.from; to = name d.to; slot = 0 }) ≡ pair_key (record { from = name c.from; to = name c.to; slot = 0 })
+      same_key d c (inl k) = λ i. pair_key (record { from = name (k.0 i); to = name (k.1 i); slot = 0 })
       same_key d c (inr k) =
-          (λ i. pair_key (record { from = number_of (vertices fs) (k.0 i); to = number_of (vertices fs) (k.1 i); slot = 0 }))
-          ∙ turned (number_of (vertices fs) c.to) (number_of (vertices fs) c.from)
+          (λ i. pair_key (record { from = name (k.0 i); to = name (k.1 i); slot = 0 }))
+          ∙ turned (name c.to) (name c.from)
         where
           turned : (m n : ℕ) → min m n * 2 ^ 32 + max m n ≡ min n m * 2 ^ 32 + max n m
           turned m n = omega arith
@@ -142,3 +142,43 @@ module _ (fs : List Triangle) (few : length (vertices fs) ≤ 2 ^ 32) (flat : Li
           ∙ (h.shared (3 * f + s) (3 * g + t) nowhere (omega (arith, size, l, m)) (omega (arith, size, p, q))).1
           (key_of f s l m ∙ same_key (edge_of fs f s) (edge_of fs g t) e ∙ sym (key_of g t p q))
           ∙ sym (at_number g t p q)
+
+-- by vertex numbers
+pub edge_numbers : (fs : List Triangle) → length (vertices fs) ≤ 2 ^ 32 → (flat : List ℕ) (count : ℕ) → ArePairNumbers (sides_from 0 (triples fs)) flat count → AreEdgeNumbers fs (threes flat) count
+edge_numbers fs few flat count h =
+    named_edge_numbers fs (number_of (vertices fs)) (λ p k. omega (arith, few, (number_found p (vertices fs) k).0))
+    (λ p q k l e. sym (number_found p (vertices fs) k).1 ∙ ap (λ n. get_or (vertices fs) n origin) e ∙ (number_found q (vertices fs) l).1) flat count h
+
+-- by numbers among points that have all corners
+module _ (fs : List Triangle) (names : List (List ℕ)) (n : AreNames fs names) where
+  name_found : (p : Position) → is_in p (vertices fs) ≡ true → (number_of n.found p < length n.found) × (get_or n.found (number_of n.found p) origin ≡ p)
+  name_found p h =
+      number_found p n.found
+      (is_in-from_contains n.found p
+      (All-contains (Contains n.found) (flat_map corners fs) p n.covers
+      (contains_from_is_in (flat_map corners fs) p (sym (in_order-members p (flat_map corners fs)) ∙ h))))
+
+  name_apart : (p q : Position) → is_in p (vertices fs) ≡ true → is_in q (vertices fs) ≡ true → number_of n.found p ≡ number_of n.found q → p ≡ q
+  name_apart p q k l e = sym (name_found p k).1 ∙ ap (λ i. get_or n.found i origin) e ∙ (name_found q l).1
+
+  pub names_length : length names ≡ length fs
+  names_length = ap length n.are ∙ length-map fs (numbered (number_of n.found))
+
+  pub edges_by_names : (flat : List ℕ) (count : ℕ) → ArePairNumbers (sides_from 0 names) flat count → AreEdgeNumbers fs (threes flat) count
+  edges_by_names flat count h =
+      named_edge_numbers fs (number_of n.found) (λ p k. omega (arith, n.few, (name_found p k).0)) name_apart flat count
+      (subst (λ l. ArePairNumbers (sides_from 0 l) flat count) n.are h)
+
+  pub closed_by_names : IsEven (sides_from 0 names) → IsBalanced fs
+  closed_by_names h = balanced_by_names fs (number_of n.found) name_apart (subst (λ l. IsEven (sides_from 0 l)) n.are h)
+
+-- the same parts of three, by how many there are
+pub threes_by_count : (n : ℕ) (xs : List ℕ) → 3 * n ≤ length xs → length xs < 3 * n + 3 → first_chunks 3 n xs ≡ threes xs
+threes_by_count zero [] l m = refl
+threes_by_count zero (a ∷ []) l m = refl
+threes_by_count zero (a ∷ b ∷ []) l m = refl
+threes_by_count zero (a ∷ b ∷ c ∷ xs) l m = absurd (omega (arith, m))
+threes_by_count (suc n) [] l m = absurd (omega (arith, l))
+threes_by_count (suc n) (a ∷ []) l m = absurd (omega (arith, l))
+threes_by_count (suc n) (a ∷ b ∷ []) l m = absurd (omega (arith, l))
+threes_by_count (suc n) (a ∷ b ∷ c ∷ xs) l m = ap (λ rest. (a ∷ b ∷ c ∷ []) ∷ rest) (threes_by_count n xs (omega (arith, l)) (omega (arith, m)))

@@ -49,6 +49,12 @@ number_found p (q ∷ qs) h = by_test (cases_Bool (same p q)) (number_found p qs
         subst Found (ap (λ b. cond (not b) (1 + number_of qs p) 0) (sym f))
         (subst Found (let e : suc (number_of qs p) ≡ 1 + number_of qs p = omega arith in e) (let l : number_of qs p < length qs = later.0 in omega (arith, l), later.1))
 
+equal_true : (m n : ℕ) → m ≡ n → (m == n) ≡ true
+equal_true m n e = grind (arith, nat_tests)
+
+equal_false : (m n : ℕ) → (m ≡ n → ⊥) → (m == n) ≡ false
+equal_false m n e = grind (arith, nat_tests)
+
 module _ (ps : List Position) (up : Ascends ps) where
   pub number_at : (i : ℕ) → i < length ps → number_of ps (get_or ps i origin) ≡ i
   number_at i l =
@@ -61,12 +67,6 @@ module _ (ps : List Position) (up : Ascends ps) where
   number_tells : (p : Position) (i : ℕ) → is_in p ps ≡ true → i < length ps → (number_of ps p == i) ≡ same p (get_or ps i origin)
   number_tells p i h l = by_test (cases_Bool (same p (get_or ps i origin)))
     where
-      equal_true : (m n : ℕ) → m ≡ n → (m == n) ≡ true
-      equal_true m n e = grind (arith, nat_tests)
-
-      equal_false : (m n : ℕ) → (m ≡ n → ⊥) → (m == n) ≡ false
-      equal_false m n e = grind (arith, nat_tests)
-
       by_test : (same p (get_or ps i origin) ≡ true) ⊎ (same p (get_or ps i origin) ≡ false) → (number_of ps p == i) ≡ same p (get_or ps i origin)
       by_test (inl t) =
           equal_true (number_of ps p) i (ap (number_of ps) (same-is p (get_or ps i origin) t) ∙ number_at i l) ∙ sym t
@@ -201,6 +201,30 @@ module _ (fs : List Triangle) where
           by_v : (is_in v (vertices fs) ≡ true) ⊎ (is_in v (vertices fs) ≡ false) → ((edge_count fs u v ≡ 0) × (edge_count fs v u ≡ 0)) ⊎ Both u v
           by_v (inl s) = inr (t, s)
           by_v (inr f) = inl (none_to u v f, none_from v u f)
+
+  -- by whatever names that differ for different vertices, even sides are balanced edges
+  pub balanced_by_names : (f : Position → ℕ) → ((p q : Position) → is_in p (vertices fs) ≡ true → is_in q (vertices fs) ≡ true → f p ≡ f q → p ≡ q)
+      → IsEven (sides_from 0 (map (numbered f) fs)) → IsBalanced fs
+  balanced_by_names f apart even u v = by_cases (idle_or_both u v)
+    where
+      tells : (p q : Position) → is_in p (vertices fs) ≡ true → is_in q (vertices fs) ≡ true → (f p == f q) ≡ same p q
+      tells p q k l = by_test (cases_Bool (same p q))
+        where
+          by_test : (same p q ≡ true) ⊎ (same p q ≡ false) → (f p == f q) ≡ same p q
+          by_test (inl t) = equal_true (f p) (f q) (ap f (same-is p q t)) ∙ sym t
+          by_test (inr s) =
+              equal_false (f p) (f q) (λ e. let here : same p q ≡ true = ap (same p) (sym (apart p q k l e)) ∙ same-self p in cc) ∙ sym s
+
+      named : (p q : Position) → Both p q → between (f p) (f q) (sides_from 0 (map (numbered f) fs)) ≡ edge_count fs p q
+      named p q h =
+          between_numbers f (f p) (f q) 0 fs
+          ∙ count_alike (λ (e : Edge). f e.from == f p && f e.to == f q) (λ (e : Edge). same e.from p && same e.to q) (edges fs)
+          (All-weaker (HasEnds (vertices fs)) (λ (e : Edge). (f e.from == f p && f e.to == f q) ≡ (same e.from p && same e.to q))
+          (λ e k. λ i. tells e.from p k.0 h.0 i && tells e.to q k.1 h.1 i) (edges fs) (ends_are_vertices fs))
+
+      by_cases : ((edge_count fs u v ≡ 0) × (edge_count fs v u ≡ 0)) ⊎ Both u v → edge_count fs u v ≡ edge_count fs v u
+      by_cases (inl h) = h.0 ∙ sym h.1
+      by_cases (inr h) = sym (named u v h) ∙ even (f u) (f v) ∙ named v u (h.1, h.0)
 
   between_of : (u v : Position) → Both u v → between (number_of (vertices fs) u) (number_of (vertices fs) v) (sides_from 0 (triples fs)) ≡ edge_count fs u v
   between_of u v h =

@@ -4,7 +4,6 @@ ghost use Rattle.stl_text.specs.Triangle.{corners};
 ghost use Rattle.mesh_weld.specs.Entries.{corners_from, NeverFalls, IsAdded, threes};
 ghost use Rattle.mesh_weld.specs.Mesh.{number_of, vertices};
 
-use crate::corner_groups::grouped_corners;
 use std::alloc::{AllocError, Allocator};
 use stl_text::{Facet, Point};
 
@@ -88,9 +87,6 @@ fn add_point<A: Allocator>(points: &mut Vec<Point, A>, point: Point) -> Result<(
     Ok(())
 }
 
-/// From so many facets on, groups are faster than one sort.
-pub const MANY: usize = 4096;
-
 /// The distinct corners of facets in ascending order, and each corner's number among them.
 pub fn number_corners<A: Allocator + Copy>(
     alloc: A,
@@ -100,11 +96,6 @@ pub fn number_corners<A: Allocator + Copy>(
     ensures points { IfOk result (λ welded. welded.points.items ≡ vertices facets.now) }
     ensures numbers { IfOk result (λ welded. welded.numbers.items ≡ map (number_of (vertices facets.now)) (flat_map corners facets.now)) }
 {
-    if facets.len() >= MANY {
-        if let Some(welded) = grouped_corners(alloc, facets)? {
-            return Ok(welded);
-        }
-    }
     let mut sorted = list_corners(alloc, facets)?;
     sort_corners(&mut sorted);
     join_corners(alloc, facets, sorted.as_slice())

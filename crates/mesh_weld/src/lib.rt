@@ -1,13 +1,15 @@
 //! Closed meshes: facets welded at their corners, each directed edge balanced by the edge back.
 #![tactic(auto)]
 
-mod corner_groups;
 mod corners;
 mod counts;
 mod faults;
+mod finding;
 mod grouping;
 mod heights;
 mod laws;
+mod naming;
+mod point_groups;
 #[cfg(test)]
 mod ray_rows;
 mod rays;

@@ -14,7 +14,8 @@ pub struct Solid<A: Allocator> {
     pub(crate) facets: Vec<Facet, A>,
     pub(crate) points: Vec<Point, A>,
     pub(crate) numbers: Vec<[u32; 3], A>,
-    pub(crate) edges: Vec<[u32; 3], A>,
+    /// Of each facet three numbers, one after the other.
+    pub(crate) edges: Vec<u32, A>,
     pub(crate) edge_count: u32,
     pub(crate) order: Vec<u32, A>,
     pub(crate) dropped: u32,
@@ -24,6 +25,7 @@ impl<A: Allocator> Model for Solid<A> {
     ghost use Rattle.std.specs.Prelude.{◌≡◌, ◌≤◌, length};
     ghost use Rattle.mesh_weld.specs.Balance.{IsBalanced};
     ghost use Rattle.mesh_weld.specs.EdgeNumbers.{AreEdgeNumbers};
+    ghost use Rattle.mesh_weld.specs.Entries.{threes};
     ghost use Rattle.mesh_weld.specs.Mesh.{Mesh, IsByHeight, triples, vertices};
 
     ghost Value = { Mesh };
@@ -33,7 +35,7 @@ impl<A: Allocator> Model for Solid<A> {
     ghost invariant = { λ s. IsBalanced s.facets.items
         × (s.points.items ≡ vertices s.facets.items)
         × (s.numbers.items ≡ triples s.facets.items)
-        × AreEdgeNumbers s.facets.items s.edges.items s.edge_count
+        × AreEdgeNumbers s.facets.items (threes s.edges.items) s.edge_count
         × IsByHeight s.facets.items s.order.items
         × (length s.facets.items ≤ 1048576) };
 }
@@ -65,7 +67,7 @@ impl<A: Allocator> Solid<A> {
     pub fn edge_numbers(&self) -> &[[u32; 3]]
         ensures { (count : ℕ) × AreEdgeNumbers self.now.facets result.now count }
     {
-        self.edges.as_slice()
+        self.edges.as_slice().as_chunks::<3>().0
     }
 
     /// How many numbers of edges there are: each is below this.

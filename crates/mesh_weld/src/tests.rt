@@ -174,7 +174,7 @@ fn push_square<A: Allocator>(
     Ok(())
 }
 
-// The solid of the rings, which are closed: so many facets that they are welded by groups. Without `left_out` of them.
+// The solid of the rings, which are closed: so many facets that they are welded by names. Without `left_out` of them.
 fn welded_rings<A: Allocator + Copy + Send + Sync>(
     alloc: A,
     left_out: usize,

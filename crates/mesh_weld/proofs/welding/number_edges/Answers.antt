@@ -1,24 +1,18 @@
-use Rattle.std.proofs.Common.{◌≡◌, ◌<◌, ◌≤◌, ◌^◌, List, ℕ, IfSome, length, get_or, sym, ap, ◌∙◌, subst, arith}
+use Rattle.std.proofs.Common.{◌≡◌, ◌<◌, ◌≤◌, ◌^◌, ℕ, length, get_or, sym, ap, ◌∙◌, subst, arith}
 use Rattle.std.specs.List.Sorted.{IsPermutation, IsNonDecreasingBy}
 use Rattle.std.proofs.lemmas.List.{get_or_default}
-use Rattle.std.proofs.lemmas.List.Sorted.{IsPermutation-refl, length_permutation}
+use Rattle.std.proofs.lemmas.List.Sorted.{length_permutation}
 use Rattle.stl_text.specs.Position.{origin}
 use Rattle.mesh_weld.specs.Entries.{sides_from, pair_key, IsEven, IsLeastUneven}
 use Rattle.mesh_weld.specs.Mesh.{vertices, triples}
 use Rattle.mesh_weld.proofs.Transfer.{balanced_from_even, low_inside, high_inside, least_open}
 use Rattle.mesh_weld.proofs.Welds.{few_vertices, few_sides, kept_fault}
 use Rattle.mesh_weld.proofs.welding.number_edges.Given.{Over}
-use Rattle.mesh_weld.proofs.welding.number_edges.Goals.{In_ok-sides, In-Some-least_uneven}
+use Rattle.mesh_weld.proofs.welding.number_edges.Goals.{In_ok-sides, In-Some}
 use Rattle.mesh_weld.proofs.welding.number_edges.Goals as goal
 
 all_sides : (g : Over) (c : In_ok-sides g) → IsPermutation (sides_from 0 (triples c.args.kept.now)) c.in_ok-sides.sides.items
 all_sides g c = subst (λ l. IsPermutation (sides_from 0 l) c.in_ok-sides.sides.items) c.requires.numbers c.in_ok-sides.ensures.all
-
-pub returns-in-Some-clause-closed : goal.returns-in-Some-clause-closed
-returns-in-Some-clause-closed g c =
-    let even : IsEven (sides_from 0 c.args.numbers.now) = subst (λ found. IfSome found (λ named. IsEven (sides_from 0 c.args.numbers.now))) c.in-Some.is c.in_ok-named.ensures.even in
-    balanced_from_even c.args.kept.now (sides_from 0 (triples c.args.kept.now)) (IsPermutation-refl (sides_from 0 (triples c.args.kept.now)))
-    (subst (λ (l : List (List ℕ)). IsEven (sides_from 0 l)) c.requires.numbers even)
 
 pub least_uneven-requires-clause-few : goal.least_uneven-requires-clause-few
 least_uneven-requires-clause-few g c =
@@ -28,27 +22,27 @@ pub least_uneven-requires-clause-ascending : goal.least_uneven-requires-clause-a
 least_uneven-requires-clause-ascending g c =
     subst (IsNonDecreasingBy pair_key) (sym c.as_slice.ensures.value) c.in_ok-sides.ensures.ascending
 
-uneven_is : (g : Over) (c : In-Some-least_uneven g) → IsLeastUneven c.in_ok-sides.sides.items c.in-Some-least_uneven.low c.in-Some-least_uneven.high
-uneven_is g c = subst (λ l. IsLeastUneven l c.in-Some-least_uneven.low c.in-Some-least_uneven.high) c.as_slice.ensures.value c.in-Some-least_uneven.ensures
+uneven_is : (g : Over) (c : In-Some g) → IsLeastUneven c.in_ok-sides.sides.items c.in-Some.low c.in-Some.high
+uneven_is g c = subst (λ l. IsLeastUneven l c.in-Some.low c.in-Some.high) c.as_slice.ensures.value c.in-Some.ensures
 
 pub bounds-points-low : goal.bounds-points-low
 bounds-points-low g c =
-    let at = goal.at.bounds-points-low g c in let ends = c.in-Some-least_uneven in
-    let low : ends.low < length (vertices c.args.kept.now) = low_inside c.args.kept.now c.in_ok-sides.sides.items (all_sides g at.In_ok-sides) ends.low ends.high (uneven_is g at.In-Some-least_uneven) in
+    let at = goal.at.bounds-points-low g c in let ends = c.in-Some in
+    let low : ends.low < length (vertices c.args.kept.now) = low_inside c.args.kept.now c.in_ok-sides.sides.items (all_sides g at.In_ok-sides) ends.low ends.high (uneven_is g at.In-Some) in
     omega (arith, low, ap length c.requires.points)
 
 pub bounds-points-high : goal.bounds-points-high
 bounds-points-high g c =
-    let at = goal.at.bounds-points-high g c in let ends = c.in-Some-least_uneven in
-    let high : ends.high < length (vertices c.args.kept.now) = high_inside c.args.kept.now c.in_ok-sides.sides.items (all_sides g at.In_ok-sides) ends.low ends.high (uneven_is g at.In-Some-least_uneven) in
+    let at = goal.at.bounds-points-high g c in let ends = c.in-Some in
+    let high : ends.high < length (vertices c.args.kept.now) = high_inside c.args.kept.now c.in_ok-sides.sides.items (all_sides g at.In_ok-sides) ends.low ends.high (uneven_is g at.In-Some) in
     omega (arith, high, ap length c.requires.points)
 
-pub returns-in-Some-least_uneven-clause-open : goal.returns-in-Some-least_uneven-clause-open
-returns-in-Some-least_uneven-clause-open g c =
+pub returns-in-Some-clause-open : goal.returns-in-Some-clause-open
+returns-in-Some-clause-open g c =
     let kept = c.args.kept.now in let points = c.args.points.now in
-    let at = goal.at.returns-in-Some-least_uneven-clause-open g c in
-    let all = all_sides g at.In_ok-sides in let h = uneven_is g at.In-Some-least_uneven in
-    let m : ℕ = c.in-Some-least_uneven.low in let n : ℕ = c.in-Some-least_uneven.high in
+    let at = goal.at.returns-in-Some-clause-open g c in
+    let all = all_sides g at.In_ok-sides in let h = uneven_is g at.In-Some in
+    let m : ℕ = c.in-Some.low in let n : ℕ = c.in-Some.high in
     let few : length (vertices kept) ≤ 2 ^ 32 = omega (arith, few_vertices kept) in
     let low : m < length (vertices kept) = low_inside kept c.in_ok-sides.sides.items all m n h in
     let high : n < length (vertices kept) = high_inside kept c.in_ok-sides.sides.items all m n h in
@@ -66,4 +60,4 @@ number_sides-requires-clause-ascending g c =
 pub returns-clause-closed : goal.returns-clause-closed
 returns-clause-closed g c =
     balanced_from_even c.args.kept.now c.in_ok-sides.sides.items (all_sides g (goal.at.returns-clause-closed g c).In_ok-sides)
-    (subst IsEven c.as_slice.ensures.value c.in_default-least_uneven.ensures)
+    (subst IsEven c.as_slice.ensures.value c.in_default.ensures)

@@ -4,6 +4,7 @@ use Rattle.stl_text.specs.Triangle.{Triangle}
 use Rattle.stl_text.specs.Winding.{ray}
 use Rattle.mesh_weld.specs.Balance.{IsBalanced}
 use Rattle.mesh_weld.specs.EdgeNumbers.{AreEdgeNumbers}
+use Rattle.mesh_weld.specs.Entries.{threes}
 use Rattle.mesh_weld.specs.Mesh.{IsByHeight, kept_facets, mesh_of, triples, vertices}
 use Rattle.mesh_weld.specs.Welding.{IsWeldFault}
 use Rattle.mesh_weld.proofs.Flat.{balanced_by_kept, kept_ray}
@@ -61,7 +62,7 @@ invariant_of-result g c =
       subst IsBalanced whole c.in_ok-points.ensures.closed,
       c.in_ok-points.ensures.points ∙ ap vertices whole,
       c.in_ok-points.ensures.numbers ∙ ap triples whole,
-      subst (λ l. AreEdgeNumbers l parts.edges.items parts.edge_count) whole c.in_ok-points.ensures.edges,
+      subst (λ l. AreEdgeNumbers l (threes parts.edges.items) parts.edge_count) whole c.in_ok-points.ensures.edges,
       subst (λ l. IsByHeight l parts.order.items) whole c.in_ok-points.ensures.order,
       few,
     )

@@ -1,10 +1,11 @@
 use Rattle.std.proofs.Common.{sym, subst}
 use Rattle.mesh_weld.specs.EdgeNumbers.{AreEdgeNumbers}
+use Rattle.mesh_weld.specs.Entries.{threes}
 use Rattle.mesh_weld.specs.Mesh.{Mesh}
 use Rattle.mesh_weld.proofs.EdgeCount.{one_count}
 use Rattle.mesh_weld.proofs.solid.Solid.edge_count.Goals as goal
 
 pub returns : goal.returns
 returns g c numbers count h =
-    one_count c.self.inside.facets.items c.self.inside.edges.items numbers c.self.inside.edge_count count c.self.invariant.3
+    one_count c.self.inside.facets.items (threes c.self.inside.edges.items) numbers c.self.inside.edge_count count c.self.invariant.3
     (subst (λ (m : Mesh). AreEdgeNumbers m.facets numbers count) (sym c.self.view_is) h)

@@ -1,14 +1,13 @@
-use Rattle.std.proofs.Common.{◌≡◌, ◌≤◌, ◌^◌, length, map, sym, ap, ◌∙◌, subst, arith}
+use Rattle.std.proofs.Common.{◌≡◌, ◌≤◌, ◌^◌, length, map, ap, ◌∙◌, arith}
 use Rattle.std.specs.List.{flat_map}
 use Rattle.stl_text.specs.Triangle.{corners}
 use Rattle.mesh_weld.specs.Entries.{threes}
-use Rattle.mesh_weld.specs.EdgeNumbers.{AreEdgeNumbers}
 use Rattle.mesh_weld.specs.Mesh.{vertices, number_of, triples}
 use Rattle.mesh_weld.proofs.Named.{triples-by_number, edge_numbers}
 use Rattle.mesh_weld.proofs.Welds.{few_vertices}
-use Rattle.mesh_weld.proofs.welding.number_parts.Given.{Over}
-use Rattle.mesh_weld.proofs.welding.number_parts.Goals.{In_ok-numbers}
-use Rattle.mesh_weld.proofs.welding.number_parts.Goals as goal
+use Rattle.mesh_weld.proofs.welding.sorted_parts.Given.{Over}
+use Rattle.mesh_weld.proofs.welding.sorted_parts.Goals.{In_ok-numbers}
+use Rattle.mesh_weld.proofs.welding.sorted_parts.Goals as goal
 
 numbers_are : (g : Over) (c : In_ok-numbers g) → c.in_ok-numbers.numbers.items ≡ triples c.args.kept.now
 numbers_are g c =
@@ -27,5 +26,4 @@ pub returns-clause-edges : goal.returns-clause-edges
 returns-clause-edges g c =
     let kept = c.args.kept.now in
     let few : length (vertices kept) ≤ 2 ^ 32 = omega (arith, few_vertices kept) in
-    subst (λ l. AreEdgeNumbers kept l c.in_ok-named.field-0.count) (sym (c.in_ok-edges.ensures ∙ ap threes c.as_slice-4.ensures.value))
-    (edge_numbers kept few c.in_ok-named.field-0.numbers.items c.in_ok-named.field-0.count c.in_ok-named.ensures.numbers)
+    edge_numbers kept few c.in_ok-edges.field-0.numbers.items c.in_ok-edges.field-0.count c.in_ok-edges.ensures.numbers
