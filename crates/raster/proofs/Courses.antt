@@ -1,7 +1,8 @@
 -- What the crossings of one facet add to each row.
-use Rattle.std.proofs.Common.{◌≡◌, ℕ, zero, suc, ◌+◌, ◌-◌, ◌<◌, ◌≤◌, ◌⊎◌, inl, inr, List, [], ◌∷◌, ◌++◌, Bool, true, false, cond, ◌&&◌, length, refl, ap, sym, subst, ◌∙◌, append_assoc, arith}
-use Rattle.std.specs.Prelude.{All, ℤ, pos, negsuc, ◌+ℤ◌, ◌-ℤ◌, nat_le, nat_lt, ◌==◌, int_lt, ◌*ℤ◌, slice_index}
+use Rattle.std.proofs.Common.{◌≡◌, ◌≢◌, ℕ, zero, suc, ◌+◌, ◌-◌, ◌<◌, ◌≤◌, ◌⊎◌, inl, inr, List, [], ◌∷◌, ◌++◌, Bool, true, false, cond, ◌&&◌, length, refl, ap, sym, subst, ◌∙◌, append_assoc, arith}
+use Rattle.std.specs.Prelude.{All, ℤ, pos, negsuc, ◌+ℤ◌, ◌-ℤ◌, nat_le, ◌==◌, int_lt, ◌*ℤ◌, slice_index}
 use Rattle.std.specs.Ordering.{int_eq}
+use Rattle.std.specs.List.{list_all}
 use Rattle.std.proofs.lemmas.Int.{ints}
 use Rattle.std.proofs.lemmas.List.Folds.{list_all-append}
 use Rattle.std.proofs.lemmas.Bool.Decides.{nat_tests}
@@ -12,22 +13,12 @@ use Rattle.mesh_weld.proofs.Sums.{total-append}
 use Rattle.exact_cut.specs.Course.{Course}
 use Rattle.exact_cut.specs.Lattices.{IsCourse, IsUncrossed, pixel, row_y}
 use Rattle.exact_cut.specs.declared.lattice.Lattice.{Lattice}
-use Rattle.raster.specs.declared.crossed.Crossed.{Crossed}
-use Rattle.raster.specs.Marks.{sign_of}
-use Rattle.raster.specs.Crossings.{are_crossings_within, crossings_along, row_passed, row_signs, row_total}
+use Rattle.raster.specs.declared.filling.Mark.{Mark}
+use Rattle.raster.specs.Marks.{passed, sign_of, signs}
+use Rattle.raster.specs.Crossings.{AreMarksWithin, marks_along, marks_in, row_passed, row_signs}
 
 abbrev unit : Bool → ℤ
 unit b = cond b (pos 1) (negsuc 0)
-
--- a crossing in another row adds nothing
-head-none : (b c : Bool) (w z : ℤ) → b ≡ false → cond (b && c) w (pos 0) +ℤ z ≡ z
-head-none true c w z h = absurd (grind arith)
-head-none false c w z h = omega (arith, ints)
-
-head-here : (b c : Bool) (w z : ℤ) → b ≡ true → z ≡ pos 0 → cond (b && c) w (pos 0) +ℤ z ≡ cond c w (pos 0)
-head-here true true w z h k = omega (arith, ints)
-head-here true false w z h k = omega (arith, ints)
-head-here false c w z h k = absurd (grind arith)
 
 other-row : (a b : ℕ) → (a < b) ⊎ (b < a) → (a == b) ≡ false
 other-row a b h = grind (arith, nat_tests)
@@ -35,25 +26,30 @@ other-row a b h = grind (arith, nat_tests)
 same-row : (a b : ℕ) → a ≡ b → (a == b) ≡ true
 same-row a b h = grind (arith, nat_tests)
 
-along-none : (test : ℕ → Bool) (row : ℕ) (up : Bool) (columns : List ℕ) (j : ℕ) → (j < row) ⊎ (row + length columns ≤ j) → row_total test (crossings_along row up columns) j ≡ pos 0
-along-none test row up [] j h = refl
-along-none test row up (c ∷ columns) j (inl h) =
-    head-none (row == j) (test c) (unit up) (row_total test (crossings_along (row + 1) up columns) j) (other-row row j (inr h))
-    ∙ along-none test (row + 1) up columns j (inl (omega arith))
-along-none test row up (c ∷ columns) j (inr h) =
-    head-none (row == j) (test c) (unit up) (row_total test (crossings_along (row + 1) up columns) j) (other-row row j (inl (omega arith)))
-    ∙ along-none test (row + 1) up columns j (inr (omega arith))
+-- a crossing in another row adds nothing
+along-skip : (row : ℕ) (up : Bool) (c : ℕ) (columns : List ℕ) (j : ℕ) → (row < j) ⊎ (j < row) → marks_along row up (c ∷ columns) j ≡ marks_along (row + 1) up columns j
+along-skip row up c columns j h =
+    ap (λ (b : Bool). cond b ((record { column = c; is_up = up }) ∷ marks_along (row + 1) up columns j) (marks_along (row + 1) up columns j)) (other-row row j h)
 
-along-one : (test : ℕ → Bool) (row : ℕ) (up : Bool) (columns : List ℕ) (n : ℕ) → n < length columns → row_total test (crossings_along row up columns) (row + n) ≡ cond (test (slice_index columns n)) (unit up) (pos 0)
-along-one test row up [] n h = absurd (omega arith)
-along-one test row up (c ∷ columns) zero h =
-    head-here (row == row + 0) (test c) (unit up) (row_total test (crossings_along (row + 1) up columns) (row + 0)) (same-row row (row + 0) (omega arith))
-    (along-none test (row + 1) up columns (row + 0) (inl (omega arith)))
-along-one test row up (c ∷ columns) (suc n) h =
+along-take : (row : ℕ) (up : Bool) (c : ℕ) (columns : List ℕ) (j : ℕ) → row ≡ j → marks_along row up (c ∷ columns) j ≡ (record { column = c; is_up = up }) ∷ marks_along (row + 1) up columns j
+along-take row up c columns j h =
+    ap (λ (b : Bool). cond b ((record { column = c; is_up = up }) ∷ marks_along (row + 1) up columns j) (marks_along (row + 1) up columns j)) (same-row row j h)
+
+along-none : (row : ℕ) (up : Bool) (columns : List ℕ) (j : ℕ) → (j < row) ⊎ (row + length columns ≤ j) → marks_along row up columns j ≡ []
+along-none row up [] j h = refl
+along-none row up (c ∷ columns) j (inl h) = along-skip row up c columns j (inr h) ∙ along-none (row + 1) up columns j (inl (omega arith))
+along-none row up (c ∷ columns) j (inr h) = along-skip row up c columns j (inl (omega arith)) ∙ along-none (row + 1) up columns j (inr (omega arith))
+
+along-one : (row : ℕ) (up : Bool) (columns : List ℕ) (n : ℕ) → n < length columns → marks_along row up columns (row + n) ≡ (record { column = slice_index columns n; is_up = up }) ∷ []
+along-one row up [] n h = absurd (omega arith)
+along-one row up (c ∷ columns) zero h =
+    along-take row up c columns (row + 0) (omega arith)
+    ∙ ap (λ (l : List Mark). (record { column = c; is_up = up }) ∷ l) (along-none (row + 1) up columns (row + 0) (inl (omega arith)))
+along-one row up (c ∷ columns) (suc n) h =
     let next : row + suc n ≡ row + 1 + n = omega arith in
-    head-none (row == row + suc n) (test c) (unit up) (row_total test (crossings_along (row + 1) up columns) (row + suc n)) (other-row row (row + suc n) (inl (omega arith)))
-    ∙ ap (λ (j : ℕ). row_total test (crossings_along (row + 1) up columns) j) next
-    ∙ along-one test (row + 1) up columns n (omega arith)
+    along-skip row up c columns (row + suc n) (inl (omega arith))
+    ∙ ap (λ (j : ℕ). marks_along (row + 1) up columns j) next
+    ∙ along-one (row + 1) up columns n (omega arith)
 
 pick : (b : Bool) (w : ℤ) → w ≡ pos 0 → cond b w (pos 0) ≡ pos 0
 pick true w h = h
@@ -85,16 +81,20 @@ placed row size j = go (either-side j row) (either-side j (row + size))
     go (inr h) (inr k) = behind k
     go (inr h) (inl k) = within (j - row) (omega arith) (omega arith)
 
+alone : (s : ℤ) → s +ℤ pos 0 ≡ s
+alone s = omega (arith, ints)
+
 -- the signs that a facet adds to a row are its wind there
-course-signs : (t : Triangle) (z : ℤ) (l : Lattice) (c : Course) (j : ℕ) → IsCourse t z l c → j < l.rows → row_signs (crossings_along c.row (int_eq c.sign (pos 1)) c.columns) j ≡ wind t (row_y l j) z
+course-signs : (t : Triangle) (z : ℤ) (l : Lattice) (c : Course) (j : ℕ) → IsCourse t z l c → j < l.rows → signs (marks_along c.row (int_eq c.sign (pos 1)) c.columns j) ≡ wind t (row_y l j) z
 course-signs t z l c j h low = go (placed c.row (length c.columns) j)
   where
-    go : Placed c.row (length c.columns) j → row_signs (crossings_along c.row (int_eq c.sign (pos 1)) c.columns) j ≡ wind t (row_y l j) z
-    go (before k) = along-none (λ _. true) c.row (int_eq c.sign (pos 1)) c.columns j (inl k) ∙ sym (h.before j k)
-    go (behind k) = along-none (λ _. true) c.row (int_eq c.sign (pos 1)) c.columns j (inr k) ∙ sym (h.after j k low)
+    go : Placed c.row (length c.columns) j → signs (marks_along c.row (int_eq c.sign (pos 1)) c.columns j) ≡ wind t (row_y l j) z
+    go (before k) = ap signs (along-none c.row (int_eq c.sign (pos 1)) c.columns j (inl k)) ∙ sym (h.before j k)
+    go (behind k) = ap signs (along-none c.row (int_eq c.sign (pos 1)) c.columns j (inr k)) ∙ sym (h.after j k low)
     go (within n k e) =
-        ap (λ (m : ℕ). row_signs (crossings_along c.row (int_eq c.sign (pos 1)) c.columns) m) e
-        ∙ along-one (λ _. true) c.row (int_eq c.sign (pos 1)) c.columns n k
+        ap (λ (m : ℕ). signs (marks_along c.row (int_eq c.sign (pos 1)) c.columns m)) e
+        ∙ ap signs (along-one c.row (int_eq c.sign (pos 1)) c.columns n k)
+        ∙ alone (unit (int_eq c.sign (pos 1)))
         ∙ unit-sign c.sign h.unit
         ∙ (h.crossed n k).crosses.sign_is
         ∙ ap (λ (m : ℕ). wind t (row_y l m) z) (sym e)
@@ -109,7 +109,7 @@ same-difference : (s w x : ℤ) → s ≡ w → x ≡ s → pos 0 ≡ w -ℤ x
 same-difference s w x h k = omega (arith, ints)
 
 -- those left of a pixel's centre, or on it, are the wind less the hit
-course-passed : (t : Triangle) (z : ℤ) (l : Lattice) (c : Course) (i j : ℕ) → IsCourse t z l c → i < l.columns → j < l.rows → row_passed (crossings_along c.row (int_eq c.sign (pos 1)) c.columns) j i ≡ wind t (row_y l j) z -ℤ hit t (pixel l z i j)
+course-passed : (t : Triangle) (z : ℤ) (l : Lattice) (c : Course) (i j : ℕ) → IsCourse t z l c → i < l.columns → j < l.rows → passed (marks_along c.row (int_eq c.sign (pos 1)) c.columns j) i ≡ wind t (row_y l j) z -ℤ hit t (pixel l z i j)
 course-passed t z l c i j h inside low = go (placed c.row (length c.columns) j)
   where
     either-side : (a b : ℕ) → (a < b) ⊎ (b ≤ a)
@@ -129,44 +129,53 @@ course-passed t z l c i j h inside low = go (placed c.row (length c.columns) j)
           ∙ all-difference (unit (int_eq c.sign (pos 1))) (wind t (row_y l (c.row + n)) z) (hit t (pixel l z i (c.row + n))) (unit-sign c.sign h.unit ∙ (h.crossed n k).crosses.sign_is) ((h.crossed n k).passed i right inside)
     ]
 
-    go : Placed c.row (length c.columns) j → row_passed (crossings_along c.row (int_eq c.sign (pos 1)) c.columns) j i ≡ wind t (row_y l j) z -ℤ hit t (pixel l z i j)
-    go (before k) = along-none (λ column. nat_le column i) c.row (int_eq c.sign (pos 1)) c.columns j (inl k) ∙ no-difference (wind t (row_y l j) z) (hit t (pixel l z i j)) (h.before j k) (hit-none t (pixel l z i j) (h.before j k))
-    go (behind k) = along-none (λ column. nat_le column i) c.row (int_eq c.sign (pos 1)) c.columns j (inr k) ∙ no-difference (wind t (row_y l j) z) (hit t (pixel l z i j)) (h.after j k low) (hit-none t (pixel l z i j) (h.after j k low))
+    go : Placed c.row (length c.columns) j → passed (marks_along c.row (int_eq c.sign (pos 1)) c.columns j) i ≡ wind t (row_y l j) z -ℤ hit t (pixel l z i j)
+    go (before k) = ap (λ (l : List Mark). passed l i) (along-none c.row (int_eq c.sign (pos 1)) c.columns j (inl k)) ∙ no-difference (wind t (row_y l j) z) (hit t (pixel l z i j)) (h.before j k) (hit-none t (pixel l z i j) (h.before j k))
+    go (behind k) = ap (λ (l : List Mark). passed l i) (along-none c.row (int_eq c.sign (pos 1)) c.columns j (inr k)) ∙ no-difference (wind t (row_y l j) z) (hit t (pixel l z i j)) (h.after j k low) (hit-none t (pixel l z i j) (h.after j k low))
     go (within n k e) =
-        ap (λ (m : ℕ). row_passed (crossings_along c.row (int_eq c.sign (pos 1)) c.columns) m i) e
-        ∙ along-one (λ column. nat_le column i) c.row (int_eq c.sign (pos 1)) c.columns n k
+        ap (λ (m : ℕ). passed (marks_along c.row (int_eq c.sign (pos 1)) c.columns m) i) e
+        ∙ ap (λ (l : List Mark). passed l i) (along-one c.row (int_eq c.sign (pos 1)) c.columns n k)
+        ∙ alone (cond (nat_le (slice_index c.columns n) i) (unit (int_eq c.sign (pos 1))) (pos 0))
         ∙ at n k
         ∙ ap (λ (m : ℕ). wind t (row_y l m) z -ℤ hit t (pixel l z i m)) (sym e)
 
-along-within : (columns rows row : ℕ) (up : Bool) (cs : List ℕ) → row + length cs ≤ rows → ((n : ℕ) → n < length cs → slice_index cs n ≤ columns) → are_crossings_within columns rows (crossings_along row up cs) ≡ true
-along-within columns rows row up [] low h = refl
-along-within columns rows row up (c ∷ cs) low h =
-    one row c (are_crossings_within columns rows (crossings_along (row + 1) up cs)) (omega arith) (h 0 (omega arith)) (along-within columns rows (row + 1) up cs (omega arith) (λ n k. h (suc n) (omega arith)))
-  where
-    one : (r c : ℕ) (b : Bool) → r < rows → c ≤ columns → b ≡ true → (nat_lt r rows && nat_le c columns && b) ≡ true
-    one r c b h' k l = grind (arith, nat_tests)
+both : (a b : Bool) → a ≡ true → b ≡ true → (a && b) ≡ true
+both a b h k = ap (λ (x : Bool). x && b) h ∙ k
 
-pub signs-more : (t : Triangle) (z : ℤ) (l : Lattice) (c : Course) (old new : List Crossed) → IsCourse t z l c → new ≡ old ++ crossings_along c.row (int_eq c.sign (pos 1)) c.columns → (j : ℕ) → j < l.rows → row_signs new j ≡ row_signs old j +ℤ wind t (row_y l j) z
+along-within : (n row : ℕ) (up : Bool) (columns : List ℕ) (j : ℕ) → ((k : ℕ) → k < length columns → slice_index columns k ≤ n) → list_all (λ m. nat_le m.column n) (marks_along row up columns j) ≡ true
+along-within n row up [] j h = refl
+along-within n row up (c ∷ columns) j h =
+    one (row == j) (marks_along (row + 1) up columns j) (small c (h 0 (omega arith))) (along-within n (row + 1) up columns j (λ k low. h (suc k) (omega (arith, low))))
+  where
+    small : (a : ℕ) → a ≤ n → nat_le a n ≡ true
+    small a h' = grind (arith, nat_tests)
+
+    one : (b : Bool) (marks : List Mark) → nat_le c n ≡ true → list_all (λ m. nat_le m.column n) marks ≡ true → list_all (λ m. nat_le m.column n) (cond b ((record { column = c; is_up = up }) ∷ marks) marks) ≡ true
+    one true marks e f = both (nat_le c n) (list_all (λ m. nat_le m.column n) marks) e f
+    one false marks e f = f
+
+-- each row has the marks that it had, and those of a course
+abbrev pub AreAlong : Course → List (List Mark) → List (List Mark) → Type 0
+AreAlong c old new = (j : ℕ) → marks_in new j ≡ marks_in old j ++ marks_along c.row (int_eq c.sign (pos 1)) c.columns j
+
+pub signs-more : (t : Triangle) (z : ℤ) (l : Lattice) (c : Course) (old new : List (List Mark)) → IsCourse t z l c → AreAlong c old new → (j : ℕ) → j < l.rows → row_signs new j ≡ row_signs old j +ℤ wind t (row_y l j) z
 signs-more t z l c old new h e j low =
-    ap (λ (list : List Crossed). row_signs list j) e
-    ∙ total-append (λ x. cond (x.row == j && true) (sign_of x.mark) (pos 0)) old (crossings_along c.row (int_eq c.sign (pos 1)) c.columns)
+    ap signs (e j)
+    ∙ total-append sign_of (marks_in old j) (marks_along c.row (int_eq c.sign (pos 1)) c.columns j)
     ∙ ap (λ (s : ℤ). row_signs old j +ℤ s) (course-signs t z l c j h low)
 
-pub passed-more : (t : Triangle) (z : ℤ) (l : Lattice) (c : Course) (old new : List Crossed) → IsCourse t z l c → new ≡ old ++ crossings_along c.row (int_eq c.sign (pos 1)) c.columns → (i j : ℕ) → i < l.columns → j < l.rows → row_passed new j i ≡ row_passed old j i +ℤ (wind t (row_y l j) z -ℤ hit t (pixel l z i j))
+pub passed-more : (t : Triangle) (z : ℤ) (l : Lattice) (c : Course) (old new : List (List Mark)) → IsCourse t z l c → AreAlong c old new → (i j : ℕ) → i < l.columns → j < l.rows → row_passed new j i ≡ row_passed old j i +ℤ (wind t (row_y l j) z -ℤ hit t (pixel l z i j))
 passed-more t z l c old new h e i j inside low =
-    ap (λ (list : List Crossed). row_passed list j i) e
-    ∙ total-append (λ x. cond (x.row == j && nat_le x.mark.column i) (sign_of x.mark) (pos 0)) old (crossings_along c.row (int_eq c.sign (pos 1)) c.columns)
+    ap (λ (marks : List Mark). passed marks i) (e j)
+    ∙ total-append (λ m. cond (nat_le m.column i) (sign_of m) (pos 0)) (marks_in old j) (marks_along c.row (int_eq c.sign (pos 1)) c.columns j)
     ∙ ap (λ (s : ℤ). row_passed old j i +ℤ s) (course-passed t z l c i j h inside low)
 
-pub within-more : (t : Triangle) (z : ℤ) (l : Lattice) (c : Course) (old new : List Crossed) → IsCourse t z l c → new ≡ old ++ crossings_along c.row (int_eq c.sign (pos 1)) c.columns → are_crossings_within l.columns l.rows old ≡ true → are_crossings_within l.columns l.rows new ≡ true
-within-more t z l c old new h e k =
-    ap (λ (list : List Crossed). are_crossings_within l.columns l.rows list) e
-    ∙ list_all-append (λ x. nat_lt x.row l.rows && nat_le x.mark.column l.columns) old (crossings_along c.row (int_eq c.sign (pos 1)) c.columns)
-    ∙ both (are_crossings_within l.columns l.rows old) (are_crossings_within l.columns l.rows (crossings_along c.row (int_eq c.sign (pos 1)) c.columns)) k
-    (along-within l.columns l.rows c.row (int_eq c.sign (pos 1)) c.columns h.in_rows (λ n m. (h.crossed n m).least.in_row))
-  where
-    both : (a b : Bool) → a ≡ true → b ≡ true → (a && b) ≡ true
-    both a b h' k' = ap (λ (x : Bool). x && b) h' ∙ k'
+pub within-more : (t : Triangle) (z : ℤ) (l : Lattice) (c : Course) (old new : List (List Mark)) → IsCourse t z l c → AreAlong c old new → AreMarksWithin l.columns old → AreMarksWithin l.columns new
+within-more t z l c old new h e k = λ j.
+    ap (list_all (λ m. nat_le m.column l.columns)) (e j)
+    ∙ list_all-append (λ m. nat_le m.column l.columns) (marks_in old j) (marks_along c.row (int_eq c.sign (pos 1)) c.columns j)
+    ∙ both (list_all (λ m. nat_le m.column l.columns) (marks_in old j)) (list_all (λ m. nat_le m.column l.columns) (marks_along c.row (int_eq c.sign (pos 1)) c.columns j)) (k j)
+    (along-within l.columns c.row (int_eq c.sign (pos 1)) c.columns j (λ n m. (h.crossed n m).least.in_row))
 
 pub passed-none : (t : Triangle) (z : ℤ) (l : Lattice) (s : ℤ) → IsUncrossed t z l → (i j : ℕ) → j < l.rows → s ≡ s +ℤ (wind t (row_y l j) z -ℤ hit t (pixel l z i j))
 passed-none t z l s h i j low = none s (wind t (row_y l j) z) (hit t (pixel l z i j)) (h j low) (hit-none t (pixel l z i j) (h j low))
@@ -175,14 +184,31 @@ passed-none t z l s h i j low = none s (wind t (row_y l j) z) (hit t (pixel l z 
     none s w x h' k = omega (arith, ints)
 
 -- one crossing of a course
-pub along-more : (old new all : List Crossed) (at row next column : ℕ) (up : Bool) (columns rest : List ℕ) → columns ≡ column ∷ rest → at ≡ row → next ≡ row + 1 → new ≡ old ++ (record { row = at; mark = record { column = column; is_up = up } }) ∷ [] → old ++ crossings_along row up columns ≡ all → new ++ crossings_along next up rest ≡ all
-along-more old new all at row next column up columns rest first here later pushed h =
-    ap (λ (l : List Crossed). l ++ crossings_along next up rest) pushed
-    ∙ append_assoc old ((record { row = at; mark = record { column = column; is_up = up } }) ∷ []) (crossings_along next up rest)
-    ∙ ap (λ (n : ℕ). old ++ (record { row = n; mark = record { column = column; is_up = up } }) ∷ crossings_along next up rest) here
-    ∙ ap (λ (n : ℕ). old ++ (record { row = row; mark = record { column = column; is_up = up } }) ∷ crossings_along n up rest) later
-    ∙ ap (λ (l : List ℕ). old ++ crossings_along row up l) (sym first)
+pub along-more : (old new : List (List Mark)) (all : List Mark) (at row next column : ℕ) (up : Bool) (columns rest : List ℕ) → columns ≡ column ∷ rest → at ≡ row → next ≡ row + 1
+    → marks_in new at ≡ marks_in old at ++ (record { column = column; is_up = up }) ∷ []
+    → ((j : ℕ) → j ≢ at → marks_in new j ≡ marks_in old j)
+    → (j : ℕ) → marks_in old j ++ marks_along row up columns j ≡ all → marks_in new j ++ marks_along next up rest j ≡ all
+along-more old new all at row next column up columns rest first here later pushed kept j h =
+    ap (λ (n : ℕ). marks_in new j ++ marks_along n up rest j) later
+    ∙ by-row (same-or-not row j)
+    ∙ ap (λ (l : List ℕ). marks_in old j ++ marks_along row up l j) (sym first)
     ∙ h
+  where
+    same-or-not : (a b : ℕ) → (a ≡ b) ⊎ (a < b) ⊎ (b < a)
+    same-or-not a b = grind arith
+
+    by-row : (row ≡ j) ⊎ (row < j) ⊎ (j < row) → marks_in new j ++ marks_along (row + 1) up rest j ≡ marks_in old j ++ marks_along row up (column ∷ rest) j
+    by-row (inl e) =
+        ap (λ (l : List Mark). l ++ marks_along (row + 1) up rest j)
+        (subst (λ (n : ℕ). marks_in new n ≡ marks_in old n ++ (record { column = column; is_up = up }) ∷ []) (here ∙ e) pushed)
+        ∙ append_assoc (marks_in old j) ((record { column = column; is_up = up }) ∷ []) (marks_along (row + 1) up rest j)
+        ∙ ap (λ (l : List Mark). marks_in old j ++ l) (sym (along-take row up column rest j e))
+    by-row (inr other) =
+        ap (λ (l : List Mark). l ++ marks_along (row + 1) up rest j) (kept j (apart other))
+        ∙ ap (λ (l : List Mark). marks_in old j ++ l) (sym (along-skip row up column rest j other))
+      where
+        apart : (row < j) ⊎ (j < row) → j ≢ at
+        apart k e = elim k [ inl low ↦ omega (arith, low, e, here) | inr low ↦ omega (arith, low, e, here) ]
 
 -- the columns that are left
 pub columns-left : (n column : ℕ) (columns rest : List ℕ) → columns ≡ column ∷ rest → All (λ c. c ≤ n) columns → All (λ c. c ≤ n) rest

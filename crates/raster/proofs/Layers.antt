@@ -1,6 +1,6 @@
 -- The rows of a layer, one after another, by its crossings.
 use Rattle.std.proofs.Common.{◌≡◌, ℕ, ◌+◌, ◌<◌, ◌⊎◌, inl, inr, List, [], ◌∷◌, ◌++◌, Bool, true, false, ◌&&◌, ◌||◌, length, take, drop, refl, ap, sym, subst, ◌∙◌, arith}
-use Rattle.std.specs.Prelude.{ℤ, pos, neg_ℤ, nat_le, nat_lt, ◌==◌}
+use Rattle.std.specs.Prelude.{neg_ℤ, nat_le, nat_lt, ◌==◌}
 use Rattle.std.specs.List.{list_all}
 use Rattle.std.proofs.lemmas.List.{take-append-drop}
 use Rattle.std.proofs.lemmas.List.Folds.{list_all-append}
@@ -8,12 +8,10 @@ use Rattle.std.proofs.lemmas.Bool.Decides.{nat_tests}
 use Rattle.raster.specs.declared.rules.Rule.{Rule}
 use Rattle.raster.specs.declared.spans.Span.{Span}
 use Rattle.raster.specs.declared.filling.Mark.{Mark}
-use Rattle.raster.specs.declared.crossed.Crossed.{Crossed}
 use Rattle.raster.specs.Fill.{are_apart, covers, is_inside, is_span_before}
-use Rattle.raster.specs.Marks.{AreRowSpans, passed, signs}
-use Rattle.raster.specs.Crossings.{AreSpansBelow, are_crossings_within, marks_back, row_passed, row_signs}
+use Rattle.raster.specs.Marks.{AreRowSpans}
+use Rattle.raster.specs.Crossings.{AreMarksWithin, AreSpansBelow, marks_in, row_passed}
 use Rattle.raster.proofs.Areas.{and-left, and-right}
-use Rattle.raster.proofs.RowChains.{columns-back, total-back}
 use Rattle.raster.proofs.Sweeps.{covers-append}
 
 both : (a b : Bool) → a ≡ true → b ≡ true → (a && b) ≡ true
@@ -50,16 +48,16 @@ last-or-lower : (j row : ℕ) → j < row + 1 → (j < row) ⊎ (j ≡ row)
 last-or-lower j row h = grind arith
 
 -- one more row
-pub spans-more : (rule : Rule) (columns rows row : ℕ) (list : List Crossed) (old new : List Span) (marks : List Mark) → marks ≡ marks_back list row (length list) → are_crossings_within columns rows list ≡ true → take (length old) new ≡ old → AreRowSpans rule row marks (drop (length old) new) → AreSpansBelow rule columns row list old → AreSpansBelow rule columns (row + 1) list new
-spans-more rule columns rows row list old new marks taken inside kept done h =
-    subst (λ (spans : List Span). AreSpansBelow rule columns (row + 1) list spans) (ap (λ (l : List Span). l ++ drop (length old) new) (sym kept) ∙ take-append-drop (length old) new)
+pub spans-more : (rule : Rule) (columns row : ℕ) (marks : List (List Mark)) (old new : List Span) → AreMarksWithin columns marks → take (length old) new ≡ old → AreRowSpans rule row (marks_in marks row) (drop (length old) new) → AreSpansBelow rule columns row marks old → AreSpansBelow rule columns (row + 1) marks new
+spans-more rule columns row marks old new inside kept done h =
+    subst (λ (spans : List Span). AreSpansBelow rule columns (row + 1) marks spans) (ap (λ (l : List Span). l ++ drop (length old) new) (sym kept) ∙ take-append-drop (length old) new)
     (record {
       rows = all-join (λ s. nat_lt s.row (row + 1)) old (drop (length old) new)
           (all-weaker (λ s. nat_lt s.row row) (λ s. nat_lt s.row (row + 1)) (λ s e. lower s.row e) old h.rows)
           (all-weaker (λ s. s.row == row) (λ s. nat_lt s.row (row + 1)) (λ s e. here s.row e) (drop (length old) new) done.rows);
       apart = apart-join row old (drop (length old) new) h.rows done.rows h.apart done.apart;
       within = all-join (λ s. nat_lt s.from s.to && nat_le s.to columns) old (drop (length old) new) h.within
-          (done.within columns (subst (λ (l : List Mark). list_all (λ m. nat_le m.column columns) l ≡ true) (sym taken) (columns-back columns rows list row inside)));
+          (done.within columns (inside row));
       filled = λ i j low. elim (last-or-lower j row low) [
         | inl less ↦ covers-append old (drop (length old) new) i j
             ∙ ap (λ (b : Bool). covers old i j || b) (covers-not (λ s. s.row == row) i j (λ s e. elsewhere s.row row j e less) (drop (length old) new) done.rows)
@@ -68,9 +66,7 @@ spans-more rule columns rows row list old new marks taken inside kept done h =
             ∙ ap (λ (b : Bool). b || covers (drop (length old) new) i j) (covers-not (λ s. nat_lt s.row row) i j (λ s e. under s.row row j e same) old h.rows)
             ∙ ap (λ (n : ℕ). covers (drop (length old) new) i n) same
             ∙ done.filled i
-            ∙ ap (λ (l : List Mark). is_inside rule (neg_ℤ (passed l i))) taken
-            ∙ ap (λ (z : ℤ). is_inside rule (neg_ℤ z)) (total-back (λ column. nat_le column i) list row)
-            ∙ ap (λ (n : ℕ). is_inside rule (neg_ℤ (row_passed list n i))) (sym same)
+            ∙ ap (λ (n : ℕ). is_inside rule (neg_ℤ (row_passed marks n i))) (sym same)
       ];
     })
   where
@@ -89,6 +85,3 @@ spans-more rule columns rows row list old new marks taken inside kept done h =
     or-false : (b : Bool) → (b || false) ≡ b
     or-false true = refl
     or-false false = refl
-
-pub row-balanced : (list : List Crossed) (row : ℕ) (marks : List Mark) → marks ≡ marks_back list row (length list) → row_signs list row ≡ pos 0 → signs marks ≡ pos 0
-row-balanced list row marks taken h = ap (λ (l : List Mark). signs l) taken ∙ total-back (λ _. true) list row ∙ h

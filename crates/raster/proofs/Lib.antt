@@ -8,7 +8,7 @@ pub mod Sent
 pub mod Written
 pub mod Sweeps
 pub mod Courses
-pub mod RowChains
+pub mod RowMarks
 pub mod Layers
 pub mod Boxes
 pub mod Segs

@@ -1,10 +1,16 @@
 -- A row is known by the bits of its pixels.
-use Rattle.std.proofs.Common.{◌≡◌, ℕ, ◌+◌, ◌-◌, ◌*◌, ◌/◌, ◌%◌, ◌<◌, Bool, true, false, cond, List, length, get_or, arith, ap, sym, ◌∙◌, ◌&&◌}
+use Rattle.std.proofs.Common.{◌≡◌, ℕ, zero, suc, ◌+◌, ◌-◌, ◌*◌, ◌/◌, ◌%◌, ◌<◌, Bool, true, false, cond, List, length, get_or, replicate, refl, arith, ap, sym, ◌∙◌, ◌&&◌}
 use Rattle.std.specs.Prelude.{nat_lt}
 use Rattle.std.specs.Int.{bit_at, div_ceil}
 use Rattle.std.proofs.lemmas.List.FromFn.{fill_by_all}
 use Rattle.raster.specs.Bits.{pixel_bit}
 use Rattle.raster.specs.Picture.{packed_byte, row_bytes}
+
+-- bytes without pixels
+pub blank-at : (n k : ℕ) → get_or {A = ℕ} (replicate n 0) k 0 ≡ 0
+blank-at zero k = refl
+blank-at (suc n) zero = refl
+blank-at (suc n) (suc k) = blank-at n k
 
 abbrev pub indicator : Bool → ℕ
 indicator b = cond b 1 0

@@ -11,10 +11,10 @@ use Rattle.exact_cut.specs.Lattices.{pixel, row_y}
 use Rattle.exact_cut.specs.declared.lattice.Lattice.{Lattice as Pixels}
 use Rattle.mesh_weld.specs.Balance.{IsBalanced}
 use Rattle.mesh_weld.proofs.Sums.{ray_from_left}
-use Rattle.raster.specs.declared.crossed.Crossed.{Crossed}
+use Rattle.raster.specs.declared.filling.Mark.{Mark}
 use Rattle.raster.specs.declared.rules.Rule.{Rule}
 use Rattle.raster.specs.declared.spans.Span.{Span}
-use Rattle.raster.specs.Crossings.{AreSpansBelow, are_crossings_within, row_passed}
+use Rattle.raster.specs.Crossings.{AreMarksWithin, AreSpansBelow, row_passed}
 use Rattle.raster.specs.Fill.{AreSpans, covers, is_filled, is_inside, is_span_within}
 use Rattle.raster.specs.Lattice.{Lattice, centre, middle, plane}
 use Rattle.raster.proofs.Areas.{and-left, and-right}
@@ -63,7 +63,7 @@ all-both p q r f (s ∷ spans) h k =
 all-three : (a b c : Bool) → a ≡ true → (b && c) ≡ true → (a && b && c) ≡ true
 all-three a b c e f = ap (λ d. d && b && c) e ∙ f
 
-pub spans-form : (rule : Rule) (columns rows : ℕ) (list : List Crossed) (spans : List Span) → AreSpansBelow rule columns rows list spans → AreSpans columns rows spans
+pub spans-form : (rule : Rule) (columns rows : ℕ) (list : List (List Mark)) (spans : List Span) → AreSpansBelow rule columns rows list spans → AreSpans columns rows spans
 spans-form rule columns rows list spans h =
     record {
       within = all-both (λ s. nat_lt s.row rows) (λ s. nat_lt s.from s.to && nat_le s.to columns) (is_span_within columns rows)
@@ -72,21 +72,17 @@ spans-form rule columns rows list spans h =
     }
 
 -- the spans of all rows of a grid
-pub spans-below : (rule : Rule) (g : Lattice) (l : Pixels) (rows : ℕ) (list : List Crossed) (spans copied : List Span) → ArePixels g l → rows ≡ g.rows → copied ≡ spans
-    → are_crossings_within l.columns l.rows list ≡ true
-    → ((columns : ℕ) → are_crossings_within columns rows list ≡ true → AreSpansBelow rule columns rows list spans)
+pub spans-below : (rule : Rule) (g : Lattice) (l : Pixels) (rows : ℕ) (list : List (List Mark)) (spans copied : List Span) → ArePixels g l → rows ≡ g.rows → copied ≡ spans
+    → AreMarksWithin l.columns list
+    → ((columns : ℕ) → AreMarksWithin columns list → AreSpansBelow rule columns rows list spans)
     → AreSpansBelow rule g.columns g.rows list copied
 spans-below rule g l rows list spans copied same count kept inside below =
-    let within : are_crossings_within g.columns g.rows list ≡ true =
-    subst (λ (n : ℕ). are_crossings_within g.columns n list ≡ true) same.rows
-    (subst (λ (n : ℕ). are_crossings_within n l.rows list ≡ true) same.columns inside) in
-    let counted : are_crossings_within g.columns rows list ≡ true =
-    subst (λ (n : ℕ). are_crossings_within g.columns n list ≡ true) (sym count) within in
     subst (λ (x : List Span). AreSpansBelow rule g.columns g.rows list x) (sym kept)
-    (subst (λ (n : ℕ). AreSpansBelow rule g.columns n list spans) count (below g.columns counted))
+    (subst (λ (n : ℕ). AreSpansBelow rule g.columns n list spans) count
+    (below g.columns (subst (λ (n : ℕ). AreMarksWithin n list) same.columns inside)))
 
 -- where the sums of a row are those over all facets, its spans cover what is inside by the crossings that don't lie ahead
-pub spans-swept : (facets : List Triangle) (g : Lattice) (l : Pixels) (k : ℕ) (z : ℤ) (rule : Rule) (list : List Crossed) (spans : List Span)
+pub spans-swept : (facets : List Triangle) (g : Lattice) (l : Pixels) (k : ℕ) (z : ℤ) (rule : Rule) (list : List (List Mark)) (spans : List Span)
     → ArePixels g l → z ≡ plane g k
     → ((i j : ℕ) → i < l.columns → j < l.rows → row_passed list j i ≡ total (λ t. wind (twice t) (row_y l j) z -ℤ hit (twice t) (pixel l z i j)) facets)
     → AreSpansBelow rule g.columns g.rows list spans

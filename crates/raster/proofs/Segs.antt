@@ -1,7 +1,7 @@
 -- Sums over all facets are those over the segments of a height, where facets that aren't cut add nothing.
-use Rattle.std.proofs.Common.{◌≡◌, ℕ, zero, suc, ◌+◌, ◌<◌, ◌≤◌, ◌⊎◌, inl, inr, Bool, true, false, cond, List, [], ◌∷◌, Some, None, length, drop, refl, ap, sym, subst, ◌∙◌, arith}
-use Rattle.std.specs.Prelude.{Option, ℤ, pos, ◌+ℤ◌, ◌-ℤ◌, slice_get, slice_index_or, ◌≤ℤ◌, ◌<ℤ◌, filter_map, find}
-use Rattle.std.specs.List.{enumerate_from, cons_option}
+use Rattle.std.proofs.Common.{◌≡◌, ℕ, zero, suc, ◌+◌, ◌<◌, ◌≤◌, ◌⊎◌, inl, inr, Bool, true, false, cond, List, [], ◌∷◌, Some, None, length, drop, refl, ap, sym, ◌∙◌, arith}
+use Rattle.std.specs.Prelude.{Option, ℤ, pos, ◌+ℤ◌, ◌-ℤ◌, nat_le, slice_get, slice_index_or, ◌≤ℤ◌, ◌<ℤ◌, filter_map, find}
+use Rattle.std.specs.List.{enumerate_from, cons_option, list_all}
 use Rattle.std.proofs.lemmas.Int.{ints}
 use Rattle.stl_text.specs.Position.{Position}
 use Rattle.stl_text.specs.Triangle.{Triangle, Edge, edge, sides, twice}
@@ -15,8 +15,9 @@ use Rattle.contour.specs.declared.nodes.Segment.{Segment}
 use Rattle.contour.specs.Contour.{both_of, height, is_downward, is_upward, node_of, rises_through, segment_of, segments}
 use Rattle.contour.proofs.Cutting.{facet_at-is}
 use Rattle.contour.proofs.Links.{segments_below}
-use Rattle.raster.specs.declared.crossed.Crossed.{Crossed}
-use Rattle.raster.specs.Crossings.{are_crossings_within, row_passed, row_signs}
+use Rattle.raster.specs.declared.filling.Mark.{Mark}
+use Rattle.raster.specs.Marks.{passed, signs}
+use Rattle.raster.specs.Crossings.{AreMarksWithin, marks_in, row_passed, row_signs}
 use Rattle.raster.proofs.Courses.{hit-none}
 
 -- where no edge of three goes through a height one way, no corner is on the other side of it
@@ -131,34 +132,34 @@ abbrev pass_at : Lattice → ℤ → ℕ → ℕ → Triangle → ℤ
 pass_at l z i j t = wind (twice t) (row_y l j) z -ℤ hit (twice t) (pixel l z i j)
 
 -- the crossings of the facets of the first n segments
-pub record ArePushed (facets : List Triangle) (z : ℤ) (l : Lattice) (list : List Segment) (n : ℕ) (out : List Crossed) : Type 0 where
+pub record ArePushed (facets : List Triangle) (z : ℤ) (l : Lattice) (list : List Segment) (n : ℕ) (out : List (List Mark)) : Type 0 where
   pub signs : (j : ℕ) → j < l.rows → row_signs out j +ℤ total (λ s. sign_in l z j (facet_at facets s.facet)) (drop n list)
       ≡ total (λ s. sign_in l z j (facet_at facets s.facet)) list
   pub passed : (i j : ℕ) → i < l.columns → j < l.rows
       → row_passed out j i +ℤ total (λ s. pass_at l z i j (facet_at facets s.facet)) (drop n list)
       ≡ total (λ s. pass_at l z i j (facet_at facets s.facet)) list
-  pub within : are_crossings_within l.columns l.rows out ≡ true
+  pub within : AreMarksWithin l.columns out
 
 nothing-yet : (a : ℤ) → pos 0 +ℤ a ≡ a
 nothing-yet a = omega (arith, ints)
 
-pub pushed-none : (facets : List Triangle) (z : ℤ) (l : Lattice) (list : List Segment) (out : List Crossed) → out ≡ [] → ArePushed facets z l list 0 out
-pushed-none facets z l list out e =
-    subst (ArePushed facets z l list 0) (sym e)
-    (record {
-      signs = λ j low. nothing-yet (total (λ s. sign_in l z j (facet_at facets s.facet)) list);
-      passed = λ i j inside low. nothing-yet (total (λ s. pass_at l z i j (facet_at facets s.facet)) list);
-      within = refl;
-    })
+pub pushed-none : (facets : List Triangle) (z : ℤ) (l : Lattice) (list : List Segment) (out : List (List Mark)) → ((j : ℕ) → marks_in out j ≡ []) → ArePushed facets z l list 0 out
+pushed-none facets z l list out e = record {
+  signs = λ j low. ap (λ (marks : List Mark). signs marks +ℤ total (λ s. sign_in l z j (facet_at facets s.facet)) list) (e j)
+      ∙ nothing-yet (total (λ s. sign_in l z j (facet_at facets s.facet)) list);
+  passed = λ i j inside low. ap (λ (marks : List Mark). passed marks i +ℤ total (λ s. pass_at l z i j (facet_at facets s.facet)) list) (e j)
+      ∙ nothing-yet (total (λ s. pass_at l z i j (facet_at facets s.facet)) list);
+  within = λ j. ap (list_all (λ m. nat_le m.column l.columns)) (e j);
+}
 
 one-more : (old new here rest left all : ℤ) → new ≡ old +ℤ here → left ≡ here +ℤ rest → old +ℤ left ≡ all → new +ℤ rest ≡ all
 one-more old new here rest left all e f g = omega (arith, ints)
 
-pub pushed-more : (facets : List Triangle) (z : ℤ) (l : Lattice) (list : List Segment) (n : ℕ) (t : Triangle) (old new : List Crossed) → n < length list
+pub pushed-more : (facets : List Triangle) (z : ℤ) (l : Lattice) (list : List Segment) (n : ℕ) (t : Triangle) (old new : List (List Mark)) → n < length list
     → slice_get facets (segment_or list n).facet ≡ Some t
     → ((j : ℕ) → j < l.rows → row_signs new j ≡ row_signs old j +ℤ sign_in l z j t)
     → ((i j : ℕ) → i < l.columns → j < l.rows → row_passed new j i ≡ row_passed old j i +ℤ pass_at l z i j t)
-    → (are_crossings_within l.columns l.rows old ≡ true → are_crossings_within l.columns l.rows new ≡ true)
+    → (AreMarksWithin l.columns old → AreMarksWithin l.columns new)
     → ArePushed facets z l list n old → ArePushed facets z l list (n + 1) new
 pushed-more facets z l list n t old new room read signs passed within h =
     let here : facet_at facets (segment_or list n).facet ≡ t = facet_at-is facets (segment_or list n).facet t read in
@@ -184,7 +185,7 @@ no-more a rest all e f = omega (arith, ints)
 no-difference : (w x : ℤ) → w ≡ pos 0 → x ≡ pos 0 → w -ℤ x ≡ pos 0
 no-difference w x h k = omega (arith, ints)
 
-pub pushed-signs : (facets : List Triangle) (z : ℤ) (l : Lattice) (list : List Segment) (n : ℕ) (out : List Crossed) → list ≡ segments facets z → length list ≤ n
+pub pushed-signs : (facets : List Triangle) (z : ℤ) (l : Lattice) (list : List Segment) (n : ℕ) (out : List (List Mark)) → list ≡ segments facets z → length list ≤ n
     → ArePushed facets z l list n out → (j : ℕ) → j < l.rows → row_signs out j ≡ total (sign_in l z j) facets
 pushed-signs facets z l list n out e done h j low =
     no-more (row_signs out j) (total (λ s. sign_in l z j (facet_at facets s.facet)) (drop n list)) (total (λ s. sign_in l z j (facet_at facets s.facet)) list)
@@ -192,7 +193,7 @@ pushed-signs facets z l list n out e done h j low =
     ∙ ap (λ (x : List Segment). total (λ s. sign_in l z j (facet_at facets s.facet)) x) e
     ∙ total-segments (sign_in l z j) facets z (λ t uncut. unpassed (twice t) z uncut (row_y l j))
 
-pub pushed-passed : (facets : List Triangle) (z : ℤ) (l : Lattice) (list : List Segment) (n : ℕ) (out : List Crossed) → list ≡ segments facets z → length list ≤ n
+pub pushed-passed : (facets : List Triangle) (z : ℤ) (l : Lattice) (list : List Segment) (n : ℕ) (out : List (List Mark)) → list ≡ segments facets z → length list ≤ n
     → ArePushed facets z l list n out → (i j : ℕ) → i < l.columns → j < l.rows → row_passed out j i ≡ total (pass_at l z i j) facets
 pushed-passed facets z l list n out e done h i j inside low =
     no-more (row_passed out j i) (total (λ s. pass_at l z i j (facet_at facets s.facet)) (drop n list)) (total (λ s. pass_at l z i j (facet_at facets s.facet)) list)

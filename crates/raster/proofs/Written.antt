@@ -10,7 +10,7 @@ use Rattle.std.proofs.lemmas.List.Concat.{flat_map-cons}
 use Rattle.std.proofs.Math.Seq.{take-add}
 use Rattle.raster.specs.Devices.{AppendsFirst}
 use Rattle.raster.specs.Fill.{below}
-use Rattle.raster.specs.Picture.{header, packed_byte, picture, row_bytes}
+use Rattle.raster.specs.Picture.{packed_byte, row_bytes}
 use Rattle.raster.proofs.Sent.{appends-after}
 
 -- the rows below n, the greatest first
@@ -77,9 +77,6 @@ less-left old now text written total chunk rest h low high =
 pub written-within : (old now : Option (List ℕ)) (text : List ℕ) (written total : ℕ) (chunk rest : List ℕ) → IsUnderWay old now text written chunk rest → total < written + length chunk → written ≤ total → total < length text
 written-within old now text written total chunk rest h high low =
     omega (arith, length-drop written text, ap (λ (l : List ℕ). length l) h.left, length-append chunk rest)
-
-pub under-way-start : (old : Option (List ℕ)) (width height : ℕ) (pixel : ℕ → ℕ → Bool) → Appends old old [] → IsUnderWay old old (picture width height pixel) 0 (header width height) (lower_rows width pixel height)
-under-way-start old width height pixel none = record { out = none; left = refl }
 
 pub under-way-step : (old now new : Option (List ℕ)) (width m n : ℕ) (pixel : ℕ → ℕ → Bool) (text : List ℕ) (written total : ℕ) (chunk room drawn : List ℕ) → m ≡ suc n → IsUnderWay old now text written chunk (lower_rows width pixel m) → written ≤ total → total ≤ written + length chunk → AppendsFirst now new (total - written) chunk → room ≡ drop (total - written) chunk → drawn ≡ room ++ row_bytes width (λ i. pixel i n) → IsUnderWay old new text total drawn (lower_rows width pixel n)
 under-way-step old now new width m n pixel text written total chunk room drawn next h low high sent kept row = record {

@@ -14,7 +14,8 @@ use std::marker::Model;
 /// The greatest number of bytes that are put at once.
 const CHUNK_LEN: usize = 16384;
 
-/// Bytes on their way to a sink. They lie on the stack, so that writing takes no memory.
+/// Bytes on their way to a sink. They lie on the stack, so that writing takes no memory. The room behind them is blank,
+/// all its bytes 0.
 #[derive(Drop)]
 pub(crate) struct Chunk {
     bytes: [u8; CHUNK_LEN],
@@ -22,13 +23,13 @@ pub(crate) struct Chunk {
 }
 
 impl Model for Chunk {
-    ghost use Rattle.std.specs.Prelude.{◌≡◌, ◌≤◌, List, ℕ, length, take};
+    ghost use Rattle.std.specs.Prelude.{◌≡◌, ◌≤◌, List, ℕ, length, slice_index, take};
 
     ghost Value = { List ℕ };
 
     ghost view = { λ c. take c.filled c.bytes };
 
-    ghost invariant = { λ c. (c.filled ≤ 16384) × (length c.bytes ≡ 16384) };
+    ghost invariant = { λ c. (c.filled ≤ 16384) × (length c.bytes ≡ 16384) × ((k : ℕ) → c.filled ≤ k → slice_index c.bytes k ≡ 0) };
 }
 
 impl Chunk {
@@ -148,6 +149,7 @@ impl Chunk {
         let filled = self.filled;
         match put_all(w, &self.bytes[..filled]) {
             Ok(()) => {
+                self.bytes[..filled].fill(0);
                 self.filled = 0;
                 Ok(before + filled as u64)
             }

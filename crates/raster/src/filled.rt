@@ -1,17 +1,17 @@
-ghost use Rattle.std.specs.Prelude.{◌≡◌, ◌<◌, ◌≤◌, ◌-ℤ◌, [], IfOk, OnOk, true, ℕ};
+ghost use Rattle.std.specs.Prelude.{◌≡◌, ◌<◌, ◌≤◌, ◌-ℤ◌, [], IfOk, OnOk, length, ℕ};
 ghost use Rattle.micro_num.specs.Bounds.{IsAtMost};
 ghost use Rattle.contour.specs.Contour.{segments};
 ghost use Rattle.exact_cut.specs.Lattices.{pixel, row_y};
 ghost use Rattle.stl_text.specs.Triangle.{twice};
 ghost use Rattle.stl_text.specs.Winding.{hit, neg_ray_back, total, wind};
-ghost use Rattle.raster.specs.Crossings.{are_crossings_within, row_passed, row_signs};
+ghost use Rattle.raster.specs.Crossings.{AreMarksWithin, marks_in, row_passed, row_signs};
 ghost use Rattle.raster.specs.Fill.{AreSpans, covers, is_filled, is_inside};
 ghost use Rattle.raster.specs.Lattice.{centre, plane};
 
-use crate::chains::Chains;
 use crate::crossed::push_facet;
 use crate::grid::Grid;
 use crate::layer::fill_rows;
+use crate::row_marks::RowMarks;
 use crate::rules::Rule;
 use crate::spans::Span;
 use contour::Segment;
@@ -22,14 +22,14 @@ use std::alloc::{AllocError, Allocator};
 /// Fills layers one after another, in memory that it keeps from one to the next.
 #[derive(Drop)]
 pub struct Filler<A: Allocator> {
-    chains: Chains<A>,
+    marks: RowMarks<A>,
     spans: Vec<Span, A>,
 }
 
 impl<A: Allocator + Copy + Send + Sync> Filler<A> {
     pub fn new(alloc: A) -> Filler<A> {
         Filler {
-            chains: Chains::new(alloc),
+            marks: RowMarks::new(alloc),
             spans: Vec::new(alloc),
         }
     }
@@ -56,10 +56,10 @@ impl<A: Allocator + Copy + Send + Sync> Filler<A> {
     {
         let _closed = s.count();
         let pixels = g.pixels();
-        self.chains.start(pixels.rows)?;
-        push_facets(s, g.plane(k), &pixels, list, &mut self.chains)?;
+        self.marks.start(alloc, pixels.rows)?;
+        push_facets(s, g.plane(k), &pixels, list, &mut self.marks)?;
         self.spans.clear();
-        fill_rows(alloc, rule, g.rows(), &self.chains, &mut self.spans)?;
+        fill_rows(rule, g.rows(), &mut self.marks, &mut self.spans)?;
         copied(alloc, self.spans.as_slice())
     }
 }
@@ -97,26 +97,26 @@ fn copied<A: Allocator>(alloc: A, spans: &[Span]) -> Result<Vec<Span, A>, AllocE
     Ok(copy)
 }
 
-/// Adds the crossings of all facets with the rows of a lattice at the height `z2`, doubled micrometres, by the segments
-/// there: a facet without one crosses no row. On an error `out` may have some of them.
+/// Adds the marks of all facets' crossings with the rows of a lattice at the height `z2`, doubled micrometres, by the
+/// segments there: a facet without one crosses no row. On an error `out` may have some of them.
 fn push_facets<A: Allocator>(
     s: &Solid<A>,
     z2: i64,
     lattice: &Lattice,
     list: &[Segment],
-    out: &mut Chains<A>,
+    out: &mut RowMarks<A>,
 ) -> Result<(), AllocError>
     requires height { IsAtMost 256200000 z2 }
     requires list { list.now ≡ segments s.now.facets z2 }
-    requires empty { out.old.list ≡ [] }
-    requires rows { lattice.now.rows ≤ out.old.rows }
-    ensures rows { out.new.rows ≡ out.old.rows }
+    requires empty { (j : ℕ) → marks_in out.old j ≡ [] }
+    requires rows { lattice.now.rows ≤ length out.old }
+    ensures rows { length out.new ≡ length out.old }
     ensures signs { OnOk result ((j : ℕ) → j < lattice.now.rows
-        → row_signs out.new.list j ≡ total (λ t. wind (twice t) (row_y lattice.now j) z2) s.now.facets) }
+        → row_signs out.new j ≡ total (λ t. wind (twice t) (row_y lattice.now j) z2) s.now.facets) }
     ensures passed { OnOk result ((i j : ℕ) → i < lattice.now.columns → j < lattice.now.rows
-        → row_passed out.new.list j i
+        → row_passed out.new j i
         ≡ total (λ t. wind (twice t) (row_y lattice.now j) z2 -ℤ hit (twice t) (pixel lattice.now z2 i j)) s.now.facets) }
-    ensures within { OnOk result (are_crossings_within lattice.now.columns lattice.now.rows out.new.list ≡ true) }
+    ensures within { OnOk result (AreMarksWithin lattice.now.columns out.new) }
 {
     for segment in list {
         push_facet(&s.facet(segment.facet), z2, lattice, out)?;

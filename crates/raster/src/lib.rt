@@ -2,7 +2,6 @@
 #![tactic(auto)]
 
 mod bits;
-mod chains;
 mod chunk;
 mod crossed;
 mod devices;
@@ -14,6 +13,7 @@ mod grid;
 mod grid_faults;
 mod image;
 mod layer;
+mod row_marks;
 mod rows;
 mod rules;
 mod spans;

@@ -1,4 +1,4 @@
-ghost use Rattle.std.specs.Prelude.{◌≡◌, ◌<◌, ◌≤◌, ◌+◌, length, true};
+ghost use Rattle.std.specs.Prelude.{◌≡◌, ◌<◌, ◌≤◌, ◌+◌, ℕ, length, slice_index, true};
 ghost use Rattle.std.specs.Int.{div_ceil};
 ghost use Rattle.raster.specs.Fill.{AreSpans};
 ghost use Rattle.raster.specs.Picture.{row_bytes};
@@ -8,13 +8,13 @@ use crate::bits::set_pixels;
 use crate::grid::Grid;
 use crate::spans::Span;
 
-/// Draws a row that these spans lie in, over whatever stood there.
+/// Draws a row that these spans lie in, where no pixel is set.
 pub(crate) fn draw_row(row: &mut [u8], width: u32, spans: &[Span])
     requires size { length row.old ≡ div_ceil width 8 }
+    requires blank { (k : ℕ) → slice_index row.old k ≡ 0 }
     requires within { are_within width spans.now ≡ true }
     ensures { row.new ≡ row_bytes width (crosses spans.now) }
 {
-    row.fill(0);
     for span in spans {
         set_pixels(row, span.from as usize, span.to as usize);
     }

@@ -12,19 +12,19 @@ use Rattle.raster.proofs.crossed.push_facet.Goals as goal
 pub returns-in-Some-clause-signs : goal.returns-in-Some-clause-signs
 returns-in-Some-clause-signs g c =
     let course = subst (λ (z : ℤ). IsCourse (twice c.args.facet.now) z c.args.lattice.now c.in-Some.walk) (to_z-of_z w64 c.args.z2 c.ranges.z2) c.in-Some.ensures in
-    on_ok_weaker c.push_walk.result (λ e. signs-more (twice c.args.facet.now) c.args.z2 c.args.lattice.now c.in-Some.walk c.args.out.now.list c.push_walk.new.out.list course e) c.push_walk.ensures.added
+    on_ok_weaker c.push_walk.result (λ e. signs-more (twice c.args.facet.now) c.args.z2 c.args.lattice.now c.in-Some.walk c.args.out.now c.push_walk.new.out course e) c.push_walk.ensures.added
 
 pub returns-in-Some-clause-passed : goal.returns-in-Some-clause-passed
 returns-in-Some-clause-passed g c =
     let course = subst (λ (z : ℤ). IsCourse (twice c.args.facet.now) z c.args.lattice.now c.in-Some.walk) (to_z-of_z w64 c.args.z2 c.ranges.z2) c.in-Some.ensures in
-    on_ok_weaker c.push_walk.result (λ e. passed-more (twice c.args.facet.now) c.args.z2 c.args.lattice.now c.in-Some.walk c.args.out.now.list c.push_walk.new.out.list course e) c.push_walk.ensures.added
+    on_ok_weaker c.push_walk.result (λ e. passed-more (twice c.args.facet.now) c.args.z2 c.args.lattice.now c.in-Some.walk c.args.out.now c.push_walk.new.out course e) c.push_walk.ensures.added
 
 pub returns-in-Some-clause-within : goal.returns-in-Some-clause-within
 returns-in-Some-clause-within g c = λ k.
     let course = subst (λ (z : ℤ). IsCourse (twice c.args.facet.now) z c.args.lattice.now c.in-Some.walk) (to_z-of_z w64 c.args.z2 c.ranges.z2) c.in-Some.ensures in
-    on_ok_weaker c.push_walk.result (λ e. within-more (twice c.args.facet.now) c.args.z2 c.args.lattice.now c.in-Some.walk c.args.out.now.list c.push_walk.new.out.list course e k) c.push_walk.ensures.added
+    on_ok_weaker c.push_walk.result (λ e. within-more (twice c.args.facet.now) c.args.z2 c.args.lattice.now c.in-Some.walk c.args.out.now c.push_walk.new.out course e k) c.push_walk.ensures.added
 
 pub returns-in-None-clause-passed : goal.returns-in-None-clause-passed
 returns-in-None-clause-passed g c =
     let uncrossed = subst (λ (z : ℤ). IsUncrossed (twice c.args.facet.now) z c.args.lattice.now) (to_z-of_z w64 c.args.z2 c.ranges.z2) c.in-None.ensures in
-    λ i j inside low. passed-none (twice c.args.facet.now) c.args.z2 c.args.lattice.now (row_passed c.args.out.now.list j i) uncrossed i j low
+    λ i j inside low. passed-none (twice c.args.facet.now) c.args.z2 c.args.lattice.now (row_passed c.args.out.now j i) uncrossed i j low

@@ -1,10 +1,10 @@
-use Rattle.std.proofs.Common.{◌≡◌}
+use Rattle.std.proofs.Common.{◌≡◌, length}
 use Rattle.raster.proofs.Segs.{ArePushed}
 use Rattle.raster.proofs.filled.push_facets.Given as goal
 
 abbrev pub invariant-loop-segment : goal.invariant-loop-segment
 invariant-loop-segment g l =
     record {
-      pushed : ArePushed l.s.facets l.z2 l.lattice l.list l.segment-index l.out.list;
-      rows : l.out.rows ≡ l.fn.out.rows;
+      pushed : ArePushed l.s.facets l.z2 l.lattice l.list l.segment-index l.out;
+      rows : length l.out ≡ length l.fn.out;
     }

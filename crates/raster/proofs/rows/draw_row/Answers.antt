@@ -9,6 +9,6 @@ use Rattle.raster.proofs.rows.draw_row.Goals as goal
 pub returns : goal.returns
 returns c =
     row-is c.args.width c.loop-span.row (crosses c.args.spans.now)
-    (c.loop-span.auto.row ∙ c.fill.ensures.len ∙ c.requires.size)
+    (c.loop-span.auto.row ∙ c.requires.size)
     c.loop-span.invariant.bytes
     (λ i. c.loop-span.invariant.drawn i ∙ ap (λ (spans : List Span). indicator (crosses spans i)) (take_all c.loop-span.span-index c.args.spans.now c.loop-span-test.false) ∙ ap indicator (within-crosses c.args.width c.args.spans.now i c.requires.within))
