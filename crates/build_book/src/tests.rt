@@ -42,15 +42,10 @@ fn corner(corners: &Corners, number: u8) -> Result<Point, AllocError> {
     Point::new(side(4)[0], side(2)[1], side(1)[2]).ok_or(AllocError)
 }
 
-fn push_facets<A: Allocator>(
-    list: &mut Vec<Facet, A>,
-    corners: &Corners,
-    table: &[[u8; 3]],
-) -> Result<(), AllocError>
-    requires { length table.now ≤ 16 }
-    ensures { vec_len list.new ≤ vec_len list.old + 16 }
+fn push_box<A: Allocator>(list: &mut Vec<Facet, A>, corners: &Corners) -> Result<(), AllocError>
+    ensures { vec_len list.new ≤ vec_len list.old + 12 }
 {
-    for [a, b, c] in table {
+    for [a, b, c] in &BOX {
         let facet = Facet::of(
             corner(corners, *a)?,
             corner(corners, *b)?,
@@ -83,15 +78,15 @@ fn box_job<A: Allocator + Copy + Send + Sync>(
     corners: &Corners,
 ) -> Result<Job<A>, AllocError> {
     let mut list = Vec::new(alloc);
-    push_facets(&mut list, corners, &BOX)?;
+    push_box(&mut list, corners)?;
     job_of(alloc, list, 1, Rule::EvenOdd)
 }
 
 // The job of two boxes in voxels of two micrometres.
 fn two_boxes_job(alloc: Global, rule: Rule) -> Result<Job<Global>, AllocError> {
     let mut list = Vec::new(alloc);
-    push_facets(&mut list, &NEAR, &BOX)?;
-    push_facets(&mut list, &FAR, &BOX)?;
+    push_box(&mut list, &NEAR)?;
+    push_box(&mut list, &FAR)?;
     job_of(alloc, list, 2, rule)
 }
 
@@ -137,30 +132,63 @@ fn refusal<'m>(book: &mut Book<'m, Global>, piece: Piece<'m, Global>) -> Option<
     Some((fault, back.stripe()))
 }
 
+// How many layers a book has, and their area.
+fn shown(book: &Book<'_, Global>) -> (u32, u64) {
+    (book.filed(), book.total_area())
+}
+
+// Files a stripe of a job, which has it: the fault, with the stripe that came back.
+fn file<'m>(
+    alloc: Global,
+    book: &mut Book<'m, Global>,
+    job: &'m Job<Global>,
+    stripe: u64,
+) -> Result<Option<(FileFault, u64)>, AllocError> {
+    let piece = piece_of(alloc, job, stripe)?;
+    Ok(refusal(book, piece))
+}
+
+// A fault and the stripe that came back, or neither; and what the book shows then.
+type Filed = (Option<(FileFault, u64)>, (u32, u64));
+
+// Files stripes of a job in turn, and answers what came of each.
+fn filed_in_turn<'m>(
+    alloc: Global,
+    book: &mut Book<'m, Global>,
+    job: &'m Job<Global>,
+    stripes: [u64; 3],
+) -> Result<Vec<Filed>, AllocError> {
+    let mut seen = Vec::new(alloc);
+    for stripe in stripes {
+        let fault = file(alloc, book, job, stripe)?;
+        seen.push((fault, shown(book)))?;
+    }
+    Ok(seen)
+}
+
 fn area_at(book: &Book<'_, Global>, k: u32) -> Option<u64> {
     let layer = book.layer(k)?;
     Some(layer.area())
 }
 
-#[test]
-fn stripes_of_a_column(rt: HostRuntime) -> Result<(), Fail> {
-    let alloc = rt.alloc();
+// Files stripes of the column in turn: what came of each, and the areas of layers 8 and 0 at the end.
+fn column_filed(
+    alloc: Global,
+    stripes: [u64; 3],
+) -> Result<(Vec<Filed>, (Option<u64>, Option<u64>)), AllocError> {
     let job = box_job(alloc, &COLUMN)?;
     let mut book = Book::open(alloc, &job)?;
-    let piece = piece_of(alloc, &job, 1)?;
-    assert_eq!(rt; refusal(&mut book, piece), None);
-    assert_eq!(rt; (area_at(&book, 8), area_at(&book, 0)), (Some(1), None));
-    assert_eq!(rt; (book.filed(), book.total_area()), (8, 8));
-    let again = piece_of(alloc, &job, 1)?;
+    let seen = filed_in_turn(alloc, &mut book, &job, stripes)?;
+    Ok((seen, (area_at(&book, 8), area_at(&book, 0))))
+}
+
+#[test]
+fn stripes_of_a_column(rt: HostRuntime) -> Result<(), Fail> {
+    let (seen, areas) = column_filed(rt.alloc(), [1, 1, 2])?;
     let double = FileFault::Double { layer: 8 };
-    assert_eq!(rt; refusal(&mut book, again), Some((double, 1)));
-    assert_eq!(rt; (book.filed(), book.total_area()), (8, 8));
-    let last = piece_of(alloc, &job, 2)?;
-    assert_eq!(rt; refusal(&mut book, last), None);
-    assert_eq!(rt; book.filed(), 9);
-    let build = book.finish(&job)?;
-    assert_eq!(rt; build.layers().len(), 17);
-    assert_eq!(rt; (build.late(), build.total_area()), (8, 17));
+    let turns = [(None, (8, 8)), (Some((double, 1)), (8, 8)), (None, (9, 9))];
+    assert_eq!(rt; seen.as_slice(), turns.as_slice());
+    assert_eq!(rt; areas, (Some(1), None));
     Ok(())
 }
 
@@ -180,15 +208,33 @@ fn sliced_in_order<'m>(
     Ok(book)
 }
 
+// What a book with these stripes shows, and how many layers are late at its end and their area.
+fn finished_after<'m>(
+    alloc: Global,
+    job: &'m Job<Global>,
+    order: &[u64],
+) -> Result<((u32, u64), (u32, u64)), AllocError> {
+    let book = sliced_in_order(alloc, job, order)?;
+    let filed = shown(&book);
+    let build = book.finish(job)?;
+    Ok((filed, (build.late(), build.total_area())))
+}
+
 #[test]
 fn one_slicer_in_any_order(rt: HostRuntime) -> Result<(), Fail> {
-    let alloc = rt.alloc();
-    let job = box_job(alloc, &COLUMN)?;
+    let job = box_job(rt.alloc(), &COLUMN)?;
     for order in [[0, 1, 2], [0, 2, 1], [2, 1, 0]] {
-        let book = sliced_in_order(alloc, &job, &order)?;
-        assert_eq!(rt; (book.filed(), book.total_area()), (17, 17));
-        assert_eq!(rt; book.finish(&job)?.late(), 0);
+        let found = finished_after(rt.alloc(), &job, &order)?;
+        assert_eq!(rt; found, ((17, 17), (0, 17)));
     }
+    Ok(())
+}
+
+#[test]
+fn what_is_not_filed_is_late(rt: HostRuntime) -> Result<(), Fail> {
+    let job = box_job(rt.alloc(), &COLUMN)?;
+    let found = finished_after(rt.alloc(), &job, &[1, 2])?;
+    assert_eq!(rt; found, ((9, 9), (8, 17)));
     Ok(())
 }
 
@@ -203,17 +249,23 @@ fn refusal_of<'m>(
     Ok(refusal(&mut book, piece))
 }
 
+// The same for the jobs of two boxes.
+fn refusal_between(
+    alloc: Global,
+    corners: &Corners,
+    others: &Corners,
+) -> Result<Option<(FileFault, u64)>, AllocError> {
+    let job = box_job(alloc, corners)?;
+    let other = box_job(alloc, others)?;
+    refusal_of(alloc, &job, &other)
+}
+
 #[test]
 fn stripe_of_another_job(rt: HostRuntime) -> Result<(), Fail> {
-    let alloc = rt.alloc();
-    let job = box_job(alloc, &COLUMN)?;
-    let same = box_job(alloc, &COLUMN)?;
-    let other = box_job(alloc, &CUBE)?;
-    assert_eq!(rt; refusal_of(alloc, &job, &same)?, None);
-    assert_eq!(rt;
-        refusal_of(alloc, &job, &other)?,
-        Some((FileFault::Stranger, 0))
-    );
+    let same = refusal_between(rt.alloc(), &COLUMN, &COLUMN)?;
+    assert_eq!(rt; same, None);
+    let other = refusal_between(rt.alloc(), &COLUMN, &CUBE)?;
+    assert_eq!(rt; other, Some((FileFault::Stranger, 0)));
     Ok(())
 }
 
@@ -239,18 +291,37 @@ fn first_refused<'m>(
     Some((fault, rest.first()?.stripe()))
 }
 
-#[test]
-fn sheaves_of_a_column(rt: HostRuntime) -> Result<(), Fail> {
-    let alloc = rt.alloc();
+// Files a sheaf of these stripes: what came of it.
+fn file_sheaf<'m>(
+    alloc: Global,
+    book: &mut Book<'m, Global>,
+    job: &'m Job<Global>,
+    stripes: &[u64],
+) -> Result<Filed, AllocError> {
+    let sheaf = sheaf_of(alloc, job, stripes)?;
+    let refused = first_refused(book, sheaf);
+    Ok((refused, shown(book)))
+}
+
+// Files two sheaves of stripes of the column: what came of each.
+fn column_by_sheaves(
+    alloc: Global,
+    first: &[u64],
+    second: &[u64],
+) -> Result<(Filed, Filed), AllocError> {
     let job = box_job(alloc, &COLUMN)?;
     let mut book = Book::open(alloc, &job)?;
-    let sheaf = sheaf_of(alloc, &job, &[2, 0])?;
-    assert_eq!(rt; first_refused(&mut book, sheaf), None);
-    assert_eq!(rt; (book.filed(), book.total_area()), (9, 9));
-    let taken = sheaf_of(alloc, &job, &[1, 0, 2])?;
+    let before = file_sheaf(alloc, &mut book, &job, first)?;
+    let after = file_sheaf(alloc, &mut book, &job, second)?;
+    Ok((before, after))
+}
+
+#[test]
+fn sheaves_of_a_column(rt: HostRuntime) -> Result<(), Fail> {
+    let (fresh, taken) = column_by_sheaves(rt.alloc(), &[2, 0], &[1, 0, 2])?;
+    assert_eq!(rt; fresh, (None, (9, 9)));
     let double = FileFault::Double { layer: 0 };
-    assert_eq!(rt; first_refused(&mut book, taken), Some((double, 0)));
-    assert_eq!(rt; (book.filed(), book.total_area()), (17, 17));
+    assert_eq!(rt; taken, (Some((double, 0)), (17, 17)));
     Ok(())
 }
 

@@ -1,5 +1,5 @@
 //! What no clause says: worked meshes with ample memory, and memory that is refused.
-ghost use Rattle.std.specs.Prelude.{◌≤◌, ◌+◌, length, vec_len};
+ghost use Rattle.std.specs.Prelude.{◌≤◌, ◌+◌, All, length, vec_len};
 ghost use Rattle.micro_num.specs.Bounds.{IsAtMost};
 
 use crate::{Linker, Segment, Sweep, loop_ray, loops, segments};
@@ -101,6 +101,26 @@ fn joined<A: Allocator + Copy + Send + Sync>(
     weld(alloc, list).ok().ok_or(AllocError)
 }
 
+// A box from 0 to 2, and its facet 10 once more with its mirror.
+fn box_and_pair<A: Allocator + Copy + Send + Sync>(alloc: A) -> Result<Solid<A>, AllocError> {
+    let corners = box_corners(0, 2);
+    joined(alloc, (&corners, &BOX), (&corners, &PAIR))
+}
+
+// Two boxes, from 0 to 4 and from 2 to 6.
+fn two_boxes<A: Allocator + Copy + Send + Sync>(alloc: A) -> Result<Solid<A>, AllocError> {
+    let (low, high) = (box_corners(0, 4), box_corners(2, 6));
+    joined(alloc, (&low, &BOX), (&high, &BOX))
+}
+
+fn octahedron<A: Allocator + Copy + Send + Sync>(alloc: A) -> Result<Solid<A>, AllocError> {
+    joined(
+        alloc,
+        (&OCTAHEDRON_CORNERS, &OCTAHEDRON),
+        (&OCTAHEDRON_CORNERS, &[]),
+    )
+}
+
 fn is_of_facets(part: Option<&[Segment]>, facets: &[u32]) -> bool {
     let Some(part) = part else {
         return false;
@@ -112,39 +132,38 @@ fn is_of_facets(part: Option<&[Segment]>, facets: &[u32]) -> bool {
             .all(|(segment, n)| segment.facet == *n)
 }
 
+// Whether a plane has just the loops of these facets.
+fn are_loops(
+    alloc: Global,
+    s: &Solid<Global>,
+    z2: i64,
+    parts: &[&[u32]],
+) -> Result<bool, AllocError>
+    requires { IsAtMost 256200000 z2 }
+{
+    let list = segments(alloc, s, z2)?;
+    let found = loops(alloc, s, z2, list)?;
+    let mut is_so = found.count() == parts.len();
+    for (n, facets) in parts.iter().enumerate() {
+        is_so = is_so && is_of_facets(found.get(n), facets);
+    }
+    Ok(is_so)
+}
+
 const ROUND: [u32; 8] = [4, 11, 10, 7, 6, 9, 8, 5];
 
 #[test]
 fn loops_of_a_box(rt: HostRuntime) -> Result<(), Fail> {
-    let alloc = rt.alloc();
-    let corners = box_corners(0, 2);
-    let solid = joined(alloc, (&corners, &BOX), (&corners, &PAIR))?;
-    let list = segments(alloc, &solid, 1)?;
-    assert_eq!(rt; list.len(), 10);
-    let found = loops(alloc, &solid, 1, list)?;
-    assert_eq!(rt; found.count(), 2);
-    assert!(rt; is_of_facets(found.get(0), &ROUND));
-    assert!(rt; is_of_facets(found.get(1), &[12, 13]));
-    assert!(rt; found.get(2).is_none());
+    let solid = box_and_pair(rt.alloc())?;
+    assert!(rt; are_loops(rt.alloc(), &solid, 1, &[&ROUND, &[12, 13]])?);
     Ok(())
 }
 
 #[test]
 fn loops_of_an_octahedron(rt: HostRuntime) -> Result<(), Fail> {
-    let alloc = rt.alloc();
-    let solid = joined(
-        alloc,
-        (&OCTAHEDRON_CORNERS, &OCTAHEDRON),
-        (&OCTAHEDRON_CORNERS, &[]),
-    )?;
-    let list = segments(alloc, &solid, 0)?;
-    let found = loops(alloc, &solid, 0, list)?;
-    assert_eq!(rt; found.count(), 1);
-    assert!(rt; is_of_facets(found.get(0), &[0, 1, 2, 3]));
-    let none = segments(alloc, &solid, 4)?;
-    assert!(rt; none.is_empty());
-    let empty = loops(alloc, &solid, 4, none)?;
-    assert_eq!(rt; empty.count(), 0);
+    let solid = octahedron(rt.alloc())?;
+    assert!(rt; are_loops(rt.alloc(), &solid, 0, &[&[0, 1, 2, 3]])?);
+    assert!(rt; are_loops(rt.alloc(), &solid, 4, &[])?);
     Ok(())
 }
 
@@ -162,16 +181,27 @@ fn count_by_linker<A: Allocator + Copy + Send + Sync>(
     Ok(found.count())
 }
 
+// How many loops planes have, by one linker.
+fn counts_by_linker(
+    alloc: Global,
+    solid: &Solid<Global>,
+    planes: [i64; 4],
+) -> Result<Vec<usize>, AllocError>
+    requires { All (IsAtMost 256200000) planes }
+{
+    let mut linker = Linker::new(alloc, solid)?;
+    let mut counts = Vec::new(alloc);
+    for z2 in planes {
+        counts.push(count_by_linker(alloc, &mut linker, solid, z2)?)?;
+    }
+    Ok(counts)
+}
+
 #[test]
 fn planes_of_one_linker(rt: HostRuntime) -> Result<(), Fail> {
-    let alloc = rt.alloc();
-    let (low, high) = (box_corners(0, 4), box_corners(2, 6));
-    let solid = joined(alloc, (&low, &BOX), (&high, &BOX))?;
-    let mut linker = Linker::new(alloc, &solid)?;
-    assert_eq!(rt; count_by_linker(alloc, &mut linker, &solid, 2)?, 1);
-    assert_eq!(rt; count_by_linker(alloc, &mut linker, &solid, 6)?, 2);
-    assert_eq!(rt; count_by_linker(alloc, &mut linker, &solid, 12)?, 0);
-    assert_eq!(rt; count_by_linker(alloc, &mut linker, &solid, 10)?, 1);
+    let solid = two_boxes(rt.alloc())?;
+    let counts = counts_by_linker(rt.alloc(), &solid, [2, 6, 12, 10])?;
+    assert_eq!(rt; counts.as_slice(), [1, 2, 0, 1].as_slice());
     Ok(())
 }
 
@@ -185,62 +215,66 @@ const BOTH: [u32; 16] = [4, 5, 6, 7, 8, 9, 10, 11, 16, 17, 18, 19, 20, 21, 22, 2
 fn rays_of_loops(
     alloc: Global,
     s: &Solid<Global>,
-    centre: &Centre,
+    [x2, y2, z2]: [i64; 3],
 ) -> Result<[Option<i32>; 2], AllocError> {
+    let centre = Centre::new(x2, y2, z2).ok_or(AllocError)?;
     let list = segments(alloc, s, centre.z2())?;
     let found = loops(alloc, s, centre.z2(), list)?;
     let mut rays = [None; 2];
     if let Some(first) = found.get(0) {
-        rays[0] = Some(loop_ray(s, first, centre));
+        rays[0] = Some(loop_ray(s, first, &centre));
     }
     if let Some(second) = found.get(1) {
-        rays[1] = Some(loop_ray(s, second, centre));
+        rays[1] = Some(loop_ray(s, second, &centre));
     }
     Ok(rays)
 }
 
 #[test]
 fn rays_through_loops(rt: HostRuntime) -> Result<(), Fail> {
-    let alloc = rt.alloc();
-    let (low, high) = (box_corners(0, 4), box_corners(2, 6));
-    let boxes = joined(alloc, (&low, &BOX), (&high, &BOX))?;
-    let both = Centre::new(6, 6, 6).ok_or("both")?;
-    assert_eq!(rt; rays_of_loops(alloc, &boxes, &both)?, [Some(1), Some(1)]);
-    let one = Centre::new(2, 2, 6).ok_or("one")?;
-    assert_eq!(rt; rays_of_loops(alloc, &boxes, &one)?, [Some(1), Some(0)]);
-    let corners = box_corners(0, 2);
-    let pair = joined(alloc, (&corners, &BOX), (&corners, &PAIR))?;
-    let middle = Centre::new(1, 1, 1).ok_or("middle")?;
-    assert_eq!(rt; rays_of_loops(alloc, &pair, &middle)?, [Some(1), Some(0)]);
+    let boxes = two_boxes(rt.alloc())?;
+    let both = rays_of_loops(rt.alloc(), &boxes, [6, 6, 6])?;
+    let one = rays_of_loops(rt.alloc(), &boxes, [2, 2, 6])?;
+    assert_eq!(rt; both, [Some(1), Some(1)]);
+    assert_eq!(rt; one, [Some(1), Some(0)]);
     Ok(())
 }
 
 #[test]
-fn plane_through_two_boxes(rt: HostRuntime) -> Result<(), Fail> {
-    let alloc = rt.alloc();
-    let (low, high) = (box_corners(0, 4), box_corners(2, 6));
-    let solid = joined(alloc, (&low, &BOX), (&high, &BOX))?;
-    let mut sweep = Sweep::start(alloc, &solid, 2)?;
-    assert_eq!(rt; (sweep.height(), sweep.passed()), (2, 10));
-    assert_eq!(rt; sweep.active(), LOW.as_slice());
+fn ray_through_a_pair(rt: HostRuntime) -> Result<(), Fail> {
+    let pair = box_and_pair(rt.alloc())?;
+    let middle = rays_of_loops(rt.alloc(), &pair, [1, 1, 1])?;
+    assert_eq!(rt; middle, [Some(1), Some(0)]);
+    Ok(())
+}
+
+// Whether a sweep stands at this height, has passed so many facets and cuts these.
+fn stands(sweep: &Sweep<'_, Global>, height: i64, passed: u32, active: &[u32]) -> bool {
+    sweep.height() == height && sweep.passed() == passed && sweep.active() == active
+}
+
+// Whether a sweep through the two boxes stands as it should at four heights.
+fn rises_through(alloc: Global, s: &Solid<Global>) -> Result<bool, AllocError> {
+    let mut sweep = Sweep::start(alloc, s, 2)?;
+    let mut is_so = stands(&sweep, 2, 10, &LOW);
     sweep.advance(6)?;
-    assert_eq!(rt; (sweep.height(), sweep.passed()), (6, 20));
-    assert_eq!(rt; sweep.active(), BOTH.as_slice());
-    let list = sweep.segments()?;
-    assert_eq!(rt; list.len(), 16);
+    is_so = is_so && stands(&sweep, 6, 20, &BOTH);
     sweep.advance(10)?;
-    assert_eq!(rt; sweep.passed(), 22);
-    assert_eq!(rt; sweep.active(), HIGH.as_slice());
+    is_so = is_so && stands(&sweep, 10, 22, &HIGH);
     sweep.advance(12)?;
-    assert_eq!(rt; sweep.passed(), 24);
-    assert!(rt; sweep.active().is_empty());
+    Ok(is_so && stands(&sweep, 12, 24, &[]))
+}
+
+#[test]
+fn plane_through_two_boxes(rt: HostRuntime) -> Result<(), Fail> {
+    let solid = two_boxes(rt.alloc())?;
+    assert!(rt; rises_through(rt.alloc(), &solid)?);
     Ok(())
 }
 
 // How many loops a box has at its middle, if no memory was refused.
 fn count_loops(memory: &ShortMemory<Global>) -> Result<usize, AllocError> {
-    let corners = box_corners(0, 2);
-    let solid = joined(memory, (&corners, &BOX), (&corners, &PAIR))?;
+    let solid = box_and_pair(memory)?;
     let list = segments(memory, &solid, 1)?;
     let found = loops(memory, &solid, 1, list)?;
     Ok(found.count())
@@ -265,8 +299,7 @@ fn each_growth_of_loops_refused(rt: HostRuntime) -> Result<(), Fail> {
 // Where the sweep stands after a rise, and how many segments it has there; if only the rise was
 // refused memory, it stands as before.
 fn rise(memory: &ShortMemory<Global>) -> Result<(i64, usize), AllocError> {
-    let (low, high) = (box_corners(0, 4), box_corners(2, 6));
-    let solid = joined(memory, (&low, &BOX), (&high, &BOX))?;
+    let solid = two_boxes(memory)?;
     let mut sweep = Sweep::start(memory, &solid, 2)?;
     let _refused = sweep.advance(6).is_err();
     let list = sweep.segments()?;

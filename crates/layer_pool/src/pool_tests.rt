@@ -83,15 +83,27 @@ fn is_tower<A: Allocator>(build: &Build<'_, A>) -> bool {
     build.layers().len() == TOWER as usize && build.total_area() == TOWER as u64
 }
 
+// Whether what so many workers build of the tower is the tower, and how many of its layers are late.
+fn built<A: Allocator + Copy + Send + Sync, R: Threads + Wait + Sync>(
+    rt: &R,
+    alloc: A,
+    job: &Job<A>,
+    workers: u32,
+) -> Result<(bool, u32), AllocError>
+    requires some { 1 ≤ workers }
+    requires few { workers ≤ 64 }
+{
+    let build = build(rt, alloc, job, workers, &OpenGate)?;
+    Ok((is_tower(&build), build.late()))
+}
+
 #[test]
 fn any_number_of_workers(rt: HostRuntime) -> Result<(), Fail> {
-    let alloc = rt.alloc();
-    let job = box_job(alloc, 1, TOWER)?;
+    let job = box_job(rt.alloc(), 1, TOWER)?;
     assert_eq!(rt; job.stripes(), 3);
     for workers in [1, 2, 64] {
-        let build = build(&rt, alloc, &job, workers, &OpenGate)?;
-        assert!(rt; is_tower(&build));
-        assert_eq!(rt; build.late(), 0);
+        let found = built(&rt, rt.alloc(), &job, workers)?;
+        assert_eq!(rt; found, (true, 0));
     }
     Ok(())
 }
@@ -193,8 +205,7 @@ fn build_tower<R: Threads + Wait + Sync>(
     requires few { workers ≤ 64 }
 {
     let job = box_job(memory, 1, TOWER)?;
-    let build = build(rt, memory, &job, workers, &OpenGate)?;
-    Ok((is_tower(&build), build.late()))
+    built(rt, memory, &job, workers)
 }
 
 // More growths than the job and the build of the tower ask for.
@@ -256,27 +267,43 @@ fn file<'m, R: Wait>(
     }
 }
 
+// What came of filing a stripe, and what the book shows then.
+type Filed = (
+    Option<(FileFault, u64)>,
+    (u32, u64, Option<u64>, Option<u64>),
+);
+
+// Files stripes of the job in turn under the lock, and one of another job last.
+fn filed_in_turn<'m, R: Wait>(
+    rt: &R,
+    alloc: Global,
+    book: &Mutex<Book<'m, Global>>,
+    job: &'m Job<Global>,
+    other: &'m Job<Global>,
+) -> Result<Vec<Filed>, AllocError> {
+    let mut seen = Vec::new(alloc);
+    for (from, stripe) in [(job, 1), (job, 1), (job, 2), (other, 0)] {
+        let fault = file(rt, alloc, book, from, stripe)?;
+        seen.push((fault, shown(&book.lock(rt))))?;
+    }
+    Ok(seen)
+}
+
 #[test]
 fn a_book_between_locks(rt: HostRuntime) -> Result<(), Fail> {
-    let alloc = rt.alloc();
-    let job = box_job(alloc, 1, TOWER)?;
-    let other = box_job(alloc, 2, 2)?;
-    let book = Mutex::new(Book::open(alloc, &job)?);
-    let one_stripe = (8, 8, Some(1), None);
-    assert_eq!(rt; file(&rt, alloc, &book, &job, 1)?, None);
-    assert_eq!(rt; shown(&book.lock(&rt)), one_stripe);
+    let job = box_job(rt.alloc(), 1, TOWER)?;
+    let other = box_job(rt.alloc(), 2, 2)?;
+    let book = Mutex::new(Book::open(rt.alloc(), &job)?);
+    let seen = filed_in_turn(&rt, rt.alloc(), &book, &job, &other)?;
     let double = FileFault::Double { layer: 8 };
-    assert_eq!(rt; file(&rt, alloc, &book, &job, 1)?, Some((double, 1)));
-    assert_eq!(rt; shown(&book.lock(&rt)), one_stripe);
-    assert_eq!(rt; file(&rt, alloc, &book, &job, 2)?, None);
-    assert_eq!(rt; shown(&book.lock(&rt)), (9, 9, Some(1), None));
-    assert_eq!(rt;
-        file(&rt, alloc, &book, &other, 0)?,
-        Some((FileFault::Stranger, 0))
-    );
-    assert_eq!(rt; shown(&book.lock(&rt)), (9, 9, Some(1), None));
+    let turns = [
+        (None, (8, 8, Some(1), None)),
+        (Some((double, 1)), (8, 8, Some(1), None)),
+        (None, (9, 9, Some(1), None)),
+        (Some((FileFault::Stranger, 0)), (9, 9, Some(1), None)),
+    ];
+    assert_eq!(rt; seen.as_slice(), turns.as_slice());
     let build = book.into_inner().finish(&job)?;
-    assert!(rt; is_tower(&build));
-    assert_eq!(rt; build.late(), 8);
+    assert_eq!(rt; (is_tower(&build), build.late()), (true, 8));
     Ok(())
 }

@@ -1,5 +1,5 @@
 //! What no clause says: the order of the draws, threads that really run, and memory that is refused.
-ghost use Rattle.std.specs.Prelude.{◌≡◌, ◌<◌, length, All, IfOk};
+ghost use Rattle.std.specs.Prelude.{All, IfOk};
 ghost use Rattle.layer_pool.specs.Passes.{IsOwned};
 
 use crate::{Claims, Pass};
@@ -10,35 +10,49 @@ use std::thread;
 use std::thread::Threads;
 
 fn draw_at(claims: &Claims<Global>, passes: &mut Vec<Pass>, k: usize) -> Option<u64>
-    requires owned { All (IsOwned claims.now) passes.old.items }
-    requires there { k < length passes.old.items }
-    ensures owned { All (IsOwned claims.now) passes.new.items }
-    ensures count { length passes.new.items ≡ length passes.old.items }
+    requires { All (IsOwned claims.now) passes.old.items }
+    ensures { All (IsOwned claims.now) passes.new.items }
 {
-    claims.draw(&mut passes[k])
+    if k < passes.len() {
+        claims.draw(&mut passes[k])
+    } else {
+        None
+    }
+}
+
+// What three passes draw, one after the other.
+fn draw_three(
+    claims: &Claims<Global>,
+    passes: &mut Vec<Pass>,
+    order: [usize; 3],
+) -> [Option<u64>; 3]
+    requires { All (IsOwned claims.now) passes.old.items }
+    ensures { All (IsOwned claims.now) passes.new.items }
+{
+    let [a, b, c] = order;
+    let first = draw_at(claims, passes, a);
+    let second = draw_at(claims, passes, b);
+    let third = draw_at(claims, passes, c);
+    [first, second, third]
 }
 
 #[test]
 fn two_passes_draw_three(rt: HostRuntime) -> Result<(), Fail> {
     let (claims, mut passes) = Claims::open(rt.alloc(), 3, 2)?;
-    let (a, b) = (0, 1);
-    assert_eq!(rt; draw_at(&claims, &mut passes, a), Some(0));
-    assert_eq!(rt; draw_at(&claims, &mut passes, b), Some(1));
-    assert_eq!(rt; draw_at(&claims, &mut passes, a), Some(2));
-    assert_eq!(rt; draw_at(&claims, &mut passes, b), None);
-    assert_eq!(rt; draw_at(&claims, &mut passes, a), None);
-    assert_eq!(rt; draw_at(&claims, &mut passes, b), None);
+    let drawn = draw_three(&claims, &mut passes, [0, 1, 0]);
+    let behind = draw_three(&claims, &mut passes, [1, 0, 1]);
     assert_eq!(rt; claims.close(passes), 5);
+    assert_eq!(rt; drawn, [Some(0), Some(1), Some(2)]);
+    assert_eq!(rt; behind, [None, None, None]);
     Ok(())
 }
 
 #[test]
 fn no_stripes(rt: HostRuntime) -> Result<(), Fail> {
     let (claims, mut passes) = Claims::open(rt.alloc(), 0, 2)?;
-    assert_eq!(rt; draw_at(&claims, &mut passes, 1), None);
-    assert_eq!(rt; draw_at(&claims, &mut passes, 0), None);
-    assert_eq!(rt; draw_at(&claims, &mut passes, 1), None);
+    let drawn = draw_three(&claims, &mut passes, [1, 0, 1]);
     assert_eq!(rt; claims.close(passes), 2);
+    assert_eq!(rt; drawn, [None, None, None]);
     Ok(())
 }
 
