@@ -25,6 +25,3 @@ pub use running::run;
 pub use task::{Given, Task};
 pub use word_faults::{Wanted, WordFault};
 pub use words::read_words;
-
-#[cfg(test)]
-mod tests;

@@ -1,6 +1,9 @@
 //! The program `stlslice`: slices the mesh on standard input, and writes to standard output.
 #![tactic(auto)]
 
+#[cfg(test)]
+mod tests;
+
 use std::env::{self, Env};
 use std::fmt::Display;
 use std::io::{self, ErrorKind};

@@ -1,5 +1,5 @@
 use super::meshes::{CUBE, FLAT, PAIR, SHEET, joined_text, point, text_of};
-use crate::{RunFault, load};
+use stlslice::{RunFault, load};
 use micro_num::Unit;
 use short_memory::ShortMemory;
 use std::test::Fail;

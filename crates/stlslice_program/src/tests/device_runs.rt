@@ -1,7 +1,7 @@
 use super::answers::task_of;
 use super::devices::{OneByteReader, SmallWriter};
 use super::meshes::{CUBE, text_of};
-use crate::{Counted, Failures, RunFault, Task, run};
+use stlslice::{Counted, Failures, RunFault, Task, run};
 use std::io::ErrorKind;
 use std::sync::Wait;
 use std::test::Fail;

@@ -1,7 +1,7 @@
 ghost use Rattle.std.specs.Prelude.{IfOk};
 ghost use Rattle.stlslice.specs.Running.{IsInRange};
 
-use crate::{Counted, Task, WordFault, read_words, run};
+use stlslice::{Counted, Task, WordFault, read_words, run};
 use std::alloc::{AllocError, Global};
 use std::sync::Wait;
 use std::test::Fail;

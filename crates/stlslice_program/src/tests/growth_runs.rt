@@ -1,6 +1,6 @@
 use super::answers::task_of;
 use super::meshes::{CUBE, point, text_of};
-use crate::{Counted, RunFault, run};
+use stlslice::{Counted, RunFault, run};
 use short_memory::ShortMemory;
 use std::alloc::Global;
 use std::sync::Wait;

@@ -1,4 +1,4 @@
-use crate::RunFault;
+use stlslice::RunFault;
 use micro_num::NumFault;
 use raster::GridFault;
 use std::test::Fail;

@@ -1,5 +1,5 @@
 use super::answers::task_of;
-use crate::{Given, Task, WordFault};
+use stlslice::{Given, Task, WordFault};
 use micro_num::Unit;
 use raster::Rule;
 use std::test::Fail;
