@@ -1,11 +1,11 @@
 ghost use Rattle.std.specs.Prelude.{IfOk};
 ghost use Rattle.stlslice.specs.Running.{IsInRange};
 
-use stlslice::{Counted, Task, WordFault, read_words, run};
 use std::alloc::{AllocError, Global};
 use std::sync::Wait;
 use std::test::Fail;
 use std::thread::Threads;
+use stlslice::{Counted, Task, WordFault, read_words, run};
 
 /// The words of a line, which are parted by blanks.
 fn split(alloc: Global, line: &str) -> Result<Vec<String>, AllocError> {

@@ -1,11 +1,11 @@
 use super::answers::task_of;
 use super::devices::{OneByteReader, SmallWriter};
 use super::meshes::{CUBE, text_of};
-use stlslice::{Counted, Failures, RunFault, Task, run};
 use std::io::ErrorKind;
 use std::sync::Wait;
 use std::test::Fail;
 use std::thread::Threads;
+use stlslice::{Counted, Failures, RunFault, Task, run};
 
 /// The text of each kind of task for the cube.
 static TEXTS: [(&str, &[u8]); 4] = [

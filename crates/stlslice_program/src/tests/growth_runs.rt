@@ -1,11 +1,11 @@
 use super::answers::task_of;
 use super::meshes::{CUBE, point, text_of};
-use stlslice::{Counted, RunFault, run};
 use short_memory::ShortMemory;
 use std::alloc::Global;
 use std::sync::Wait;
 use std::test::Fail;
 use std::thread::Threads;
+use stlslice::{Counted, RunFault, run};
 
 /// What a run by a line of words ends with in this memory, and what it has written then.
 fn run_in<R: Threads + Wait + Sync + AllocGlobal>(

@@ -1,8 +1,8 @@
-use stlslice::RunFault;
 use micro_num::NumFault;
 use raster::GridFault;
 use std::test::Fail;
 use stl_text::{Point, StlFault, Word};
+use stlslice::RunFault;
 
 #[test]
 fn faults_have_a_line_and_a_status(rt: HostRuntime) -> Result<(), Fail> {

@@ -1,9 +1,9 @@
 use super::meshes::{CUBE, FLAT, PAIR, SHEET, joined_text, point, text_of};
-use stlslice::{RunFault, load};
 use micro_num::Unit;
 use short_memory::ShortMemory;
 use std::test::Fail;
 use stl_text::{StlFault, Word};
+use stlslice::{RunFault, load};
 
 #[test]
 fn solids_of_texts(rt: HostRuntime) -> Result<(), Fail> {

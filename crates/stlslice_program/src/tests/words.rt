@@ -1,9 +1,9 @@
 use super::answers::task_of;
-use stlslice::{Given, Task, WordFault};
 use micro_num::Unit;
 use raster::Rule;
 use std::test::Fail;
 use stl_text::Point;
+use stlslice::{Given, Task, WordFault};
 
 #[test]
 fn words_are_tasks(rt: HostRuntime) -> Result<(), Fail> {
