@@ -1,6 +1,7 @@
 ghost use Rattle.std.specs.Prelude.{IfOk};
 ghost use Rattle.stlslice.specs.Running.{IsInRange};
 
+use super::meshes::{Mesh, mesh_text};
 use std::alloc::{AllocError, Global};
 use std::sync::Wait;
 use std::test::Fail;
@@ -52,4 +53,39 @@ pub(crate) fn refusal<R: Threads + Wait + Sync + AllocGlobal>(
         }
         _ => Err(Fail::new("no fault, or one after some output")),
     }
+}
+
+/// A line of words, a mesh, and what the program writes by them.
+pub(crate) type Told<'a> = (&'a str, Mesh<'a>, &'a str);
+
+/// The number of the first row of which the program writes anything else.
+pub(crate) fn first_told_otherwise<R: Threads + Wait + Sync + AllocGlobal>(
+    rt: &R,
+    rows: &[Told<'_>],
+) -> Result<Option<usize>, Fail> {
+    for (n, (line, mesh, told)) in rows.iter().enumerate() {
+        let input = mesh_text(rt.alloc(), *mesh)?;
+        if written(rt, line, input.as_str())?.as_slice() != told.as_bytes() {
+            return Ok(Some(n));
+        }
+    }
+    Ok(None)
+}
+
+/// A line of words, a mesh, and the status and the line of the fault that the program ends with by them.
+pub(crate) type Refused<'a> = (&'a str, Mesh<'a>, u8, &'a str);
+
+/// The number of the first row of which the program ends otherwise.
+pub(crate) fn first_refused_otherwise<R: Threads + Wait + Sync + AllocGlobal>(
+    rt: &R,
+    rows: &[Refused<'_>],
+) -> Result<Option<usize>, Fail> {
+    for (n, (line, mesh, status, told)) in rows.iter().enumerate() {
+        let input = mesh_text(rt.alloc(), *mesh)?;
+        let (found, fault) = refusal(rt, line, input.as_str())?;
+        if found != *status || fault.as_str() != *told {
+            return Ok(Some(n));
+        }
+    }
+    Ok(None)
 }

@@ -1,85 +1,84 @@
-use super::answers::{refusal, written};
-use super::meshes::{CUBE, FLAT, boxes_text, joined_text, text_of};
+use super::answers::{Told, first_told_otherwise, refusal};
+use super::meshes::Mesh::{Boxes, Facets, Joined, Text};
+use super::meshes::{CUBE, FLAT, OPEN, text_of};
+use std::sync::Wait;
 use std::test::Fail;
+use std::thread::Threads;
+
+static BOXES: [Told; 7] = [
+    ("--box", Facets(CUBE), "facets 12 box 0 0 0 2 2 2\n"),
+    ("--box", Facets(OPEN), "facets 11 box 0 0 0 2 2 2\n"),
+    ("--box", Facets(FLAT), "facets 1 box 0 0 0 2 0 0\n"),
+    ("--box", Joined(CUBE, FLAT), "facets 13 box 0 0 0 2 2 2\n"),
+    (
+        "--box",
+        Boxes(&[[[-128_000_000, -3, 0], [-1, 5, 128_000_000]]]),
+        "facets 12 box -128000000 -3 0 -1 5 128000000\n",
+    ),
+    ("--box", Text("solid facet normal\nENDSOLID"), "facets 0\n"),
+    (
+        "--box --unit inch",
+        Facets(CUBE),
+        "facets 12 box 0 0 0 51 51 51\n",
+    ),
+];
 
 #[test]
 fn boxes(rt: HostRuntime) -> Result<(), Fail> {
-    let cube = text_of(rt.alloc(), &CUBE)?;
-    let open = text_of(rt.alloc(), &CUBE[1..])?;
-    let flat = text_of(rt.alloc(), &FLAT)?;
-    let cube_and_flat = joined_text(rt.alloc(), &CUBE, &FLAT)?;
-    let low = boxes_text(rt.alloc(), &[[[-128_000_000, -3, 0], [-1, 5, 128_000_000]]])?;
-    let rows = [
-        ("--box", cube.as_str(), "facets 12 box 0 0 0 2 2 2\n"),
-        ("--box", open.as_str(), "facets 11 box 0 0 0 2 2 2\n"),
-        ("--box", flat.as_str(), "facets 1 box 0 0 0 2 0 0\n"),
-        (
-            "--box",
-            cube_and_flat.as_str(),
-            "facets 13 box 0 0 0 2 2 2\n",
-        ),
-        (
-            "--box",
-            low.as_str(),
-            "facets 12 box -128000000 -3 0 -1 5 128000000\n",
-        ),
-        ("--box", "solid facet normal\nENDSOLID", "facets 0\n"),
-        (
-            "--box --unit inch",
-            cube.as_str(),
-            "facets 12 box 0 0 0 51 51 51\n",
-        ),
-    ];
-    assert_eq!(rt; cube.len(), 1483);
-    for (line, input, told) in rows {
-        assert_eq!(rt; written(&rt, line, input)?.as_slice(), told.as_bytes());
-    }
+    assert_eq!(rt; text_of(rt.alloc(), CUBE)?.len(), 1483);
+    assert_eq!(rt; first_told_otherwise(&rt, &BOXES)?, None);
     Ok(())
 }
 
-/// A text up to a word, with it.
-fn text_through<'a>(text: &'a str, word: &str) -> Result<&'a str, Fail> {
-    match text.find(word) {
-        Some(at) => Ok(text.get(..at + word.len()).ok_or("a word")?),
-        None => Err(Fail::new("no such word")),
+/// Texts that are misread, and the lines of their faults.
+static MISREAD: [(&str, &str); 6] = [
+    ("", "stlslice: input ended before solid"),
+    ("solid", "stlslice: input ended before facet or endsolid"),
+    (
+        "solid t\nfacet normal 0 0 0\nouter loop\nvertex 0 0 0\nvertex 0 2 0\nvertex 2 2 0\nendloop",
+        "stlslice: input ended before endfacet",
+    ),
+    (
+        "solid\nfacet normal 0 0 1\nouter lop",
+        "stlslice: expected loop at byte 31",
+    ),
+    (
+        "solid\nfacet normal 0 0 1\nouter loop\nvertex 1 x 3",
+        "stlslice: number at byte 45: not a number",
+    ),
+    (
+        "solid\nfacet normal 0 0 1\nouter loop\nvertex 1 128.0000005e3 3",
+        "stlslice: number at byte 45: out of range",
+    ),
+];
+
+/// The words of each task, and of slices in a grid with no cells.
+static TASKS: [&str; 4] = [
+    "--box",
+    "--pitch 1 --layer 1",
+    "--pitch 1 --layer 1 --report --grid 0,1,1,0,0,0",
+    "--pitch 1 --layer 1 --probe 2,0,0",
+];
+
+/// Whether each task ends with this line and status 3 for a text.
+fn is_misread<R: Threads + Wait + Sync + AllocGlobal>(
+    rt: &R,
+    input: &str,
+    told: &str,
+) -> Result<bool, Fail> {
+    for line in &TASKS {
+        let (status, fault) = refusal(rt, line, input)?;
+        if status != 3 || fault.as_str() != told {
+            return Ok(false);
+        }
     }
+    Ok(true)
 }
 
 #[test]
 fn misread_texts_by_each_task(rt: HostRuntime) -> Result<(), Fail> {
-    let cube = text_of(rt.alloc(), &CUBE)?;
-    let rows = [
-        ("", "stlslice: input ended before solid"),
-        ("solid", "stlslice: input ended before facet or endsolid"),
-        (
-            text_through(cube.as_str(), "endloop")?,
-            "stlslice: input ended before endfacet",
-        ),
-        (
-            "solid\nfacet normal 0 0 1\nouter lop",
-            "stlslice: expected loop at byte 31",
-        ),
-        (
-            "solid\nfacet normal 0 0 1\nouter loop\nvertex 1 x 3",
-            "stlslice: number at byte 45: not a number",
-        ),
-        (
-            "solid\nfacet normal 0 0 1\nouter loop\nvertex 1 128.0000005e3 3",
-            "stlslice: number at byte 45: out of range",
-        ),
-    ];
-    let lines = [
-        "--box",
-        "--pitch 1 --layer 1",
-        "--pitch 1 --layer 1 --report --grid 0,1,1,0,0,0",
-        "--pitch 1 --layer 1 --probe 2,0,0",
-    ];
-    for (input, told) in rows {
-        for line in lines {
-            let (status, fault) = refusal(&rt, line, input)?;
-            assert_eq!(rt; fault.as_str(), told);
-            assert_eq!(rt; status, 3);
-        }
+    for (input, told) in MISREAD {
+        assert!(rt; is_misread(&rt, input, told)?, "{told}");
     }
     Ok(())
 }

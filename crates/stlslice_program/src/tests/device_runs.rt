@@ -28,7 +28,7 @@ fn run_into<R: Threads + Wait + Sync + AllocGlobal>(
     writer: &mut SmallWriter,
 ) -> Result<(Result<(), RunFault>, u64), Fail> {
     let task = task_of(rt.alloc(), line)?;
-    let cube = text_of(rt.alloc(), &CUBE)?;
+    let cube = text_of(rt.alloc(), CUBE)?;
     let mut source = Counted::new(cube.as_bytes());
     let mut sink = Counted::new(writer);
     let outcome = run(rt, rt.alloc(), &task, &mut source, &mut sink);
@@ -99,7 +99,7 @@ fn run_over<R: Threads + Wait + Sync + AllocGlobal>(
 
 #[test]
 fn readers_that_fail(rt: HostRuntime) -> Result<(), Fail> {
-    let cube = text_of(rt.alloc(), &CUBE)?;
+    let cube = text_of(rt.alloc(), CUBE)?;
     for (line, text) in TEXTS {
         for calls in 0..=1484 {
             let reader = OneByteReader {

@@ -1,5 +1,5 @@
 use super::answers::task_of;
-use super::meshes::{CUBE, point, text_of};
+use super::meshes::{CUBE, OPEN, point, text_of};
 use short_memory::ShortMemory;
 use std::alloc::Global;
 use std::sync::Wait;
@@ -46,8 +46,8 @@ fn first_free_turn<R: Threads + Wait + Sync + AllocGlobal>(
 
 #[test]
 fn each_growth_refused_in_turn(rt: HostRuntime) -> Result<(), Fail> {
-    let cube = text_of(rt.alloc(), &CUBE)?;
-    let open = text_of(rt.alloc(), &CUBE[1..])?;
+    let cube = text_of(rt.alloc(), CUBE)?;
+    let open = text_of(rt.alloc(), OPEN)?;
     let images: &[u8] = b"P4\n2 2\n\xc0\xc0P4\n2 2\n\xc0\xc0";
     let gap = RunFault::Open {
         from: point([0, 0, 0])?,

@@ -1,15 +1,19 @@
 use micro_num::NumFault;
 use raster::GridFault;
+use std::alloc::{AllocError, Global};
 use std::test::Fail;
 use stl_text::{Point, StlFault, Word};
 use stlslice::RunFault;
 
+/// Whether a fault has this status and this line.
+fn is_told(alloc: Global, fault: &RunFault, status: u8, line: &str) -> Result<bool, AllocError> {
+    let shown = fault.to_string(alloc)?;
+    Ok(fault.status() == status && shown.as_str() == line)
+}
+
 #[test]
-fn faults_have_a_line_and_a_status(rt: HostRuntime) -> Result<(), Fail> {
-    let origin = Point::new(0, 0, 0).ok_or("a point")?;
-    let beside = Point::new(0, 2, -1).ok_or("a point")?;
+fn faults_of_texts(rt: HostRuntime) -> Result<(), Fail> {
     let rows = [
-        (RunFault::Read, 7, "stlslice: read failed"),
         (
             RunFault::Stl(StlFault::Expected {
                 word: Word::Loop,
@@ -54,16 +58,16 @@ fn faults_have_a_line_and_a_status(rt: HostRuntime) -> Result<(), Fail> {
             3,
             "stlslice: too many facets at byte 252",
         ),
-        (
-            RunFault::Open {
-                from: origin,
-                to: beside,
-                there: 0,
-                back: 1,
-            },
-            4,
-            "stlslice: open edge 0 0 0 to 0 2 -1 there 0 back 1",
-        ),
+    ];
+    for (fault, status, line) in rows {
+        assert!(rt; is_told(rt.alloc(), &fault, status, line)?, "{line}");
+    }
+    Ok(())
+}
+
+#[test]
+fn faults_of_grids(rt: HostRuntime) -> Result<(), Fail> {
+    let rows = [
         (
             RunFault::Grid(GridFault::EmptyMesh),
             5,
@@ -97,6 +101,17 @@ fn faults_have_a_line_and_a_status(rt: HostRuntime) -> Result<(), Fail> {
             5,
             "stlslice: voxel outside the grid: 2 columns, 2 rows, 2 layers",
         ),
+    ];
+    for (fault, status, line) in rows {
+        assert!(rt; is_told(rt.alloc(), &fault, status, line)?, "{line}");
+    }
+    Ok(())
+}
+
+#[test]
+fn faults_of_devices_and_memory(rt: HostRuntime) -> Result<(), Fail> {
+    let rows = [
+        (RunFault::Read, 7, "stlslice: read failed"),
         (RunFault::Memory, 6, "stlslice: out of memory"),
         (
             RunFault::Write { written: 5 },
@@ -105,9 +120,20 @@ fn faults_have_a_line_and_a_status(rt: HostRuntime) -> Result<(), Fail> {
         ),
     ];
     for (fault, status, line) in rows {
-        assert_eq!(rt; fault.status(), status, "{line}");
-        let shown = fault.to_string(rt.alloc())?;
-        assert_eq!(rt; shown.as_str(), line);
+        assert!(rt; is_told(rt.alloc(), &fault, status, line)?, "{line}");
     }
+    Ok(())
+}
+
+#[test]
+fn faults_of_open_edges(rt: HostRuntime) -> Result<(), Fail> {
+    let open = RunFault::Open {
+        from: Point::new(0, 0, 0).ok_or("a point")?,
+        to: Point::new(0, 2, -1).ok_or("a point")?,
+        there: 0,
+        back: 1,
+    };
+    let line = "stlslice: open edge 0 0 0 to 0 2 -1 there 0 back 1";
+    assert!(rt; is_told(rt.alloc(), &open, 4, line)?);
     Ok(())
 }

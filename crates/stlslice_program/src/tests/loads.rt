@@ -1,4 +1,4 @@
-use super::meshes::{CUBE, FLAT, PAIR, SHEET, joined_text, point, text_of};
+use super::meshes::{CUBE, FLAT, OPEN, PAIR, SHEET, joined_text, point, text_of};
 use micro_num::Unit;
 use short_memory::ShortMemory;
 use std::test::Fail;
@@ -8,10 +8,10 @@ use stlslice::{RunFault, load};
 #[test]
 fn solids_of_texts(rt: HostRuntime) -> Result<(), Fail> {
     let rows = [
-        (joined_text(rt.alloc(), &CUBE, &[])?, 12, 0, 2),
-        (joined_text(rt.alloc(), &CUBE, &PAIR)?, 14, 0, 2),
-        (joined_text(rt.alloc(), &CUBE, &FLAT)?, 12, 1, 2),
-        (joined_text(rt.alloc(), &SHEET, &[])?, 2, 0, 0),
+        (text_of(rt.alloc(), CUBE)?, 12, 0, 2),
+        (joined_text(rt.alloc(), CUBE, PAIR)?, 14, 0, 2),
+        (joined_text(rt.alloc(), CUBE, FLAT)?, 12, 1, 2),
+        (text_of(rt.alloc(), SHEET)?, 2, 0, 0),
     ];
     for (text, kept, dropped, top) in rows {
         match load(rt.alloc(), text.as_bytes(), Unit::Millimetre) {
@@ -30,7 +30,7 @@ fn solids_of_texts(rt: HostRuntime) -> Result<(), Fail> {
 
 #[test]
 fn texts_of_no_solid(rt: HostRuntime) -> Result<(), Fail> {
-    let open = text_of(rt.alloc(), &CUBE[1..])?;
+    let open = text_of(rt.alloc(), OPEN)?;
     let fault = RunFault::Open {
         from: point([0, 0, 0])?,
         to: point([0, 2, 0])?,
@@ -44,7 +44,7 @@ fn texts_of_no_solid(rt: HostRuntime) -> Result<(), Fail> {
     let cut = RunFault::Stl(StlFault::Ended {
         word: Word::EndFacet,
     });
-    let text = text_of(rt.alloc(), &CUBE)?;
+    let text = text_of(rt.alloc(), CUBE)?;
     let front = match text.split_once("endfacet") {
         Some((front, _)) => front.as_bytes(),
         None => return Err(Fail::new("no facet")),
@@ -55,7 +55,7 @@ fn texts_of_no_solid(rt: HostRuntime) -> Result<(), Fail> {
 
 #[test]
 fn each_growth_of_a_load_refused(rt: HostRuntime) -> Result<(), Fail> {
-    let text = joined_text(rt.alloc(), &CUBE, &FLAT)?;
+    let text = joined_text(rt.alloc(), CUBE, FLAT)?;
     for turn in 1..1000 {
         let memory = ShortMemory::new(rt.alloc(), turn);
         match load(&memory, text.as_bytes(), Unit::Millimetre) {

@@ -2,59 +2,64 @@ use std::alloc::{AllocError, Global};
 use std::test::Fail;
 use stl_text::Point;
 
+/// A mesh, as the tables of the tests name it.
+#[derive(Clone, Copy)]
+pub(crate) enum Mesh<'a> {
+    /// A text of its own.
+    Text(&'a str),
+    /// The facets of a table.
+    Facets(&'a str),
+    /// The facets of two tables.
+    Joined(&'a str, &'a str),
+    /// Boxes, one after the other.
+    Boxes(&'a [Corners]),
+    /// A box, and one whose facets are inward.
+    Hollow(Corners, Corners),
+}
+
+/// The ASCII STL text of a mesh.
+pub(crate) fn mesh_text(alloc: Global, mesh: Mesh<'_>) -> Result<String, AllocError> {
+    match mesh {
+        Mesh::Text(text) => String::from_str(alloc, text),
+        Mesh::Facets(facets) => text_of(alloc, facets),
+        Mesh::Joined(first, second) => joined_text(alloc, first, second),
+        Mesh::Boxes(boxes) => boxes_text(alloc, boxes),
+        Mesh::Hollow(outward, inward) => hollow_text(alloc, &outward, &inward),
+    }
+}
+
 /// The facets of the cube from (0, 0, 0) to (2, 2, 2) in micrometres, outward. A facet is its corners, and a corner
 /// three digits: whether x, y and z are 2.
-pub(crate) static CUBE: [&str; 12] = [
-    "000010110",
-    "000110100",
-    "001101111",
-    "001111011",
-    "000100101",
-    "000101001",
-    "010011111",
-    "010111110",
-    "000001011",
-    "000011010",
-    "100110111",
-    "100111101",
-];
+pub(crate) const CUBE: &str = "000010110 000110100 001101111 001111011 \
+    000100101 000101001 010011111 010111110 \
+    000001011 000011010 100110111 100111101";
 
-/// The same facets inward: each with its last two corners exchanged.
-pub(crate) static INWARD: [&str; 12] = [
-    "000110010",
-    "000100110",
-    "001111101",
-    "001011111",
-    "000101100",
-    "000001101",
-    "010111011",
-    "010110111",
-    "000011001",
-    "000010011",
-    "100111110",
-    "100101111",
-];
+/// The cube without its first facet.
+pub(crate) const OPEN: &str = "000110100 001101111 001111011 000100101 \
+    000101001 010011111 010111110 000001011 \
+    000011010 100110111 100111101";
+
+/// The cube's facets inward: each with its last two corners exchanged.
+pub(crate) const INWARD: &str = "000110010 000100110 001111101 001011111 \
+    000101100 000001101 010111011 010110111 \
+    000011001 000010011 100111110 100101111";
 
 /// A facet of the cube once more, and its inward one.
-pub(crate) static PAIR: [&str; 2] = ["100110111", "100111110"];
+pub(crate) const PAIR: &str = "100110111 100111110";
 
 /// A facet with two equal corners.
-pub(crate) static FLAT: [&str; 1] = ["000000100"];
+pub(crate) const FLAT: &str = "000000100";
 
 /// Two facets back to back, below the cube.
-pub(crate) static SHEET: [&str; 2] = ["000100010", "000010100"];
+pub(crate) const SHEET: &str = "000100010 000010100";
 
 /// An ASCII STL text of such facets, in millimetres with three decimals.
-pub(crate) fn text_of(alloc: Global, facets: &[&str]) -> Result<String, AllocError> {
-    joined_text(alloc, facets, &[])
+pub(crate) fn text_of(alloc: Global, facets: &str) -> Result<String, AllocError> {
+    joined_text(alloc, facets, "")
 }
 
 /// Such a text of the facets of two tables.
-pub(crate) fn joined_text(
-    alloc: Global,
-    first: &[&str],
-    second: &[&str],
-) -> Result<String, AllocError> {
+pub(crate) fn joined_text(alloc: Global, first: &str, second: &str) -> Result<String, AllocError> {
     let mut text = String::from_str(alloc, "solid t\n")?;
     push_facets(&mut text, first)?;
     push_facets(&mut text, second)?;
@@ -62,8 +67,8 @@ pub(crate) fn joined_text(
     Ok(text)
 }
 
-fn push_facets(text: &mut String, facets: &[&str]) -> Result<(), AllocError> {
-    for facet in facets {
+fn push_facets(text: &mut String, facets: &str) -> Result<(), AllocError> {
+    for facet in facets.split_whitespace() {
         text.push_str("facet normal 0 0 0\nouter loop\n")?;
         push_corners(text, facet)?;
         text.push_str("endloop\nendfacet\n")?;
@@ -104,7 +109,7 @@ pub(crate) type Corners = [[i32; 3]; 2];
 pub(crate) fn boxes_text(alloc: Global, boxes: &[Corners]) -> Result<String, AllocError> {
     let mut text = String::from_str(alloc, "solid b\n")?;
     for corners in boxes {
-        push_box(&mut text, corners, &CUBE)?;
+        push_box(&mut text, corners, CUBE)?;
     }
     text.push_str("endsolid b\n")?;
     Ok(text)
@@ -117,8 +122,8 @@ pub(crate) fn hollow_text(
     inward: &Corners,
 ) -> Result<String, AllocError> {
     let mut text = String::from_str(alloc, "solid h\n")?;
-    push_box(&mut text, outward, &CUBE)?;
-    push_box(&mut text, inward, &INWARD)?;
+    push_box(&mut text, outward, CUBE)?;
+    push_box(&mut text, inward, INWARD)?;
     text.push_str("endsolid h\n")?;
     Ok(text)
 }
@@ -147,8 +152,8 @@ fn push_loud(text: &mut String, line: &str) -> Result<(), AllocError> {
     text.push_str("\r\n")
 }
 
-fn push_box(text: &mut String, corners: &Corners, facets: &[&str]) -> Result<(), AllocError> {
-    for facet in facets {
+fn push_box(text: &mut String, corners: &Corners, facets: &str) -> Result<(), AllocError> {
+    for facet in facets.split_whitespace() {
         text.push_str("facet normal 0 0 0\nouter loop\n")?;
         push_box_corners(text, corners, facet)?;
         text.push_str("endloop\nendfacet\n")?;
