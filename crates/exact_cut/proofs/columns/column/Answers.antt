@@ -1,11 +1,28 @@
 use Rattle.std.proofs.Common.{rules, ◌≡◌, pos, ◌*ℤ◌, [], ◌∷◌, FitsSigned, to_z, refl, subst, sym, arith}
 use Rattle.std.proofs.lemmas.Int.{to_z_pos, to_z-of_z}
 use mir.Syntax.{w128}
-use Rattle.micro_num.proofs.Sizes.{sizes, cast_in}
+use Rattle.micro_num.proofs.Sizes.{sizes, fits, cast_in}
 use Rattle.micro_num.proofs.Identity.{reads, identity}
 use Rattle.exact_cut.specs.Columns.{IsLeastColumn, clamp}
 use Rattle.exact_cut.proofs.Least.{ceiling_by, ceiling_step, positive_by, unit_positive, least_clamp}
 use Rattle.exact_cut.proofs.columns.column.Goals as goal
+
+pub overflow_mul-gap : goal.overflow_mul-gap
+overflow_mul-gap c = fits w128 (search (sizes, c.requires.first_in, c.den-den.ensures.within) depth 40) refl
+
+pub overflow_sub-gap : goal.overflow_sub-gap
+overflow_sub-gap c =
+    fits w128 (search (sizes, c.requires.first_in, c.num.ensures.within, c.den-den.ensures.within) depth 40) refl
+
+pub overflow_mul-unit : goal.overflow_mul-unit
+overflow_mul-unit c =
+    let s_in = cast_in w128 c.args.step 100000 c.requires.step_in in
+    fits w128 (search (sizes, s_in) depth 40) refl
+
+pub overflow_mul-unit-2 : goal.overflow_mul-unit-2
+overflow_mul-unit-2 c =
+    let s_in = cast_in w128 c.args.step 100000 c.requires.step_in in
+    fits w128 (search (sizes, s_in, c.den-den.ensures.within) depth 40) refl
 
 pub ceil_div-requires : goal.ceil_div-requires
 ceil_div-requires c =

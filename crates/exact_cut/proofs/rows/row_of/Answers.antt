@@ -7,8 +7,16 @@ use Rattle.exact_cut.specs.Columns.{IsLeastColumn, clamp}
 use Rattle.exact_cut.proofs.Least.{ceiling_by, ceiling_step, positive_by, unit_positive, least_clamp}
 use Rattle.exact_cut.proofs.rows.row_of.Goals as goal
 
+pub overflow_mul-gap : goal.overflow_mul-gap
+overflow_mul-gap c = fits w64 (search (sizes, c.args.p.now.d_in, c.args.lattice.now.y_in) depth 40) refl
+
 pub overflow_sub-gap : goal.overflow_sub-gap
 overflow_sub-gap c = fits w64 (search (sizes, c.args.p.now.y_in, c.args.p.now.d_in, c.args.lattice.now.y_in) depth 40) refl
+
+pub overflow_mul-unit : goal.overflow_mul-unit
+overflow_mul-unit c =
+    let s_in = cast_in w64 c.args.lattice.now.step 100000 c.args.lattice.now.step_in in
+    fits w64 (search (sizes, s_in) depth 40) refl
 
 pub overflow_mul-unit-2 : goal.overflow_mul-unit-2
 overflow_mul-unit-2 c =

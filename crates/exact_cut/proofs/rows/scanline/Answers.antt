@@ -1,11 +1,31 @@
 use Rattle.std.proofs.Common.{[], ◌∷◌, ◌+ℤ◌, ◌*ℤ◌, pos, to_z, refl, ◌∙◌, arith}
 use Rattle.std.proofs.lemmas.Int.{to_z_pos}
 use mir.Syntax.{w64}
-use Rattle.micro_num.proofs.Sizes.{sizes, cast_in, at_most_by}
+use Rattle.micro_num.proofs.Sizes.{sizes, fits, cast_in, at_most_by}
 use Rattle.micro_num.proofs.Identity.{reads, identity}
 use Rattle.exact_cut.specs.Columns.{centre_x}
 use Rattle.exact_cut.proofs.Scanlines.{scanline_in}
 use Rattle.exact_cut.proofs.rows.scanline.Goals as goal
+
+pub overflow_mul-result : goal.overflow_mul-result
+overflow_mul-result c =
+    let l = c.args.lattice.now in
+    let s_in = cast_in w64 l.step 100000 l.step_in in
+    fits w64 (search (sizes, s_in) depth 40) refl
+
+pub overflow_mul-result-2 : goal.overflow_mul-result-2
+overflow_mul-result-2 c =
+    let l = c.args.lattice.now in
+    let s_in = cast_in w64 l.step 100000 l.step_in in
+    let r_in = cast_in w64 c.args.row 16384 (let h = l.rows_in in let k = c.requires in omega arith) in
+    fits w64 (search (sizes, s_in, r_in) depth 40) refl
+
+pub overflow_add-result : goal.overflow_add-result
+overflow_add-result c =
+    let l = c.args.lattice.now in
+    let s_in = cast_in w64 l.step 100000 l.step_in in
+    let r_in = cast_in w64 c.args.row 16384 (let h = l.rows_in in let k = c.requires in omega arith) in
+    fits w64 (search (sizes, l.y_in, s_in, r_in) depth 40) refl
 
 pub returns-clause-within : goal.returns-clause-within
 returns-clause-within c =
