@@ -1,0 +1,5 @@
+use Rattle.layer_pool.specs.Passes.{IsOwned}
+use Rattle.integration_tests.proofs.claims.draw_all.Given as goal
+
+abbrev pub invariant-loop : goal.invariant-loop
+invariant-loop l = IsOwned l.claims l.pass

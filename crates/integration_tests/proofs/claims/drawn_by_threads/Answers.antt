@@ -1,0 +1,15 @@
+use Rattle.std.proofs.Common.{ℕ, Vec, Global}
+use Rattle.layer_pool.specs.Passes.{PassView}
+use Rattle.layer_pool.specs.Passes.{IsOwned}
+use Rattle.layer_pool.proofs.Gathers.{all_last, all_front, all_push}
+use Rattle.integration_tests.proofs.claims.drawn_by_threads.Goals as goal
+
+pub loop-pass-preserved : goal.loop-pass-preserved
+loop-pass-preserved g c =
+    let was = c.loop-pass.invariant in
+    let Owned : PassView × Vec ℕ Global → Type 0 = λ r. IsOwned c.args.claims.now r.0 in
+    let is = c.in-Some.ensures.items in
+    record {
+      left = all_front Owned _ _ _ is was.left;
+      back = all_push (IsOwned c.args.claims.now) _ _ _ c.in_ok-push.ensures.items was.back (all_last Owned _ _ _ is was.left);
+    }

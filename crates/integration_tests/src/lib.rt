@@ -1,0 +1,24 @@
+//! Tests of the libraries' public calls. They stand in a crate of their own, because a crate's tests are proved with
+//! the whole crate once more.
+#![tactic(auto)]
+
+#[cfg(test)]
+mod book;
+#[cfg(test)]
+mod claims;
+#[cfg(test)]
+mod contours;
+#[cfg(test)]
+mod filling;
+#[cfg(test)]
+mod images;
+#[cfg(test)]
+mod jobs;
+#[cfg(test)]
+mod meshes;
+#[cfg(test)]
+mod pool;
+#[cfg(test)]
+mod rays;
+#[cfg(test)]
+mod welding;
