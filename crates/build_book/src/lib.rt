@@ -11,8 +11,6 @@ mod layers;
 mod pieces;
 mod sheaves;
 mod slicers;
-#[cfg(test)]
-mod tests;
 
 pub use books::Book;
 pub use builds::Build;

@@ -9,8 +9,6 @@ mod planes;
 mod rays;
 mod rings;
 mod sweeping;
-#[cfg(test)]
-mod tests;
 
 pub use linking::{Linker, loops};
 pub use nodes::{Node, Segment};

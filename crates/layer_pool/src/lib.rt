@@ -11,8 +11,3 @@ pub use crate::claims::{Claims, Pass};
 pub use crate::gates::{Gate, OpenGate};
 pub use crate::laws::claims_laws;
 pub use crate::pool::build;
-
-#[cfg(test)]
-mod pool_tests;
-#[cfg(test)]
-mod tests;

@@ -10,8 +10,6 @@ mod heights;
 mod laws;
 mod naming;
 mod point_groups;
-#[cfg(test)]
-mod ray_rows;
 mod rays;
 mod side_groups;
 mod sides;
@@ -23,6 +21,3 @@ pub use laws::hold_mesh_laws;
 pub use rays::{probe, step};
 pub use solid::Solid;
 pub use welding::weld;
-
-#[cfg(test)]
-mod tests;

@@ -6,8 +6,6 @@ mod chunk;
 mod crossed;
 mod devices;
 mod filled;
-#[cfg(test)]
-mod filled_boxes;
 mod filling;
 mod grid;
 mod grid_faults;
@@ -17,8 +15,6 @@ mod row_marks;
 mod rows;
 mod rules;
 mod spans;
-#[cfg(test)]
-mod tests;
 mod write_fault;
 
 pub use devices::{Counted, Failed, Failures, Sink, Source};
