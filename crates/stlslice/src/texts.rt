@@ -1,6 +1,7 @@
 use crate::task::Given;
 use micro_num::Unit;
 use raster::Rule;
+use std::str::Split;
 use stl_text::Point;
 
 /// The rule of that name.
@@ -25,23 +26,18 @@ pub(crate) fn read_unit(text: &str) -> Option<Unit> {
 /// A grid of the form `COLUMNS,ROWS,LAYERS,X0,Y0,Z0`.
 pub(crate) fn read_grid(text: &str) -> Option<Given> {
     let mut parts = text.split(',');
-    let columns = read_count(parts.next()?)?;
-    let rows = read_count(parts.next()?)?;
-    let layers = read_count(parts.next()?)?;
-    let x = read_coordinate(parts.next()?)?;
-    let y = read_coordinate(parts.next()?)?;
-    let z = read_coordinate(parts.next()?)?;
-    let origin = Point::new(x, y, z)?;
+    let counts = next_counts(&mut parts)?;
+    let origin = next_point(&mut parts)?;
     let given = Given {
-        columns,
-        rows,
-        layers,
+        columns: counts.i,
+        rows: counts.j,
+        layers: counts.k,
         origin,
     };
     parts.next().is_none().then_some(given)
 }
 
-/// A place in a grid, by its column, row and layer.
+/// A place in a grid, by its column, row and layer; or how many of these there are.
 #[derive(Clone, Copy)]
 pub(crate) struct Voxel {
     pub(crate) i: u32,
@@ -52,10 +48,24 @@ pub(crate) struct Voxel {
 /// A voxel of the form `I,J,K`.
 pub(crate) fn read_voxel(text: &str) -> Option<Voxel> {
     let mut parts = text.split(',');
+    let voxel = next_counts(&mut parts)?;
+    parts.next().is_none().then_some(voxel)
+}
+
+/// The next three parts as counts.
+fn next_counts(parts: &mut Split<'_, char>) -> Option<Voxel> {
     let i = read_count(parts.next()?)?;
     let j = read_count(parts.next()?)?;
     let k = read_count(parts.next()?)?;
-    parts.next().is_none().then_some(Voxel { i, j, k })
+    Some(Voxel { i, j, k })
+}
+
+/// The next three parts as a point.
+fn next_point(parts: &mut Split<'_, char>) -> Option<Point> {
+    let x = read_coordinate(parts.next()?)?;
+    let y = read_coordinate(parts.next()?)?;
+    let z = read_coordinate(parts.next()?)?;
+    Point::new(x, y, z)
 }
 
 /// A number of 1 to 9 digits.
