@@ -7,6 +7,7 @@ pub mod Decimals
 pub mod Sent
 pub mod Written
 pub mod Sweeps
+pub mod Pairs
 pub mod Courses
 pub mod RowMarks
 pub mod Layers
