@@ -1,16 +1,18 @@
 -- The segments of a height: their facets and edges have numbers within bounds.
-use Rattle.std.proofs.Common.{◌≡◌, ℕ, zero, suc, ◌+◌, ◌<◌, ◌≤◌, Bool, true, false, cond, List, [], ◌∷◌, refl, sym, ◌∙◌, ap, subst, length, get_or, arith, map, Some, None}
+use Rattle.std.proofs.Common.{◌≡◌, ℕ, zero, suc, ◌+◌, ◌*◌, ◌<◌, ◌≤◌, ◌++◌, Bool, true, false, cond, List, [], ◌∷◌, refl, sym, ◌∙◌, ap, subst, length, get_or, take, arith, map, Some, None}
 use Rattle.std.specs.Prelude.{Option, ℤ, filter_map, find, All}
 use Rattle.std.specs.List.{enumerate_from, cons_option}
-use Rattle.std.proofs.lemmas.List.{get_or-map, length-map}
+use Rattle.std.proofs.lemmas.List.{get_or_default, get_or-map, length-map, map_more}
+use mir.Syntax.{w64}
+use mir.Val.{Fits}
 use Rattle.stl_text.specs.Position.{Position}
-use Rattle.stl_text.specs.Triangle.{Triangle, Edge, sides}
-use Rattle.mesh_weld.specs.Mesh.{vertices, triples}
+use Rattle.stl_text.specs.Triangle.{Triangle, Edge, corners, sides}
+use Rattle.mesh_weld.specs.Mesh.{number_of, triples, vertices}
 use Rattle.mesh_weld.specs.EdgeNumbers.{AreEdgeNumbers}
 use Rattle.contour.specs.declared.nodes.Node.{Node}
 use Rattle.contour.specs.declared.nodes.Segment.{Segment}
 use Rattle.contour.specs.Contour.{both_of, edge_node, is_downward, is_node, is_upward, node_of, segment_of, segments}
-use Rattle.contour.specs.Linking.{ArePassedEdges, edge_of_facet, start_edge, finish_edge}
+use Rattle.contour.specs.Linking.{ArePassedEdges, edge_at_node, edge_of_facet, start_edge, finish_edge}
 
 -- a segment from a facet has its number
 abbrev IsOf : ℕ → Option Segment → Type 0
@@ -102,3 +104,28 @@ pub passed_length : (facets : List Triangle) (list : List Segment) (starts finis
     → (length starts ≡ length list) × (length finishes ≡ length list)
 passed_length facets list starts finishes p =
     (ap length p.starts_are ∙ length-map list (start_edge facets p.numbers), ap length p.finishes_are ∙ length-map list (finish_edge facets p.numbers))
+
+-- ---- what the machine has of the mesh
+pub few-fits : (n : ℕ) → n ≤ 1048576 → Fits w64 n
+few-fits n h = record { fits = omega arith }
+
+pub offset-fits : (i n : ℕ) → i < n → n * 12 < 9223372036854775808 → Fits w64 (i * 12)
+offset-fits i n h k = record { fits = omega arith }
+
+pub in-triples : (facets : List Triangle) (points : List (List ℕ)) (f : ℕ) → points ≡ triples facets → f < length facets → f < length points
+in-triples facets points f e h = subst (λ n. f < n) (sym (ap length e ∙ length-map facets (λ t. map (number_of (vertices facets)) (corners t)))) h
+
+pub in-numbers : (facets : List Triangle) (numbers : List (List ℕ)) (f : ℕ) → length numbers ≡ length facets → f < length facets → f < length numbers
+in-numbers facets numbers f e h = subst (λ n. f < n) (sym e) h
+
+pub edge-read : (facets : List Triangle) (points numbers : List (List ℕ)) (f : ℕ) (n : Node) (d d' : List ℕ) (e : ℕ) → points ≡ triples facets → f < length points → f < length numbers
+    → e ≡ edge_at_node (get_or points f d) (get_or numbers f d') n → e ≡ edge_of_facet facets numbers f n
+edge-read facets points numbers f n d d' e same l m h =
+    h
+    ∙ ap (λ x. edge_at_node x (get_or numbers f d') n) (get_or_default points f d [] l ∙ ap (λ cs. get_or cs f []) same)
+    ∙ ap (λ x. edge_at_node (get_or (triples facets) f []) x n) (get_or_default numbers f d' [] m)
+
+pub edges-more : (edge : Segment → ℕ) (old new : List ℕ) (list : List Segment) (i e : ℕ) (d : Segment) → i < length list → old ≡ map edge (take i list) → new ≡ old ++ e ∷ []
+    → e ≡ edge (get_or list i d) → new ≡ map edge (take (i + 1) list)
+edges-more edge old new list i e d l before pushed is =
+    pushed ∙ ap (λ ks. ks ++ e ∷ []) before ∙ ap (λ x. map edge (take i list) ++ x ∷ []) is ∙ sym (map_more edge list i d l)

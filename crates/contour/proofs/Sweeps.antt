@@ -1,6 +1,6 @@
 -- What a sweep keeps, at the start and at each rise, and the segments of the facets that it cuts.
 use Rattle.std.proofs.Common.{◌≡◌, ℕ, ◌+◌, ◌<◌, ◌≤◌, Bool, true, false, cond, ◌&&◌, ◌||◌, List, [], ◌∷◌, ◌⊎◌, inl, inr, refl, sym, ◌∙◌, ap, subst, length, take, drop, arith, map, None}
-use Rattle.std.specs.Prelude.{All, Option, filter, filter_map, IsPermutation, ℤ, ◌≤ℤ◌, ◌<ℤ◌, int_le, int_lt}
+use Rattle.std.specs.Prelude.{All, OnErr, Result, Ok, Err, Option, filter, filter_map, IsPermutation, ℤ, ◌≤ℤ◌, ◌<ℤ◌, int_le, int_lt}
 use Rattle.std.specs.List.{range_with_len, prefix_len, enumerate_from, list_any, cons_option}
 use Rattle.std.specs.List.Sorted.{IsSorted}
 use Rattle.std.specs.Ordering.{nat_cmp}
@@ -9,6 +9,8 @@ use Rattle.std.proofs.lemmas.List.FromFn.{get_or-range_with_len, length-range_wi
 use Rattle.std.proofs.lemmas.List.Sorted.{All-permutation, IsNonDecreasingBy-from_sort}
 use Rattle.std.proofs.lemmas.List.Elements.{All-filter, All-take, All-drop}
 use Rattle.std.proofs.lemmas.List.Sums.{count_by-le-length, prefix_len-le-length}
+use mir.Syntax.{w64}
+use mir.Val.{Fits}
 use Rattle.micro_num.specs.Bounds.{IsAtMost}
 use Rattle.stl_text.specs.Position.{origin}
 use Rattle.stl_text.specs.Triangle.{Triangle, triangle, corners, twice}
@@ -151,3 +153,14 @@ active_segments facets z =
     ap (filter_map (numbered_segment facets z)) (active-is facets z)
     ∙ skipped (numbered_segment facets z) (λ n. is_begun facets z n && is_topped facets z n) (uncut-none facets z) (range_with_len 0 (length facets))
     ∙ sym (numbered (facet_at facets) (segment_of (vertices facets) z) 0 facets (Gives-get_or facets (triangle origin origin origin)))
+
+-- what a step passes is counted by the machine
+pub step-fits : (p : ℕ → Bool) (rest : List ℕ) (passed count n : ℕ) → count ≡ prefix_len p rest → length rest + passed ≡ n → n < 18446744073709551616 → Fits w64 (passed + count)
+step-fits p rest passed count n e h k = record { fits = small (prefix_len p rest) (length rest) (prefix_len-le-length p rest) e h k }
+  where
+    small : (c m : ℕ) → c ≤ m → count ≡ c → m + passed ≡ n → n < 18446744073709551616 → passed + count < 18446744073709551616
+    small c m l e h k = omega arith
+
+pub on-error : {T E P : Type 0} (r : Result T E) → P → OnErr r P
+on-error (Ok v) p = tt
+on-error (Err e) p = p

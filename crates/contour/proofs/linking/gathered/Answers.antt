@@ -1,7 +1,7 @@
 use Rattle.std.proofs.Common.{refl, ◌≡◌, ◌<◌, ◌+◌, ◌++◌, ◌∷◌, ◌∙◌, [], ℕ, true, length, sym, subst, ap, arith}
 use Rattle.std.proofs.lemmas.List.{get_or_read}
 use Rattle.contour.specs.Contour.{AreLoops, parts_from}
-use Rattle.contour.specs.Linking.{IsTakenLoop, has_passed}
+use Rattle.contour.specs.Linking.{IsTakenLoop, LeavesLoops, has_passed}
 use Rattle.contour.proofs.Gathers.{IsGathered, gather-begins, gather-skips, gather-takes, gather-ends}
 use Rattle.contour.proofs.Gathers.{cut}
 use Rattle.contour.proofs.linking.gathered.Goals as goal
@@ -60,3 +60,22 @@ returns g c =
     c.in_ok-ends.ensures.items_if_clones_equal (λ x y h. h) ∙ c.as_slice.ensures.value in
     subst (AreLoops c.args.list.now) (sym (c.of.ensures ∙ ap (λ es. parts_from 0 es c.loop-first.flat.items) ends))
     (gather-ends c.args.list.now c.args.next.now c.loop-first.first c.loop-first.passed.items c.loop-first.flat.items c.loop-first.ends.items c.loop-first.invariant (omega (arith, c.loop-first-test.false)))
+
+pub index-requires : goal.index-requires
+index-requires g c = subst (λ n. c.loop-first.first < n) (sym (c.loop-first.passed.ok.0 ∙ c.loop-first.invariant.size)) c.loop-first-test.true
+
+pub take_loop-requires-clause-size : goal.take_loop-requires-clause-size
+take_loop-requires-clause-size g c = ap length c.as_mut_slice.ensures.value ∙ c.loop-first.invariant.size
+
+pub take_loop-requires-clause-begins : goal.take_loop-requires-clause-begins
+take_loop-requires-clause-begins g c =
+    ap (λ ps. has_passed ps c.loop-first.first) c.as_mut_slice.ensures.value
+    ∙ sym (get_or_read c.loop-first.passed.items c.loop-first.first c.index.result.now (subst (λ n. c.loop-first.first < n) (sym c.loop-first.invariant.size) c.loop-first-test.true) c.index.ensures true)
+    ∙ c.if-not-index.true
+
+pub take_loop-requires-clause-leaves : goal.take_loop-requires-clause-leaves
+take_loop-requires-clause-leaves g c = subst (LeavesLoops c.args.list.now c.args.next.now) (sym c.as_mut_slice.ensures.value) c.loop-first.invariant.leaves
+
+pub take_loop-requires-clause-earlier : goal.take_loop-requires-clause-earlier
+take_loop-requires-clause-earlier g c =
+    subst (λ ps. (j : ℕ) → j < c.loop-first.first → has_passed ps j ≡ true) (sym c.as_mut_slice.ensures.value) c.loop-first.invariant.earlier

@@ -1,7 +1,8 @@
-use Rattle.std.proofs.Common.{◌≡◌, arith}
+use Rattle.std.proofs.Common.{◌≡◌, ◌∙◌, arith, subst, sym}
 use Rattle.contour.specs.Contour.{AreLoops, loops}
+use Rattle.contour.specs.Linking.{IsClear}
 use Rattle.contour.proofs.Followers.{ok_from}
-use Rattle.contour.proofs.Gathers.{segments_rise}
+use Rattle.contour.proofs.Gathers.{cut, segments_rise}
 use Rattle.contour.proofs.Unique.{loops-are}
 use Rattle.contour.proofs.linking.Linker.loops.Goals as goal
 
@@ -17,3 +18,20 @@ pub returns-clause-loops : goal.returns-clause-loops
 returns-clause-loops g c =
     ok_from (AreLoops c.args.list.now) (AreLoops c.args.list.now) (λ found. found ≡ loops c.args.list.now) c.gathered.result
     (λ found h k. loops-are c.args.s.now.facets c.args.list.now c.requires found h) c.gathered.ensures c.gathered.ensures
+
+pub fill-requires-clause-list : goal.fill-requires-clause-list
+fill-requires-clause-list g c = c.requires
+
+pub fill-requires-clause-clear : goal.fill-requires-clause-clear
+fill-requires-clause-clear g c = subst IsClear (sym c.as_mut_slice.ensures.value) c.in_ok-make_room.ensures.clear
+
+pub invariant_of-self : goal.invariant_of-self
+invariant_of-self g c = c.in_err-make_room.ensures.clear
+
+pub invariant_of-self-in_err-fill : goal.invariant_of-self-in_err-fill
+invariant_of-self-in_err-fill g c =
+    subst IsClear (sym (cut c.make_room.new.heads.len c.fill.new.heads c.make_room.new.heads.items (c.fill.auto.heads ∙ c.as_mut_slice.ensures.len))) c.in_err-fill.ensures.clear
+
+pub invariant_of-self-2 : goal.invariant_of-self-2
+invariant_of-self-2 g c =
+    subst IsClear (sym (cut c.make_room.new.heads.len c.fill.new.heads c.make_room.new.heads.items (c.fill.auto.heads ∙ c.as_mut_slice.ensures.len))) c.in_ok-fill.ensures.clear

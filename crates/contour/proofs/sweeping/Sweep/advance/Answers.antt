@@ -1,8 +1,8 @@
-use Rattle.std.proofs.Common.{◌≡◌, ◌∙◌, ap, map, sym, subst, arith, to_z, of_z, w64}
+use Rattle.std.proofs.Common.{◌≡◌, ◌∙◌, ap, length, map, sym, subst, arith, to_z, of_z, w64}
 use Rattle.std.specs.Prelude.{◌≤ℤ◌}
 use Rattle.std.proofs.lemmas.Int.{to_z-of_z}
 use Rattle.contour.specs.Sweeping.{SweepView, top_of}
-use Rattle.contour.proofs.Sweeps.{rest_in, found_in, passed_within, swept_next}
+use Rattle.contour.proofs.Sweeps.{rest_in, found_in, on-error, passed_within, step-fits, swept_next}
 use Rattle.contour.proofs.sweeping.Sweep.advance.Goals as goal
 
 pub split_at-requires : goal.split_at-requires
@@ -43,3 +43,17 @@ invariant_of-self-2 g c =
     (ap (λ cut. cut.tops.items) risen ∙ c.in_ok-rise.ensures.tops
     ∙ ap (λ cut. map (top_of c.self.inside.solid.now.facets) cut.numbers.items) (sym risen)) in
     rw same swept
+
+pub overflow_add-self : goal.overflow_add-self
+overflow_add-self g c =
+    step-fits _ c.split_at.result.1.now c.self.inside.passed c.in_ok-begun.begun.count (length c.by_height.result.now)
+    c.in_ok-begun.ensures.count c.split_at.ensures.back_len c.by_height.type_inv.0
+
+pub returns-in_err-rise-clause-mesh : goal.returns-in_err-rise-clause-mesh
+returns-in_err-rise-clause-mesh g c = ap (λ (v : SweepView). v.facets) c.self.view_is
+
+pub returns-clause-mesh : goal.returns-clause-mesh
+returns-clause-mesh g c = ap (λ (v : SweepView). v.facets) c.self.view_is
+
+pub returns-in_err-rise-clause-err : goal.returns-in_err-rise-clause-err
+returns-in_err-rise-clause-err g c = on-error c.from_residual-in_err-rise.result c.self.view_is
