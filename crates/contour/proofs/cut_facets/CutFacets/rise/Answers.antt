@@ -1,4 +1,4 @@
-use Rattle.std.proofs.Common.{◌≡◌, ◌∙◌, ◌+◌, ◌++◌, ap, sym, map, drop, arith, to_z, of_z, w32, w64}
+use Rattle.std.proofs.Common.{◌∙◌, ◌+◌, ◌++◌, ap, sym, map, drop, arith, to_z, of_z, w32, w64}
 use Rattle.std.specs.Prelude.{filter, FitsSigned}
 use Rattle.std.proofs.lemmas.Int.{to_z-of_z}
 use Rattle.contour.specs.Sweeping.{is_topped, top_of, weave}

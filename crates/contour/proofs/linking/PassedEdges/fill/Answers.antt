@@ -1,4 +1,4 @@
-use Rattle.std.proofs.Common.{◌≡◌, ◌<◌, ◌∙◌, ap, get_or, length, map}
+use Rattle.std.proofs.Common.{◌<◌, ◌∙◌, ap, get_or, length, map}
 use Rattle.std.proofs.lemmas.List.{take_all}
 use Rattle.contour.specs.Linking.{finish_edge, no_segment, start_edge}
 use Rattle.contour.proofs.Links.{edge-read, edges-more, in-numbers, in-triples, offset-fits}
