@@ -6,6 +6,8 @@ use Rattle.std.specs.List.{list_all}
 use Rattle.std.proofs.lemmas.Int.{ints}
 use Rattle.std.proofs.lemmas.List.Folds.{list_all-append}
 use Rattle.std.proofs.lemmas.Bool.Decides.{nat_tests}
+use mir.Syntax.{w16}
+use mir.Val.{Fits}
 use Rattle.stl_text.specs.Position.{Position}
 use Rattle.stl_text.specs.Triangle.{Triangle}
 use Rattle.stl_text.specs.Winding.{hit, volume, wind}
@@ -215,3 +217,22 @@ pub columns-left : (n column : ℕ) (columns rest : List ℕ) → columns ≡ co
 columns-left n column columns rest first h =
     let all : All (λ c. c ≤ n) (column ∷ rest) = subst (λ (l : List ℕ). All (λ c. c ≤ n) l) first h in
     λ k d low. all (suc k) d (omega (arith, low))
+
+-- where a line doesn't wind round a facet, nothing is added
+pub nothing-more : (a w : ℤ) → w ≡ pos 0 → a ≡ a +ℤ w
+nothing-more a w h = omega (arith, ints)
+
+-- ---- a walk row by row
+pub some-left : (row end at n : ℕ) → row < end → row ≡ at → end ≡ at + n → 0 < n
+some-left row end at n h e f = omega arith
+
+pub first-fits : (columns rest : List ℕ) (c : ℕ) → columns ≡ c ∷ rest → All (λ x. x ≤ 16384) columns → Fits w16 c
+first-fits columns rest c e h =
+    let low : c ≤ 16384 = subst (λ (l : List ℕ). All (λ x. x ≤ 16384) l) e h 0 0 (omega arith) in
+    record { fits = omega arith }
+
+pub row-in : (row end n out old : ℕ) → row < end → end ≡ n → n ≤ old → out ≡ old → row < out
+row-in row end n out old h e k f = omega arith
+
+pub falls-on : (n i : ℕ) → i < n → n - (i + 1) < n - i
+falls-on n i h = omega arith

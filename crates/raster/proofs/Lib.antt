@@ -14,3 +14,4 @@ pub mod Layers
 pub mod Boxes
 pub mod Segs
 pub mod Pixels
+pub mod Middles

@@ -98,3 +98,13 @@ short-step width row rows written total pixel chunk room drawn narrow some h low
     let more : length drawn ≡ length room + length (row_bytes width pixel) = ap (λ (l : List ℕ). length l) row-is ∙ length-append room (row_bytes width pixel) in
     let bytes : length (row_bytes width pixel) ≤ 2048 = omega (arith, length-row width pixel) in
     omega arith
+
+-- ---- row by row
+pub few-written : (written chunk row rows : ℕ) → written + chunk + 2048 * row ≤ 15 + 2048 * rows → rows ≤ 16384 → written ≤ 4294967296
+few-written written chunk row rows h k = omega arith
+
+pub row-under : (row rows : ℕ) → 0 < row → row ≤ rows → row - 1 < rows
+row-under row rows h k = omega arith
+
+pub row-back : (row : ℕ) → 0 < row → row ≡ row - 1 + 1
+row-back row h = omega arith

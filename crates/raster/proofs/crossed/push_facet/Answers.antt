@@ -1,12 +1,14 @@
-use Rattle.std.proofs.Common.{subst}
+use Rattle.std.proofs.Common.{refl, subst, sym}
 use Rattle.std.specs.Prelude.{ℤ}
 use Rattle.std.proofs.lemmas.Int.{to_z-of_z}
 use Rattle.std.proofs.lemmas.Result.{on_ok_weaker}
 use mir.Syntax.{w64}
+use Rattle.micro_num.specs.Bounds.{IsAtMost}
+use Rattle.micro_num.proofs.Sizes.{within}
 use Rattle.stl_text.specs.Triangle.{twice}
 use Rattle.exact_cut.specs.Lattices.{IsCourse, IsUncrossed}
-use Rattle.raster.specs.Crossings.{row_passed}
-use Rattle.raster.proofs.Courses.{passed-more, passed-none, signs-more, within-more}
+use Rattle.raster.specs.Crossings.{row_passed, row_signs}
+use Rattle.raster.proofs.Courses.{nothing-more, passed-more, passed-none, signs-more, within-more}
 use Rattle.raster.proofs.crossed.push_facet.Goals as goal
 
 pub returns-in-Some-clause-signs : goal.returns-in-Some-clause-signs
@@ -28,3 +30,26 @@ pub returns-in-None-clause-passed : goal.returns-in-None-clause-passed
 returns-in-None-clause-passed g c =
     let uncrossed = subst (λ (z : ℤ). IsUncrossed (twice c.args.facet.now) z c.args.lattice.now) (to_z-of_z w64 c.args.z2 c.ranges.z2) c.in-None.ensures in
     λ i j inside low. passed-none (twice c.args.facet.now) c.args.z2 c.args.lattice.now (row_passed c.args.out.now j i) uncrossed i j low
+
+pub start-requires : goal.start-requires
+start-requires g c = subst (IsAtMost 256200000) (sym (to_z-of_z w64 c.args.z2 c.ranges.z2)) c.requires.height
+
+pub push_walk-requires-clause-few_rows : goal.push_walk-requires-clause-few_rows
+push_walk-requires-clause-few_rows g c = within _ c.args.lattice.now.rows 16384 c.in-Some.ensures.in_rows c.args.lattice.now.rows_in
+
+pub push_walk-requires-clause-rows : goal.push_walk-requires-clause-rows
+push_walk-requires-clause-rows g c = within _ c.args.lattice.now.rows _ c.in-Some.ensures.in_rows c.requires.rows
+
+pub returns-in-Some-clause-rows : goal.returns-in-Some-clause-rows
+returns-in-Some-clause-rows g c = c.push_walk.ensures.rows
+
+pub returns-in-None-clause-rows : goal.returns-in-None-clause-rows
+returns-in-None-clause-rows g c = refl
+
+pub returns-in-None-clause-signs : goal.returns-in-None-clause-signs
+returns-in-None-clause-signs g c =
+    let uncrossed = subst (λ (z : ℤ). IsUncrossed (twice c.args.facet.now) z c.args.lattice.now) (to_z-of_z w64 c.args.z2 c.ranges.z2) c.in-None.ensures in
+    λ j low. nothing-more (row_signs c.args.out.now j) _ (uncrossed j low)
+
+pub returns-in-None-clause-within : goal.returns-in-None-clause-within
+returns-in-None-clause-within g c = λ h. h

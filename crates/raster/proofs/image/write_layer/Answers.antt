@@ -1,8 +1,9 @@
-use Rattle.std.proofs.Common.{◌-◌, ◌∙◌, arith}
+use Rattle.std.proofs.Common.{◌+◌, ◌-◌, ◌∙◌, ◌≤◌, arith, length, subst}
 use Rattle.std.proofs.lemmas.Result.{err_from_is_err_and}
 use Rattle.raster.specs.Fill.{covers}
+use Rattle.raster.specs.Rows.{IsSplit}
 use Rattle.raster.specs.Picture.{picture}
-use Rattle.raster.proofs.Written.{lower_rows, more-out, short-step, under-way-step, written-within}
+use Rattle.raster.proofs.Written.{few-written, lower_rows, more-out, row-back, row-under, short-step, under-way-step, written-within}
 use Rattle.raster.proofs.image.write_layer.Goals as goal
 
 pub returns-in_err-written-clause-written : goal.returns-in_err-written-clause-written
@@ -50,3 +51,21 @@ loop-row-preserved g c =
           c.loop-row.chunk c.make_room.new.self c.push_row-end.new.chunk
           (omega (arith, c.columns.ensures)) c.loop-row-test.true inv.short out.low out.high out.kept c.push_row-end.ensures.drawn;
     }
+
+pub make_room-requires-clause-before : goal.make_room-requires-clause-before
+make_room-requires-clause-before g c = few-written c.loop-row.written (length c.loop-row.chunk) c.loop-row.row c.args.g.now.rows c.loop-row.invariant.short (subst (λ n. n ≤ 16384) c.rows.ensures.value c.rows.ensures.high)
+
+pub send-requires : goal.send-requires
+send-requires g c = few-written c.loop-row.written (length c.loop-row.chunk) c.loop-row.row c.args.g.now.rows c.loop-row.invariant.short (subst (λ n. n ≤ 16384) c.rows.ensures.value c.rows.ensures.high)
+
+pub push_row-end-requires-clause-row : goal.push_row-end-requires-clause-row
+push_row-end-requires-clause-row g c = row-under c.loop-row.row c.args.g.now.rows c.loop-row-test.true c.loop-row.invariant.rows
+
+pub push_row-end-requires-clause-split : goal.push_row-end-requires-clause-split
+push_row-end-requires-clause-split g c = subst (IsSplit c.args.spans.now c.loop-row.end) (row-back c.loop-row.row c.loop-row-test.true) c.loop-row.invariant.split
+
+pub push_row-end-requires-clause-room : goal.push_row-end-requires-clause-room
+push_row-end-requires-clause-room g c = subst (λ n. length c.make_room.new.self + n ≤ 16384) c.loop-row.invariant.needed c.in_ok-written.ensures.room
+
+pub returns-clause-same : goal.returns-clause-same
+returns-clause-same g c = c.in_ok-send.ensures.same ∙ c.loop-row.invariant.same
