@@ -4,6 +4,7 @@ use Rattle.std.specs.Prelude.{All, ℤ, pos, negsuc, ◌+ℤ◌, ◌-ℤ◌, nat
 use Rattle.std.specs.Ordering.{int_eq}
 use Rattle.std.specs.List.{list_all}
 use Rattle.std.proofs.lemmas.Int.{ints}
+use Rattle.std.proofs.lemmas.List.{get_or_default}
 use Rattle.std.proofs.lemmas.List.Folds.{list_all-append}
 use Rattle.std.proofs.lemmas.Bool.Decides.{nat_tests}
 use mir.Syntax.{w16}
@@ -236,3 +237,8 @@ row-in row end n out old h e k f = omega arith
 
 pub falls-on : (n i : ℕ) → i < n → n - (i + 1) < n - i
 falls-on n i h = omega arith
+
+pub columns-few : (t : Triangle) (z : ℤ) (l : Lattice) (c : Course) → IsCourse t z l c → l.columns ≤ 16384 → All (λ x. x ≤ 16384) c.columns
+columns-few t z l c h few k d low =
+    let inside : slice_index c.columns k ≤ l.columns = (h.crossed k low).least.in_row in
+    subst (λ (x : ℕ). x ≤ 16384) (sym (get_or_default c.columns k d 0 low)) (omega arith)

@@ -8,7 +8,7 @@ use Rattle.micro_num.proofs.Sizes.{within}
 use Rattle.stl_text.specs.Triangle.{twice}
 use Rattle.exact_cut.specs.Lattices.{IsCourse, IsUncrossed}
 use Rattle.raster.specs.Crossings.{row_passed, row_signs}
-use Rattle.raster.proofs.Courses.{nothing-more, passed-more, passed-none, signs-more, within-more}
+use Rattle.raster.proofs.Courses.{columns-few, nothing-more, passed-more, passed-none, signs-more, within-more}
 use Rattle.raster.proofs.crossed.push_facet.Goals as goal
 
 pub returns-in-Some-clause-signs : goal.returns-in-Some-clause-signs
@@ -53,3 +53,6 @@ returns-in-None-clause-signs g c =
 
 pub returns-in-None-clause-within : goal.returns-in-None-clause-within
 returns-in-None-clause-within g c = λ h. h
+
+pub push_walk-requires-clause-few_columns : goal.push_walk-requires-clause-few_columns
+push_walk-requires-clause-few_columns g c = columns-few _ _ c.args.lattice.now c.in-Some.walk c.in-Some.ensures c.args.lattice.now.columns_in

@@ -69,3 +69,12 @@ push_row-end-requires-clause-room g c = subst (λ n. length c.make_room.new.self
 
 pub returns-clause-same : goal.returns-clause-same
 returns-clause-same g c = c.in_ok-send.ensures.same ∙ c.loop-row.invariant.same
+
+pub returns-in_err-send-clause-within : goal.returns-in_err-send-clause-within
+returns-in_err-send-clause-within g c =
+    let p = err_from_is_err_and c.from_residual-in_err-send.result c.from_residual-in_err-send.ensures.1 in
+    let at = c.args.g.now in
+    rw (p.1, p.2)
+    (written-within (g.W.Sink.contents c.args.w.now) (g.W.Sink.contents c.loop-row.w) (picture at.columns at.rows (covers c.args.spans.now))
+    c.loop-row.written c.in_err-send.field-0.0.written c.loop-row.chunk (lower_rows at.columns (covers c.args.spans.now) c.loop-row.row)
+    c.loop-row.invariant.text c.in_err-send.ensures.within c.in_err-send.ensures.some)
