@@ -4,7 +4,7 @@ use Rattle.std.specs.Prelude.{All, ℤ, pos, negsuc, ◌+ℤ◌, ◌-ℤ◌, nat
 use Rattle.std.specs.Ordering.{int_eq}
 use Rattle.std.specs.List.{list_all}
 use Rattle.std.proofs.lemmas.Int.{ints}
-use Rattle.std.proofs.lemmas.List.{get_or_default}
+use Rattle.std.proofs.lemmas.List.{append-nil, get_or_default}
 use Rattle.std.proofs.lemmas.List.Folds.{list_all-append}
 use Rattle.std.proofs.lemmas.Bool.Decides.{nat_tests}
 use mir.Syntax.{w16}
@@ -242,3 +242,8 @@ pub columns-few : (t : Triangle) (z : ℤ) (l : Lattice) (c : Course) → IsCour
 columns-few t z l c h few k d low =
     let inside : slice_index c.columns k ≤ l.columns = (h.crossed k low).least.in_row in
     subst (λ (x : ℕ). x ≤ 16384) (sym (get_or_default c.columns k d 0 low)) (omega arith)
+
+pub along-all : (row end at start : ℕ) (up sign : Bool) (columns all : List ℕ) (out old : List Mark) (j : ℕ) → end ≤ row → row ≡ at → end ≡ at + length columns
+    → out ++ marks_along at up columns j ≡ old ++ marks_along start up all j → up ≡ sign → out ≡ old ++ marks_along start sign all j
+along-all row end at start up sign [] all out old j h e f k same = sym (append-nil out) ∙ k ∙ ap (λ (b : Bool). old ++ marks_along start b all j) same
+along-all row end at start up sign (c ∷ columns) all out old j h e f k same = absurd (omega arith)

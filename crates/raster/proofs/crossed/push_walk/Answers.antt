@@ -1,6 +1,8 @@
-use Rattle.std.proofs.Common.{◌++◌, ◌∙◌, ap, length, arith, refl}
+use Rattle.std.proofs.Common.{◌++◌, ◌∙◌, ap, length, arith, refl, rules}
+use Rattle.std.specs.Prelude.{pos}
+use Rattle.std.specs.Ordering.{int_eq}
 use Rattle.raster.specs.Crossings.{marks_along, marks_in}
-use Rattle.raster.proofs.Courses.{along-more, columns-left, falls-on, first-fits, row-in, some-left}
+use Rattle.raster.proofs.Courses.{along-all, along-more, columns-left, falls-on, first-fits, row-in, some-left}
 use Rattle.raster.proofs.crossed.push_walk.Goals as goal
 
 pub loop-row-preserved : goal.loop-row-preserved
@@ -36,3 +38,8 @@ loop-row-smaller g c = falls-on c.end-row-end.result c.loop-row.row c.loop-row-t
 
 pub returns-clause-rows : goal.returns-clause-rows
 returns-clause-rows g c = c.loop-row.invariant.rows
+
+pub returns-clause-added : goal.returns-clause-added
+returns-clause-added g c = λ j.
+    along-all c.loop-row.row c.end-row-end.result c.loop-row.walk.row c.args.walk.row _ (int_eq c.args.walk.sign (pos 1)) c.loop-row.walk.columns c.args.walk.columns
+    (marks_in c.loop-row.out j) (marks_in c.args.out.now j) j c.loop-row-test.false c.loop-row.invariant.row c.loop-row.invariant.end (c.loop-row.invariant.added j) (search rules)

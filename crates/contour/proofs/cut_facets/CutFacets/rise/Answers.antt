@@ -17,7 +17,7 @@ push_if_above-requires-clause-top g c κs within =
     let fits : FitsSigned w32 c.index.result.now = record { sfits = omega arith } in
     to_z-of_z w32 c.index.result.now fits
     ∙ top_next c.args.s.now.facets c.args.below.now.tops.items c.args.below.now.numbers.items c.deref-n-items.result.now c.loop-i.i c.index.result.now
-        c.deref-n-items.ensures.value c.loop-i-test.true c.requires.tops c.index.ensures
+    c.deref-n-items.ensures.value c.loop-i-test.true c.requires.tops c.index.ensures
 
 pub loop-i-preserved : goal.loop-i-preserved
 loop-i-preserved g c = record {
