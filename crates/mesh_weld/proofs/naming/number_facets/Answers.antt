@@ -1,8 +1,8 @@
-use Rattle.std.proofs.Common.{◌≡◌, ◌<◌, ◌∙◌, [], List, ℕ, sym, ap, length, take, get_or, subst, arith}
+use Rattle.std.proofs.Common.{◌≡◌, ◌≤◌, ◌<◌, ◌∙◌, [], List, ℕ, sym, ap, length, get_or, subst, map, arith}
 use Rattle.std.specs.List.{All, Contains, flat_map}
-use Rattle.std.proofs.lemmas.List.{get_or_default}
-use Rattle.std.proofs.Math.Seq.{take-length}
-use Rattle.stl_text.specs.Triangle.{Triangle, corners}
+use Rattle.std.proofs.lemmas.List.{get_or_default, take_all}
+use Rattle.stl_text.specs.Triangle.{corners}
+use Rattle.mesh_weld.specs.Mesh.{in_order, number_of}
 use Rattle.mesh_weld.proofs.Ranks.{named_more}
 use Rattle.mesh_weld.proofs.naming.number_facets.Goals as goal
 
@@ -19,8 +19,17 @@ loop-at-preserved g c =
       covers = more.2;
     })
 
+pub returns-clause-numbers : goal.returns-clause-numbers
+returns-clause-numbers g c =
+    subst (λ l. c.loop-at.numbers.items ≡ map (λ t. map (number_of (in_order c.args.found.now)) (corners t)) l)
+    (take_all c.loop-at.at c.args.facets.now (omega arith)) c.loop-at.invariant.numbers
+
+pub returns-clause-names : goal.returns-clause-names
+returns-clause-names g c =
+    let past : length c.args.names.now ≤ c.loop-at.at = omega (arith, c.if-names-facets.false) in
+    sym (take_all c.loop-at.at c.args.names.now past) ∙ c.loop-at.invariant.names
+    ∙ ap (map (λ t. map (number_of c.args.found.now) (corners t))) (take_all c.loop-at.at c.args.facets.now (omega arith))
+
 pub returns-clause-covers : goal.returns-clause-covers
 returns-clause-covers g c =
-    let fs : List Triangle = c.args.facets.now in
-    let at_end : c.loop-at.at ≡ length fs = omega arith in
-    subst (λ l. All (Contains c.args.found.now) (flat_map corners l)) (ap (λ n. take n fs) at_end ∙ take-length fs) c.loop-at.invariant.covers
+    subst (λ l. All (Contains c.args.found.now) (flat_map corners l)) (take_all c.loop-at.at c.args.facets.now (omega arith)) c.loop-at.invariant.covers
