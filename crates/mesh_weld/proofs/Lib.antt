@@ -4,6 +4,7 @@ pub mod InOrder
 pub mod Points
 pub mod Parts
 pub mod Ranks
+pub mod Listing
 pub mod Pairs
 pub mod Placing
 pub mod Tallies
