@@ -1,4 +1,5 @@
 use Rattle.std.proofs.Common.{refl, ◌∙◌}
+use Rattle.std.proofs.lemmas.Result.{err_from_is_err_and}
 use Rattle.build_book.proofs.Places.{moved_stripe, stripe_taken, stripe_lawful, stripe_filled}
 use Rattle.build_book.proofs.gaps.make_stripe.Goals as goal
 
@@ -18,3 +19,30 @@ returns-clause-below g c =
     stripe_filled c.args.job.now c.args.s _ _ c.args.places.now _ c.requires.lawful c.bounds-first.ensures.first
     (moved_stripe _ _ _ _ _ _ (c.in_ok-piece.ensures.work ∙ c.requires.slicer) c.in_ok-piece.ensures.stripe c.into_layers.ensures c.in_ok-piece.ensures.lawful)
     c.fill_gaps.ensures.places c.requires.below
+
+pub returns-then-is_full-clause-slicer : goal.returns-then-is_full-clause-slicer
+returns-then-is_full-clause-slicer g c = refl
+
+pub returns-in_err-piece-clause-lawful : goal.returns-in_err-piece-clause-lawful
+returns-in_err-piece-clause-lawful g c = let p = err_from_is_err_and c.from_residual.result c.from_residual.ensures.1 in rw p.1 tt
+
+pub returns-in_err-piece-clause-below : goal.returns-in_err-piece-clause-below
+returns-in_err-piece-clause-below g c = let p = err_from_is_err_and c.from_residual.result c.from_residual.ensures.1 in rw p.1 tt
+
+pub returns-in_err-piece-clause-made : goal.returns-in_err-piece-clause-made
+returns-in_err-piece-clause-made g c = let p = err_from_is_err_and c.from_residual.result c.from_residual.ensures.1 in rw p.1 tt
+
+pub returns-in_err-piece-clause-slicer : goal.returns-in_err-piece-clause-slicer
+returns-in_err-piece-clause-slicer g c = c.slice.ensures.job
+
+pub bounds-first-requires : goal.bounds-first-requires
+bounds-first-requires g c = c.requires.stripe
+
+pub returns-clause-slicer : goal.returns-clause-slicer
+returns-clause-slicer g c = c.slice.ensures.job
+
+pub returns-clause-made : goal.returns-clause-made
+returns-clause-made g c = c.fill_gaps.ensures.made
+
+pub returns-then-is_full-clause-lawful : goal.returns-then-is_full-clause-lawful
+returns-then-is_full-clause-lawful g c = c.requires.lawful
