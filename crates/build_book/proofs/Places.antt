@@ -1,5 +1,6 @@
 -- Places of a book, before and after layers are put into those that are free.
-use Rattle.std.proofs.Common.{◌≡◌, ℕ, zero, suc, ◌+◌, ◌*◌, ◌<◌, ◌≤◌, Bool, true, false, not, ◌⊎◌, inl, inr, List, [], ◌∷◌, ◌++◌, length, append_assoc, length-append, take, drop, map, set, get_or, refl, sym, ◌∙◌, ap, subst, arith, Option, Some, None, cond, is_some, flat_map, option_to_list, slice_get}
+use Rattle.std.proofs.Common.{◌≡◌, ℕ, zero, suc, ◌+◌, ◌*◌, ◌<◌, ◌≤◌, Bool, true, false, not, ◌⊎◌, inl, inr, List, [], ◌∷◌, ◌++◌, length, append_assoc, length-append, take, drop, map, set, get_or, refl, sym, ◌∙◌, ap, subst, arith, Option, Some, None, cond, is_some, flat_map, option_to_list, slice_get, Fits}
+use mir.Syntax.{w64}
 use mir.Val.{bool_byte}
 use Rattle.std.specs.Prelude.{nat_le}
 use Rattle.std.proofs.lemmas.Bool.Decides.{leb_tells}
@@ -294,3 +295,20 @@ stripe_filed work s first end ys zs ps qs new lawful stripe at last is free same
     (stripe_free work s first end ys ps ps stripe at last refl free)
     ∙ ap (λ l. take (8 * s) ps ++ map Some l ++ drop (8 * s + length l) ps) same
     ∙ ap (λ l. take (8 * s) l ++ map Some zs ++ drop (8 * s + length zs) l) equal
+
+-- the bounds of a stripe, and its layers, have room
+pub below_end : (first end : ℕ) → first < end → end ≤ 65535 → Fits w64 first
+below_end first end below few = omega (arith, below, few)
+
+pub at_end : (end : ℕ) → end ≤ 65535 → Fits w64 end
+at_end end few = omega (arith, few)
+
+pub end_within : (work : Work) (end : ℕ) (ps : List (Option Layer)) → IsLawfulShelf (record { work = work; places = ps }) → end ≤ work.grid.layers → end ≤ length ps
+end_within work end ps lawful within = omega (arith, within, lawful.one_each)
+
+pub stripe_fits : (work : Work) (s first end : ℕ) (ys : List Layer) (ps : List (Option Layer)) → IsLawfulShelf (record { work = work; places = ps })
+    → first ≡ 8 * s → end ≡ 8 * s + stripe_length work.grid s → end ≤ work.grid.layers → IsStripe work s ys → first + length ys ≤ length ps
+stripe_fits work s first end ys ps lawful at last within stripe = omega (arith, at, last, within, stripe.whole, lawful.one_each)
+
+pub stripe_few : (work : Work) (s : ℕ) (ys : List Layer) → IsStripe work s ys → length ys ≤ 8
+stripe_few work s ys stripe = omega (arith, stripe.whole)

@@ -1,7 +1,35 @@
 use Rattle.std.proofs.Common.{refl, ◌∙◌}
 use Rattle.std.proofs.lemmas.Result.{err_from_is_err_and}
-use Rattle.build_book.proofs.Places.{moved_stripe, stripe_taken, stripe_lawful, stripe_filled}
+use Rattle.build_book.proofs.Places.{moved_stripe, stripe_taken, stripe_lawful, stripe_filled, below_end, at_end, end_within, stripe_fits, stripe_few}
+use Rattle.build_book.specs.Layers.{IsStripe}
+use Rattle.build_book.proofs.gaps.make_stripe.Given.{Over}
+use Rattle.build_book.proofs.gaps.make_stripe.Goals.{After-into_layers}
 use Rattle.build_book.proofs.gaps.make_stripe.Goals as goal
+
+pub overflow_cast-first : goal.overflow_cast-first
+overflow_cast-first g c = below_end c.bounds-first.result.0 c.bounds-first.result.1 c.bounds-first.ensures.some c.bounds-first.ensures.few
+
+pub overflow_cast-end : goal.overflow_cast-end
+overflow_cast-end g c = at_end c.bounds-first.result.1 c.bounds-first.ensures.few
+
+pub overflow_cast-first-2 : goal.overflow_cast-first-2
+overflow_cast-first-2 g c = below_end c.bounds-first.result.0 c.bounds-first.result.1 c.bounds-first.ensures.some c.bounds-first.ensures.few
+
+pub is_full-requires : goal.is_full-requires
+is_full-requires g c = end_within c.args.job.now c.bounds-first.result.1 c.args.places.now c.requires.lawful c.bounds-first.ensures.within
+
+own_stripe : (g : Over) (c : After-into_layers g) → IsStripe c.args.job.now c.args.s c.into_layers.result.items
+own_stripe g c =
+    moved_stripe c.args.job.now c.in_ok-piece.piece.work c.args.s c.in_ok-piece.piece.stripe c.in_ok-piece.piece.layers c.into_layers.result.items
+    (c.in_ok-piece.ensures.work ∙ c.requires.slicer) c.in_ok-piece.ensures.stripe c.into_layers.ensures c.in_ok-piece.ensures.lawful
+
+pub fill_gaps-requires-clause-room : goal.fill_gaps-requires-clause-room
+fill_gaps-requires-clause-room g c =
+    stripe_fits c.args.job.now c.args.s c.bounds-first.result.0 c.bounds-first.result.1 c.into_layers.result.items c.args.places.now c.requires.lawful
+    c.bounds-first.ensures.first c.bounds-first.ensures.end c.bounds-first.ensures.within (own_stripe g c)
+
+pub fill_gaps-requires-clause-few : goal.fill_gaps-requires-clause-few
+fill_gaps-requires-clause-few g c = stripe_few c.args.job.now c.args.s c.into_layers.result.items (own_stripe g c)
 
 pub returns-then-is_full-clause-below : goal.returns-then-is_full-clause-below
 returns-then-is_full-clause-below g c =
