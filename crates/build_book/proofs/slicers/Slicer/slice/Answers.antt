@@ -1,0 +1,26 @@
+use Rattle.std.proofs.lemmas.Result.{err_from_is_err_and}
+use Rattle.build_book.proofs.slicers.Slicer.slice.Goals as goal
+
+pub returns-in_err-sweep-clause-work : goal.returns-in_err-sweep-clause-work
+returns-in_err-sweep-clause-work g c = let p = err_from_is_err_and c.from_residual.result c.from_residual.ensures.1 in rw p.1 tt
+
+pub returns-in_err-sweep-clause-stripe : goal.returns-in_err-sweep-clause-stripe
+returns-in_err-sweep-clause-stripe g c = let p = err_from_is_err_and c.from_residual.result c.from_residual.ensures.1 in rw p.1 tt
+
+pub returns-in_err-sweep-clause-lawful : goal.returns-in_err-sweep-clause-lawful
+returns-in_err-sweep-clause-lawful g c = let p = err_from_is_err_and c.from_residual.result c.from_residual.ensures.1 in rw p.1 tt
+
+pub returns-in_err-sweep-clause-job : goal.returns-in_err-sweep-clause-job
+returns-in_err-sweep-clause-job g c = c.sweep_at.ensures.job
+
+pub invariant_of-self : goal.invariant_of-self
+invariant_of-self g c = c.self-2.invariant
+
+pub returns-in_err-layers-clause-work : goal.returns-in_err-layers-clause-work
+returns-in_err-layers-clause-work g c = let p = err_from_is_err_and c.from_residual-in_err-layers.result c.from_residual-in_err-layers.ensures.1 in rw p.1 tt
+
+pub returns-in_err-layers-clause-stripe : goal.returns-in_err-layers-clause-stripe
+returns-in_err-layers-clause-stripe g c = let p = err_from_is_err_and c.from_residual-in_err-layers.result c.from_residual-in_err-layers.ensures.1 in rw p.1 tt
+
+pub returns-in_err-layers-clause-lawful : goal.returns-in_err-layers-clause-lawful
+returns-in_err-layers-clause-lawful g c = let p = err_from_is_err_and c.from_residual-in_err-layers.result c.from_residual-in_err-layers.ensures.1 in rw p.1 tt
