@@ -1,4 +1,7 @@
+use Rattle.std.proofs.Common.{◌≡◌, Some, sym, ap, ◌∙◌}
 use Rattle.std.proofs.lemmas.Result.{err_from_is_err_and}
+use Rattle.contour.specs.Sweeping.{SweepView}
+use Rattle.build_book.specs.Layers.{Work}
 use Rattle.build_book.proofs.slicers.Slicer.slice.Goals as goal
 
 pub returns-in_err-sweep-clause-work : goal.returns-in_err-sweep-clause-work
@@ -24,3 +27,17 @@ returns-in_err-layers-clause-stripe g c = let p = err_from_is_err_and c.from_res
 
 pub returns-in_err-layers-clause-lawful : goal.returns-in_err-layers-clause-lawful
 returns-in_err-layers-clause-lawful g c = let p = err_from_is_err_and c.from_residual-in_err-layers.result c.from_residual-in_err-layers.ensures.1 in rw p.1 tt
+
+pub returns-in_err-layers-clause-job : goal.returns-in_err-layers-clause-job
+returns-in_err-layers-clause-job g c = c.self-2.view_is ∙ c.sweep_at.ensures.job
+
+pub returns-clause-job : goal.returns-clause-job
+returns-clause-job g c = c.self-2.view_is ∙ c.sweep_at.ensures.job
+
+same_inside : {X : Type 0} (a b : X) → Some a ≡ Some b → a ≡ b
+same_inside a b e = cc
+
+pub invariant_of-self-2 : goal.invariant_of-self-2
+invariant_of-self-2 g c = λ sweep e.
+    ap (λ (s : SweepView). s.facets) (sym (same_inside c.slice_layers.new.sweep sweep e)) ∙ c.slice_layers.ensures.mesh ∙ c.in_ok-sweep.ensures.mesh
+    ∙ ap (λ (w : Work). w.mesh.facets) (sym (c.self-2.view_is ∙ c.sweep_at.ensures.job))
