@@ -1,5 +1,5 @@
 -- Pieces that are filed one after the other.
-use Rattle.std.proofs.Common.{◌≡◌, List, [], ◌∷◌, ◌++◌, append_assoc, refl, sym, ◌∙◌, ap, subst}
+use Rattle.std.proofs.Common.{◌≡◌, List, [], ◌∷◌, ◌++◌, append_assoc, refl, sym, ◌∙◌, ap, subst, append-nil}
 use Rattle.build_book.specs.Layers.{Shelf}
 use Rattle.build_book.specs.Views.{StripeView}
 use Rattle.build_book.specs.Filing.{Files, FilesAll, FilesUpTo}
@@ -16,3 +16,8 @@ files_step old here new ps rest more p before is one = record {
   all = before.all ∙ ap (λ l. before.filed ++ l) is ∙ sym (append_assoc before.filed (p ∷ []) more);
   in_turn = files_one before.filed p old here new before.in_turn one;
 }
+
+-- with no piece left all are filed
+pub files_whole : (old : Shelf) (pieces rest : List StripeView) (new : Shelf) → FilesUpTo old pieces rest new → rest ≡ [] → FilesAll old pieces new
+files_whole old pieces rest new up_to none =
+    subst (λ l. FilesAll old l new) (sym (up_to.all ∙ ap (λ r. up_to.filed ++ r) none ∙ append-nil up_to.filed)) up_to.in_turn
