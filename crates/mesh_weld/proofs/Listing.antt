@@ -12,8 +12,7 @@ three_more {X} e f g rest l m n o all i j k i_is j_is k_is m_is n_is o_is h =
     let whole : o ≡ l ++ e i ∷ f (i + 1) ∷ g (i + 2) ∷ [] =
     o_is ∙ ap (λ (p : List X). p ++ g k ∷ []) (n_is ∙ ap (λ (p : List X). p ++ f j ∷ []) m_is)
     ∙ append_assoc (l ++ e i ∷ []) (f j ∷ []) (g k ∷ []) ∙ append_assoc l (e i ∷ []) (f j ∷ g k ∷ [])
-    ∙ ap (λ (s : ℕ). l ++ e i ∷ f s ∷ g k ∷ []) second ∙ ap (λ (s : ℕ). l ++ e i ∷ f (i + 1) ∷ g s ∷ []) third in
-    (
+    ∙ ap (λ (s : ℕ). l ++ e i ∷ f s ∷ g k ∷ []) second ∙ ap (λ (s : ℕ). l ++ e i ∷ f (i + 1) ∷ g s ∷ []) third in (
       ap (λ (p : List X). p ++ rest) whole ∙ append_assoc l (e i ∷ f (i + 1) ∷ g (i + 2) ∷ []) rest ∙ h,
       omega (arith, ap length o_is, length-append n (g k ∷ []), third, k_is),
     )
