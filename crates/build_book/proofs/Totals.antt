@@ -1,7 +1,8 @@
 -- Sums of areas are small.
-use Rattle.std.proofs.Common.{◌≡◌, ℕ, zero, suc, ◌+◌, ◌*◌, ◌<◌, ◌≤◌, List, [], ◌∷◌, length, refl, sym, subst, arith, Option, Some, None, slice_get}
+use Rattle.std.proofs.Common.{◌≡◌, ℕ, zero, suc, ◌+◌, ◌*◌, ◌<◌, ◌≤◌, List, [], ◌∷◌, length, take, get_or, sum_by, refl, sym, subst, ap, ◌∙◌, arith, Fits, w64, Option, Some, None, slice_get}
 use Rattle.std.proofs.Math.Nat.{mul-le-mul}
-use Rattle.std.proofs.lemmas.List.Sums.{sum_by-cons}
+use Rattle.std.proofs.lemmas.List.{take_all}
+use Rattle.std.proofs.lemmas.List.Sums.{sum_by-cons, sum_by_more, sum_by_more_le}
 use Rattle.build_book.specs.Layers.{Work, Layer, IsLawful, IsLawfulPlace, IsLawfulShelf, IsComplete, AreLawfulFrom, place_area, total_area, layers_area}
 use Rattle.build_book.proofs.Areas.{area_of-le}
 
@@ -53,3 +54,19 @@ build_small work layers complete few rows columns =
       layers_small work 0 layers complete.lawful,
       product_small (length layers) work.grid.rows work.grid.columns (omega (arith, complete.whole, few)) rows columns,
     )
+
+-- the sum of the elements before i, and element i
+pub more_sum : {X : Type 0} (f : X → ℕ) (xs : List X) (i : ℕ) (x : X) (sum more : ℕ) → sum ≡ sum_by f (take i xs) → more ≡ f x
+    → x ≡ get_or xs i x → i < length xs → sum + more ≡ sum_by f (take (i + 1) xs)
+more_sum f xs i x sum more so now at low =
+    (λ j. so j + (now ∙ ap f at) j) ∙ sym (sum_by_more f xs i x low)
+
+pub more_fits : {X : Type 0} (f : X → ℕ) (xs : List X) (i : ℕ) (x : X) (sum more : ℕ) → sum ≡ sum_by f (take i xs) → more ≡ f x
+    → x ≡ get_or xs i x → i < length xs → sum_by f xs < 18446744073709551616 → Fits w64 (sum + more)
+more_fits f xs i x sum more so now at low small =
+    let below : sum_by f (take i xs) + f (get_or xs i x) ≤ sum_by f xs = sum_by_more_le f xs i x low in
+    let this : more ≡ f (get_or xs i x) = now ∙ ap f at in
+    omega (arith, so, this, below, small)
+
+pub all_sum : {X : Type 0} (f : X → ℕ) (xs : List X) (i : ℕ) (sum : ℕ) → sum ≡ sum_by f (take i xs) → length xs ≤ i → sum ≡ sum_by f xs
+all_sum f xs i sum so high = so ∙ ap (sum_by f) (take_all i xs high)
