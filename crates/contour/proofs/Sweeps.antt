@@ -1,19 +1,19 @@
 -- What a sweep keeps, at the start and at each rise, and the segments of the facets that it cuts.
 use Rattle.std.proofs.Common.{◌≡◌, ℕ, ◌+◌, ◌<◌, ◌≤◌, Bool, true, false, cond, ◌&&◌, ◌||◌, List, [], ◌∷◌, ◌⊎◌, inl, inr, refl, sym, ◌∙◌, ap, subst, length, take, drop, arith, map, None}
 use Rattle.std.specs.Prelude.{All, OnErr, Result, Ok, Err, Option, filter, filter_map, IsPermutation, ℤ, ◌≤ℤ◌, ◌<ℤ◌, int_le, int_lt}
-use Rattle.std.specs.List.{range_with_len, prefix_len, enumerate_from, list_any, cons_option}
+use Rattle.std.specs.List.{range_with_len, prefix_len, enumerate_from, cons_option}
 use Rattle.std.specs.List.Sorted.{IsSorted}
 use Rattle.std.specs.Ordering.{nat_cmp}
 use Rattle.std.proofs.lemmas.Int.{ints}
 use Rattle.std.proofs.lemmas.List.FromFn.{get_or-range_with_len, length-range_with_len}
 use Rattle.std.proofs.lemmas.List.Sorted.{All-permutation, IsNonDecreasingBy-from_sort}
 use Rattle.std.proofs.lemmas.List.Elements.{All-filter, All-take, All-drop}
-use Rattle.std.proofs.lemmas.List.Sums.{count_by-le-length, prefix_len-le-length}
+use Rattle.std.proofs.lemmas.List.Sums.{prefix_len-le-length}
 use mir.Syntax.{w64}
 use mir.Val.{Fits}
 use Rattle.micro_num.specs.Bounds.{IsAtMost}
 use Rattle.stl_text.specs.Position.{origin}
-use Rattle.stl_text.specs.Triangle.{Triangle, triangle, corners, twice}
+use Rattle.stl_text.specs.Triangle.{Triangle, triangle, twice}
 use Rattle.mesh_weld.specs.Mesh.{facet_at, vertices, IsByHeight}
 use Rattle.exact_cut.specs.Cutting.{IsBetween}
 use Rattle.contour.specs.Contour.{height, is_cut, active_facets, passed_count, segment_of, segments}
@@ -48,9 +48,6 @@ found_in facets z k order found numbers h e p =
 
 pub rest_in : (facets : List Triangle) (k : ℕ) (order : List ℕ) → IsByHeight facets order → AreNumbers facets (drop k order)
 rest_in facets k order by_height = All-drop (λ n. n < length facets) k order (order_in facets order by_height)
-
-pub few_passed : (facets : List Triangle) (z : ℤ) → passed_count facets z ≤ length facets
-few_passed facets z = count_by-le-length (λ t. list_any (λ p. int_le (height p) z) (corners t)) facets
 
 pub passed_within : (facets : List Triangle) (order : List ℕ) (z : ℤ) → IsByHeight facets order → passed_count facets z ≤ length order
 passed_within facets order z by_height =
