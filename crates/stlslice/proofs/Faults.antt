@@ -1,11 +1,15 @@
 -- Which faults of a run come of its input, and what a probe answers.
-use Rattle.std.proofs.Common.{◌≡◌, ◌⊎◌, ℕ, List, Option, inl, inr, refl, subst}
+use Rattle.std.proofs.Common.{◌≡◌, ◌≢◌, ◌⊎◌, ℕ, List, Option, inl, inr, refl, subst}
 use Rattle.std.specs.Prelude.{Err, Result, IsErrAnd, IfErr, Ok, false}
 use Rattle.micro_num.specs.declared.units.Unit.{Unit as LengthUnit}
 use Rattle.stl_text.specs.declared.faults.StlFault.{StlFault}
+use Rattle.stl_text.specs.declared.faults.StlFault.TheVariants as stl
 use Rattle.stl_text.specs.Text.{IsFaultOf, Reads, facet_limit}
 use Rattle.stl_text.specs.Triangle.{Triangle}
 use Rattle.mesh_weld.specs.Balance.{IsBalanced}
+use Rattle.mesh_weld.specs.Welding.{IsWeldFault}
+use Rattle.mesh_weld.specs.declared.faults.WeldFault.{WeldFault}
+use Rattle.mesh_weld.specs.declared.faults.WeldFault.TheVariants as weld
 use Rattle.mesh_weld.specs.Mesh.{Mesh, mesh_of}
 use Rattle.raster.specs.declared.grid_faults.GridFault.{GridFault}
 use Rattle.raster.specs.Lattice.{Lattice}
@@ -15,10 +19,32 @@ use Rattle.stlslice.specs.declared.task.Task.TheVariants as task
 use Rattle.stlslice.specs.declared.run_faults.RunFault.{RunFault}
 use Rattle.stlslice.specs.declared.run_faults.RunFault.TheVariants as fault
 use Rattle.stlslice.specs.Program.{IsMade, IsOutcome, closed, grid_for, is_box, misread, open_mesh, outside, probed_text, unit_of}
+use Rattle.stlslice.specs.Statuses.{of_weld}
 use Rattle.stlslice.specs.Running.{IsLoadFault, IsWorkFault}
 
 abbrev pub IsTextFault : LengthUnit → List ℕ → RunFault → Type 0
 IsTextFault unit input f = (f ≡ fault.Memory) ⊎ ((cause : StlFault) × (f ≡ fault.Stl cause) × IsFaultOf facet_limit unit input cause)
+
+-- what a fault of the text is told as
+pub told : (unit : LengthUnit) (input : List ℕ) (cause : StlFault) (f : RunFault)
+    → ((cause ≡ stl.Memory → f ≡ fault.Memory) × (cause ≢ stl.Memory → f ≡ fault.Stl cause))
+    → (cause ≢ stl.Memory → IsFaultOf facet_limit unit input cause) → IsTextFault unit input f
+told unit input stl.Memory f gives known = inl (gives.0 refl)
+told unit input (stl.Expected word at) f gives known = inr (stl.Expected word at, gives.1 (λ e. cc), known (λ e. cc))
+told unit input (stl.Number cause at) f gives known = inr (stl.Number cause at, gives.1 (λ e. cc), known (λ e. cc))
+told unit input (stl.Ended word) f gives known = inr (stl.Ended word, gives.1 (λ e. cc), known (λ e. cc))
+told unit input (stl.TooMany at) f gives known = inr (stl.TooMany at, gives.1 (λ e. cc), known (λ e. cc))
+
+-- a text that is no mesh is no solid
+pub unread : (unit : LengthUnit) (input : List ℕ) (f : RunFault) → IsTextFault unit input f → IsLoadFault unit input f
+unread unit input f (inl is) = rw is tt
+unread unit input f (inr h) = rw h.1 h.2
+
+-- a mesh that is not closed is no solid
+pub unclosed : (unit : LengthUnit) (input : List ℕ) (facets : List Triangle) (cause : WeldFault) (f : RunFault) → f ≡ of_weld cause
+    → Reads facet_limit unit input facets → IsWeldFault facets cause → IsLoadFault unit input f
+unclosed unit input facets (weld.Open from to there back) f gives reads known = rw gives (facets, reads, known)
+unclosed unit input facets weld.Memory f gives reads known = rw gives tt
 
 -- a text that is no mesh is the outcome of a box
 pub misread_box : (unit : LengthUnit) (input : List ℕ) (f : RunFault) → IsTextFault unit input f → IsWorkFault (task.Box unit) input f

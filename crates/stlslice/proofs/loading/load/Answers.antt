@@ -1,6 +1,6 @@
 use Rattle.std.proofs.Common.{◌≡◌}
 use Rattle.mesh_weld.specs.declared.faults.WeldFault.TheVariants as weld
-use Rattle.stlslice.proofs.Faults.{passed_on}
+use Rattle.stlslice.proofs.Faults.{passed_on, told, unclosed, unread}
 use Rattle.stlslice.proofs.loading.load.Goals as goal
 
 pub returns-in_err-facets-clause-only : goal.returns-in_err-facets-clause-only
@@ -12,3 +12,21 @@ returns-in_err-weld-clause-only g c = λ facets reads closed.
     let same : c.in_ok-facets.facets.items ≡ facets = c.in_ok-facets.ensures.only facets reads in
     let cause : c.in_err-weld.field-0.0 ≡ weld.Memory = c.in_err-weld.ensures.only (rw same closed) in
     passed_on c.from_residual-in_err-weld.result _ _ (λ f gives. cc) c.from_residual-in_err-weld.ensures.1
+
+pub returns-in_err-facets-clause-fault : goal.returns-in_err-facets-clause-fault
+returns-in_err-facets-clause-fault g c =
+    passed_on c.from_residual.result _ _
+    (λ f gives. unread c.args.unit c.args.bytes.now f
+    (told c.args.unit c.args.bytes.now c.in_err-facets.field-0.0 f gives c.in_err-facets.ensures.fault))
+    c.from_residual.ensures.1
+
+pub returns-in_err-weld-clause-fault : goal.returns-in_err-weld-clause-fault
+returns-in_err-weld-clause-fault g c =
+    passed_on c.from_residual-in_err-weld.result _ _
+    (λ f gives. unclosed c.args.unit c.args.bytes.now c.in_ok-facets.facets.items c.in_err-weld.field-0.0 f gives
+    c.in_ok-facets.ensures.found c.in_err-weld.ensures.open)
+    c.from_residual-in_err-weld.ensures.1
+
+pub returns-clause-ok : goal.returns-clause-ok
+returns-clause-ok g c =
+    (c.in_ok-facets.facets.items, c.in_ok-facets.ensures.found, c.in_ok-weld.ensures.closed, c.in_ok-weld.ensures.kept)
