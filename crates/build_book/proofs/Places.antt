@@ -240,6 +240,15 @@ one_further P first k all last n from below = by_order (leb_tells (suc n) k)
     by_order (inl x) = all n from x.1
     by_order (inr x) = let same : k ≡ n = omega (arith, x.1, below) in subst P same last
 
+-- where the places from `first` up to `at` are free, none of them is a taken one
+pub none_before : (ps : List (Option Layer)) (first at k : ℕ) → ((n : ℕ) → first ≤ n → n < at → slice_get ps n ≡ Some None)
+    → first ≤ k → IsTaken ps k → at ≤ k
+none_before ps first at k free from taken = by_order (leb_tells at k)
+  where
+    by_order : ((nat_le at k ≡ true) × (at ≤ k)) ⊎ ((nat_le at k ≡ false) × (k < at)) → at ≤ k
+    by_order (inl x) = x.1
+    by_order (inr x) = let both : Some (Some taken.0) ≡ Some None = sym taken.1 ∙ free k from x.1 in cc
+
 -- a stripe of the places of a book
 
 pub moved_stripe : (work other : Work) (s t : ℕ) (xs ys : List Layer) → other ≡ work → t ≡ s → ys ≡ xs → IsStripe other t xs → IsStripe work s ys
