@@ -8,9 +8,9 @@ use Rattle.raster.specs.Devices.{AppendsFirst}
 use Rattle.raster.specs.Lattice.{Lattice}
 use Rattle.raster.specs.declared.rules.Rule.{Rule}
 use Rattle.build_book.specs.Layers.{Work}
-use Rattle.stlslice.specs.declared.task.Given.{Given}
-use Rattle.stlslice.specs.declared.task.Task.{Task}
-use Rattle.stlslice.specs.declared.task.Task.TheVariants as task
+use Rattle.task_words.specs.declared.task.Given.{Given}
+use Rattle.task_words.specs.declared.task.Task.{Task}
+use Rattle.task_words.specs.declared.task.Task.TheVariants as task
 use Rattle.stlslice.specs.declared.run_faults.RunFault.{RunFault}
 use Rattle.stlslice.specs.declared.run_faults.RunFault.TheVariants as fault
 use Rattle.stlslice.specs.Program.{IsOutcome, grid_for}

@@ -13,9 +13,9 @@ use Rattle.mesh_weld.specs.declared.faults.WeldFault.TheVariants as weld
 use Rattle.mesh_weld.specs.Mesh.{Mesh, mesh_of}
 use Rattle.raster.specs.declared.grid_faults.GridFault.{GridFault}
 use Rattle.raster.specs.Lattice.{Lattice}
-use Rattle.stlslice.specs.declared.task.Given.{Given}
-use Rattle.stlslice.specs.declared.task.Task.{Task}
-use Rattle.stlslice.specs.declared.task.Task.TheVariants as task
+use Rattle.task_words.specs.declared.task.Given.{Given}
+use Rattle.task_words.specs.declared.task.Task.{Task}
+use Rattle.task_words.specs.declared.task.Task.TheVariants as task
 use Rattle.stlslice.specs.declared.run_faults.RunFault.{RunFault}
 use Rattle.stlslice.specs.declared.run_faults.RunFault.TheVariants as fault
 use Rattle.stlslice.specs.Program.{IsMade, IsOutcome, closed, grid_for, is_box, misread, open_mesh, outside, probed_text, unit_of}

@@ -14,9 +14,9 @@ use Rattle.raster.specs.declared.grid_faults.GridFault.{GridFault}
 use Rattle.raster.specs.Lattice.{Lattice, centre, fitted_grid, given_grid, lattice}
 use Rattle.raster.specs.declared.rules.Rule.{Rule}
 use Rattle.stlslice.specs.Stream.{sliced_text}
-use Rattle.stlslice.specs.declared.task.Given.{Given}
-use Rattle.stlslice.specs.declared.task.Task.{Task}
-use Rattle.stlslice.specs.declared.task.Task.TheVariants as task
+use Rattle.task_words.specs.declared.task.Given.{Given}
+use Rattle.task_words.specs.declared.task.Task.{Task}
+use Rattle.task_words.specs.declared.task.Task.TheVariants as task
 use Rattle.stlslice.specs.declared.run_faults.RunFault.{RunFault}
 use Rattle.stlslice.specs.declared.run_faults.RunFault.TheVariants as fault
 

@@ -2,8 +2,7 @@
 use Rattle.std.specs.Prelude.{◌≡◌, ◌≢◌, ℕ, ◌≤◌, ◌⊎◌, List, Option, Err, Ok, length}
 use Rattle.std.specs.Io.KnownBytes.{Keeps}
 use Rattle.raster.specs.Devices.{AppendsFirst, HasFailed}
-use Rattle.stlslice.specs.declared.task.Task.{Task}
-use Rattle.stlslice.specs.declared.task.Task.TheVariants as task
+use Rattle.task_words.specs.declared.task.Task.{Task}
 use Rattle.stlslice.specs.declared.run_faults.RunFault.{RunFault}
 use Rattle.stlslice.specs.declared.run_faults.RunFault.TheVariants as fault
 use Rattle.micro_num.specs.declared.units.Unit.{Unit as LengthUnit}
@@ -11,14 +10,6 @@ use Rattle.stl_text.specs.Text.{facet_limit, IsFaultOf, Reads}
 use Rattle.stl_text.specs.Triangle.{Triangle}
 use Rattle.mesh_weld.specs.Balance.{IsLeastOpen}
 use Rattle.stlslice.specs.Program.{IsOutcome}
-
--- the task's numbers are in range
-abbrev pub IsInRange : Task → Type 0
-IsInRange (task.Box unit) = Unit {0}
-IsInRange (task.Slice unit pitch layer rule workers report grid) =
-    (1 ≤ pitch) × (pitch ≤ 100000) × (1 ≤ layer) × (layer ≤ 100000) × (1 ≤ workers) × (workers ≤ 64)
-IsInRange (task.Probe unit pitch layer grid i j k) =
-    (1 ≤ pitch) × (pitch ≤ 100000) × (1 ≤ layer) × (layer ≤ 100000)
 
 -- a fault of the input is its outcome; the others are of a device or of memory
 abbrev pub IsRunFault : Task → List ℕ → RunFault → Type 0

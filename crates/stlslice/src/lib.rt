@@ -2,7 +2,6 @@
 #![tactic(auto)]
 
 mod box_line;
-mod command;
 mod images;
 mod loading;
 mod placing;
@@ -12,16 +11,10 @@ mod report;
 mod run_faults;
 mod running;
 mod slicing;
-mod task;
-mod texts;
-mod word_faults;
-mod words;
 mod writing;
 
 pub use loading::load;
 pub use raster::{Counted, Failed, Failures, Sink, Source};
 pub use run_faults::RunFault;
 pub use running::run;
-pub use task::{Given, Task};
-pub use word_faults::{Wanted, WordFault};
-pub use words::read_words;
+pub use task_words::{Given, Task, Wanted, WordFault, read_words};

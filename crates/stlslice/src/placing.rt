@@ -4,10 +4,10 @@ ghost use Rattle.stlslice.specs.Program.{grid_for};
 ghost use Rattle.stlslice.specs.declared.run_faults.RunFault.TheVariants.{Grid as NoGridOf};
 
 use crate::run_faults::RunFault;
-use crate::task::Given;
 use mesh_weld::Solid;
 use raster::Grid;
 use std::alloc::Allocator;
+use task_words::Given;
 
 /// The grid that was handed in, or else the one that the solid fits in.
 pub(crate) fn grid_for<A: Allocator>(

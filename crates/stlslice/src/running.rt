@@ -2,8 +2,9 @@ ghost use Rattle.std.specs.Prelude.{◌≡◌, ◌≢◌, ◌≤◌, ◌⊎◌, 
 ghost use Rattle.std.specs.Io.KnownBytes.{Appends, IsAtEnd, Keeps};
 ghost use Rattle.raster.specs.Devices.{AppendsFirst, HasFailed};
 ghost use Rattle.stlslice.specs.Program.{IsOutcome};
-ghost use Rattle.stlslice.specs.Running.{IsEnd, IsInRange, IsLoadFault, IsRunFault};
+ghost use Rattle.stlslice.specs.Running.{IsEnd, IsLoadFault, IsRunFault};
 ghost use Rattle.stlslice.specs.declared.run_faults.RunFault.TheVariants.{Memory, Read, Stl, Write};
+ghost use Rattle.task_words.specs.Tasks.{IsInRange};
 ghost use Rattle.mesh_weld.specs.Balance.{IsBalanced};
 ghost use Rattle.mesh_weld.specs.Mesh.{mesh_of};
 ghost use Rattle.stl_text.specs.Text.{IsFaultOf, Reads, facet_limit};
@@ -16,7 +17,6 @@ use crate::probing::probe_voxel;
 use crate::reading::read_all;
 use crate::run_faults::RunFault;
 use crate::slicing::write_build;
-use crate::task::Task;
 use crate::writing::write_all;
 use build_book::Job;
 use layer_pool::{OpenGate, build};
@@ -27,6 +27,7 @@ use std::alloc::Allocator;
 use std::sync::Wait;
 use std::thread::Threads;
 use stl_text::{Facet, read_stl};
+use task_words::Task;
 
 /// Reads the whole input, does the task, and writes and flushes what it answers.
 ///

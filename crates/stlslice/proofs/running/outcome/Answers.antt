@@ -4,7 +4,7 @@ use Rattle.std.proofs.lemmas.Result.{IfErr-weaker, IfOk-weaker}
 use Rattle.stlslice.specs.Program.{boxed}
 use Rattle.stlslice.specs.Running.{IsWorkFault}
 use Rattle.stlslice.proofs.Faults.{misread_box, passed_on, probed_fault, probed_there, unloaded, unplaced}
-use Rattle.stlslice.specs.declared.task.Task.TheVariants as task
+use Rattle.task_words.specs.declared.task.Task.TheVariants as task
 use Rattle.stlslice.proofs.running.outcome.Goals as goal
 
 pub returns-in_err-facets-in-Box-clause-err : goal.returns-in_err-facets-in-Box-clause-err

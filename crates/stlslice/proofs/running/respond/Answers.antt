@@ -5,7 +5,7 @@ use Rattle.build_book.specs.Layers.{Work}
 use Rattle.stlslice.specs.Program.{IsOutcome}
 use Rattle.stlslice.specs.Running.{IsWorkFault}
 use Rattle.stlslice.specs.Stream.{sliced_text}
-use Rattle.stlslice.specs.declared.task.Task.TheVariants as task
+use Rattle.task_words.specs.declared.task.Task.TheVariants as task
 use Rattle.stlslice.proofs.Ends.{ended, keeps_self, no_memory, sliced_there}
 use Rattle.stlslice.proofs.Faults.{passed_on, unloaded, unplaced}
 use Rattle.stlslice.proofs.running.respond.Goals as goal

@@ -1,8 +1,8 @@
 ghost use Rattle.std.specs.Prelude.{◌≡◌, ◌≢◌};
 ghost use Rattle.clap.specs.Words.{kind_of};
 ghost use Rattle.clap.specs.declared.error.kind.ErrorKind.TheVariants.{OutOfMemory};
-ghost use Rattle.stlslice.specs.declared.word_faults.WordFault.TheVariants.{Memory, Refused};
-ghost use Rattle.stlslice.specs.Statuses.{IsWordStatus};
+ghost use Rattle.task_words.specs.declared.word_faults.WordFault.TheVariants.{Memory, Refused};
+ghost use Rattle.task_words.specs.Statuses.{IsWordStatus};
 
 use clap::Error as Refusal;
 use clap::error::ErrorKind;

@@ -1,5 +1,5 @@
 ghost use Rattle.std.specs.Prelude.{◌≤◌, IfOk, IfSome};
-ghost use Rattle.stlslice.specs.Running.{IsInRange};
+ghost use Rattle.task_words.specs.Tasks.{IsInRange};
 
 use crate::command::{BOX, GRID, LAYER, PITCH, PROBE, REPORT, RULE, UNIT, WORKERS, command};
 use crate::task::{Given, Task};
