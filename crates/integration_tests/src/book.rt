@@ -1,26 +1,60 @@
 //! What no clause says: that there are loops and layers with ample memory, worked areas, and memory that is refused.
 ghost use Rattle.std.specs.Prelude.{◌≡◌, IfOk};
 
-use crate::jobs::{box_job, job_of};
-use crate::meshes::two_cubes;
+use crate::growth::{Count, first_free_turn};
+use crate::jobs::job_of;
+use crate::meshes::{COLUMN, CUBE, Part, TWO_CUBES};
 use build_book::{Book, Build, FileFault, Job, Piece, Sheaf, Slicer, slice_stripe};
 use raster::Rule;
 use short_memory::ShortMemory;
 use std::alloc::{AllocError, Allocator, Global};
 use std::test::Fail;
 
-const CUBE: [i32; 3] = [2, 2, 2];
-
-// A box of 17 layers, in stripes of 8, 8 and 1.
-const COLUMN: [i32; 3] = [1, 1, 17];
-
-// The job of two cubes in voxels of two micrometres.
-fn two_cubes_job(alloc: Global, rule: Rule) -> Result<Job<Global>, AllocError> {
-    job_of(two_cubes(alloc)?, 2, rule)
+// Whether a layer has so many loops and this area.
+fn is_layer(build: &Build<'_, Global>, k: u32, (loops, area): (usize, u64)) -> bool {
+    match build.layer(k) {
+        Some(layer) => layer.loops().count() == loops && layer.area() == area,
+        None => false,
+    }
 }
 
-// A stripe of a job, which has it.
-fn piece_of<'m, A: Allocator + Copy + Send + Sync>(
+// The loops and the areas of three layers, and the area of all.
+type Layers = ([(usize, u64); 3], u64);
+
+// Whether the build of an empty book has just these layers, which are late then.
+fn is_built(
+    alloc: Global,
+    job: &Job<Global>,
+    ([low, middle, high], total): Layers,
+) -> Result<bool, AllocError> {
+    let build = Book::open(alloc, job)?.finish(job)?;
+    Ok(
+        is_layer(&build, 0, low)
+            && is_layer(&build, 1, middle)
+            && is_layer(&build, 2, high)
+            && build.layer(3).is_none()
+            && build.late() == 3
+            && build.total_area() == total,
+    )
+}
+
+// The same of two cubes, in voxels of two micrometres, by a rule.
+fn are_two_cubes(alloc: Global, rule: Rule, told: Layers) -> Result<bool, AllocError> {
+    let job = job_of(alloc, TWO_CUBES, 2, rule)?;
+    is_built(alloc, &job, told)
+}
+
+#[test]
+fn two_cubes_by_each_rule(rt: HostRuntime) -> Result<(), Fail> {
+    let odd = are_two_cubes(rt.alloc(), Rule::EvenOdd, ([(1, 4), (2, 6), (1, 4)], 14));
+    assert!(rt; odd == Ok(true));
+    let some = are_two_cubes(rt.alloc(), Rule::NonZero, ([(1, 4), (2, 7), (1, 4)], 15));
+    assert!(rt; some == Ok(true));
+    Ok(())
+}
+
+/// A stripe of a job, which has it.
+pub(crate) fn piece_of<'m, A: Allocator + Copy + Send + Sync>(
     alloc: A,
     job: &'m Job<A>,
     stripe: u64,
@@ -34,84 +68,16 @@ fn piece_of<'m, A: Allocator + Copy + Send + Sync>(
     }
 }
 
-// The number of loops and the area of a layer.
-fn loops_and_area(build: &Build<'_, Global>, k: u32) -> Option<(usize, u64)> {
-    let layer = build.layer(k)?;
-    Some((layer.loops().count(), layer.area()))
-}
+/// The fault of a piece that a book doesn't take, with the stripe of the piece that comes back.
+pub(crate) type Refusal = Option<(FileFault, u64)>;
 
-// What a build shows: the loops and the areas of its layers, how many are late, and the area of all.
-type Shown = ([Option<(usize, u64)>; 4], (u32, u64));
+/// What a book shows: how many places are taken, the area of their layers, and that of layer 8 and of layer 0.
+pub(crate) type Shown = (u32, u64, Option<u64>, Option<u64>);
 
-fn build_shown(build: &Build<'_, Global>) -> Shown {
-    let layers = [
-        loops_and_area(build, 0),
-        loops_and_area(build, 1),
-        loops_and_area(build, 2),
-        loops_and_area(build, 3),
-    ];
-    (layers, (build.late(), build.total_area()))
-}
-
-// What the build of an empty book shows.
-fn made_up(alloc: Global, job: &Job<Global>) -> Result<Shown, AllocError> {
-    let build = Book::open(alloc, job)?.finish(job)?;
-    Ok(build_shown(&build))
-}
-
-// The same for two cubes by a rule.
-fn two_cubes_by(alloc: Global, rule: Rule) -> Option<Shown> {
-    let job = two_cubes_job(alloc, rule).ok()?;
-    made_up(alloc, &job).ok()
-}
-
-#[test]
-fn two_cubes_by_each_rule(rt: HostRuntime) -> Result<(), Fail> {
-    for (rule, middle, total) in [(Rule::EvenOdd, 6, 14), (Rule::NonZero, 7, 15)] {
-        let layers = [Some((1, 4)), Some((2, middle)), Some((1, 4)), None];
-        assert_eq!(rt; two_cubes_by(rt.alloc(), rule), Some((layers, (3, total))));
-    }
-    Ok(())
-}
-
-// Why a book didn't take a piece, and the stripe of the piece that came back.
-fn refusal<'m>(book: &mut Book<'m, Global>, piece: Piece<'m, Global>) -> Option<(FileFault, u64)> {
+/// Why a book doesn't take a piece.
+pub(crate) fn refusal<'m>(book: &mut Book<'m, Global>, piece: Piece<'m, Global>) -> Refusal {
     let (fault, back) = book.file(piece).err()?;
     Some((fault, back.stripe()))
-}
-
-// How many layers a book has, and their area.
-fn shown(book: &Book<'_, Global>) -> (u32, u64) {
-    (book.filed(), book.total_area())
-}
-
-// Files a stripe of a job, which has it: the fault, with the stripe that came back.
-fn file<'m>(
-    alloc: Global,
-    book: &mut Book<'m, Global>,
-    job: &'m Job<Global>,
-    stripe: u64,
-) -> Result<Option<(FileFault, u64)>, AllocError> {
-    let piece = piece_of(alloc, job, stripe)?;
-    Ok(refusal(book, piece))
-}
-
-// A fault and the stripe that came back, or neither; and what the book shows then.
-type Filed = (Option<(FileFault, u64)>, (u32, u64));
-
-// Files stripes of a job in turn, and answers what came of each.
-fn filed_in_turn<'m>(
-    alloc: Global,
-    book: &mut Book<'m, Global>,
-    job: &'m Job<Global>,
-    stripes: [u64; 3],
-) -> Result<Vec<Filed>, AllocError> {
-    let mut seen = Vec::new(alloc);
-    for stripe in stripes {
-        let fault = file(alloc, book, job, stripe)?;
-        seen.push((fault, shown(book)))?;
-    }
-    Ok(seen)
 }
 
 fn area_at(book: &Book<'_, Global>, k: u32) -> Option<u64> {
@@ -119,110 +85,156 @@ fn area_at(book: &Book<'_, Global>, k: u32) -> Option<u64> {
     Some(layer.area())
 }
 
-// Files stripes of the column in turn: what came of each, and the areas of layers 8 and 0 at the end.
-fn column_filed(
-    alloc: Global,
-    stripes: [u64; 3],
-) -> Result<(Vec<Filed>, (Option<u64>, Option<u64>)), AllocError> {
-    let job = box_job(alloc, COLUMN)?;
-    let mut book = Book::open(alloc, &job)?;
-    let seen = filed_in_turn(alloc, &mut book, &job, stripes)?;
-    Ok((seen, (area_at(&book, 8), area_at(&book, 0))))
+pub(crate) fn shown(book: &Book<'_, Global>) -> Shown {
+    (
+        book.filed(),
+        book.total_area(),
+        area_at(book, 8),
+        area_at(book, 0),
+    )
 }
 
-#[test]
-fn stripes_of_a_column(rt: HostRuntime) -> Result<(), Fail> {
-    let (seen, areas) = column_filed(rt.alloc(), [1, 1, 2])?;
-    let double = FileFault::Double { layer: 8 };
-    let turns = [(None, (8, 8)), (Some((double, 1)), (8, 8)), (None, (9, 9))];
-    assert_eq!(rt; seen.as_slice(), turns.as_slice());
-    assert_eq!(rt; areas, (Some(1), None));
-    Ok(())
-}
+/// Whether a stripe is of the other one of two jobs, and its number; why a book of the first doesn't take it, and what
+/// the book shows then.
+pub(crate) type Filing = (bool, u64, Refusal, Shown);
 
-// A book of a job with the stripes that one slicer made in this order.
-fn sliced_in_order<'m>(
+/// Whether such a stripe goes so.
+pub(crate) fn is_filed<'m>(
     alloc: Global,
+    book: &mut Book<'m, Global>,
     job: &'m Job<Global>,
-    order: &[u64],
-) -> Result<Book<'m, Global>, AllocError> {
-    let mut book = Book::open(alloc, job)?;
-    let mut slicer = Slicer::new(alloc, job)?;
-    for stripe in order {
-        if *stripe >= job.stripes() || book.file(slicer.slice(*stripe)?).is_err() {
-            return Err(AllocError);
-        }
-    }
-    Ok(book)
+    other: &'m Job<Global>,
+    (is_other, stripe, refused, told): Filing,
+) -> Result<bool, AllocError> {
+    let piece = piece_of(alloc, if is_other { other } else { job }, stripe)?;
+    Ok(refusal(book, piece) == refused && shown(book) == told)
 }
 
-// What a book with these stripes shows, and how many layers are late at its end and their area.
-fn finished_after<'m>(
-    alloc: Global,
-    job: &'m Job<Global>,
-    order: &[u64],
-) -> Result<((u32, u64), (u32, u64)), AllocError> {
-    let book = sliced_in_order(alloc, job, order)?;
-    let filed = shown(&book);
-    let build = book.finish(job)?;
-    Ok((filed, (build.late(), build.total_area())))
-}
-
-#[test]
-fn one_slicer_in_any_order(rt: HostRuntime) -> Result<(), Fail> {
-    let job = box_job(rt.alloc(), COLUMN)?;
-    for order in [[0, 1, 2], [0, 2, 1], [2, 1, 0]] {
-        let found = finished_after(rt.alloc(), &job, &order)?;
-        assert_eq!(rt; found, ((17, 17), (0, 17)));
-    }
-    Ok(())
-}
-
-#[test]
-fn what_is_not_filed_is_late(rt: HostRuntime) -> Result<(), Fail> {
-    let job = box_job(rt.alloc(), COLUMN)?;
-    let found = finished_after(rt.alloc(), &job, &[1, 2])?;
-    assert_eq!(rt; found, ((9, 9), (8, 17)));
-    Ok(())
-}
-
-// Why an empty book of a job doesn't take the first stripe of another one.
-fn refusal_of<'m>(
+// The number of the first stripe, filed in turn, that goes otherwise.
+fn first_other_filing<'m>(
     alloc: Global,
     job: &'m Job<Global>,
     other: &'m Job<Global>,
-) -> Result<Option<(FileFault, u64)>, AllocError> {
+    rows: &[Filing],
+) -> Result<Option<usize>, AllocError> {
     let mut book = Book::open(alloc, job)?;
-    let piece = piece_of(alloc, other, 0)?;
-    Ok(refusal(&mut book, piece))
+    for (n, row) in rows.iter().enumerate() {
+        if !is_filed(alloc, &mut book, job, other, *row)? {
+            return Ok(Some(n));
+        }
+    }
+    Ok(None)
 }
 
-// The same for the jobs of two boxes from 0 up.
-fn refusal_between(
+// The same for the column and another mesh.
+fn first_other_beside(
     alloc: Global,
-    high: [i32; 3],
-    other: [i32; 3],
-) -> Result<Option<(FileFault, u64)>, AllocError> {
-    let job = box_job(alloc, high)?;
-    let other = box_job(alloc, other)?;
-    refusal_of(alloc, &job, &other)
+    parts: &[Part<'_>],
+    rows: &[Filing],
+) -> Result<Option<usize>, AllocError> {
+    let job = job_of(alloc, COLUMN, 1, Rule::EvenOdd)?;
+    let other = job_of(alloc, parts, 1, Rule::EvenOdd)?;
+    first_other_filing(alloc, &job, &other, rows)
 }
+
+/// Stripes of the column, and one of another job.
+pub(crate) static FILINGS: [Filing; 4] = [
+    (false, 1, None, (8, 8, Some(1), None)),
+    (
+        false,
+        1,
+        Some((FileFault::Double { layer: 8 }, 1)),
+        (8, 8, Some(1), None),
+    ),
+    (false, 2, None, (9, 9, Some(1), None)),
+    (
+        true,
+        0,
+        Some((FileFault::Stranger, 0)),
+        (9, 9, Some(1), None),
+    ),
+];
+
+#[test]
+fn stripes_of_a_column(rt: HostRuntime) -> Result<(), Fail> {
+    assert!(rt; first_other_beside(rt.alloc(), CUBE, &FILINGS) == Ok(None));
+    Ok(())
+}
+
+static STRANGER: [Filing; 1] = [(true, 0, Some((FileFault::Stranger, 0)), (0, 0, None, None))];
+
+static SAME: [Filing; 1] = [(true, 0, None, (8, 8, None, Some(1)))];
 
 #[test]
 fn stripe_of_another_job(rt: HostRuntime) -> Result<(), Fail> {
-    let same = refusal_between(rt.alloc(), COLUMN, COLUMN)?;
-    assert_eq!(rt; same, None);
-    let other = refusal_between(rt.alloc(), COLUMN, CUBE)?;
-    assert_eq!(rt; other, Some((FileFault::Stranger, 0)));
+    assert!(rt; first_other_beside(rt.alloc(), CUBE, &STRANGER) == Ok(None));
+    assert!(rt; first_other_beside(rt.alloc(), COLUMN, &SAME) == Ok(None));
+    Ok(())
+}
+
+// Files the stripes of a job that one slicer makes in this order.
+fn file_in_order<'m>(
+    alloc: Global,
+    book: &mut Book<'m, Global>,
+    job: &'m Job<Global>,
+    order: &[u64],
+) -> Result<(), AllocError> {
+    let mut slicer = Slicer::new(alloc, job)?;
+    for stripe in order {
+        if *stripe >= job.stripes() || refusal(book, slicer.slice(*stripe)?).is_some() {
+            return Err(AllocError);
+        }
+    }
+    Ok(())
+}
+
+// Stripes, how many layers a book of them has, and how many are late at its end.
+type Order<'a> = (&'a [u64], u32, u32);
+
+// Whether a book of a job goes so where each layer is one voxel.
+fn is_finished(
+    alloc: Global,
+    job: &Job<Global>,
+    (order, filed, late): Order<'_>,
+) -> Result<bool, AllocError> {
+    let mut book = Book::open(alloc, job)?;
+    file_in_order(alloc, &mut book, job, order)?;
+    let is_filed = book.filed() == filed && book.total_area() == u64::from(filed);
+    let build = book.finish(job)?;
+    Ok(is_filed && build.late() == late && build.total_area() == 17)
+}
+
+// The number of the first order in which the column goes otherwise.
+fn first_other_order(alloc: Global, orders: &[Order<'_>]) -> Result<Option<usize>, AllocError> {
+    let job = job_of(alloc, COLUMN, 1, Rule::EvenOdd)?;
+    for (n, order) in orders.iter().enumerate() {
+        if !is_finished(alloc, &job, *order)? {
+            return Ok(Some(n));
+        }
+    }
+    Ok(None)
+}
+
+static ORDERS: [Order; 4] = [
+    (&[0, 1, 2], 17, 0),
+    (&[0, 2, 1], 17, 0),
+    (&[2, 1, 0], 17, 0),
+    // what is not filed is late
+    (&[1, 2], 9, 8),
+];
+
+#[test]
+fn one_slicer_in_any_order(rt: HostRuntime) -> Result<(), Fail> {
+    assert!(rt; first_other_order(rt.alloc(), &ORDERS) == Ok(None));
     Ok(())
 }
 
 // A sheaf of a job with these stripes.
-fn sheaf_of<'m>(
-    alloc: Global,
-    job: &'m Job<Global>,
+fn sheaf_of<'m, A: Allocator + Copy + Send + Sync>(
+    alloc: A,
+    job: &'m Job<A>,
     stripes: &[u64],
-) -> Result<Sheaf<'m, Global>, AllocError> {
+) -> Result<Sheaf<'m, A>, AllocError> {
     let mut sheaf = Sheaf::new(alloc, job, 2)?;
     for stripe in stripes {
         sheaf.push(piece_of(alloc, job, *stripe)?)?;
@@ -230,90 +242,84 @@ fn sheaf_of<'m>(
     Ok(sheaf)
 }
 
-// Why a book didn't take all of a sheaf, and the first stripe of those that came back.
-fn first_refused<'m>(
-    book: &mut Book<'m, Global>,
-    sheaf: Sheaf<'m, Global>,
-) -> Option<(FileFault, u64)> {
+// Why a book doesn't take all of a sheaf, with the first stripe of those that come back.
+fn sheaf_refusal<'m, A: Allocator + Copy + Send + Sync>(
+    book: &mut Book<'m, A>,
+    sheaf: Sheaf<'m, A>,
+) -> Refusal {
     let (fault, rest) = book.file_all(sheaf).err()?;
     Some((fault, rest.first()?.stripe()))
 }
 
-// Files a sheaf of these stripes: what came of it.
-fn file_sheaf<'m>(
+// Sheaves of stripes of the column, filed in turn: what comes of each, and how many layers the book has then.
+static SHEAVES: [(&[u64], Refusal, u32); 2] = [
+    (&[2, 0], None, 9),
+    (&[1, 0, 2], Some((FileFault::Double { layer: 0 }, 0)), 17),
+];
+
+// The number of the first sheaf of a job that goes otherwise.
+fn first_other_sheaf<'m>(
     alloc: Global,
     book: &mut Book<'m, Global>,
     job: &'m Job<Global>,
-    stripes: &[u64],
-) -> Result<Filed, AllocError> {
-    let sheaf = sheaf_of(alloc, job, stripes)?;
-    let refused = first_refused(book, sheaf);
-    Ok((refused, shown(book)))
+) -> Result<Option<usize>, AllocError> {
+    for (n, (stripes, refused, filed)) in SHEAVES.iter().enumerate() {
+        let sheaf = sheaf_of(alloc, job, stripes)?;
+        if sheaf_refusal(book, sheaf) != *refused
+            || book.filed() != *filed
+            || book.total_area() != u64::from(*filed)
+        {
+            return Ok(Some(n));
+        }
+    }
+    Ok(None)
 }
 
-// Files two sheaves of stripes of the column: what came of each.
-fn column_by_sheaves(
-    alloc: Global,
-    first: &[u64],
-    second: &[u64],
-) -> Result<(Filed, Filed), AllocError> {
-    let job = box_job(alloc, COLUMN)?;
+// The same for the column.
+fn first_other_of_sheaves(alloc: Global) -> Result<Option<usize>, AllocError> {
+    let job = job_of(alloc, COLUMN, 1, Rule::EvenOdd)?;
     let mut book = Book::open(alloc, &job)?;
-    let before = file_sheaf(alloc, &mut book, &job, first)?;
-    let after = file_sheaf(alloc, &mut book, &job, second)?;
-    Ok((before, after))
+    first_other_sheaf(alloc, &mut book, &job)
 }
 
 #[test]
 fn sheaves_of_a_column(rt: HostRuntime) -> Result<(), Fail> {
-    let (fresh, taken) = column_by_sheaves(rt.alloc(), &[2, 0], &[1, 0, 2])?;
-    assert_eq!(rt; fresh, (None, (9, 9)));
-    let double = FileFault::Double { layer: 0 };
-    assert_eq!(rt; taken, (Some((double, 0)), (17, 17)));
+    assert!(rt; first_other_of_sheaves(rt.alloc()) == Ok(None));
     Ok(())
 }
 
-// A book of a job with a sheaf of its stripe 1, or nothing where the book refused that.
-fn with_a_sheaf<'m, A: Allocator + Copy + Send + Sync>(
-    alloc: A,
-    job: &'m Job<A>,
-) -> Result<Option<Book<'m, A>>, AllocError> {
-    let mut book = Book::open(alloc, job)?;
-    let mut sheaf = Sheaf::new(alloc, job, 1)?;
-    sheaf.push(piece_of(alloc, job, 1)?)?;
-    Ok(book.file_all(sheaf).is_ok().then_some(book))
-}
-
-// How many layers of such a book are late, and the area of all.
-fn finished_of<A: Allocator + Copy + Send + Sync>(
+// How many layers of a job are late where a book of it has a sheaf of stripe 1; 0 where the book refused the sheaf, or
+// where the area of all is another.
+fn late_after_a_sheaf<A: Allocator + Copy + Send + Sync>(
     alloc: A,
     job: &Job<A>,
-) -> Result<Option<(u32, u64)>, AllocError> {
-    let Some(book) = with_a_sheaf(alloc, job)? else {
-        return Ok(None);
-    };
+) -> Result<u32, AllocError> {
+    let mut book = Book::open(alloc, job)?;
+    let sheaf = sheaf_of(alloc, job, &[1])?;
+    if sheaf_refusal(&mut book, sheaf).is_some() {
+        return Ok(0);
+    }
     let build = book.finish(job)?;
-    Ok(Some((build.late(), build.total_area())))
+    Ok(if build.total_area() == 17 {
+        build.late()
+    } else {
+        0
+    })
 }
 
-// The same for the column.
-fn finished(memory: &ShortMemory<Global>) -> Result<Option<(u32, u64)>, AllocError> {
-    let job = box_job(memory, COLUMN)?;
-    finished_of(memory, &job)
+// The layers of the column that are late after a sheaf.
+struct Late;
+
+impl Count for Late {
+    fn count(memory: &ShortMemory<Global>) -> Option<usize> {
+        let job = job_of(memory, COLUMN, 1, Rule::EvenOdd).ok()?;
+        let late = late_after_a_sheaf(memory, &job).ok()?;
+        Some(late as usize)
+    }
 }
 
 #[test]
 fn each_growth_refused_in_turn(rt: HostRuntime) -> Result<(), Fail> {
-    for turn in 1..10_000 {
-        let memory = ShortMemory::new(rt.alloc(), turn);
-        let found = finished(&memory);
-        if !memory.has_refused() {
-            assert!(rt; turn > 17);
-            assert_eq!(rt; found, Ok(Some((9, 17))));
-            return Ok(());
-        }
-        assert_eq!(rt; found, Err(AllocError));
-    }
-    assert!(rt; false);
+    assert!(rt; first_free_turn::<Late>(rt.alloc(), 10_000, 9) > Some(17));
     Ok(())
 }

@@ -1,7 +1,8 @@
 //! What no clause says: the order of the draws, threads that really run, and memory that is refused.
-ghost use Rattle.std.specs.Prelude.{All, IfOk};
+ghost use Rattle.std.specs.Prelude.{◌≤◌, All, IfOk};
 ghost use Rattle.layer_pool.specs.Passes.{IsOwned};
 
+use crate::growth::{Count, first_free_turn};
 use layer_pool::{Claims, Pass};
 use short_memory::ShortMemory;
 use std::alloc::{AllocError, Global};
@@ -20,47 +21,69 @@ fn draw_at(claims: &Claims<Global>, passes: &mut Vec<Pass>, k: usize) -> Option<
     }
 }
 
-// What three passes draw, one after the other.
-fn draw_three(
+// The number of the first draw, by the pass with a number, that gives another answer.
+fn first_other_draw(
     claims: &Claims<Global>,
     passes: &mut Vec<Pass>,
-    order: [usize; 3],
-) -> [Option<u64>; 3]
+    draws: &[(usize, Option<u64>)],
+) -> Option<usize>
     requires { All (IsOwned claims.now) passes.old.items }
     ensures { All (IsOwned claims.now) passes.new.items }
 {
-    let [a, b, c] = order;
-    let first = draw_at(claims, passes, a);
-    let second = draw_at(claims, passes, b);
-    let third = draw_at(claims, passes, c);
-    [first, second, third]
+    for (n, (pass, told)) in draws.iter().enumerate() {
+        if draw_at(claims, passes, *pass) != *told {
+            return Some(n);
+        }
+    }
+    None
 }
+
+// The same for two passes of claims to so many stripes, with the word of the claims at the end.
+fn drawn_by_two(
+    alloc: Global,
+    stripes: u64,
+    draws: &[(usize, Option<u64>)],
+) -> Result<(Option<usize>, u64), AllocError>
+    requires { stripes ≤ 8192 }
+{
+    let (claims, mut passes) = Claims::open(alloc, stripes, 2)?;
+    let other = first_other_draw(&claims, &mut passes, draws);
+    Ok((other, claims.close(passes)))
+}
+
+static THREE: [(usize, Option<u64>); 6] = [
+    (0, Some(0)),
+    (1, Some(1)),
+    (0, Some(2)),
+    (1, None),
+    (0, None),
+    (1, None),
+];
 
 #[test]
 fn two_passes_draw_three(rt: HostRuntime) -> Result<(), Fail> {
-    let (claims, mut passes) = Claims::open(rt.alloc(), 3, 2)?;
-    let drawn = draw_three(&claims, &mut passes, [0, 1, 0]);
-    let behind = draw_three(&claims, &mut passes, [1, 0, 1]);
-    assert_eq!(rt; claims.close(passes), 5);
-    assert_eq!(rt; drawn, [Some(0), Some(1), Some(2)]);
-    assert_eq!(rt; behind, [None, None, None]);
+    assert_eq!(rt; drawn_by_two(rt.alloc(), 3, &THREE)?, (None, 5));
     Ok(())
 }
 
+static NONE: [(usize, Option<u64>); 3] = [(1, None), (0, None), (1, None)];
+
 #[test]
 fn no_stripes(rt: HostRuntime) -> Result<(), Fail> {
-    let (claims, mut passes) = Claims::open(rt.alloc(), 0, 2)?;
-    let drawn = draw_three(&claims, &mut passes, [1, 0, 1]);
-    assert_eq!(rt; claims.close(passes), 2);
-    assert_eq!(rt; drawn, [None, None, None]);
+    assert_eq!(rt; drawn_by_two(rt.alloc(), 0, &NONE)?, (None, 2));
     Ok(())
+}
+
+// What one of two passes draws, with the word of the claims where neither is handed in.
+fn drawn_by_one(alloc: Global) -> Result<(Option<u64>, u64), AllocError> {
+    let (claims, mut passes) = Claims::open(alloc, 3, 2)?;
+    let drawn = draw_at(&claims, &mut passes, 1);
+    Ok((drawn, claims.close(Vec::new(alloc))))
 }
 
 #[test]
 fn no_passes_handed_in(rt: HostRuntime) -> Result<(), Fail> {
-    let (claims, mut passes) = Claims::open(rt.alloc(), 3, 2)?;
-    assert_eq!(rt; draw_at(&claims, &mut passes, 1), Some(0));
-    assert_eq!(rt; claims.close(Vec::new(rt.alloc())), 1);
+    assert_eq!(rt; drawn_by_one(rt.alloc())?, (Some(0), 1));
     Ok(())
 }
 
@@ -101,44 +124,46 @@ fn drawn_by_threads<R: Threads + Sync>(
     Ok((back, all))
 }
 
+// Whether these are the numbers below a count, each once.
+fn are_below(mut numbers: Vec<u64>, count: usize) -> Result<bool, AllocError> {
+    numbers.sort()?;
+    for (k, number) in numbers.iter().enumerate() {
+        if *number != k as u64 {
+            return Ok(false);
+        }
+    }
+    Ok(numbers.len() == count)
+}
+
+// Whether four threads draw a thousand numbers, how many passes come back, and the word of the claims at the end.
+fn drawn_by_four<R: Threads + Sync>(
+    rt: &R,
+    alloc: Global,
+) -> Result<(bool, usize, u64), AllocError> {
+    let (claims, passes) = Claims::open(alloc, 1000, 4)?;
+    let (passes, numbers) = drawn_by_threads(rt, &claims, alloc, passes)?;
+    let are_drawn = are_below(numbers, 1000)?;
+    Ok((are_drawn, passes.len(), claims.close(passes)))
+}
+
 #[test]
 fn four_threads_draw_a_thousand(rt: HostRuntime) -> Result<(), Fail> {
-    let alloc = rt.alloc();
-    let (claims, passes) = Claims::open(alloc, 1000, 4)?;
-    let (passes, mut all) = drawn_by_threads(&rt, &claims, alloc, passes)?;
-    all.sort()?;
-    assert_eq!(rt; all.len(), 1000);
-    for (k, number) in all.iter().enumerate() {
-        assert_eq!(rt; *number, k as u64);
-    }
-    assert_eq!(rt; passes.len(), 4);
-    assert_eq!(rt; claims.close(passes), 1004);
+    assert_eq!(rt; drawn_by_four(&rt, rt.alloc())?, (true, 4, 1004));
     Ok(())
 }
 
-// How many passes were opened, if memory was not refused.
-fn opened(alloc: &ShortMemory<Global>) -> Option<usize> {
-    let Ok((claims, passes)) = Claims::open(alloc, 3, 64) else {
-        return None;
-    };
-    let count = passes.len();
-    drop(passes);
-    drop(claims);
-    Some(count)
+// The passes that are opened.
+struct Opened;
+
+impl Count for Opened {
+    fn count(memory: &ShortMemory<Global>) -> Option<usize> {
+        let (_claims, passes) = Claims::open(memory, 3, 64).ok()?;
+        Some(passes.len())
+    }
 }
 
 #[test]
 fn each_growth_refused_in_turn(rt: HostRuntime) -> Result<(), Fail> {
-    for turn in 1..100 {
-        let memory = ShortMemory::new(rt.alloc(), turn);
-        let count = opened(&memory);
-        if !memory.has_refused() {
-            assert!(rt; turn > 1);
-            assert_eq!(rt; count, Some(64));
-            return Ok(());
-        }
-        assert_eq!(rt; count, None);
-    }
-    assert!(rt; false);
+    assert!(rt; first_free_turn::<Opened>(rt.alloc(), 100, 64) > Some(1));
     Ok(())
 }

@@ -1,7 +1,8 @@
 //! Two boxes that overlap, filled, and memory that is refused.
 ghost use Rattle.std.specs.Prelude.{◌<◌};
 
-use crate::meshes::{BOX, INWARD, cube, joined, two_cubes};
+use crate::growth::{Count, first_free_turn};
+use crate::meshes::{ONE_INWARD, Part, TWO_CUBES, solid_of};
 use contour::segments;
 use mesh_weld::Solid;
 use raster::{Filler, Grid, Rule, Span, fill};
@@ -23,57 +24,19 @@ fn layer<A: Allocator + Copy + Send + Sync>(
     fill(alloc, s, g, rule, k, cut.as_slice())
 }
 
-// The spans of a layer, in memory that other layers were filled in.
-fn next_layer<A: Allocator + Copy + Send + Sync>(
-    filler: &mut Filler<A>,
+// The spans of a layer of boxes in voxels of 2; `None` where memory was refused.
+fn layer_of<A: Allocator + Copy + Send + Sync>(
     alloc: A,
-    s: &Solid<A>,
-    g: &Grid,
-    rule: Rule,
-    k: u32,
-) -> Result<Vec<Span, A>, AllocError>
-    requires { k < g.now.layers }
-{
-    let cut = segments(alloc, s, g.plane(k))?;
-    filler.fill(alloc, s, g, rule, k, cut.as_slice())
-}
-
-// The spans of a layer of two cubes, from 0 to 4 and from 2 to 6, in voxels of 2; `None` where memory was refused.
-fn layer_of_cubes<A: Allocator + Copy + Send + Sync>(
-    alloc: A,
+    parts: &[Part<'_>],
     rule: Rule,
     k: u32,
 ) -> Option<Vec<Span, A>> {
-    let solid = two_cubes(alloc).ok()?;
+    let solid = solid_of(alloc, parts).ok()?;
     let g = Grid::fit(&solid, 2, 2).ok()?;
     if k >= g.layers() {
         return None;
     }
     layer(alloc, &solid, &g, rule, k).ok()
-}
-
-// The spans of layer 1 of the two cubes and then those of layer 0, by one filler; `None` where memory was refused.
-fn two_layers<A: Allocator + Copy + Send + Sync>(alloc: A) -> Option<(Vec<Span, A>, Vec<Span, A>)> {
-    let solid = two_cubes(alloc).ok()?;
-    let g = Grid::fit(&solid, 2, 2).ok()?;
-    if g.layers() < 2 {
-        return None;
-    }
-    let mut filler = Filler::new(alloc);
-    let high = next_layer(&mut filler, alloc, &solid, &g, Rule::EvenOdd, 1).ok()?;
-    let low = next_layer(&mut filler, alloc, &solid, &g, Rule::EvenOdd, 0).ok()?;
-    Some((high, low))
-}
-
-// The spans of layer 1 of a box from 0 to 4 and an inward one from 2 to 6; `None` where memory was refused.
-fn box_with_an_inward_one(alloc: Global, rule: Rule) -> Option<Vec<Span>> {
-    let (near, far) = (cube(0, 4), cube(2, 6));
-    let solid = joined(alloc, (&near, &BOX), (&far, &INWARD)).ok()?;
-    let g = Grid::fit(&solid, 2, 2).ok()?;
-    if g.layers() < 2 {
-        return None;
-    }
-    layer(alloc, &solid, &g, rule, 1).ok()
 }
 
 /// Spans, each as `ROW: FROM, TO`.
@@ -83,66 +46,94 @@ macro_rules! spans {
     };
 }
 
+// What is in one of two cubes that overlap, in layer 1.
+const ODD: &[Span] = &spans![0: 0, 2; 1: 0, 1; 1: 2, 3; 2: 1, 3];
+
+// The first of them alone, in layer 0.
+const LOW: &[Span] = &spans![0: 0, 2; 1: 0, 2];
+
+// Boxes, a rule, and the spans of a layer by it.
+type Row<'a> = (&'a [Part<'a>], Rule, u32, &'a [Span]);
+
+// The number of the first row with other spans.
+fn first_other(alloc: Global, rows: &[Row<'_>]) -> Option<usize> {
+    for (n, (parts, rule, k, told)) in rows.iter().enumerate() {
+        match layer_of(alloc, parts, *rule, *k) {
+            Some(spans) if spans.as_slice() == *told => {}
+            _ => return Some(n),
+        }
+    }
+    None
+}
+
+static LAYERS: [Row; 5] = [
+    (TWO_CUBES, Rule::EvenOdd, 1, ODD),
+    (
+        TWO_CUBES,
+        Rule::NonZero,
+        1,
+        &spans![0: 0, 2; 1: 0, 3; 2: 1, 3],
+    ),
+    (TWO_CUBES, Rule::EvenOdd, 0, LOW),
+    (ONE_INWARD, Rule::Positive, 1, &spans![0: 0, 2; 1: 0, 1]),
+    (ONE_INWARD, Rule::NonZero, 1, ODD),
+];
+
 #[test]
-fn layer_of_two_boxes(rt: HostRuntime) -> Result<(), Fail> {
-    let alloc = rt.alloc();
-    let odd = layer_of_cubes(alloc, Rule::EvenOdd, 1).ok_or("odd")?;
-    assert_eq!(rt;
-        odd.as_slice(),
-        spans![0: 0, 2; 1: 0, 1; 1: 2, 3; 2: 1, 3].as_slice()
-    );
-    let some = layer_of_cubes(alloc, Rule::NonZero, 1).ok_or("not zero")?;
-    assert_eq!(rt;
-        some.as_slice(),
-        spans![0: 0, 2; 1: 0, 3; 2: 1, 3].as_slice()
-    );
-    let low = layer_of_cubes(alloc, Rule::EvenOdd, 0).ok_or("the first box alone")?;
-    assert_eq!(rt; low.as_slice(), spans![0: 0, 2; 1: 0, 2].as_slice());
+fn layers_of_two_cubes(rt: HostRuntime) -> Result<(), Fail> {
+    assert_eq!(rt; first_other(rt.alloc(), &LAYERS), None);
     Ok(())
 }
 
-#[test]
-fn layer_of_a_box_and_an_inward_one(rt: HostRuntime) -> Result<(), Fail> {
-    let alloc = rt.alloc();
-    let above = box_with_an_inward_one(alloc, Rule::Positive).ok_or("positive")?;
-    assert_eq!(rt; above.as_slice(), spans![0: 0, 2; 1: 0, 1].as_slice());
-    let some = box_with_an_inward_one(alloc, Rule::NonZero).ok_or("not zero")?;
-    assert_eq!(rt;
-        some.as_slice(),
-        spans![0: 0, 2; 1: 0, 1; 1: 2, 3; 2: 1, 3].as_slice()
-    );
-    Ok(())
+// Whether a layer has these spans, in memory that other layers were filled in.
+fn is_filled(
+    filler: &mut Filler<Global>,
+    alloc: Global,
+    s: &Solid<Global>,
+    g: &Grid,
+    k: u32,
+    told: &[Span],
+) -> Result<bool, AllocError>
+    requires { k < g.now.layers }
+{
+    let cut = segments(alloc, s, g.plane(k))?;
+    let spans = filler.fill(alloc, s, g, Rule::EvenOdd, k, cut.as_slice())?;
+    Ok(spans.as_slice() == told)
 }
+
+// Whether layers of two cubes have these spans, by one filler for all.
+fn are_filled(alloc: Global, layers: &[(u32, &[Span])]) -> Option<bool> {
+    let solid = solid_of(alloc, TWO_CUBES).ok()?;
+    let g = Grid::fit(&solid, 2, 2).ok()?;
+    let mut filler = Filler::new(alloc);
+    for (k, told) in layers {
+        if *k >= g.layers() || !is_filled(&mut filler, alloc, &solid, &g, *k, told).ok()? {
+            return Some(false);
+        }
+    }
+    Some(true)
+}
+
+static TURNS: [(u32, &[Span]); 2] = [(1, ODD), (0, LOW)];
 
 #[test]
 fn layers_of_one_filler(rt: HostRuntime) -> Result<(), Fail> {
-    let (high, low) = two_layers(rt.alloc()).ok_or("two layers")?;
-    assert_eq!(rt;
-        high.as_slice(),
-        spans![0: 0, 2; 1: 0, 1; 1: 2, 3; 2: 1, 3].as_slice()
-    );
-    assert_eq!(rt; low.as_slice(), spans![0: 0, 2; 1: 0, 2].as_slice());
+    assert_eq!(rt; are_filled(rt.alloc(), &TURNS), Some(true));
     Ok(())
 }
 
-// How many spans there are, if no memory was refused.
-fn counted(memory: &ShortMemory<Global>) -> Option<usize> {
-    let spans = layer_of_cubes(memory, Rule::EvenOdd, 1)?;
-    Some(spans.len())
+// The spans of a layer of two cubes.
+struct Spans;
+
+impl Count for Spans {
+    fn count(memory: &ShortMemory<Global>) -> Option<usize> {
+        let spans = layer_of(memory, TWO_CUBES, Rule::EvenOdd, 1)?;
+        Some(spans.len())
+    }
 }
 
 #[test]
 fn each_growth_refused_in_turn(rt: HostRuntime) -> Result<(), Fail> {
-    for turn in 1..100 {
-        let memory = ShortMemory::new(rt.alloc(), turn);
-        let count = counted(&memory);
-        if !memory.has_refused() {
-            assert!(rt; turn > 8);
-            assert_eq!(rt; count, Some(4));
-            return Ok(());
-        }
-        assert_eq!(rt; count, None);
-    }
-    assert!(rt; false);
+    assert!(rt; first_free_turn::<Spans>(rt.alloc(), 100, 4) > Some(8));
     Ok(())
 }

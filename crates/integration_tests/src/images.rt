@@ -1,13 +1,118 @@
 //! Worked grids and images, and a writer that fails.
-ghost use Rattle.std.specs.Prelude.{◌≤◌};
 ghost use Rattle.raster.specs.Fill.{AreSpans};
 
-use crate::meshes::{block, joined};
+use crate::meshes::{BEAM, CUBE_OF_THREE, LONG_BEAM, Part, solid_of};
 use raster::{Counted, Failures, Grid, GridFault, Span, write_layer};
 use std::alloc::Global;
 use std::io::{Error, ErrorKind, Result as Written, Write};
 use std::test::Fail;
 use stl_text::Point;
+
+// How many columns, rows and layers a grid has.
+type Counts = Result<[u32; 3], GridFault>;
+
+fn counts(found: Result<Grid, GridFault>) -> Counts {
+    let g = found?;
+    Ok([g.columns(), g.rows(), g.layers()])
+}
+
+// A corner, a pitch and a layer height, how many columns, rows and layers are asked for, and those of the grid.
+type Given = ([i32; 3], [u8; 2], [u32; 3], Counts);
+
+static GIVEN: [Given; 4] = [
+    ([-1; 3], [1, 2], [4, 4, 1], Ok([4, 4, 1])),
+    ([-1; 3], [1, 1], [0, 1, 1], Err(GridFault::NoCells)),
+    (
+        [-1; 3],
+        [1, 1],
+        [16385, 1, 1],
+        Err(GridFault::TooLarge {
+            columns: 16385,
+            rows: 1,
+            layers: 1,
+        }),
+    ),
+    (
+        [128_000_000, 0, 0],
+        [100, 1],
+        [16384, 1, 1],
+        Err(GridFault::FarCentre),
+    ),
+];
+
+fn given([x, y, z]: [i32; 3], [pitch, height]: [u8; 2], asked: [u32; 3]) -> Option<Counts> {
+    let origin = Point::new(x, y, z)?;
+    if pitch == 0 || height == 0 {
+        return None;
+    }
+    let [columns, rows, layers] = asked;
+    Some(counts(Grid::given(
+        origin,
+        u32::from(pitch),
+        u32::from(height),
+        columns,
+        rows,
+        layers,
+    )))
+}
+
+// The number of the first row with another grid.
+fn first_other_given(rows: &[Given]) -> Option<usize> {
+    for (n, (corner, sizes, asked, told)) in rows.iter().enumerate() {
+        if given(*corner, *sizes, *asked) != Some(*told) {
+            return Some(n);
+        }
+    }
+    None
+}
+
+#[test]
+fn given_grids(rt: HostRuntime) -> Result<(), Fail> {
+    assert_eq!(rt; first_other_given(&GIVEN), None);
+    Ok(())
+}
+
+// A mesh, the size of voxels, and how many columns, rows and layers of them it fits in.
+type Fitted<'a> = (&'a [Part<'a>], u8, Counts);
+
+static FITTED: [Fitted; 4] = [
+    (CUBE_OF_THREE, 2, Ok([2, 2, 2])),
+    (&[], 1, Err(GridFault::EmptyMesh)),
+    (
+        LONG_BEAM,
+        1,
+        Err(GridFault::TooLarge {
+            columns: 16385,
+            rows: 1,
+            layers: 1,
+        }),
+    ),
+    (BEAM, 1, Ok([16384, 1, 1])),
+];
+
+fn fitted(alloc: Global, parts: &[Part<'_>], size: u8) -> Option<Counts> {
+    if size == 0 {
+        return None;
+    }
+    let solid = solid_of(alloc, parts).ok()?;
+    Some(counts(Grid::fit(&solid, u32::from(size), u32::from(size))))
+}
+
+// The number of the first row with another grid.
+fn first_other_fitted(alloc: Global, rows: &[Fitted<'_>]) -> Option<usize> {
+    for (n, (parts, size, told)) in rows.iter().enumerate() {
+        if fitted(alloc, parts, *size) != Some(*told) {
+            return Some(n);
+        }
+    }
+    None
+}
+
+#[test]
+fn fitted_grids(rt: HostRuntime) -> Result<(), Fail> {
+    assert_eq!(rt; first_other_fitted(rt.alloc(), &FITTED), None);
+    Ok(())
+}
 
 /// Spans, each as `ROW: FROM, TO`.
 macro_rules! spans {
@@ -16,31 +121,43 @@ macro_rules! spans {
     };
 }
 
-/// The bytes of the image of these spans, in a grid of so many columns and rows.
-fn image(alloc: Global, columns: u32, rows: u32, spans: &[Span]) -> Option<Vec<u8>>
+// Whether the image of these spans, in a grid of so many columns and rows, has these bytes.
+fn is_image(alloc: Global, columns: u32, rows: u32, spans: &[Span], bytes: &[u8]) -> Option<bool>
     requires { AreSpans columns rows spans.now }
 {
     let g = Grid::given(Point::new(0, 0, 0)?, 1, 1, columns, rows, 1).ok()?;
     let mut w = Counted::new(Vec::new(alloc));
     write_layer(&g, spans, &mut w).ok()?;
-    Some(w.into_inner())
+    Some(w.inner().as_slice() == bytes)
 }
 
-/// How many bytes of the image of two columns and two rows, all black, went out to a writer that takes one byte a call
-/// and fails at the call after the first `calls`; with what it took, and the failures that were counted.
-fn written(alloc: Global, calls: u64) -> Option<(u64, usize, u64)> {
-    let g = Grid::given(Point::new(0, 0, 0)?, 1, 1, 2, 2, 1).ok()?;
-    let spans = spans![0: 0, 2; 1: 0, 2];
-    let taken = Vec::new(alloc);
-    let mut w = Counted::new(OneByteWriter { taken, calls });
-    let fault = write_layer(&g, &spans, &mut w).err()?;
-    Some((fault.written, w.inner().taken.len(), w.failures()))
+#[test]
+fn images(rt: HostRuntime) -> Result<(), Fail> {
+    let alloc = rt.alloc();
+    let found = [
+        is_image(alloc, 2, 2, &spans![0: 0, 2; 1: 0, 2], b"P4\n2 2\n\xc0\xc0"),
+        // near faces alone
+        is_image(alloc, 2, 2, &spans![0: 0, 1], b"P4\n2 2\n\x00\x80"),
+        is_image(alloc, 1, 1, &spans![0: 0, 1], b"P4\n1 1\n\x80"),
+        // two boxes
+        is_image(
+            alloc,
+            3,
+            3,
+            &spans![0: 0, 2; 1: 0, 1; 1: 2, 3; 2: 1, 3],
+            b"P4\n3 3\n\x60\xa0\xc0",
+        ),
+        is_image(alloc, 9, 1, &spans![0: 0, 9], b"P4\n9 1\n\xff\x80"),
+        is_image(alloc, 2, 2, &[], b"P4\n2 2\n\x00\x00"),
+    ];
+    assert_eq!(rt; found, [Some(true); 6]);
+    Ok(())
 }
 
-/// Takes one byte a call, and fails at the call after the first `calls`.
+// Takes one byte a call, and fails at the call after the first `calls`.
 #[derive(Drop)]
 struct OneByteWriter {
-    taken: Vec<u8>,
+    taken: u64,
     calls: u64,
 }
 
@@ -50,13 +167,11 @@ impl Write for OneByteWriter {
             return Err(Error::from(ErrorKind::Other));
         }
         self.calls -= 1;
-        match buf.first() {
-            Some(byte) => {
-                self.taken.push(*byte)?;
-                Ok(1)
-            }
-            None => Ok(0),
+        if buf.is_empty() {
+            return Ok(0);
         }
+        self.taken = self.taken.saturating_add(1);
+        Ok(1)
     }
 
     fn flush(&mut self) -> Written<()> {
@@ -64,88 +179,28 @@ impl Write for OneByteWriter {
     }
 }
 
-#[test]
-fn given_grids(rt: HostRuntime) -> Result<(), Fail> {
-    let low = Point::new(-1, -1, -1).ok_or("no point")?;
-    let far = Point::new(128_000_000, 0, 0).ok_or("no point")?;
-    let large = GridFault::TooLarge {
-        columns: 16385,
-        rows: 1,
-        layers: 1,
-    };
-    assert!(rt; Grid::given(low, 1, 2, 4, 4, 1).is_ok());
-    assert_eq!(rt; Grid::given(low, 1, 1, 0, 1, 1), Err(GridFault::NoCells));
-    assert_eq!(rt; Grid::given(low, 1, 1, 16385, 1, 1), Err(large));
-    assert_eq!(rt;
-        Grid::given(far, 100, 1, 16384, 1, 1),
-        Err(GridFault::FarCentre)
-    );
-    Ok(())
+// How many bytes of the image of two columns and two rows, all black, went out to a writer that takes one byte a call
+// and fails at the call after the first `calls`; with how many it took, and the failures that were counted.
+fn written(calls: u64) -> Option<(u64, u64, u64)> {
+    let g = Grid::given(Point::new(0, 0, 0)?, 1, 1, 2, 2, 1).ok()?;
+    let mut w = Counted::new(OneByteWriter { taken: 0, calls });
+    let fault = write_layer(&g, &spans![0: 0, 2; 1: 0, 2], &mut w).err()?;
+    Some((fault.written, w.inner().taken, w.failures()))
 }
 
-/// How many columns, rows and layers a grid has.
-fn counts(found: Result<Grid, GridFault>) -> Result<[u32; 3], GridFault> {
-    let g = found?;
-    Ok([g.columns(), g.rows(), g.layers()])
-}
-
-/// How many there are in the grid that a box from 0 up fits in.
-fn fitted(alloc: Global, high: [i32; 3], size: u32) -> Option<Result<[u32; 3], GridFault>>
-    requires size { 1 ≤ size }
-    requires size_high { size ≤ 2 }
-{
-    let solid = block(alloc, [0; 3], high).ok()?;
-    Some(counts(Grid::fit(&solid, size, size)))
-}
-
-/// The same for a mesh without a facet.
-fn fitted_to_nothing(alloc: Global) -> Option<Result<[u32; 3], GridFault>> {
-    let solid = joined(alloc, (&[], &[]), (&[], &[])).ok()?;
-    Some(counts(Grid::fit(&solid, 1, 1)))
-}
-
-#[test]
-fn fitted_grids(rt: HostRuntime) -> Result<(), Fail> {
-    let alloc = rt.alloc();
-    let large = GridFault::TooLarge {
-        columns: 16385,
-        rows: 1,
-        layers: 1,
-    };
-    assert_eq!(rt; fitted(alloc, [3, 3, 3], 2), Some(Ok([2, 2, 2])));
-    assert_eq!(rt; fitted_to_nothing(alloc), Some(Err(GridFault::EmptyMesh)));
-    assert_eq!(rt; fitted(alloc, [16385, 1, 1], 1), Some(Err(large)));
-    assert_eq!(rt; fitted(alloc, [16384, 1, 1], 1), Some(Ok([16384, 1, 1])));
-    Ok(())
-}
-
-#[test]
-fn images(rt: HostRuntime) -> Result<(), Fail> {
-    let alloc = rt.alloc();
-    let cube = image(alloc, 2, 2, &spans![0: 0, 2; 1: 0, 2]).ok_or("cube")?;
-    assert_eq!(rt; cube.as_slice(), b"P4\n2 2\n\xc0\xc0".as_slice());
-    let near = image(alloc, 2, 2, &spans![0: 0, 1]).ok_or("near faces alone")?;
-    assert_eq!(rt; near.as_slice(), b"P4\n2 2\n\x00\x80".as_slice());
-    let voxel = image(alloc, 1, 1, &spans![0: 0, 1]).ok_or("one voxel")?;
-    assert_eq!(rt; voxel.as_slice(), b"P4\n1 1\n\x80".as_slice());
-    let odd = spans![0: 0, 2; 1: 0, 1; 1: 2, 3; 2: 1, 3];
-    let boxes = image(alloc, 3, 3, &odd).ok_or("two boxes")?;
-    assert_eq!(rt; boxes.as_slice(), b"P4\n3 3\n\x60\xa0\xc0".as_slice());
-    let bar = image(alloc, 9, 1, &spans![0: 0, 9]).ok_or("nine in a row")?;
-    assert_eq!(rt; bar.as_slice(), b"P4\n9 1\n\xff\x80".as_slice());
-    let none = image(alloc, 2, 2, &[]).ok_or("nothing")?;
-    assert_eq!(rt; none.as_slice(), b"P4\n2 2\n\x00\x00".as_slice());
-    Ok(())
+// The least number of calls that goes otherwise than that so many bytes are written, or all 9 of the image.
+fn first_other_written() -> Option<u64> {
+    for calls in 0..10 {
+        let told = (calls < 9).then_some((calls, calls, 1));
+        if written(calls) != told {
+            return Some(calls);
+        }
+    }
+    None
 }
 
 #[test]
 fn writers_that_fail(rt: HostRuntime) -> Result<(), Fail> {
-    for calls in 0..9u64 {
-        let (written, taken, failures) = written(rt.alloc(), calls).ok_or("it didn't fail")?;
-        assert_eq!(rt; written, calls);
-        assert_eq!(rt; taken as u64, calls);
-        assert_eq!(rt; failures, 1);
-    }
-    assert!(rt; written(rt.alloc(), 9).is_none());
+    assert_eq!(rt; first_other_written(), None);
     Ok(())
 }

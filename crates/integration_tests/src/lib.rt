@@ -11,6 +11,8 @@ mod contours;
 #[cfg(test)]
 mod filling;
 #[cfg(test)]
+mod growth;
+#[cfg(test)]
 mod images;
 #[cfg(test)]
 mod jobs;

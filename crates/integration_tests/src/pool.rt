@@ -1,10 +1,12 @@
 //! What no clause says: that workers run at the same time, that none is late, and memory that is refused.
 ghost use Rattle.std.specs.Prelude.{◌≤◌};
 
-use crate::jobs::box_job;
-use build_book::{Book, Build, FileFault, Job, Piece, slice_stripe};
+use crate::book::{FILINGS, is_filed};
+use crate::jobs::job_of;
+use crate::meshes::{COLUMN, CUBE};
+use build_book::{Book, Build, Job, Piece};
 use layer_pool::{Gate, OpenGate, build};
-use raster::Span;
+use raster::{Rule, Span};
 use short_memory::ShortMemory;
 use std::alloc::{AllocError, Allocator, Global};
 use std::sync::atomic::AtomicU64;
@@ -14,51 +16,47 @@ use std::test::Fail;
 use std::thread;
 use std::thread::Threads;
 
-// How many layers the tower has, in stripes of 8, 8 and 1.
-const LAYERS: u32 = 17;
+const PIXEL: &[Span] = &[Span {
+    row: 0,
+    from: 0,
+    to: 1,
+}];
 
-// The tower: a box that is one voxel wide.
-const TOWER: [i32; 3] = [1, 1, LAYERS as i32];
-
-// Whether this is all of the tower: each layer is one loop round one pixel.
-fn is_tower<A: Allocator>(build: &Build<'_, A>) -> bool {
-    let pixel = [Span {
-        row: 0,
-        from: 0,
-        to: 1,
-    }];
+// Whether this is all of the column: each layer is one loop round one pixel.
+fn is_column<A: Allocator>(build: &Build<'_, A>) -> bool {
     for (k, layer) in build.layers().iter().enumerate() {
         if layer.number() as usize != k
             || layer.area() != 1
-            || layer.spans() != pixel.as_slice()
+            || layer.spans() != PIXEL
             || layer.loops().count() != 1
         {
             return false;
         }
     }
-    build.layers().len() == LAYERS as usize && build.total_area() == u64::from(LAYERS)
+    build.layers().len() == 17 && build.total_area() == 17
 }
 
-// Whether what so many workers build of the tower is the tower, and how many of its layers are late.
-fn built<A: Allocator + Copy + Send + Sync, R: Threads + Wait + Sync>(
+// Whether what so many workers build of a job is the column, and how many layers are late.
+fn built<A: Allocator + Copy + Send + Sync, R: Threads + Wait + Sync, G: Gate<A> + Sync>(
     rt: &R,
     alloc: A,
     job: &Job<A>,
     workers: u32,
+    gate: &G,
 ) -> Result<(bool, u32), AllocError>
     requires some { 1 ≤ workers }
     requires few { workers ≤ 64 }
 {
-    let build = build(rt, alloc, job, workers, &OpenGate)?;
-    Ok((is_tower(&build), build.late()))
+    let build = build(rt, alloc, job, workers, gate)?;
+    Ok((is_column(&build), build.late()))
 }
 
 #[test]
 fn any_number_of_workers(rt: HostRuntime) -> Result<(), Fail> {
-    let job = box_job(rt.alloc(), TOWER)?;
+    let job = job_of(rt.alloc(), COLUMN, 1, Rule::EvenOdd)?;
     assert_eq!(rt; job.stripes(), 3);
     for workers in [1, 2, 64] {
-        let found = built(&rt, rt.alloc(), &job, workers)?;
+        let found = built(&rt, rt.alloc(), &job, workers, &OpenGate)?;
         assert_eq!(rt; found, (true, 0));
     }
     Ok(())
@@ -69,8 +67,9 @@ fn any_number_of_workers(rt: HostRuntime) -> Result<(), Fail> {
 struct HoldsTheFirst {
     // Workers by their numbers plus 1, or 0 for nobody.
     held: AtomicU64,
-    arrived: [AtomicU64; 3],
-    made: [AtomicU64; 3],
+    // Such a worker in each of three bytes, for the stripe that it came to or made.
+    arrived: AtomicU64,
+    made: AtomicU64,
     made_by_others: AtomicU64,
     let_go: AtomicU64,
     twice: AtomicU64,
@@ -78,16 +77,12 @@ struct HoldsTheFirst {
 
 const TURNS: u32 = 10_000_000;
 
-fn zeros() -> [AtomicU64; 3] {
-    [AtomicU64::new(0), AtomicU64::new(0), AtomicU64::new(0)]
-}
-
 impl HoldsTheFirst {
     fn new() -> HoldsTheFirst {
         HoldsTheFirst {
             held: AtomicU64::new(0),
-            arrived: zeros(),
-            made: zeros(),
+            arrived: AtomicU64::new(0),
+            made: AtomicU64::new(0),
             made_by_others: AtomicU64::new(0),
             let_go: AtomicU64::new(0),
             twice: AtomicU64::new(0),
@@ -95,12 +90,15 @@ impl HoldsTheFirst {
     }
 
     // Notes who came to a stripe. It counts where somebody had, or where there is no such stripe.
-    fn note(&self, places: &[AtomicU64; 3], worker: u64, stripe: u64) {
-        let before = match places.get(stripe as usize) {
-            Some(place) => place.swap(worker, SeqCst),
-            None => 1,
+    fn note(&self, places: &AtomicU64, worker: u64, stripe: u64) {
+        let unit: u64 = match stripe {
+            0 => 1,
+            1 => 256,
+            2 => 65536,
+            _ => 0,
         };
-        if before != 0 {
+        let before = places.fetch_add(worker.wrapping_mul(unit), SeqCst);
+        if unit == 0 || before / unit % 256 != 0 {
             self.twice.fetch_add(1, SeqCst);
         }
     }
@@ -113,6 +111,17 @@ impl HoldsTheFirst {
             }
             thread::yield_now();
         }
+    }
+
+    // Whether each stripe was made once, by the worker that came to it, and the one held was let go.
+    fn is_served(&self) -> bool {
+        let made = self.made.load(SeqCst);
+        made % 256 != 0
+            && made / 256 % 256 != 0
+            && made / 65536 % 256 != 0
+            && made == self.arrived.load(SeqCst)
+            && self.twice.load(SeqCst) == 0
+            && self.let_go.load(SeqCst) == 1
     }
 }
 
@@ -136,23 +145,16 @@ impl Gate<Global> for HoldsTheFirst {
 
 #[test]
 fn one_worker_is_held_while_the_other_works(rt: HostRuntime) -> Result<(), Fail> {
-    let alloc = rt.alloc();
-    let job = box_job(alloc, TOWER)?;
+    let job = job_of(rt.alloc(), COLUMN, 1, Rule::EvenOdd)?;
     let gate = HoldsTheFirst::new();
-    let build = build(&rt, alloc, &job, 2, &gate)?;
-    assert_eq!(rt; gate.let_go.load(SeqCst), 1);
-    assert_eq!(rt; gate.twice.load(SeqCst), 0);
-    for stripe in 0..3 {
-        let by = gate.made[stripe].load(SeqCst);
-        assert!(rt; by != 0 && by == gate.arrived[stripe].load(SeqCst));
-    }
-    assert!(rt; is_tower(&build));
-    assert_eq!(rt; build.late(), 0);
+    let found = built(&rt, rt.alloc(), &job, 2, &gate)?;
+    assert_eq!(rt; found, (true, 0));
+    assert!(rt; gate.is_served());
     Ok(())
 }
 
-// Whether what is built of the tower is the tower, and how many of its layers are late.
-fn build_tower<R: Threads + Wait + Sync>(
+// The same for the column in memory of which a growth is refused.
+fn column_in<R: Threads + Wait + Sync>(
     rt: &R,
     memory: &ShortMemory<Global>,
     workers: u32,
@@ -160,30 +162,30 @@ fn build_tower<R: Threads + Wait + Sync>(
     requires some { 1 ≤ workers }
     requires few { workers ≤ 64 }
 {
-    let job = box_job(memory, TOWER)?;
-    built(rt, memory, &job, workers)
+    let job = job_of(memory, COLUMN, 1, Rule::EvenOdd)?;
+    built(rt, memory, &job, workers, &OpenGate)
 }
 
-// More growths than the job and the build of the tower ask for.
+// More growths than the job and the build of the column ask for.
 const GROWTHS: u64 = 2000;
 
-// Refuses each growth in turn until none is left to refuse: whether every answer was the tower or want of memory, and
-// how many of the builds had late layers. `None` where a build without a refusal fails, or has such layers.
-fn refuse_each<R: Threads + Wait + Sync>(rt: &R, alloc: Global, workers: u32) -> Option<(bool, u32)>
+// Refuses each growth in turn until none is left to refuse: how many of the builds had late layers. `None` where an
+// answer was neither the column nor want of memory, or where a build without a refusal fails, or has such layers.
+fn refuse_each<R: Threads + Wait + Sync>(rt: &R, alloc: Global, workers: u32) -> Option<u32>
     requires some { 1 ≤ workers }
     requires few { workers ≤ 64 }
 {
-    let mut is_usual = true;
     let mut made_up = 0u32;
     for turn in 1..GROWTHS {
         let memory = ShortMemory::new(alloc, turn);
-        let built = build_tower(rt, &memory, workers);
+        let built = column_in(rt, &memory, workers);
         if !memory.has_refused() {
-            return (built == Ok((true, 0))).then_some((is_usual, made_up));
+            return (built == Ok((true, 0))).then_some(made_up);
         }
-        if let Ok((is_tower, late)) = built {
-            is_usual = is_usual && is_tower;
-            made_up = made_up.saturating_add(u32::from(late > 0));
+        match built {
+            Ok((true, 0)) | Err(_) => {}
+            Ok((true, _)) => made_up = made_up.saturating_add(1),
+            Ok((false, _)) => return None,
         }
     }
     None
@@ -191,94 +193,54 @@ fn refuse_each<R: Threads + Wait + Sync>(rt: &R, alloc: Global, workers: u32) ->
 
 #[test]
 fn each_growth_of_a_build_refused_in_turn(rt: HostRuntime) -> Result<(), Fail> {
-    let alloc = rt.alloc();
-    let (is_usual, made_up) = refuse_each(&rt, alloc, 1).ok_or("one worker")?;
-    assert!(rt; is_usual && made_up > 0);
-    let (is_usual, _) = refuse_each(&rt, alloc, 2).ok_or("two workers")?;
-    assert!(rt; is_usual);
+    assert!(rt; refuse_each(&rt, rt.alloc(), 1) > Some(0));
+    assert!(rt; refuse_each(&rt, rt.alloc(), 2).is_some());
     Ok(())
 }
 
-// What a book shows: how many places are taken, the area of their layers, and that of layer 8 and of layer 0.
-fn shown(book: &Book<'_, Global>) -> (u32, u64, Option<u64>, Option<u64>) {
-    let area = |k: u32| Some(book.layer(k)?.area());
-    (book.filed(), book.total_area(), area(8), area(0))
-}
-
-// Files a stripe of the job under the lock: the fault, with the stripe that came back.
-fn file<'m, R: Wait>(
-    rt: &R,
-    alloc: Global,
-    book: &Mutex<Book<'m, Global>>,
-    job: &'m Job<Global>,
-    stripe: u64,
-) -> Result<Option<(FileFault, u64)>, AllocError> {
-    if stripe >= job.stripes() {
-        return Err(AllocError);
-    }
-    let piece = slice_stripe(alloc, job, stripe)?;
-    match book.lock(rt).file(piece) {
-        Ok(()) => Ok(None),
-        Err((fault, back)) => Ok(Some((fault, back.stripe()))),
-    }
-}
-
-// What came of filing a stripe, and what the book shows then.
-type Filed = (
-    Option<(FileFault, u64)>,
-    (u32, u64, Option<u64>, Option<u64>),
-);
-
-// Files stripes of the job in turn under the lock, and one of another job last.
-fn filed_in_turn<'m, R: Wait>(
+// The number of the first stripe, each filed under the lock, that goes otherwise.
+fn first_other_filing<'m, R: Wait>(
     rt: &R,
     alloc: Global,
     book: &Mutex<Book<'m, Global>>,
     job: &'m Job<Global>,
     other: &'m Job<Global>,
-) -> Result<Vec<Filed>, AllocError> {
-    let mut seen = Vec::new(alloc);
-    for (from, stripe) in [(job, 1), (job, 1), (job, 2), (other, 0)] {
-        let fault = file(rt, alloc, book, from, stripe)?;
-        seen.push((fault, shown(&book.lock(rt))))?;
+) -> Result<Option<usize>, AllocError> {
+    for (n, row) in FILINGS.iter().enumerate() {
+        if !is_filed(alloc, &mut book.lock(rt), job, other, *row)? {
+            return Ok(Some(n));
+        }
     }
-    Ok(seen)
+    Ok(None)
 }
 
-// What a book of the job shows after these stripes, whether it is finished as the tower, and how many layers are late.
+// The same for a book of a job; and whether it is finished as the column, and how many layers are late.
 fn finished_between_locks<R: Wait>(
     rt: &R,
     alloc: Global,
     job: &Job<Global>,
     other: &Job<Global>,
-) -> Result<(Vec<Filed>, (bool, u32)), AllocError> {
+) -> Result<(Option<usize>, (bool, u32)), AllocError> {
     let book = Mutex::new(Book::open(alloc, job)?);
-    let seen = filed_in_turn(rt, alloc, &book, job, other)?;
+    let first = first_other_filing(rt, alloc, &book, job, other)?;
     let build = book.into_inner().finish(job)?;
-    Ok((seen, (is_tower(&build), build.late())))
+    Ok((first, (is_column(&build), build.late())))
 }
 
-// The same for the tower and another box.
-fn tower_between_locks<R: Wait>(
+// The same for the column and another box.
+fn column_between_locks<R: Wait>(
     rt: &R,
     alloc: Global,
-) -> Result<(Vec<Filed>, (bool, u32)), AllocError> {
-    let job = box_job(alloc, TOWER)?;
-    let other = box_job(alloc, [2, 2, 2])?;
+) -> Result<(Option<usize>, (bool, u32)), AllocError> {
+    let job = job_of(alloc, COLUMN, 1, Rule::EvenOdd)?;
+    let other = job_of(alloc, CUBE, 1, Rule::EvenOdd)?;
     finished_between_locks(rt, alloc, &job, &other)
 }
 
 #[test]
 fn a_book_between_locks(rt: HostRuntime) -> Result<(), Fail> {
-    let (seen, finished) = tower_between_locks(&rt, rt.alloc())?;
-    let double = FileFault::Double { layer: 8 };
-    let turns = [
-        (None, (8, 8, Some(1), None)),
-        (Some((double, 1)), (8, 8, Some(1), None)),
-        (None, (9, 9, Some(1), None)),
-        (Some((FileFault::Stranger, 0)), (9, 9, Some(1), None)),
-    ];
-    assert_eq!(rt; seen.as_slice(), turns.as_slice());
+    let (other, finished) = column_between_locks(&rt, rt.alloc())?;
+    assert_eq!(rt; other, None);
     assert_eq!(rt; finished, (true, 8));
     Ok(())
 }

@@ -1,74 +1,73 @@
 //! Rays of meshes with known answers. Centres are doubled.
-use crate::meshes::{BOX, INWARD, cube, joined, octahedron};
+use crate::meshes::{INWARD_CUBE, OCTAHEDRON, Part, TOUCHING, TWO_CUBES, solid_of};
 use exact_cut::Centre;
-use mesh_weld::{Solid, probe, step};
+use mesh_weld::{probe, step};
 use std::alloc::Global;
 use std::test::Fail;
 
-// The rays along x and y from a centre.
-fn probed(solid: &Solid<Global>, [x2, y2, z2]: [i64; 3]) -> Option<(i32, i32)> {
-    Some(probe(solid, &Centre::new(x2, y2, z2)?))
+// A mesh, a centre, and the rays along x and y from there.
+type Row<'a> = (&'a [Part<'a>], [i64; 3], (i32, i32));
+
+static PROBES: [Row; 5] = [
+    (OCTAHEDRON, [0, 0, 0], (1, 1)),
+    // its southern corner
+    (OCTAHEDRON, [0, -4, 0], (0, 1)),
+    (TOUCHING, [2, 2, 2], (1, 1)),
+    (TWO_CUBES, [6, 6, 6], (2, 2)),
+    (INWARD_CUBE, [1, 1, 1], (-1, -1)),
+];
+
+fn probed(alloc: Global, parts: &[Part<'_>], [x2, y2, z2]: [i64; 3]) -> Option<(i32, i32)> {
+    let centre = Centre::new(x2, y2, z2)?;
+    let solid = solid_of(alloc, parts).ok()?;
+    Some(probe(&solid, &centre))
 }
 
-// Those through an octahedron.
-fn through_an_octahedron(alloc: Global, at: [i64; 3]) -> Option<(i32, i32)> {
-    probed(&octahedron(alloc).ok()?, at)
+// The number of the first row with other rays.
+fn first_other_probe(alloc: Global, rows: &[Row<'_>]) -> Option<usize> {
+    for (n, (parts, at, rays)) in rows.iter().enumerate() {
+        if probed(alloc, parts, *at) != Some(*rays) {
+            return Some(n);
+        }
+    }
+    None
 }
 
-// Those through two cubes.
-fn through_cubes(
-    alloc: Global,
-    first: [i32; 2],
-    second: [i32; 2],
-    at: [i64; 3],
-) -> Option<(i32, i32)> {
-    let (first, second) = (cube(first[0], first[1]), cube(second[0], second[1]));
-    let solid = joined(alloc, (&first, &BOX), (&second, &BOX)).ok()?;
-    probed(&solid, at)
+#[test]
+fn probes_of_meshes(rt: HostRuntime) -> Result<(), Fail> {
+    assert_eq!(rt; first_other_probe(rt.alloc(), &PROBES), None);
+    Ok(())
 }
 
-// Those through a cube inside out.
-fn through_an_inward_cube(alloc: Global, at: [i64; 3]) -> Option<(i32, i32)> {
-    let corners = cube(0, 2);
-    let solid = joined(alloc, (&corners, &INWARD), (&corners, &[])).ok()?;
-    probed(&solid, at)
-}
+// Where steps along x or y begin and end, and the rays along x from there through an octahedron.
+static STEPS: [([i64; 2], [i64; 2], (i32, i32)); 3] = [
+    ([0, 0], [0, 3], (1, 1)),
+    ([0, 3], [0, 4], (1, 0)),
+    ([0, 0], [4, 0], (1, 0)),
+];
 
-// The rays along x from two centres, of which one is a step along x or y from the other, through an octahedron.
 fn stepped(alloc: Global, from: [i64; 2], to: [i64; 2]) -> Option<(i32, i32)> {
     let start = Centre::new(from[0], from[1], 0)?;
     let end = Centre::new(to[0], to[1], 0)?;
     if start.z2() != end.z2() || start.x2() != end.x2() && start.y2() != end.y2() {
         return None;
     }
-    Some(step(&octahedron(alloc).ok()?, &start, &end))
+    let solid = solid_of(alloc, OCTAHEDRON).ok()?;
+    Some(step(&solid, &start, &end))
 }
 
-#[test]
-fn probes_an_octahedron(rt: HostRuntime) -> Result<(), Fail> {
-    let alloc = rt.alloc();
-    assert_eq!(rt; through_an_octahedron(alloc, [0, 0, 0]), Some((1, 1)));
-    // its southern corner
-    assert_eq!(rt; through_an_octahedron(alloc, [0, -4, 0]), Some((0, 1)));
-    Ok(())
-}
-
-#[test]
-fn probes_cubes(rt: HostRuntime) -> Result<(), Fail> {
-    let alloc = rt.alloc();
-    let apart = through_cubes(alloc, [0, 1], [1, 3], [2, 2, 2]);
-    assert_eq!(rt; apart, Some((1, 1)));
-    let overlapping = through_cubes(alloc, [0, 4], [2, 6], [6, 6, 6]);
-    assert_eq!(rt; overlapping, Some((2, 2)));
-    assert_eq!(rt; through_an_inward_cube(alloc, [1, 1, 1]), Some((-1, -1)));
-    Ok(())
+// The number of the first row with other rays.
+fn first_other_step(alloc: Global) -> Option<usize> {
+    for (n, (from, to, rays)) in STEPS.iter().enumerate() {
+        if stepped(alloc, *from, *to) != Some(*rays) {
+            return Some(n);
+        }
+    }
+    None
 }
 
 #[test]
 fn steps_in_an_octahedron(rt: HostRuntime) -> Result<(), Fail> {
-    let alloc = rt.alloc();
-    assert_eq!(rt; stepped(alloc, [0, 0], [0, 3]), Some((1, 1)));
-    assert_eq!(rt; stepped(alloc, [0, 3], [0, 4]), Some((1, 0)));
-    assert_eq!(rt; stepped(alloc, [0, 0], [4, 0]), Some((1, 0)));
+    assert_eq!(rt; first_other_step(rt.alloc()), None);
     Ok(())
 }

@@ -1,28 +1,19 @@
 //! What no clause says: solids of boxes, the least open edge, and memory that is refused.
-ghost use Rattle.std.specs.Prelude.{◌≤◌, ◌<◌, length};
+ghost use Rattle.std.specs.Prelude.{◌≤◌, ◌<◌};
 
-use crate::meshes::{BOX, PAIR, corner, cube, joined};
-use mesh_weld::{Solid, WeldFault, weld};
+use crate::growth::{Count, first_free_turn};
+use crate::meshes::{BOX, CORNERS, CUBE, CUBE_AND_FLAT, CUBE_AND_PAIR, Part, solid_of, welded};
+use mesh_weld::{Solid, WeldFault};
 use short_memory::ShortMemory;
 use std::alloc::{AllocError, Allocator, Global};
 use std::test::Fail;
 use stl_text::{Facet, Point};
 
-// The solid of two tables of facets of a cube from 0 to 2.
-fn of_tables<A: Allocator + Copy + Send + Sync>(
-    alloc: A,
-    first: &[[u8; 3]],
-    second: &[[u8; 3]],
-) -> Result<Solid<A>, WeldFault>
-    requires first { length first.now ≤ 16 }
-    requires second { length second.now ≤ 16 }
-{
-    let corners = cube(0, 2);
-    joined(alloc, (&corners, first), (&corners, second))
-}
+// How many facets were kept and dropped, and how many vertices and edges there are.
+type Counts = (usize, u32, usize, u32);
 
-// How many facets were kept and dropped, and how many vertices and edges there are; `None` where memory was refused.
-fn counts(welded: Result<Solid<Global>, WeldFault>) -> Option<(usize, u32, usize, u32)> {
+// The counts of a solid; `None` where memory was refused.
+fn counts(welded: Result<Solid<Global>, WeldFault>) -> Option<Counts> {
     let solid = welded.ok()?;
     Some((
         solid.count(),
@@ -32,168 +23,170 @@ fn counts(welded: Result<Solid<Global>, WeldFault>) -> Option<(usize, u32, usize
     ))
 }
 
+static CLOSED: [(&[Part], Counts); 5] = [
+    (CUBE, (12, 0, 8, 18)),
+    (CUBE_AND_PAIR, (14, 0, 8, 18)),
+    (CUBE_AND_FLAT, (12, 1, 8, 18)),
+    // back to back
+    (&[(CORNERS, &[[0, 2, 6], [0, 6, 2]])], (2, 0, 3, 3)),
+    (&[], (0, 0, 0, 0)),
+];
+
+// The number of the first mesh that has other counts.
+fn first_other(alloc: Global, rows: &[(&[Part<'_>], Counts)]) -> Option<usize> {
+    for (n, (parts, told)) in rows.iter().enumerate() {
+        if counts(solid_of(alloc, parts)) != Some(*told) {
+            return Some(n);
+        }
+    }
+    None
+}
+
 #[test]
 fn closed_meshes(rt: HostRuntime) -> Result<(), Fail> {
-    let alloc = rt.alloc();
-    assert_eq!(rt; counts(of_tables(alloc, &BOX, &[])), Some((12, 0, 8, 18)));
-    // facet 10 once more, and its mirror
-    assert_eq!(rt; counts(of_tables(alloc, &BOX, &PAIR)), Some((14, 0, 8, 18)));
-    // a facet with two equal corners
-    assert_eq!(rt;
-        counts(of_tables(alloc, &BOX, &[[0, 0, 4]])),
-        Some((12, 1, 8, 18))
-    );
-    // back to back
-    assert_eq!(rt;
-        counts(of_tables(alloc, &[[0, 2, 6]], &[[0, 6, 2]])),
-        Some((2, 0, 3, 3))
-    );
-    assert_eq!(rt; counts(of_tables(alloc, &[], &[])), Some((0, 0, 0, 0)));
+    assert_eq!(rt; first_other(rt.alloc(), &CLOSED), None);
     Ok(())
+}
+
+fn place(point: Point) -> [i32; 3] {
+    [point.x(), point.y(), point.z()]
+}
+
+// The open edge of facets that aren't closed: from where to where, and how many there are there and back.
+fn open_edge(welded: Result<Solid<Global>, WeldFault>) -> Option<([i32; 3], [i32; 3], u32, u32)> {
+    let fault = welded.err()?;
+    match fault {
+        WeldFault::Open {
+            from,
+            to,
+            there,
+            back,
+        } => Some((place(from), place(to), there, back)),
+        WeldFault::Memory => None,
+    }
 }
 
 #[test]
 fn box_without_its_first_facet(rt: HostRuntime) -> Result<(), Fail> {
-    let Err(fault) = of_tables(rt.alloc(), &BOX[1..], &[[0, 2, 2]]) else {
-        assert!(rt; false);
-        return Ok(());
-    };
+    let parts = [(CORNERS, &BOX[1..]), (CORNERS, &[[0, 2, 2]])];
+    let open = open_edge(solid_of(rt.alloc(), &parts));
     // the dropped facet has one edge either way
-    let open = WeldFault::Open {
-        from: corner(&cube(0, 2), 0)?,
-        to: corner(&cube(0, 2), 2)?,
-        there: 1,
-        back: 2,
-    };
-    assert_eq!(rt; fault, open);
+    assert_eq!(rt; open, Some(([0, 0, 0], [0, 2, 0], 1, 2)));
     Ok(())
+}
+
+// Whether a solid is the cube.
+fn is_cube(solid: &Solid<Global>) -> bool {
+    let Some((least, greatest)) = solid.corners() else {
+        return false;
+    };
+    place(least) == [0; 3]
+        && place(greatest) == [2; 3]
+        && solid.by_height() == [0, 1, 4, 5, 6, 7, 8, 9, 10, 11, 2, 3].as_slice()
+        && solid.triples().len() == 12
+        && solid.edge_numbers().len() == 12
+        && solid.same(solid)
+}
+
+// Whether a solid is the same as that of the cube and a flat facet.
+fn is_same(alloc: Global, solid: &Solid<Global>) -> Option<bool> {
+    let other = solid_of(alloc, CUBE_AND_FLAT).ok()?;
+    Some(solid.same(&other))
+}
+
+// Whether the cube's solid is the cube, and not the same as the other.
+fn is_itself(alloc: Global) -> Option<bool> {
+    let solid = solid_of(alloc, CUBE).ok()?;
+    Some(is_cube(&solid) && !is_same(alloc, &solid)?)
 }
 
 #[test]
 fn solid_of_a_box(rt: HostRuntime) -> Result<(), Fail> {
-    let alloc = rt.alloc();
-    let (Ok(solid), Ok(other)) = (
-        of_tables(alloc, &BOX, &[]),
-        of_tables(alloc, &BOX, &[[0, 0, 4]]),
-    ) else {
-        assert!(rt; false);
-        return Ok(());
-    };
-    assert_eq!(rt;
-        solid.by_height(),
-        [0, 1, 4, 5, 6, 7, 8, 9, 10, 11, 2, 3].as_slice()
-    );
-    assert!(rt; solid.corners() == Some((corner(&cube(0, 2), 0)?, corner(&cube(0, 2), 7)?)));
-    assert!(rt; solid.same(&solid));
-    assert!(rt; !solid.same(&other));
-    assert_eq!(rt; solid.triples().len(), 12);
-    assert_eq!(rt; solid.edge_numbers().len(), 12);
+    assert_eq!(rt; is_itself(rt.alloc()), Some(true));
     Ok(())
 }
 
-// How many facets were kept, if no memory was refused.
-fn kept(memory: &ShortMemory<Global>) -> Option<usize> {
-    let solid = of_tables(memory, &BOX, &[[0, 0, 4]]).ok()?;
-    Some(solid.count())
+// The facets of a solid.
+struct Kept;
+
+impl Count for Kept {
+    fn count(memory: &ShortMemory<Global>) -> Option<usize> {
+        let solid = solid_of(memory, CUBE_AND_FLAT).ok()?;
+        Some(solid.count())
+    }
 }
 
 #[test]
 fn each_growth_refused_in_turn(rt: HostRuntime) -> Result<(), Fail> {
-    for turn in 1..100 {
-        let memory = ShortMemory::new(rt.alloc(), turn);
-        let count = kept(&memory);
-        if !memory.has_refused() {
-            assert!(rt; turn > 8);
-            assert_eq!(rt; count, Some(12));
-            return Ok(());
-        }
-        assert_eq!(rt; count, None);
-    }
-    assert!(rt; false);
+    assert!(rt; first_free_turn::<Kept>(rt.alloc(), 100, 12) > Some(8));
     Ok(())
 }
 
 // One of 48 by 48 points that lie in rings both ways.
-fn ring_point(row: u32, column: u32) -> Result<Point, AllocError>
+fn ring_point(row: u32, column: u32) -> Option<Point>
     requires row { row ≤ 48 }
     requires column { column ≤ 48 }
 {
     let (row, column) = ((row % 48) as i32, (column % 48) as i32);
-    Point::new(row * 5 % 48, column, row).ok_or(AllocError)
+    Point::new(row * 5 % 48, column, row)
 }
 
-// The two facets between four neighbouring points.
-fn push_square<A: Allocator>(
-    list: &mut Vec<Facet, A>,
-    row: u32,
-    column: u32,
-) -> Result<(), AllocError>
-    requires row { row < 48 }
-    requires column { column < 48 }
+// The facet of three of them with this number; there are two between four neighbours.
+fn ring_facet(number: u32) -> Option<Facet>
+    requires { number < 4608 }
 {
-    let (first, second) = (ring_point(row, column)?, ring_point(row + 1, column)?);
-    let (third, fourth) = (
-        ring_point(row + 1, column + 1)?,
-        ring_point(row, column + 1)?,
-    );
-    list.push(Facet::of(first, second, third))?;
-    list.push(Facet::of(first, third, fourth))?;
+    let (row, column) = (number / 2 / 48, number / 2 % 48);
+    let (first, third) = (ring_point(row, column)?, ring_point(row + 1, column + 1)?);
+    Some(if number % 2 == 0 {
+        Facet::of(first, ring_point(row + 1, column)?, third)
+    } else {
+        Facet::of(first, third, ring_point(row, column + 1)?)
+    })
+}
+
+fn push_ring_facet<A: Allocator>(list: &mut Vec<Facet, A>, number: u32) -> Result<(), AllocError>
+    requires { number < 4608 }
+{
+    list.push(ring_facet(number).ok_or(AllocError)?)?;
     Ok(())
 }
 
-// The solid of the rings, which are closed: so many facets that they are welded by names. Without `left_out` of them.
+// The solid of so many facets of the rings, which are closed with all 4608: so many that they are welded by names.
 fn welded_rings<A: Allocator + Copy + Send + Sync>(
     alloc: A,
-    left_out: usize,
-) -> Result<Solid<A>, WeldFault> {
+    count: u32,
+) -> Result<Solid<A>, WeldFault>
+    requires { count ≤ 4608 }
+{
     let mut list = Vec::new(alloc);
-    for number in 0..2304u32 {
-        push_square(&mut list, number / 48, number % 48)?;
+    for number in 0..count {
+        push_ring_facet(&mut list, number)?;
     }
-    list.truncate(list.len().saturating_sub(left_out));
-    if list.len() > 4608 {
-        return Err(WeldFault::Memory);
-    }
-    weld(alloc, list)
+    welded(alloc, list)
 }
 
 #[test]
 fn rings_of_many_facets(rt: HostRuntime) -> Result<(), Fail> {
-    let alloc = rt.alloc();
-    assert_eq!(rt; counts(welded_rings(alloc, 0)), Some((4608, 0, 2304, 6912)));
-    let Err(fault) = welded_rings(alloc, 1) else {
-        assert!(rt; false);
-        return Ok(());
-    };
+    let all = counts(welded_rings(rt.alloc(), 4608));
+    assert_eq!(rt; all, Some((4608, 0, 2304, 6912)));
     // the last facet, which is left out, runs from its second corner to its third
-    let open = WeldFault::Open {
-        from: ring_point(48, 48)?,
-        to: ring_point(47, 48)?,
-        there: 0,
-        back: 1,
-    };
-    assert_eq!(rt; fault, open);
+    let open = open_edge(welded_rings(rt.alloc(), 4607));
+    assert_eq!(rt; open, Some(([0, 0, 0], [43, 0, 47], 0, 1)));
     Ok(())
 }
 
-// How many facets of the rings were kept, if no memory was refused.
-fn kept_of_rings(memory: &ShortMemory<Global>) -> Option<usize> {
-    let solid = welded_rings(memory, 0).ok()?;
-    Some(solid.count())
+// The facets of the rings.
+struct KeptOfRings;
+
+impl Count for KeptOfRings {
+    fn count(memory: &ShortMemory<Global>) -> Option<usize> {
+        let solid = welded_rings(memory, 4608).ok()?;
+        Some(solid.count())
+    }
 }
 
 #[test]
 fn each_growth_refused_in_turn_among_many_facets(rt: HostRuntime) -> Result<(), Fail> {
-    for turn in 1..100 {
-        let memory = ShortMemory::new(rt.alloc(), turn);
-        let count = kept_of_rings(&memory);
-        if !memory.has_refused() {
-            assert!(rt; turn > 30);
-            assert_eq!(rt; count, Some(4608));
-            return Ok(());
-        }
-        assert_eq!(rt; count, None);
-    }
-    assert!(rt; false);
+    assert!(rt; first_free_turn::<KeptOfRings>(rt.alloc(), 100, 4608) > Some(30));
     Ok(())
 }
