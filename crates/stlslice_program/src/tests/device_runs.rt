@@ -1,11 +1,10 @@
-use super::answers::task_of;
+use super::answers::end_of;
 use super::devices::{OneByteReader, SmallWriter};
 use super::meshes::{CUBE, text_of};
 use std::io::ErrorKind;
 use std::sync::Wait;
-use std::test::Fail;
 use std::thread::Threads;
-use stlslice::{Counted, Failures, RunFault, Task, run};
+use stlslice::{Counted, Failures, RunFault, Sink};
 
 /// The text of each kind of task for the cube.
 static TEXTS: [(&str, &[u8]); 4] = [
@@ -21,104 +20,202 @@ static TEXTS: [(&str, &[u8]); 4] = [
     ),
 ];
 
-/// Runs a line of words over the cube, into a writer: the outcome, and how many calls of the writer failed.
-fn run_into<R: Threads + Wait + Sync + AllocGlobal>(
+/// What a run by a line of words over the cube ends with.
+fn end_by_cube<R: Threads + Wait + Sync + AllocGlobal, O: Sink>(
     rt: &R,
     line: &str,
-    writer: &mut SmallWriter,
-) -> Result<(Result<(), RunFault>, u64), Fail> {
-    let task = task_of(rt.alloc(), line)?;
-    let cube = text_of(rt.alloc(), CUBE)?;
-    let mut source = Counted::new(cube.as_bytes());
+    sink: &mut O,
+) -> Option<Result<(), RunFault>> {
+    match text_of(rt.alloc(), CUBE) {
+        Ok(cube) => {
+            let mut source = Counted::new(cube.as_bytes());
+            end_of(rt, rt.alloc(), line, &mut source, sink)
+        }
+        Err(_) => None,
+    }
+}
+
+/// Whether a run over the cube ends so, and its writer took this text; one call of it failed where the run does.
+fn is_taken<R: Threads + Wait + Sync + AllocGlobal>(
+    rt: &R,
+    line: &str,
+    writer: SmallWriter,
+    end: Result<(), RunFault>,
+    text: &[u8],
+) -> bool {
     let mut sink = Counted::new(writer);
-    let outcome = run(rt, rt.alloc(), &task, &mut source, &mut sink);
-    Ok((outcome, sink.failures()))
+    let found = end_by_cube(rt, line, &mut sink);
+    found == Some(end)
+        && sink.failures() == u64::from(end.is_err())
+        && sink.inner().taken.as_slice() == text
+}
+
+/// The first room, of those for less than the text, that a run doesn't fill and then end for want of more.
+fn first_other_room<R: Threads + Wait + Sync + AllocGlobal>(
+    rt: &R,
+    line: &str,
+    text: &[u8],
+    piece: usize,
+    fault: Option<ErrorKind>,
+) -> Option<usize> {
+    for room in 0..text.len() {
+        let writer = SmallWriter::new(rt.alloc(), room, piece, fault);
+        let written = room as u64;
+        if !is_taken(
+            rt,
+            line,
+            writer,
+            Err(RunFault::Write { written }),
+            &text[..room],
+        ) {
+            return Some(room);
+        }
+    }
+    None
+}
+
+/// The pieces and the faults of writers.
+static WAYS: [(usize, Option<ErrorKind>); 5] = [
+    (1, Some(ErrorKind::Other)),
+    (5, Some(ErrorKind::Interrupted)),
+    (100, Some(ErrorKind::Other)),
+    (1, None),
+    (100, None),
+];
+
+/// `Ok`, or the number of the first way that some room isn't filled by.
+fn all_filled<R: Threads + Wait + Sync + AllocGlobal>(
+    rt: &R,
+    line: &str,
+    text: &[u8],
+) -> Result<(), usize> {
+    for (n, (piece, fault)) in WAYS.iter().enumerate() {
+        if first_other_room(rt, line, text, *piece, *fault).is_some() {
+            return Err(n);
+        }
+    }
+    Ok(())
 }
 
 #[test]
-fn writers_without_room(rt: HostRuntime) -> Result<(), Fail> {
-    let ways = [
-        (1, Some(ErrorKind::Other)),
-        (5, Some(ErrorKind::Interrupted)),
-        (100, Some(ErrorKind::Other)),
-        (1, None),
-        (100, None),
-    ];
-    for (line, text) in TEXTS {
-        for (piece, fault) in ways {
-            for room in 0..text.len() {
-                let mut writer = SmallWriter::new(rt.alloc(), room, piece, fault);
-                let written = room as u64;
-                let end = (Err(RunFault::Write { written }), 1);
-                assert_eq!(rt; run_into(&rt, line, &mut writer)?, end);
-                assert!(rt; text.starts_with(&writer.taken));
-                assert_eq!(rt; writer.taken.len(), room);
+fn writers_without_room(rt: HostRuntime) -> Result<(), usize> {
+    for (line, text) in &TEXTS {
+        all_filled(&rt, line, text)?;
+    }
+    Ok(())
+}
+
+/// Whether a run ends well into a writer with just enough room for the text.
+fn is_enough<R: Threads + Wait + Sync + AllocGlobal>(
+    rt: &R,
+    line: &str,
+    text: &[u8],
+    piece: usize,
+) -> bool {
+    let writer = SmallWriter::new(rt.alloc(), text.len(), piece, None);
+    is_taken(rt, line, writer, Ok(()), text)
+}
+
+#[test]
+fn writers_with_just_enough_room(rt: HostRuntime) -> Result<(), usize> {
+    for (line, text) in &TEXTS {
+        for piece in [1, 5, 100] {
+            if !is_enough(&rt, line, text, piece) {
+                return Err(piece);
             }
         }
     }
     Ok(())
 }
 
+/// Whether a run ends for a writer that has taken the text and can't be flushed.
+fn is_unflushed<R: Threads + Wait + Sync + AllocGlobal>(rt: &R, line: &str, text: &[u8]) -> bool {
+    let mut writer = SmallWriter::new(rt.alloc(), text.len(), 1, None);
+    writer.flushes = false;
+    let written = text.len() as u64;
+    is_taken(rt, line, writer, Err(RunFault::Write { written }), text)
+}
+
 #[test]
-fn writers_with_just_enough_room(rt: HostRuntime) -> Result<(), Fail> {
-    for (line, text) in TEXTS {
-        for piece in [1, 5, 100] {
-            let mut writer = SmallWriter::new(rt.alloc(), text.len(), piece, None);
-            assert_eq!(rt; run_into(&rt, line, &mut writer)?, (Ok(()), 0));
-            assert_eq!(rt; writer.taken.as_slice(), text);
+fn writers_that_fail_to_flush(rt: HostRuntime) -> Result<(), usize> {
+    for (n, (line, text)) in TEXTS.iter().enumerate() {
+        if !is_unflushed(&rt, line, text) {
+            return Err(n);
         }
     }
     Ok(())
 }
 
-#[test]
-fn writers_that_fail_to_flush(rt: HostRuntime) -> Result<(), Fail> {
-    for (line, text) in TEXTS {
-        let mut writer = SmallWriter::new(rt.alloc(), text.len(), 1, None);
-        writer.flushes = false;
-        let written = text.len() as u64;
-        let end = (Err(RunFault::Write { written }), 1);
-        assert_eq!(rt; run_into(&rt, line, &mut writer)?, end);
-        assert_eq!(rt; writer.taken.as_slice(), text);
-    }
-    Ok(())
-}
-
-/// Runs a line of words over a reader: the outcome, how many calls of the reader failed, and what was written.
-fn run_over<R: Threads + Wait + Sync + AllocGlobal>(
+/// Whether a run ends so, and has written this text; one call of its reader failed where the run does.
+fn is_read<R: Threads + Wait + Sync + AllocGlobal>(
     rt: &R,
     line: &str,
     reader: OneByteReader<'_>,
-) -> Result<(Result<(), RunFault>, u64, Vec<u8>), Fail> {
-    let task = task_of(rt.alloc(), line)?;
+    end: Result<(), RunFault>,
+    text: &[u8],
+) -> bool {
     let mut source = Counted::new(reader);
     let mut sink = Counted::new(Vec::new(rt.alloc()));
-    let outcome = run(rt, rt.alloc(), &task, &mut source, &mut sink);
-    Ok((outcome, source.failures(), sink.into_inner()))
+    let found = end_of(rt, rt.alloc(), line, &mut source, &mut sink);
+    found == Some(end)
+        && source.failures() == u64::from(end.is_err())
+        && sink.inner().as_slice() == text
+}
+
+/// Whether a run over a reader of this text that fails after so many calls ends by that, or else writes this text.
+fn is_read_until<R: Threads + Wait + Sync + AllocGlobal>(
+    rt: &R,
+    line: &str,
+    input: &str,
+    calls: u64,
+    text: &[u8],
+) -> bool {
+    let fault = if calls % 2 == 0 {
+        ErrorKind::Interrupted
+    } else {
+        ErrorKind::Other
+    };
+    let bytes = input.as_bytes();
+    let reader = OneByteReader {
+        bytes,
+        calls,
+        fault,
+    };
+    if calls < 1484 {
+        is_read(rt, line, reader, Err(RunFault::Read), b"")
+    } else {
+        is_read(rt, line, reader, Ok(()), text)
+    }
+}
+
+/// The first number of calls up to all those that read the cube with which a run ends otherwise.
+fn first_other_call<R: Threads + Wait + Sync + AllocGlobal>(
+    rt: &R,
+    line: &str,
+    input: &str,
+    text: &[u8],
+) -> Option<u64> {
+    for calls in 0..=1484 {
+        if !is_read_until(rt, line, input, calls, text) {
+            return Some(calls);
+        }
+    }
+    None
+}
+
+/// Whether a run ends as it has to with each number of calls.
+fn is_each_read<R: Threads + Wait + Sync + AllocGlobal>(rt: &R, line: &str, text: &[u8]) -> bool {
+    match text_of(rt.alloc(), CUBE) {
+        Ok(cube) => first_other_call(rt, line, cube.as_str(), text).is_none(),
+        Err(_) => false,
+    }
 }
 
 #[test]
-fn readers_that_fail(rt: HostRuntime) -> Result<(), Fail> {
-    let cube = text_of(rt.alloc(), CUBE)?;
-    for (line, text) in TEXTS {
-        for calls in 0..=1484 {
-            let reader = OneByteReader {
-                bytes: cube.as_bytes(),
-                calls,
-                fault: if calls % 2 == 0 {
-                    ErrorKind::Interrupted
-                } else {
-                    ErrorKind::Other
-                },
-            };
-            let (outcome, failures, taken) = run_over(&rt, line, reader)?;
-            if calls < 1484 {
-                assert_eq!(rt; (outcome, failures), (Err(RunFault::Read), 1));
-                assert_eq!(rt; taken.len(), 0);
-            } else {
-                assert_eq!(rt; (outcome, failures), (Ok(()), 0));
-                assert_eq!(rt; taken.as_slice(), text);
-            }
+fn readers_that_fail(rt: HostRuntime) -> Result<(), usize> {
+    for (n, (line, text)) in TEXTS.iter().enumerate() {
+        if !is_each_read(&rt, line, text) {
+            return Err(n);
         }
     }
     Ok(())

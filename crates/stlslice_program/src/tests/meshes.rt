@@ -1,6 +1,6 @@
 use std::alloc::{AllocError, Global};
-use std::test::Fail;
 use stl_text::Point;
+use stlslice::RunFault;
 
 /// A mesh, as the tables of the tests name it.
 #[derive(Clone, Copy)]
@@ -15,6 +15,8 @@ pub(crate) enum Mesh<'a> {
     Boxes(&'a [Corners]),
     /// A box, and one whose facets are inward.
     Hollow(Corners, Corners),
+    /// A solid for each box, in another spelling.
+    Loud(&'a [Corners]),
 }
 
 /// The ASCII STL text of a mesh.
@@ -25,6 +27,7 @@ pub(crate) fn mesh_text(alloc: Global, mesh: Mesh<'_>) -> Result<String, AllocEr
         Mesh::Joined(first, second) => joined_text(alloc, first, second),
         Mesh::Boxes(boxes) => boxes_text(alloc, boxes),
         Mesh::Hollow(outward, inward) => hollow_text(alloc, &outward, &inward),
+        Mesh::Loud(boxes) => loud_text(alloc, boxes),
     }
 }
 
@@ -133,12 +136,17 @@ pub(crate) fn hollow_text(
 pub(crate) fn loud_text(alloc: Global, boxes: &[Corners]) -> Result<String, AllocError> {
     let mut text = String::new(alloc);
     for corners in boxes {
-        let solid = boxes_text(alloc, &[*corners])?;
-        for line in solid.lines() {
-            push_loud(&mut text, line)?;
-        }
+        push_loud_box(alloc, &mut text, corners)?;
     }
     Ok(text)
+}
+
+fn push_loud_box(alloc: Global, text: &mut String, corners: &Corners) -> Result<(), AllocError> {
+    let solid = boxes_text(alloc, &[*corners])?;
+    for line in solid.lines() {
+        push_loud(text, line)?;
+    }
+    Ok(())
 }
 
 fn push_loud(text: &mut String, line: &str) -> Result<(), AllocError> {
@@ -177,10 +185,14 @@ fn push_box_corners(text: &mut String, corners: &Corners, facet: &str) -> Result
     Ok(())
 }
 
-/// The point with these coordinates in micrometres.
-pub(crate) fn point(place: [i32; 3]) -> Result<Point, Fail> {
-    match Point::new(place[0], place[1], place[2]) {
-        Some(point) => Ok(point),
-        None => Err(Fail::new("a point out of range")),
-    }
+/// The fault of an edge from (0, 0, 0) to (0, 2, z) that is there only back. The open cube's has 0.
+pub(crate) fn gap(z: i32) -> Option<RunFault> {
+    let from = Point::new(0, 0, 0)?;
+    let to = Point::new(0, 2, z)?;
+    Some(RunFault::Open {
+        from,
+        to,
+        there: 0,
+        back: 1,
+    })
 }
