@@ -35,16 +35,28 @@ pub(crate) fn end_of<
     Some(run(rt, memory, &task, source, sink))
 }
 
+/// What a run by a line of words ends with in this memory, and what it has written then.
+pub(crate) fn outcome<R: Threads + Wait + Sync + AllocGlobal, A: Allocator + Copy + Send + Sync>(
+    rt: &R,
+    memory: A,
+    line: &str,
+    input: &str,
+) -> (Option<Result<(), RunFault>>, Vec<u8>) {
+    let mut source = Counted::new(input.as_bytes());
+    let mut sink = Counted::new(Vec::new(rt.alloc()));
+    let end = end_of(rt, memory, line, &mut source, &mut sink);
+    (end, sink.into_inner())
+}
+
 /// What the program writes by a line of words. `None` where it ends with a fault.
 pub(crate) fn written<R: Threads + Wait + Sync + AllocGlobal>(
     rt: &R,
     line: &str,
     input: &str,
 ) -> Option<Vec<u8>> {
-    let mut source = Counted::new(input.as_bytes());
-    let mut sink = Counted::new(Vec::new(rt.alloc()));
-    match end_of(rt, rt.alloc(), line, &mut source, &mut sink) {
-        Some(Ok(())) => Some(sink.into_inner()),
+    let (end, text) = outcome(rt, rt.alloc(), line, input);
+    match end {
+        Some(Ok(())) => Some(text),
         _ => None,
     }
 }
@@ -56,10 +68,8 @@ pub(crate) fn writes<R: Threads + Wait + Sync + AllocGlobal>(
     input: &str,
     text: &[u8],
 ) -> bool {
-    match written(rt, line, input) {
-        Some(found) => found.as_slice() == text,
-        None => false,
-    }
+    let (end, found) = outcome(rt, rt.alloc(), line, input);
+    end == Some(Ok(())) && found.as_slice() == text
 }
 
 /// Whether a fault has this status and this line.
@@ -76,10 +86,9 @@ fn refusal<R: Threads + Wait + Sync + AllocGlobal>(
     line: &str,
     input: &str,
 ) -> Option<RunFault> {
-    let mut source = Counted::new(input.as_bytes());
-    let mut sink = Counted::new(Vec::new(rt.alloc()));
-    match end_of(rt, rt.alloc(), line, &mut source, &mut sink) {
-        Some(Err(fault)) if sink.inner().is_empty() => Some(fault),
+    let (end, text) = outcome(rt, rt.alloc(), line, input);
+    match end {
+        Some(Err(fault)) if text.is_empty() => Some(fault),
         _ => None,
     }
 }

@@ -1,6 +1,6 @@
 use super::answers::{Told, all_written, refuses};
 use super::meshes::Mesh::{Boxes, Facets, Joined, Text};
-use super::meshes::{CUBE, FLAT, OPEN, text_of};
+use super::meshes::{CUBE, FLAT, OPEN, mesh_text};
 use std::alloc::Global;
 use std::sync::Wait;
 use std::thread::Threads;
@@ -30,7 +30,7 @@ fn boxes(rt: HostRuntime) -> Result<(), usize> {
 
 /// Whether the text of the cube has this length.
 fn is_long(alloc: Global, length: usize) -> bool {
-    match text_of(alloc, CUBE) {
+    match mesh_text(alloc, Facets(CUBE)) {
         Ok(cube) => cube.len() == length,
         Err(_) => false,
     }

@@ -1,13 +1,17 @@
 use super::answers::end_of;
 use super::devices::{OneByteReader, SmallWriter};
-use super::meshes::{CUBE, text_of};
+use super::meshes::Mesh::Facets;
+use super::meshes::{CUBE, mesh_text};
 use std::io::ErrorKind;
 use std::sync::Wait;
 use std::thread::Threads;
 use stlslice::{Counted, Failures, RunFault, Sink};
 
+/// A line of words, and a text.
+type Row<'a> = (&'a str, &'a [u8]);
+
 /// The text of each kind of task for the cube.
-static TEXTS: [(&str, &[u8]); 4] = [
+static TEXTS: [Row; 4] = [
     ("--box", b"facets 12 box 0 0 0 2 2 2\n"),
     (
         "--pitch 1 --layer 1 --probe 0,0,0",
@@ -20,13 +24,24 @@ static TEXTS: [(&str, &[u8]); 4] = [
     ),
 ];
 
+/// Whether a run has this end and has written this text, and one call of its device failed where it ends with a fault.
+fn is_alike(
+    found: Option<Result<(), RunFault>>,
+    failures: u64,
+    taken: &[u8],
+    end: Result<(), RunFault>,
+    text: &[u8],
+) -> bool {
+    found == Some(end) && failures == u64::from(end.is_err()) && taken == text
+}
+
 /// What a run by a line of words over the cube ends with.
 fn end_by_cube<R: Threads + Wait + Sync + AllocGlobal, O: Sink>(
     rt: &R,
     line: &str,
     sink: &mut O,
 ) -> Option<Result<(), RunFault>> {
-    match text_of(rt.alloc(), CUBE) {
+    match mesh_text(rt.alloc(), Facets(CUBE)) {
         Ok(cube) => {
             let mut source = Counted::new(cube.as_bytes());
             end_of(rt, rt.alloc(), line, &mut source, sink)
@@ -35,7 +50,7 @@ fn end_by_cube<R: Threads + Wait + Sync + AllocGlobal, O: Sink>(
     }
 }
 
-/// Whether a run over the cube ends so, and its writer took this text; one call of it failed where the run does.
+/// Whether a run over the cube ends so, and its writer took this text.
 fn is_taken<R: Threads + Wait + Sync + AllocGlobal>(
     rt: &R,
     line: &str,
@@ -45,108 +60,79 @@ fn is_taken<R: Threads + Wait + Sync + AllocGlobal>(
 ) -> bool {
     let mut sink = Counted::new(writer);
     let found = end_by_cube(rt, line, &mut sink);
-    found == Some(end)
-        && sink.failures() == u64::from(end.is_err())
-        && sink.inner().taken.as_slice() == text
+    let failures = sink.failures();
+    is_alike(found, failures, sink.inner().taken.as_slice(), end, text)
 }
 
-/// The first room, of those for less than the text, that a run doesn't fill and then end for want of more.
+/// How many bytes a writer takes a call, the fault with which it has no more room, and whether it can be flushed.
+type Way = (usize, Option<ErrorKind>, bool);
+
+static WAYS: [Way; 7] = [
+    (1, Some(ErrorKind::Other), true),
+    (5, Some(ErrorKind::Interrupted), true),
+    (100, Some(ErrorKind::Other), true),
+    (1, None, true),
+    (5, None, true),
+    (100, None, true),
+    (1, None, false),
+];
+
+/// The first room, up to just enough for the text, with which a run does anything but fill it; and then end well only
+/// where that is the whole text, and flushed.
 fn first_other_room<R: Threads + Wait + Sync + AllocGlobal>(
     rt: &R,
-    line: &str,
-    text: &[u8],
-    piece: usize,
-    fault: Option<ErrorKind>,
+    row: &Row<'_>,
+    way: &Way,
 ) -> Option<usize> {
-    for room in 0..text.len() {
-        let writer = SmallWriter::new(rt.alloc(), room, piece, fault);
-        let written = room as u64;
-        if !is_taken(
-            rt,
-            line,
-            writer,
-            Err(RunFault::Write { written }),
-            &text[..room],
-        ) {
+    let (line, text) = *row;
+    let (piece, fault, flushes) = *way;
+    for room in 0..=text.len() {
+        let end = if flushes && room == text.len() {
+            Ok(())
+        } else {
+            let written = room as u64;
+            Err(RunFault::Write { written })
+        };
+        let writer = SmallWriter::new(rt.alloc(), room, piece, fault, flushes);
+        if !is_taken(rt, line, writer, end, &text[..room]) {
             return Some(room);
         }
     }
     None
 }
 
-/// The pieces and the faults of writers.
-static WAYS: [(usize, Option<ErrorKind>); 5] = [
-    (1, Some(ErrorKind::Other)),
-    (5, Some(ErrorKind::Interrupted)),
-    (100, Some(ErrorKind::Other)),
-    (1, None),
-    (100, None),
-];
-
-/// `Ok`, or the number of the first way that some room isn't filled by.
+/// `Ok`, or the number of the first row for which some room is filled otherwise by a writer of this way.
 fn all_filled<R: Threads + Wait + Sync + AllocGlobal>(
     rt: &R,
-    line: &str,
-    text: &[u8],
+    rows: &[Row<'_>],
+    way: &Way,
 ) -> Result<(), usize> {
-    for (n, (piece, fault)) in WAYS.iter().enumerate() {
-        if first_other_room(rt, line, text, *piece, *fault).is_some() {
+    for (n, row) in rows.iter().enumerate() {
+        if first_other_room(rt, row, way).is_some() {
             return Err(n);
         }
     }
     Ok(())
 }
 
-#[test]
-fn writers_without_room(rt: HostRuntime) -> Result<(), usize> {
-    for (line, text) in &TEXTS {
-        all_filled(&rt, line, text)?;
-    }
-    Ok(())
-}
-
-/// Whether a run ends well into a writer with just enough room for the text.
-fn is_enough<R: Threads + Wait + Sync + AllocGlobal>(
+/// The same for each of these ways.
+fn all_filled_by_each<R: Threads + Wait + Sync + AllocGlobal>(
     rt: &R,
-    line: &str,
-    text: &[u8],
-    piece: usize,
-) -> bool {
-    let writer = SmallWriter::new(rt.alloc(), text.len(), piece, None);
-    is_taken(rt, line, writer, Ok(()), text)
-}
-
-#[test]
-fn writers_with_just_enough_room(rt: HostRuntime) -> Result<(), usize> {
-    for (line, text) in &TEXTS {
-        for piece in [1, 5, 100] {
-            if !is_enough(&rt, line, text, piece) {
-                return Err(piece);
-            }
-        }
+    rows: &[Row<'_>],
+    ways: &[Way],
+) -> Result<(), usize> {
+    for way in ways {
+        all_filled(rt, rows, way)?;
     }
     Ok(())
 }
 
-/// Whether a run ends for a writer that has taken the text and can't be flushed.
-fn is_unflushed<R: Threads + Wait + Sync + AllocGlobal>(rt: &R, line: &str, text: &[u8]) -> bool {
-    let mut writer = SmallWriter::new(rt.alloc(), text.len(), 1, None);
-    writer.flushes = false;
-    let written = text.len() as u64;
-    is_taken(rt, line, writer, Err(RunFault::Write { written }), text)
-}
-
 #[test]
-fn writers_that_fail_to_flush(rt: HostRuntime) -> Result<(), usize> {
-    for (n, (line, text)) in TEXTS.iter().enumerate() {
-        if !is_unflushed(&rt, line, text) {
-            return Err(n);
-        }
-    }
-    Ok(())
+fn writers_with_little_room(rt: HostRuntime) -> Result<(), usize> {
+    all_filled_by_each(&rt, &TEXTS, &WAYS)
 }
 
-/// Whether a run ends so, and has written this text; one call of its reader failed where the run does.
+/// Whether a run ends so over a reader, and has written this text.
 fn is_read<R: Threads + Wait + Sync + AllocGlobal>(
     rt: &R,
     line: &str,
@@ -157,9 +143,7 @@ fn is_read<R: Threads + Wait + Sync + AllocGlobal>(
     let mut source = Counted::new(reader);
     let mut sink = Counted::new(Vec::new(rt.alloc()));
     let found = end_of(rt, rt.alloc(), line, &mut source, &mut sink);
-    found == Some(end)
-        && source.failures() == u64::from(end.is_err())
-        && sink.inner().as_slice() == text
+    is_alike(found, source.failures(), sink.inner().as_slice(), end, text)
 }
 
 /// Whether a run over a reader of this text that fails after so many calls ends by that, or else writes this text.
@@ -204,19 +188,25 @@ fn first_other_call<R: Threads + Wait + Sync + AllocGlobal>(
 }
 
 /// Whether a run ends as it has to with each number of calls.
-fn is_each_read<R: Threads + Wait + Sync + AllocGlobal>(rt: &R, line: &str, text: &[u8]) -> bool {
-    match text_of(rt.alloc(), CUBE) {
+fn is_each_read<R: Threads + Wait + Sync + AllocGlobal>(rt: &R, row: &Row<'_>) -> bool {
+    let (line, text) = *row;
+    match mesh_text(rt.alloc(), Facets(CUBE)) {
         Ok(cube) => first_other_call(rt, line, cube.as_str(), text).is_none(),
         Err(_) => false,
     }
 }
 
-#[test]
-fn readers_that_fail(rt: HostRuntime) -> Result<(), usize> {
-    for (n, (line, text)) in TEXTS.iter().enumerate() {
-        if !is_each_read(&rt, line, text) {
+/// `Ok`, or the number of the first row that is read otherwise.
+fn all_read<R: Threads + Wait + Sync + AllocGlobal>(rt: &R, rows: &[Row<'_>]) -> Result<(), usize> {
+    for (n, row) in rows.iter().enumerate() {
+        if !is_each_read(rt, row) {
             return Err(n);
         }
     }
     Ok(())
+}
+
+#[test]
+fn readers_that_fail(rt: HostRuntime) -> Result<(), usize> {
+    all_read(&rt, &TEXTS)
 }

@@ -1,75 +1,73 @@
-use super::answers::end_of;
-use super::meshes::{CUBE, OPEN, gap, text_of};
+use super::answers::outcome;
+use super::meshes::Mesh::Facets;
+use super::meshes::{CUBE, OPEN, gap, mesh_text};
 use short_memory::ShortMemory;
-use std::alloc::Global;
 use std::sync::Wait;
 use std::thread::Threads;
-use stlslice::{Counted, RunFault};
+use stlslice::RunFault;
 
-/// How a run ends whose growths are refused at some turn.
-#[derive(Clone, Copy, PartialEq, Eq)]
-enum End {
-    /// As with enough memory.
-    Usual,
-    /// For want of memory, with nothing written.
-    Short,
-    Otherwise,
-}
+/// How a run ends as usual, and what it has written then.
+type Usual<'a> = (Result<(), RunFault>, &'a [u8]);
 
-/// How a run by a line of words ends in this memory, where with enough it has this end and writes this text.
-fn end_in<R: Threads + Wait + Sync + AllocGlobal>(
-    rt: &R,
-    memory: &ShortMemory<Global>,
-    line: &str,
-    input: &str,
-    usual: &Result<(), RunFault>,
+/// Whether a run with this end and this text met no refusal. `None` where it ended neither as usual nor for want of
+/// memory with nothing written.
+fn is_free(
+    end: Option<Result<(), RunFault>>,
     text: &[u8],
-) -> End {
-    let mut source = Counted::new(input.as_bytes());
-    let mut sink = Counted::new(Vec::new(rt.alloc()));
-    let end = end_of(rt, memory, line, &mut source, &mut sink);
-    let taken = sink.inner().as_slice();
-    if end == Some(*usual) && taken == text {
-        End::Usual
-    } else if end == Some(Err(RunFault::Memory)) && taken.is_empty() {
-        End::Short
-    } else {
-        End::Otherwise
+    has_refused: bool,
+    usual: &Usual<'_>,
+) -> Option<bool> {
+    if end == Some(usual.0) && text == usual.1 {
+        return Some(!has_refused);
     }
-}
-
-/// Refuses each growth in turn until none is left to refuse, and answers which turn was the first that met no refusal.
-/// `None` where a run ends neither as usual nor for want of memory with nothing written.
-fn first_free_turn<R: Threads + Wait + Sync + AllocGlobal>(
-    rt: &R,
-    line: &str,
-    input: &str,
-    usual: &Result<(), RunFault>,
-    text: &[u8],
-) -> Option<u64> {
-    for turn in 1..1000 {
-        let memory = ShortMemory::new(rt.alloc(), turn);
-        let end = end_in(rt, &memory, line, input, usual, text);
-        if !memory.has_refused() {
-            return (end == End::Usual).then_some(turn);
-        }
-        if end == End::Otherwise {
-            return None;
-        }
+    if has_refused && end == Some(Err(RunFault::Memory)) && text.is_empty() {
+        return Some(false);
     }
     None
 }
 
-/// The first turn at which no growth of a run over these facets is refused.
-fn free_turn<R: Threads + Wait + Sync + AllocGlobal>(
+/// Whether a run of whose growths the one at this turn is refused has none at this turn; or `None` as above.
+fn is_free_turn<R: Threads + Wait + Sync + AllocGlobal>(
+    rt: &R,
+    turn: u64,
+    line: &str,
+    input: &str,
+    usual: &Usual<'_>,
+) -> Option<bool> {
+    let memory = ShortMemory::new(rt.alloc(), turn);
+    let (end, text) = outcome(rt, &memory, line, input);
+    is_free(end, text.as_slice(), memory.has_refused(), usual)
+}
+
+/// Refuses each growth in turn until none is left to refuse, and answers which turn was the first that met no refusal.
+/// 0 where a run ends otherwise.
+fn first_free_turn<R: Threads + Wait + Sync + AllocGlobal>(
+    rt: &R,
+    line: &str,
+    input: &str,
+    usual: &Usual<'_>,
+) -> u64 {
+    for turn in 1..1000 {
+        match is_free_turn(rt, turn, line, input, usual) {
+            Some(false) => {}
+            Some(true) => return turn,
+            None => return 0,
+        }
+    }
+    0
+}
+
+/// The same for a run over these facets.
+fn first_free_turn_over<R: Threads + Wait + Sync + AllocGlobal>(
     rt: &R,
     line: &str,
     facets: &str,
-    usual: &Result<(), RunFault>,
-    text: &[u8],
-) -> Option<u64> {
-    let input = text_of(rt.alloc(), facets).ok()?;
-    first_free_turn(rt, line, input.as_str(), usual, text)
+    usual: &Usual<'_>,
+) -> u64 {
+    match mesh_text(rt.alloc(), Facets(facets)) {
+        Ok(input) => first_free_turn(rt, line, input.as_str(), usual),
+        Err(_) => 0,
+    }
 }
 
 /// A line of words, the text that a run by them writes for the cube, and a turn at which it still meets a refusal.
@@ -102,7 +100,7 @@ static ROWS: [Row; 5] = [
 /// `Ok`, or the number of the first row of which a run ends otherwise.
 fn all_free<R: Threads + Wait + Sync + AllocGlobal>(rt: &R, rows: &[Row<'_>]) -> Result<(), usize> {
     for (n, (line, text, least)) in rows.iter().enumerate() {
-        if free_turn(rt, line, CUBE, &Ok(()), text) <= Some(*least) {
+        if first_free_turn_over(rt, line, CUBE, &(Ok(()), text)) <= *least {
             return Err(n);
         }
     }
@@ -118,8 +116,8 @@ fn each_growth_refused_in_turn(rt: HostRuntime) -> Result<(), usize> {
 fn each_growth_refused_before_a_gap(rt: HostRuntime) {
     match gap(0) {
         Some(fault) => {
-            let turn = free_turn(&rt, "--pitch 1 --layer 1", OPEN, &Err(fault), b"");
-            assert!(rt; turn > Some(8));
+            let usual: Usual = (Err(fault), b"");
+            assert!(rt; first_free_turn_over(&rt, "--pitch 1 --layer 1", OPEN, &usual) > 8);
         }
         None => assert!(rt; false),
     }

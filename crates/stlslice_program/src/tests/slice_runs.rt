@@ -1,8 +1,6 @@
 use super::answers::{Refused, all_refused, writes, written};
 use super::meshes::Mesh::{Boxes, Facets, Hollow, Joined, Loud, Text};
-use super::meshes::{
-    CUBE, Corners, FLAT, INWARD, Mesh, OCTAHEDRON, OPEN, PAIR, SHEET, loud_text, mesh_text,
-};
+use super::meshes::{CUBE, Corners, FLAT, INWARD, Mesh, OCTAHEDRON, OPEN, PAIR, SHEET, mesh_text};
 use std::alloc::{AllocError, Global};
 use std::sync::Wait;
 use std::thread::Threads;
@@ -30,8 +28,8 @@ fn each_writes<R: Threads + Wait + Sync + AllocGlobal>(
     input: &str,
     text: &[u8],
 ) -> bool {
-    for workers in [1, 2, 3, 64] {
-        if !writes_by(rt, line, option, workers, input, text) {
+    for workers in &[1, 2, 3, 64] {
+        if !writes_by(rt, line, option, *workers, input, text) {
             return false;
         }
     }
@@ -253,7 +251,7 @@ fn two_solids_in_another_spelling(rt: HostRuntime) -> Result<(), usize> {
 
 /// Whether the other spelling of the overlapping boxes begins so.
 fn is_loud(alloc: Global, front: &str) -> bool {
-    match loud_text(alloc, &NESTED) {
+    match mesh_text(alloc, Loud(&NESTED)) {
         Ok(text) => text.starts_with(front),
         Err(_) => false,
     }
