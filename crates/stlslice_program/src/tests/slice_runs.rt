@@ -39,14 +39,22 @@ fn each_writes<R: Threads + Wait + Sync + AllocGlobal>(
 /// A line of words and a mesh, and the images and the report of it by them.
 type Row<'a> = (&'a str, Mesh<'a>, &'a [u8], &'a str);
 
-/// Whether a mesh has the images and the report of a row, by each number of workers.
+/// Whether a text has these images and this report by a line of words, by each number of workers.
+fn has_both<R: Threads + Wait + Sync + AllocGlobal>(
+    rt: &R,
+    line: &str,
+    input: &str,
+    images: &[u8],
+    report: &[u8],
+) -> bool {
+    each_writes(rt, line, "", input, images) && each_writes(rt, line, "--report", input, report)
+}
+
+/// Whether a mesh has the images and the report of a row.
 fn is_sliced<R: Threads + Wait + Sync + AllocGlobal>(rt: &R, row: &Row<'_>) -> bool {
     let (line, mesh, images, report) = *row;
     match mesh_text(rt.alloc(), mesh) {
-        Ok(input) => {
-            each_writes(rt, line, "", input.as_str(), images)
-                && each_writes(rt, line, "--report", input.as_str(), report.as_bytes())
-        }
+        Ok(input) => has_both(rt, line, input.as_str(), images, report.as_bytes()),
         Err(_) => false,
     }
 }
