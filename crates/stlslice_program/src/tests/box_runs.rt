@@ -1,8 +1,8 @@
-use super::answers::{Told, first_told_otherwise, refusal};
+use super::answers::{Told, all_written, refuses};
 use super::meshes::Mesh::{Boxes, Facets, Joined, Text};
-use super::meshes::{CUBE, FLAT, OPEN, text_of};
+use super::meshes::{CUBE, FLAT, OPEN, mesh_text};
+use std::alloc::Global;
 use std::sync::Wait;
-use std::test::Fail;
 use std::thread::Threads;
 
 static BOXES: [Told; 7] = [
@@ -24,10 +24,21 @@ static BOXES: [Told; 7] = [
 ];
 
 #[test]
-fn boxes(rt: HostRuntime) -> Result<(), Fail> {
-    assert_eq!(rt; text_of(rt.alloc(), CUBE)?.len(), 1483);
-    assert_eq!(rt; first_told_otherwise(&rt, &BOXES)?, None);
-    Ok(())
+fn boxes(rt: HostRuntime) -> Result<(), usize> {
+    all_written(&rt, &BOXES)
+}
+
+/// Whether the text of the cube has this length.
+fn is_long(alloc: Global, length: usize) -> bool {
+    match mesh_text(alloc, Facets(CUBE)) {
+        Ok(cube) => cube.len() == length,
+        Err(_) => false,
+    }
+}
+
+#[test]
+fn the_length_of_the_cube(rt: HostRuntime) {
+    assert!(rt; is_long(rt.alloc(), 1483));
 }
 
 /// Texts that are misread, and the lines of their faults.
@@ -61,24 +72,29 @@ static TASKS: [&str; 4] = [
 ];
 
 /// Whether each task ends with this line and status 3 for a text.
-fn is_misread<R: Threads + Wait + Sync + AllocGlobal>(
-    rt: &R,
-    input: &str,
-    told: &str,
-) -> Result<bool, Fail> {
+fn is_misread<R: Threads + Wait + Sync + AllocGlobal>(rt: &R, input: &str, told: &str) -> bool {
     for line in &TASKS {
-        let (status, fault) = refusal(rt, line, input)?;
-        if status != 3 || fault.as_str() != told {
-            return Ok(false);
+        if !refuses(rt, line, input, 3, told) {
+            return false;
         }
     }
-    Ok(true)
+    true
+}
+
+/// `Ok`, or the number of the first text that some task ends otherwise for.
+fn all_misread<R: Threads + Wait + Sync + AllocGlobal>(
+    rt: &R,
+    rows: &[(&str, &str)],
+) -> Result<(), usize> {
+    for (n, (input, told)) in rows.iter().enumerate() {
+        if !is_misread(rt, input, told) {
+            return Err(n);
+        }
+    }
+    Ok(())
 }
 
 #[test]
-fn misread_texts_by_each_task(rt: HostRuntime) -> Result<(), Fail> {
-    for (input, told) in MISREAD {
-        assert!(rt; is_misread(&rt, input, told)?, "{told}");
-    }
-    Ok(())
+fn misread_texts_by_each_task(rt: HostRuntime) -> Result<(), usize> {
+    all_misread(&rt, &MISREAD)
 }

@@ -1,14 +1,17 @@
-use super::answers::task_of;
+use super::answers::end_of;
 use super::devices::{OneByteReader, SmallWriter};
-use super::meshes::{CUBE, text_of};
+use super::meshes::Mesh::Facets;
+use super::meshes::{CUBE, mesh_text};
 use std::io::ErrorKind;
 use std::sync::Wait;
-use std::test::Fail;
 use std::thread::Threads;
-use stlslice::{Counted, Failures, RunFault, Task, run};
+use stlslice::{Counted, Failures, RunFault, Sink};
+
+/// A line of words, and a text.
+type Row<'a> = (&'a str, &'a [u8]);
 
 /// The text of each kind of task for the cube.
-static TEXTS: [(&str, &[u8]); 4] = [
+static TEXTS: [Row; 4] = [
     ("--box", b"facets 12 box 0 0 0 2 2 2\n"),
     (
         "--pitch 1 --layer 1 --probe 0,0,0",
@@ -21,105 +24,189 @@ static TEXTS: [(&str, &[u8]); 4] = [
     ),
 ];
 
-/// Runs a line of words over the cube, into a writer: the outcome, and how many calls of the writer failed.
-fn run_into<R: Threads + Wait + Sync + AllocGlobal>(
+/// Whether a run has this end and has written this text, and one call of its device failed where it ends with a fault.
+fn is_alike(
+    found: Option<Result<(), RunFault>>,
+    failures: u64,
+    taken: &[u8],
+    end: Result<(), RunFault>,
+    text: &[u8],
+) -> bool {
+    found == Some(end) && failures == u64::from(end.is_err()) && taken == text
+}
+
+/// What a run by a line of words over the cube ends with.
+fn end_by_cube<R: Threads + Wait + Sync + AllocGlobal, O: Sink>(
     rt: &R,
     line: &str,
-    writer: &mut SmallWriter,
-) -> Result<(Result<(), RunFault>, u64), Fail> {
-    let task = task_of(rt.alloc(), line)?;
-    let cube = text_of(rt.alloc(), CUBE)?;
-    let mut source = Counted::new(cube.as_bytes());
+    sink: &mut O,
+) -> Option<Result<(), RunFault>> {
+    match mesh_text(rt.alloc(), Facets(CUBE)) {
+        Ok(cube) => {
+            let mut source = Counted::new(cube.as_bytes());
+            end_of(rt, rt.alloc(), line, &mut source, sink)
+        }
+        Err(_) => None,
+    }
+}
+
+/// Whether a run over the cube ends so, and its writer took this text.
+fn is_taken<R: Threads + Wait + Sync + AllocGlobal>(
+    rt: &R,
+    line: &str,
+    writer: SmallWriter,
+    end: Result<(), RunFault>,
+    text: &[u8],
+) -> bool {
     let mut sink = Counted::new(writer);
-    let outcome = run(rt, rt.alloc(), &task, &mut source, &mut sink);
-    Ok((outcome, sink.failures()))
+    let found = end_by_cube(rt, line, &mut sink);
+    let failures = sink.failures();
+    is_alike(found, failures, sink.inner().taken.as_slice(), end, text)
 }
 
-#[test]
-fn writers_without_room(rt: HostRuntime) -> Result<(), Fail> {
-    let ways = [
-        (1, Some(ErrorKind::Other)),
-        (5, Some(ErrorKind::Interrupted)),
-        (100, Some(ErrorKind::Other)),
-        (1, None),
-        (100, None),
-    ];
-    for (line, text) in TEXTS {
-        for (piece, fault) in ways {
-            for room in 0..text.len() {
-                let mut writer = SmallWriter::new(rt.alloc(), room, piece, fault);
-                let written = room as u64;
-                let end = (Err(RunFault::Write { written }), 1);
-                assert_eq!(rt; run_into(&rt, line, &mut writer)?, end);
-                assert!(rt; text.starts_with(&writer.taken));
-                assert_eq!(rt; writer.taken.len(), room);
-            }
+/// How many bytes a writer takes a call, the fault with which it has no more room, and whether it can be flushed.
+type Way = (usize, Option<ErrorKind>, bool);
+
+static WAYS: [Way; 7] = [
+    (1, Some(ErrorKind::Other), true),
+    (5, Some(ErrorKind::Interrupted), true),
+    (100, Some(ErrorKind::Other), true),
+    (1, None, true),
+    (5, None, true),
+    (100, None, true),
+    (1, None, false),
+];
+
+/// The first room, up to just enough for the text, with which a run does anything but fill it; and then end well only
+/// where that is the whole text, and flushed.
+fn first_other_room<R: Threads + Wait + Sync + AllocGlobal>(
+    rt: &R,
+    row: &Row<'_>,
+    way: &Way,
+) -> Option<usize> {
+    let (line, text) = *row;
+    let (piece, fault, flushes) = *way;
+    for room in 0..=text.len() {
+        let end = if flushes && room == text.len() {
+            Ok(())
+        } else {
+            let written = room as u64;
+            Err(RunFault::Write { written })
+        };
+        let writer = SmallWriter::new(rt.alloc(), room, piece, fault, flushes);
+        if !is_taken(rt, line, writer, end, &text[..room]) {
+            return Some(room);
+        }
+    }
+    None
+}
+
+/// `Ok`, or the number of the first row for which some room is filled otherwise by a writer of this way.
+fn all_filled<R: Threads + Wait + Sync + AllocGlobal>(
+    rt: &R,
+    rows: &[Row<'_>],
+    way: &Way,
+) -> Result<(), usize> {
+    for (n, row) in rows.iter().enumerate() {
+        if first_other_room(rt, row, way).is_some() {
+            return Err(n);
         }
     }
     Ok(())
 }
 
-#[test]
-fn writers_with_just_enough_room(rt: HostRuntime) -> Result<(), Fail> {
-    for (line, text) in TEXTS {
-        for piece in [1, 5, 100] {
-            let mut writer = SmallWriter::new(rt.alloc(), text.len(), piece, None);
-            assert_eq!(rt; run_into(&rt, line, &mut writer)?, (Ok(()), 0));
-            assert_eq!(rt; writer.taken.as_slice(), text);
-        }
+/// The same for each of these ways.
+fn all_filled_by_each<R: Threads + Wait + Sync + AllocGlobal>(
+    rt: &R,
+    rows: &[Row<'_>],
+    ways: &[Way],
+) -> Result<(), usize> {
+    for way in ways {
+        all_filled(rt, rows, way)?;
     }
     Ok(())
 }
 
 #[test]
-fn writers_that_fail_to_flush(rt: HostRuntime) -> Result<(), Fail> {
-    for (line, text) in TEXTS {
-        let mut writer = SmallWriter::new(rt.alloc(), text.len(), 1, None);
-        writer.flushes = false;
-        let written = text.len() as u64;
-        let end = (Err(RunFault::Write { written }), 1);
-        assert_eq!(rt; run_into(&rt, line, &mut writer)?, end);
-        assert_eq!(rt; writer.taken.as_slice(), text);
-    }
-    Ok(())
+fn writers_with_little_room(rt: HostRuntime) -> Result<(), usize> {
+    all_filled_by_each(&rt, &TEXTS, &WAYS)
 }
 
-/// Runs a line of words over a reader: the outcome, how many calls of the reader failed, and what was written.
-fn run_over<R: Threads + Wait + Sync + AllocGlobal>(
+/// Whether a run ends so over a reader, and has written this text.
+fn is_read<R: Threads + Wait + Sync + AllocGlobal>(
     rt: &R,
     line: &str,
     reader: OneByteReader<'_>,
-) -> Result<(Result<(), RunFault>, u64, Vec<u8>), Fail> {
-    let task = task_of(rt.alloc(), line)?;
+    end: Result<(), RunFault>,
+    text: &[u8],
+) -> bool {
     let mut source = Counted::new(reader);
     let mut sink = Counted::new(Vec::new(rt.alloc()));
-    let outcome = run(rt, rt.alloc(), &task, &mut source, &mut sink);
-    Ok((outcome, source.failures(), sink.into_inner()))
+    let found = end_of(rt, rt.alloc(), line, &mut source, &mut sink);
+    is_alike(found, source.failures(), sink.inner().as_slice(), end, text)
 }
 
-#[test]
-fn readers_that_fail(rt: HostRuntime) -> Result<(), Fail> {
-    let cube = text_of(rt.alloc(), CUBE)?;
-    for (line, text) in TEXTS {
-        for calls in 0..=1484 {
-            let reader = OneByteReader {
-                bytes: cube.as_bytes(),
-                calls,
-                fault: if calls % 2 == 0 {
-                    ErrorKind::Interrupted
-                } else {
-                    ErrorKind::Other
-                },
-            };
-            let (outcome, failures, taken) = run_over(&rt, line, reader)?;
-            if calls < 1484 {
-                assert_eq!(rt; (outcome, failures), (Err(RunFault::Read), 1));
-                assert_eq!(rt; taken.len(), 0);
-            } else {
-                assert_eq!(rt; (outcome, failures), (Ok(()), 0));
-                assert_eq!(rt; taken.as_slice(), text);
-            }
+/// Whether a run over a reader of this text that fails after so many calls ends by that, or else writes this text.
+fn is_read_until<R: Threads + Wait + Sync + AllocGlobal>(
+    rt: &R,
+    line: &str,
+    input: &str,
+    calls: u64,
+    text: &[u8],
+) -> bool {
+    let fault = if calls % 2 == 0 {
+        ErrorKind::Interrupted
+    } else {
+        ErrorKind::Other
+    };
+    let bytes = input.as_bytes();
+    let reader = OneByteReader {
+        bytes,
+        calls,
+        fault,
+    };
+    if calls < 1484 {
+        is_read(rt, line, reader, Err(RunFault::Read), b"")
+    } else {
+        is_read(rt, line, reader, Ok(()), text)
+    }
+}
+
+/// The first number of calls up to all those that read the cube with which a run ends otherwise.
+fn first_other_call<R: Threads + Wait + Sync + AllocGlobal>(
+    rt: &R,
+    line: &str,
+    input: &str,
+    text: &[u8],
+) -> Option<u64> {
+    for calls in 0..=1484 {
+        if !is_read_until(rt, line, input, calls, text) {
+            return Some(calls);
+        }
+    }
+    None
+}
+
+/// Whether a run ends as it has to with each number of calls.
+fn is_each_read<R: Threads + Wait + Sync + AllocGlobal>(rt: &R, row: &Row<'_>) -> bool {
+    let (line, text) = *row;
+    match mesh_text(rt.alloc(), Facets(CUBE)) {
+        Ok(cube) => first_other_call(rt, line, cube.as_str(), text).is_none(),
+        Err(_) => false,
+    }
+}
+
+/// `Ok`, or the number of the first row that is read otherwise.
+fn all_read<R: Threads + Wait + Sync + AllocGlobal>(rt: &R, rows: &[Row<'_>]) -> Result<(), usize> {
+    for (n, row) in rows.iter().enumerate() {
+        if !is_each_read(rt, row) {
+            return Err(n);
         }
     }
     Ok(())
+}
+
+#[test]
+fn readers_that_fail(rt: HostRuntime) -> Result<(), usize> {
+    all_read(&rt, &TEXTS)
 }

@@ -38,19 +38,20 @@ pub(crate) struct SmallWriter {
 }
 
 impl SmallWriter {
-    /// One that can be flushed.
+    /// One that has taken nothing.
     pub(crate) fn new(
         alloc: Global,
         room: usize,
         piece: usize,
         fault: Option<ErrorKind>,
+        flushes: bool,
     ) -> SmallWriter {
         SmallWriter {
             taken: Vec::new(alloc),
             room,
             piece,
             fault,
-            flushes: true,
+            flushes,
         }
     }
 }

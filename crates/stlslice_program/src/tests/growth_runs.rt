@@ -1,95 +1,124 @@
-use super::answers::task_of;
-use super::meshes::{CUBE, OPEN, point, text_of};
+use super::answers::outcome;
+use super::meshes::Mesh::Facets;
+use super::meshes::{CUBE, OPEN, gap, mesh_text};
 use short_memory::ShortMemory;
-use std::alloc::Global;
 use std::sync::Wait;
-use std::test::Fail;
 use std::thread::Threads;
-use stlslice::{Counted, RunFault, run};
+use stlslice::RunFault;
 
-/// What a run by a line of words ends with in this memory, and what it has written then.
-fn run_in<R: Threads + Wait + Sync + AllocGlobal>(
+/// How a run ends as usual, and what it has written then.
+type Usual<'a> = (Result<(), RunFault>, &'a [u8]);
+
+/// Whether a run with this end and this text met no refusal. `None` where it ended neither as usual nor for want of
+/// memory with nothing written.
+fn is_free(
+    end: Option<Result<(), RunFault>>,
+    text: &[u8],
+    has_refused: bool,
+    usual: &Usual<'_>,
+) -> Option<bool> {
+    if end == Some(usual.0) && text == usual.1 {
+        return Some(!has_refused);
+    }
+    if has_refused && end == Some(Err(RunFault::Memory)) && text.is_empty() {
+        return Some(false);
+    }
+    None
+}
+
+/// Whether a run of whose growths the one at this turn is refused has none at this turn; or `None` as above.
+fn is_free_turn<R: Threads + Wait + Sync + AllocGlobal>(
     rt: &R,
-    memory: &ShortMemory<Global>,
+    turn: u64,
     line: &str,
     input: &str,
-) -> Result<(Result<(), RunFault>, Vec<u8>), Fail> {
-    let task = task_of(rt.alloc(), line)?;
-    let mut source = Counted::new(input.as_bytes());
-    let mut sink = Counted::new(Vec::new(rt.alloc()));
-    let outcome = run(rt, memory, &task, &mut source, &mut sink);
-    Ok((outcome, sink.into_inner()))
+    usual: &Usual<'_>,
+) -> Option<bool> {
+    let memory = ShortMemory::new(rt.alloc(), turn);
+    let (end, text) = outcome(rt, &memory, line, input);
+    is_free(end, text.as_slice(), memory.has_refused(), usual)
 }
 
 /// Refuses each growth in turn until none is left to refuse, and answers which turn was the first that met no refusal.
-/// `None` where a run ends neither as usual nor for want of memory with nothing written.
+/// 0 where a run ends otherwise.
 fn first_free_turn<R: Threads + Wait + Sync + AllocGlobal>(
     rt: &R,
     line: &str,
     input: &str,
-    usual: Result<(), RunFault>,
-    text: &[u8],
-) -> Result<Option<u64>, Fail> {
+    usual: &Usual<'_>,
+) -> u64 {
     for turn in 1..1000 {
-        let memory = ShortMemory::new(rt.alloc(), turn);
-        let (outcome, taken) = run_in(rt, &memory, line, input)?;
-        let is_usual = outcome == usual && taken.as_slice() == text;
-        if !memory.has_refused() {
-            return Ok(is_usual.then_some(turn));
-        }
-        if !is_usual && (outcome != Err(RunFault::Memory) || !taken.is_empty()) {
-            return Ok(None);
+        match is_free_turn(rt, turn, line, input, usual) {
+            Some(false) => {}
+            Some(true) => return turn,
+            None => return 0,
         }
     }
-    Ok(None)
+    0
+}
+
+/// The same for a run over these facets.
+fn first_free_turn_over<R: Threads + Wait + Sync + AllocGlobal>(
+    rt: &R,
+    line: &str,
+    facets: &str,
+    usual: &Usual<'_>,
+) -> u64 {
+    match mesh_text(rt.alloc(), Facets(facets)) {
+        Ok(input) => first_free_turn(rt, line, input.as_str(), usual),
+        Err(_) => 0,
+    }
+}
+
+/// A line of words, the text that a run by them writes for the cube, and a turn at which it still meets a refusal.
+type Row<'a> = (&'a str, &'a [u8], u64);
+
+static ROWS: [Row; 5] = [
+    ("--box", b"facets 12 box 0 0 0 2 2 2\n", 3),
+    (
+        "--pitch 1 --layer 1 --probe 0,0,0",
+        b"voxel 0 0 0 x 1 y 1\n",
+        8,
+    ),
+    (
+        "--pitch 1 --layer 1",
+        b"P4\n2 2\n\xc0\xc0P4\n2 2\n\xc0\xc0",
+        20,
+    ),
+    (
+        "--pitch 1 --layer 1 --workers 2",
+        b"P4\n2 2\n\xc0\xc0P4\n2 2\n\xc0\xc0",
+        20,
+    ),
+    (
+        "--pitch 1 --layer 1 --report",
+        b"layer 0 loops 1 area 4\nlayer 1 loops 1 area 4\ntotal 8\n",
+        20,
+    ),
+];
+
+/// `Ok`, or the number of the first row of which a run ends otherwise.
+fn all_free<R: Threads + Wait + Sync + AllocGlobal>(rt: &R, rows: &[Row<'_>]) -> Result<(), usize> {
+    for (n, (line, text, least)) in rows.iter().enumerate() {
+        if first_free_turn_over(rt, line, CUBE, &(Ok(()), text)) <= *least {
+            return Err(n);
+        }
+    }
+    Ok(())
 }
 
 #[test]
-fn each_growth_refused_in_turn(rt: HostRuntime) -> Result<(), Fail> {
-    let cube = text_of(rt.alloc(), CUBE)?;
-    let open = text_of(rt.alloc(), OPEN)?;
-    let images: &[u8] = b"P4\n2 2\n\xc0\xc0P4\n2 2\n\xc0\xc0";
-    let gap = RunFault::Open {
-        from: point([0, 0, 0])?,
-        to: point([0, 2, 0])?,
-        there: 0,
-        back: 1,
-    };
-    let rows: [(&str, &str, Result<(), RunFault>, &[u8], u64); 6] = [
-        (
-            "--box",
-            cube.as_str(),
-            Ok(()),
-            b"facets 12 box 0 0 0 2 2 2\n",
-            3,
-        ),
-        (
-            "--pitch 1 --layer 1 --probe 0,0,0",
-            cube.as_str(),
-            Ok(()),
-            b"voxel 0 0 0 x 1 y 1\n",
-            8,
-        ),
-        ("--pitch 1 --layer 1", cube.as_str(), Ok(()), images, 20),
-        (
-            "--pitch 1 --layer 1 --workers 2",
-            cube.as_str(),
-            Ok(()),
-            images,
-            20,
-        ),
-        (
-            "--pitch 1 --layer 1 --report",
-            cube.as_str(),
-            Ok(()),
-            b"layer 0 loops 1 area 4\nlayer 1 loops 1 area 4\ntotal 8\n",
-            20,
-        ),
-        ("--pitch 1 --layer 1", open.as_str(), Err(gap), b"", 8),
-    ];
-    for (line, input, usual, text, least) in rows {
-        let turn = first_free_turn(&rt, line, input, usual, text)?;
-        assert!(rt; turn > Some(least));
+fn each_growth_refused_in_turn(rt: HostRuntime) -> Result<(), usize> {
+    all_free(&rt, &ROWS)
+}
+
+#[test]
+fn each_growth_refused_before_a_gap(rt: HostRuntime) {
+    match gap(0) {
+        Some(fault) => {
+            let usual: Usual = (Err(fault), b"");
+            assert!(rt; first_free_turn_over(&rt, "--pitch 1 --layer 1", OPEN, &usual) > 8);
+        }
+        None => assert!(rt; false),
     }
-    Ok(())
 }

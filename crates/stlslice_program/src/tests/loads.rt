@@ -1,75 +1,110 @@
-use super::meshes::{CUBE, FLAT, OPEN, PAIR, SHEET, joined_text, point, text_of};
+use super::meshes::Mesh::{Facets, Joined, Text};
+use super::meshes::{CUBE, FLAT, Mesh, OPEN, PAIR, SHEET, gap, mesh_text};
 use micro_num::Unit;
 use short_memory::ShortMemory;
-use std::test::Fail;
-use stl_text::{StlFault, Word};
+use std::alloc::{Allocator, Global};
+use stl_text::{Point, StlFault, Word};
 use stlslice::{RunFault, load};
 
-#[test]
-fn solids_of_texts(rt: HostRuntime) -> Result<(), Fail> {
-    let rows = [
-        (text_of(rt.alloc(), CUBE)?, 12, 0, 2),
-        (joined_text(rt.alloc(), CUBE, PAIR)?, 14, 0, 2),
-        (joined_text(rt.alloc(), CUBE, FLAT)?, 12, 1, 2),
-        (text_of(rt.alloc(), SHEET)?, 2, 0, 0),
-    ];
-    for (text, kept, dropped, top) in rows {
-        match load(rt.alloc(), text.as_bytes(), Unit::Millimetre) {
-            Ok(solid) => {
-                assert_eq!(rt; (solid.count(), solid.dropped()), (kept, dropped));
-                assert_eq!(rt;
-                    solid.corners(),
-                    Some((point([0, 0, 0])?, point([2, 2, top])?))
-                );
-            }
-            Err(_) => assert!(rt; false),
+/// What is told of a solid: how many facets it keeps and has dropped, and its least and its greatest corner.
+type Facts = (usize, u32, Option<(Point, Point)>);
+
+/// What is told of the solid of a text.
+fn facts_of<A: Allocator + Copy + Send + Sync>(alloc: A, text: &str) -> Result<Facts, RunFault> {
+    let solid = load(alloc, text.as_bytes(), Unit::Millimetre)?;
+    Ok((solid.count(), solid.dropped(), solid.corners()))
+}
+
+/// What is told of the solid of a mesh.
+fn facts_of_mesh(alloc: Global, mesh: Mesh<'_>) -> Result<Facts, RunFault> {
+    let text = mesh_text(alloc, mesh)?;
+    facts_of(alloc, text.as_str())
+}
+
+/// A mesh, how many facets its solid keeps and has dropped, and the height of its greatest corner (2, 2, z). The least
+/// is (0, 0, 0).
+type Row<'a> = (Mesh<'a>, usize, u32, i32);
+
+static SOLIDS: [Row; 4] = [
+    (Facets(CUBE), 12, 0, 2),
+    (Joined(CUBE, PAIR), 14, 0, 2),
+    (Joined(CUBE, FLAT), 12, 1, 2),
+    (Facets(SHEET), 2, 0, 0),
+];
+
+/// `Ok`, or the number of the first row of which the solid is told otherwise.
+fn all_solids(alloc: Global, rows: &[Row<'_>]) -> Result<(), usize> {
+    for (n, (mesh, kept, dropped, top)) in rows.iter().enumerate() {
+        let corners = Point::new(0, 0, 0).zip(Point::new(2, 2, *top));
+        if corners.is_none() || facts_of_mesh(alloc, *mesh) != Ok((*kept, *dropped, corners)) {
+            return Err(n);
         }
     }
     Ok(())
 }
 
 #[test]
-fn texts_of_no_solid(rt: HostRuntime) -> Result<(), Fail> {
-    let open = text_of(rt.alloc(), OPEN)?;
-    let fault = RunFault::Open {
-        from: point([0, 0, 0])?,
-        to: point([0, 2, 0])?,
-        there: 0,
-        back: 1,
-    };
-    assert_eq!(rt;
-        load(rt.alloc(), open.as_bytes(), Unit::Millimetre).err(),
-        Some(fault)
-    );
-    let cut = RunFault::Stl(StlFault::Ended {
-        word: Word::EndFacet,
-    });
-    let text = text_of(rt.alloc(), CUBE)?;
-    let front = match text.split_once("endfacet") {
-        Some((front, _)) => front.as_bytes(),
-        None => return Err(Fail::new("no facet")),
-    };
-    assert_eq!(rt; load(rt.alloc(), front, Unit::Millimetre).err(), Some(cut));
-    Ok(())
+fn solids_of_texts(rt: HostRuntime) -> Result<(), usize> {
+    all_solids(rt.alloc(), &SOLIDS)
+}
+
+/// Whether a mesh has no solid for this fault.
+fn is_refused(alloc: Global, mesh: Mesh<'_>, fault: RunFault) -> bool {
+    facts_of_mesh(alloc, mesh) == Err(fault)
 }
 
 #[test]
-fn each_growth_of_a_load_refused(rt: HostRuntime) -> Result<(), Fail> {
-    let text = joined_text(rt.alloc(), CUBE, FLAT)?;
+fn a_text_with_a_gap(rt: HostRuntime) {
+    match gap(0) {
+        Some(fault) => assert!(rt; is_refused(rt.alloc(), Facets(OPEN), fault)),
+        None => assert!(rt; false),
+    }
+}
+
+/// The text of the cube before its first `endfacet`.
+const CUT: &str = "solid t
+facet normal 0 0 0
+outer loop
+vertex 0.000 0.000 0.000
+vertex 0.000 0.002 0.000
+vertex 0.002 0.002 0.000
+endloop
+";
+
+#[test]
+fn a_text_that_is_cut(rt: HostRuntime) {
+    let word = Word::EndFacet;
+    let fault = RunFault::Stl(StlFault::Ended { word });
+    assert!(rt; is_refused(rt.alloc(), Text(CUT), fault));
+}
+
+/// Refuses each growth of a load in turn, and answers which turn was the first that met no refusal. `None` where a load
+/// gives no solid of 12 facets and a dropped one, or no fault for want of memory.
+fn first_free_turn(alloc: Global, text: &str) -> Option<u64> {
     for turn in 1..1000 {
-        let memory = ShortMemory::new(rt.alloc(), turn);
-        match load(&memory, text.as_bytes(), Unit::Millimetre) {
-            Ok(solid) => {
-                assert!(rt; turn > 8);
-                assert!(rt; !memory.has_refused());
-                assert_eq!(rt; (solid.count(), solid.dropped()), (12, 1));
-                return Ok(());
+        let memory = ShortMemory::new(alloc, turn);
+        match facts_of(&memory, text) {
+            Ok((kept, dropped, _)) => {
+                let is_whole = (kept, dropped) == (12, 1) && !memory.has_refused();
+                return is_whole.then_some(turn);
             }
             Err(fault) => {
-                assert!(rt; memory.has_refused());
-                assert_eq!(rt; fault, RunFault::Memory);
+                if fault != RunFault::Memory || !memory.has_refused() {
+                    return None;
+                }
             }
         }
     }
-    Err(Fail::new("each load met a refusal"))
+    None
+}
+
+/// The first turn at which no growth of a mesh's load is refused.
+fn free_turn(alloc: Global, mesh: Mesh<'_>) -> Option<u64> {
+    let text = mesh_text(alloc, mesh).ok()?;
+    first_free_turn(alloc, text.as_str())
+}
+
+#[test]
+fn each_growth_of_a_load_refused(rt: HostRuntime) {
+    assert!(rt; free_turn(rt.alloc(), Joined(CUBE, FLAT)) > Some(8));
 }

@@ -1,6 +1,6 @@
 use std::alloc::{AllocError, Global};
-use std::test::Fail;
 use stl_text::Point;
+use stlslice::RunFault;
 
 /// A mesh, as the tables of the tests name it.
 #[derive(Clone, Copy)]
@@ -15,16 +15,25 @@ pub(crate) enum Mesh<'a> {
     Boxes(&'a [Corners]),
     /// A box, and one whose facets are inward.
     Hollow(Corners, Corners),
+    /// A solid for each box, in another spelling.
+    Loud(&'a [Corners]),
 }
 
 /// The ASCII STL text of a mesh.
 pub(crate) fn mesh_text(alloc: Global, mesh: Mesh<'_>) -> Result<String, AllocError> {
+    let mut text = String::new(alloc);
+    push_mesh(alloc, &mut text, mesh)?;
+    Ok(text)
+}
+
+fn push_mesh(alloc: Global, text: &mut String, mesh: Mesh<'_>) -> Result<(), AllocError> {
     match mesh {
-        Mesh::Text(text) => String::from_str(alloc, text),
-        Mesh::Facets(facets) => text_of(alloc, facets),
-        Mesh::Joined(first, second) => joined_text(alloc, first, second),
-        Mesh::Boxes(boxes) => boxes_text(alloc, boxes),
-        Mesh::Hollow(outward, inward) => hollow_text(alloc, &outward, &inward),
+        Mesh::Text(words) => text.push_str(words),
+        Mesh::Facets(facets) => push_joined(text, facets, ""),
+        Mesh::Joined(first, second) => push_joined(text, first, second),
+        Mesh::Boxes(boxes) => push_boxes(text, boxes),
+        Mesh::Hollow(outward, inward) => push_hollow(text, &outward, &inward),
+        Mesh::Loud(boxes) => push_loud_boxes(alloc, text, boxes),
     }
 }
 
@@ -53,42 +62,6 @@ pub(crate) const FLAT: &str = "000000100";
 /// Two facets back to back, below the cube.
 pub(crate) const SHEET: &str = "000100010 000010100";
 
-/// An ASCII STL text of such facets, in millimetres with three decimals.
-pub(crate) fn text_of(alloc: Global, facets: &str) -> Result<String, AllocError> {
-    joined_text(alloc, facets, "")
-}
-
-/// Such a text of the facets of two tables.
-pub(crate) fn joined_text(alloc: Global, first: &str, second: &str) -> Result<String, AllocError> {
-    let mut text = String::from_str(alloc, "solid t\n")?;
-    push_facets(&mut text, first)?;
-    push_facets(&mut text, second)?;
-    text.push_str("endsolid t\n")?;
-    Ok(text)
-}
-
-fn push_facets(text: &mut String, facets: &str) -> Result<(), AllocError> {
-    for facet in facets.split_whitespace() {
-        text.push_str("facet normal 0 0 0\nouter loop\n")?;
-        push_corners(text, facet)?;
-        text.push_str("endloop\nendfacet\n")?;
-    }
-    Ok(())
-}
-
-fn push_corners(text: &mut String, facet: &str) -> Result<(), AllocError> {
-    for (place, digit) in facet.bytes().enumerate() {
-        if place % 3 == 0 {
-            text.push_str("vertex")?;
-        }
-        text.push_str(if digit == b'0' { " 0.000" } else { " 0.002" })?;
-        if place % 3 == 2 {
-            text.push_str("\n")?;
-        }
-    }
-    Ok(())
-}
-
 /// The octahedron with corners 2 micrometres from the origin along each axis.
 pub(crate) const OCTAHEDRON: &str = "solid o
 facet normal 0 0 0 outer loop vertex 2e-3 0 0 vertex 0 2e-3 0 vertex 0 0 2e-3 endloop endfacet
@@ -105,40 +78,96 @@ endsolid o
 /// A box by its least and its greatest corner, in micrometres.
 pub(crate) type Corners = [[i32; 3]; 2];
 
-/// An ASCII STL text of boxes, one after the other, each with the facets of the cube in their order.
-pub(crate) fn boxes_text(alloc: Global, boxes: &[Corners]) -> Result<String, AllocError> {
-    let mut text = String::from_str(alloc, "solid b\n")?;
-    for corners in boxes {
-        push_box(&mut text, corners, CUBE)?;
-    }
-    text.push_str("endsolid b\n")?;
-    Ok(text)
+/// What stands before and after a number of micrometres, to make it millimetres.
+type Spelling = (&'static str, &'static str);
+
+/// For 0 to 9.
+const DECIMALS: Spelling = ("0.00", "");
+
+const EXPONENT: Spelling = ("", "e-3");
+
+/// The facets of two tables, with three decimals.
+fn push_joined(text: &mut String, first: &str, second: &str) -> Result<(), AllocError> {
+    let corners = [[0, 0, 0], [2, 2, 2]];
+    text.push_str("solid t\n")?;
+    push_facets(text, first, &corners, DECIMALS)?;
+    push_facets(text, second, &corners, DECIMALS)?;
+    text.push_str("endsolid t\n")
 }
 
-/// Such a text of a box, and of one whose facets are inward.
-pub(crate) fn hollow_text(
-    alloc: Global,
-    outward: &Corners,
-    inward: &Corners,
-) -> Result<String, AllocError> {
-    let mut text = String::from_str(alloc, "solid h\n")?;
-    push_box(&mut text, outward, CUBE)?;
-    push_box(&mut text, inward, INWARD)?;
-    text.push_str("endsolid h\n")?;
-    Ok(text)
+/// Boxes, one after the other, each with the facets of the cube in their order, and a blank line after it.
+fn push_boxes(text: &mut String, boxes: &[Corners]) -> Result<(), AllocError> {
+    text.push_str("solid b\n")?;
+    for corners in boxes {
+        push_facets(text, CUBE, corners, EXPONENT)?;
+        text.push_str("\n")?;
+    }
+    text.push_str("endsolid b\n")
 }
 
-/// Such a text with a solid for each box, in capitals, with normals that are no numbers, and with lines that end in CR
-/// LF.
-pub(crate) fn loud_text(alloc: Global, boxes: &[Corners]) -> Result<String, AllocError> {
-    let mut text = String::new(alloc);
-    for corners in boxes {
-        let solid = boxes_text(alloc, &[*corners])?;
-        for line in solid.lines() {
-            push_loud(&mut text, line)?;
-        }
+/// A box, and one whose facets are inward.
+fn push_hollow(text: &mut String, outward: &Corners, inward: &Corners) -> Result<(), AllocError> {
+    text.push_str("solid h\n")?;
+    push_facets(text, CUBE, outward, EXPONENT)?;
+    push_facets(text, INWARD, inward, EXPONENT)?;
+    text.push_str("endsolid h\n")
+}
+
+/// The facets of a table, at the corners of a box.
+fn push_facets(
+    text: &mut String,
+    facets: &str,
+    corners: &Corners,
+    spelling: Spelling,
+) -> Result<(), AllocError> {
+    for facet in facets.split_whitespace() {
+        text.push_str("facet normal 0 0 0\nouter loop\n")?;
+        push_corners(text, facet, corners, spelling)?;
+        text.push_str("endloop\nendfacet\n")?;
     }
-    Ok(text)
+    Ok(())
+}
+
+fn push_corners(
+    text: &mut String,
+    facet: &str,
+    corners: &Corners,
+    spelling: Spelling,
+) -> Result<(), AllocError> {
+    let (before, after) = spelling;
+    for (place, digit) in facet.bytes().enumerate() {
+        let axis = place % 3;
+        let front = if axis == 0 { "vertex" } else { "" };
+        let end = if axis == 2 { "\n" } else { "" };
+        let corner = if digit == b'0' {
+            corners[0]
+        } else {
+            corners[1]
+        };
+        write!(text, "{front} {before}{}{after}{end}", corner[axis])?;
+    }
+    Ok(())
+}
+
+/// A solid for each box, in capitals, with normals that are no numbers, and with lines that end in CR LF.
+fn push_loud_boxes(alloc: Global, text: &mut String, boxes: &[Corners]) -> Result<(), AllocError> {
+    for corners in boxes {
+        push_loud_box(alloc, text, corners)?;
+    }
+    Ok(())
+}
+
+fn push_loud_box(alloc: Global, text: &mut String, corners: &Corners) -> Result<(), AllocError> {
+    let mut solid = String::new(alloc);
+    push_boxes(&mut solid, &[*corners])?;
+    push_loud_lines(text, solid.as_str())
+}
+
+fn push_loud_lines(text: &mut String, solid: &str) -> Result<(), AllocError> {
+    for line in solid.lines() {
+        push_loud(text, line)?;
+    }
+    Ok(())
 }
 
 fn push_loud(text: &mut String, line: &str) -> Result<(), AllocError> {
@@ -152,35 +181,14 @@ fn push_loud(text: &mut String, line: &str) -> Result<(), AllocError> {
     text.push_str("\r\n")
 }
 
-fn push_box(text: &mut String, corners: &Corners, facets: &str) -> Result<(), AllocError> {
-    for facet in facets.split_whitespace() {
-        text.push_str("facet normal 0 0 0\nouter loop\n")?;
-        push_box_corners(text, corners, facet)?;
-        text.push_str("endloop\nendfacet\n")?;
-    }
-    Ok(())
-}
-
-fn push_box_corners(text: &mut String, corners: &Corners, facet: &str) -> Result<(), AllocError> {
-    for (place, digit) in facet.bytes().enumerate() {
-        if place % 3 == 0 {
-            text.push_str("\nvertex")?;
-        }
-        let corner = if digit == b'0' {
-            corners[0]
-        } else {
-            corners[1]
-        };
-        write!(text, " {}e-3", corner[place % 3])?;
-    }
-    text.push_str("\n")?;
-    Ok(())
-}
-
-/// The point with these coordinates in micrometres.
-pub(crate) fn point(place: [i32; 3]) -> Result<Point, Fail> {
-    match Point::new(place[0], place[1], place[2]) {
-        Some(point) => Ok(point),
-        None => Err(Fail::new("a point out of range")),
-    }
+/// The fault of an edge from (0, 0, 0) to (0, 2, z) that is there only back. The open cube's has 0.
+pub(crate) fn gap(z: i32) -> Option<RunFault> {
+    let from = Point::new(0, 0, 0)?;
+    let to = Point::new(0, 2, z)?;
+    Some(RunFault::Open {
+        from,
+        to,
+        there: 0,
+        back: 1,
+    })
 }

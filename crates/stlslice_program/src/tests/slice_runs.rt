@@ -1,63 +1,84 @@
-use super::answers::{Refused, first_refused_otherwise, written};
-use super::meshes::Mesh::{Boxes, Facets, Hollow, Joined, Text};
-use super::meshes::{
-    CUBE, Corners, FLAT, INWARD, Mesh, OCTAHEDRON, OPEN, PAIR, SHEET, boxes_text, loud_text,
-    mesh_text,
-};
+use super::answers::{Refused, all_refused, writes, written};
+use super::meshes::Mesh::{Boxes, Facets, Hollow, Joined, Loud, Text};
+use super::meshes::{CUBE, Corners, FLAT, INWARD, Mesh, OCTAHEDRON, OPEN, PAIR, SHEET, mesh_text};
 use std::alloc::{AllocError, Global};
 use std::sync::Wait;
-use std::test::Fail;
 use std::thread::Threads;
 
-/// The images and the report of a mesh by a line of words and so many workers.
-fn sliced<R: Threads + Wait + Sync + AllocGlobal>(
+/// Whether so many workers write this text by a line of words and an option.
+fn writes_by<R: Threads + Wait + Sync + AllocGlobal>(
     rt: &R,
     line: &str,
+    option: &str,
     workers: u32,
     input: &str,
-) -> Result<(Vec<u8>, Vec<u8>), Fail> {
-    let images = format!(in rt.alloc(); "{line} --workers {workers}")?;
-    let report = format!(in rt.alloc(); "{line} --report --workers {workers}")?;
-    Ok((
-        written(rt, images.as_str(), input)?,
-        written(rt, report.as_str(), input)?,
-    ))
+    text: &[u8],
+) -> bool {
+    match format!(in rt.alloc(); "{line} {option} --workers {workers}") {
+        Ok(words) => writes(rt, words.as_str(), input, text),
+        Err(_) => false,
+    }
 }
 
-/// Whether a mesh has these images and this report, by so many workers.
-fn is_sliced<R: Threads + Wait + Sync + AllocGlobal>(
+/// Whether each of these numbers of workers does.
+fn each_writes<R: Threads + Wait + Sync + AllocGlobal>(
     rt: &R,
     line: &str,
-    workers: u32,
+    option: &str,
     input: &str,
-    images: &[u8],
-    report: &[u8],
-) -> Result<bool, Fail> {
-    let (made, told) = sliced(rt, line, workers, input)?;
-    Ok(made.as_slice() == images && told.as_slice() == report)
+    text: &[u8],
+) -> bool {
+    for workers in &[1, 2, 3, 64] {
+        if !writes_by(rt, line, option, *workers, input, text) {
+            return false;
+        }
+    }
+    true
 }
 
 /// A line of words and a mesh, and the images and the report of it by them.
 type Row<'a> = (&'a str, Mesh<'a>, &'a [u8], &'a str);
 
-/// The number of the first row that comes out otherwise by 1, by 2 or by 64 workers; with their number.
-fn first_other<R: Threads + Wait + Sync + AllocGlobal>(
+/// Whether a text has these images and this report by a line of words, by each number of workers.
+fn has_both<R: Threads + Wait + Sync + AllocGlobal>(
+    rt: &R,
+    line: &str,
+    input: &str,
+    images: &[u8],
+    report: &[u8],
+) -> bool {
+    each_writes(rt, line, "", input, images) && each_writes(rt, line, "--report", input, report)
+}
+
+/// Whether a mesh has the images and the report of a row.
+fn is_sliced<R: Threads + Wait + Sync + AllocGlobal>(rt: &R, row: &Row<'_>) -> bool {
+    let (line, mesh, images, report) = *row;
+    match mesh_text(rt.alloc(), mesh) {
+        Ok(input) => has_both(rt, line, input.as_str(), images, report.as_bytes()),
+        Err(_) => false,
+    }
+}
+
+/// `Ok`, or the number of the first row that comes out otherwise.
+fn all_sliced<R: Threads + Wait + Sync + AllocGlobal>(
     rt: &R,
     rows: &[Row<'_>],
-) -> Result<Option<(usize, u32)>, Fail> {
-    for (n, (line, mesh, images, report)) in rows.iter().enumerate() {
-        let input = mesh_text(rt.alloc(), *mesh)?;
-        for workers in [1, 2, 64] {
-            if !is_sliced(rt, line, workers, input.as_str(), images, report.as_bytes())? {
-                return Ok(Some((n, workers)));
-            }
+) -> Result<(), usize> {
+    for (n, row) in rows.iter().enumerate() {
+        if !is_sliced(rt, row) {
+            return Err(n);
         }
     }
-    Ok(None)
+    Ok(())
 }
 
 /// Two boxes that overlap.
 const NESTED: [Corners; 2] = [[[0, 0, 0], [4, 4, 4]], [[2, 2, 2], [6, 6, 6]]];
+
+const NESTED_IMAGES: &[u8] = b"P4\n3 3\n\x00\xc0\xc0P4\n3 3\n\x60\xa0\xc0P4\n3 3\n\x60\x60\x00";
+
+const NESTED_REPORT: &str =
+    "layer 0 loops 1 area 4\nlayer 1 loops 2 area 6\nlayer 2 loops 1 area 4\ntotal 14\n";
 
 const CUBE_IMAGES: &[u8] = b"P4\n2 2\n\xc0\xc0P4\n2 2\n\xc0\xc0";
 
@@ -111,15 +132,14 @@ static FITTED: [Row; 8] = [
     (
         "--pitch 2 --layer 2",
         Boxes(&NESTED),
-        b"P4\n3 3\n\x00\xc0\xc0P4\n3 3\n\x60\xa0\xc0P4\n3 3\n\x60\x60\x00",
-        "layer 0 loops 1 area 4\nlayer 1 loops 2 area 6\nlayer 2 loops 1 area 4\ntotal 14\n",
+        NESTED_IMAGES,
+        NESTED_REPORT,
     ),
 ];
 
 #[test]
-fn boxes_in_the_grids_that_fit(rt: HostRuntime) -> Result<(), Fail> {
-    assert_eq!(rt; first_other(&rt, &FITTED)?, None);
-    Ok(())
+fn boxes_in_the_grids_that_fit(rt: HostRuntime) -> Result<(), usize> {
+    all_sliced(&rt, &FITTED)
 }
 
 /// The overlapping boxes where what is in either is filled.
@@ -180,9 +200,8 @@ static RULES: [Row; 8] = [
 ];
 
 #[test]
-fn boxes_by_each_rule(rt: HostRuntime) -> Result<(), Fail> {
-    assert_eq!(rt; first_other(&rt, &RULES)?, None);
-    Ok(())
+fn boxes_by_each_rule(rt: HostRuntime) -> Result<(), usize> {
+    all_sliced(&rt, &RULES)
 }
 
 const PAIRED_REPORT: &str = "layer 0 loops 2 area 4\nlayer 1 loops 2 area 4\ntotal 8\n";
@@ -221,161 +240,206 @@ static FILL_NOTHING: [Row; 5] = [
 ];
 
 #[test]
-fn facets_that_fill_nothing(rt: HostRuntime) -> Result<(), Fail> {
-    assert_eq!(rt; first_other(&rt, &FILL_NOTHING)?, None);
-    Ok(())
+fn facets_that_fill_nothing(rt: HostRuntime) -> Result<(), usize> {
+    all_sliced(&rt, &FILL_NOTHING)
 }
 
-/// Whether a mesh in another spelling has the same images and the same report.
-fn is_sliced_alike<R: Threads + Wait + Sync + AllocGlobal>(
-    rt: &R,
-    line: &str,
-    plain: &str,
-    loud: &str,
-) -> Result<bool, Fail> {
-    let (images, report) = sliced(rt, line, 1, plain)?;
-    is_sliced(rt, line, 1, loud, images.as_slice(), report.as_slice())
+/// Two solids, each with a box, in another spelling.
+static SPELLED: [Row; 1] = [(
+    "--pitch 2 --layer 2",
+    Loud(&NESTED),
+    NESTED_IMAGES,
+    NESTED_REPORT,
+)];
+
+#[test]
+fn two_solids_in_another_spelling(rt: HostRuntime) -> Result<(), usize> {
+    all_sliced(&rt, &SPELLED)
+}
+
+/// Whether the other spelling of the overlapping boxes begins so.
+fn is_loud(alloc: Global, front: &str) -> bool {
+    match mesh_text(alloc, Loud(&NESTED)) {
+        Ok(text) => text.starts_with(front),
+        Err(_) => false,
+    }
 }
 
 #[test]
-fn two_solids_in_another_spelling(rt: HostRuntime) -> Result<(), Fail> {
-    let plain = boxes_text(rt.alloc(), &NESTED)?;
-    let loud = loud_text(rt.alloc(), &NESTED)?;
-    assert!(rt; loud.starts_with("SOLID B\r\nFACET NORMAL nan nan nan\r\nOUTER LOOP\r\n"));
-    assert!(rt; is_sliced_alike(&rt, "--pitch 2 --layer 2", plain.as_str(), loud.as_str())?);
-    Ok(())
+fn the_other_spelling(rt: HostRuntime) {
+    assert!(rt;
+        is_loud(
+            rt.alloc(),
+            "SOLID B\r\nFACET NORMAL nan nan nan\r\nOUTER LOOP\r\n"
+        )
+    );
 }
 
 /// The image of the widest row, all black.
 fn widest_image(alloc: Global) -> Result<Vec<u8>, AllocError> {
     let mut image = b"P4\n16384 1\n".to_vec(alloc)?;
-    image.extend_from_slice(b"\xff".repeat(alloc, 2048)?.as_slice())?;
+    for _ in 0..2048 {
+        image.push(0xff)?;
+    }
     Ok(image)
 }
 
-#[test]
-fn the_widest_grid(rt: HostRuntime) -> Result<(), Fail> {
-    let bar = boxes_text(rt.alloc(), &[[[0, 0, 0], [16384, 1, 1]]])?;
-    let image = widest_image(rt.alloc())?;
-    let report = b"layer 0 loops 1 area 16384\ntotal 16384\n";
-    let line = "--pitch 1 --layer 1";
-    assert!(rt; is_sliced(&rt, line, 2, bar.as_str(), image.as_slice(), report)?);
-    Ok(())
+/// Whether a bar of that width has that image.
+fn is_widest<R: Threads + Wait + Sync + AllocGlobal>(rt: &R) -> bool {
+    match widest_image(rt.alloc()) {
+        Ok(image) => is_sliced(
+            rt,
+            &(
+                "--pitch 1 --layer 1",
+                Boxes(&[[[0, 0, 0], [16384, 1, 1]]]),
+                image.as_slice(),
+                "layer 0 loops 1 area 16384\ntotal 16384\n",
+            ),
+        ),
+        Err(_) => false,
+    }
 }
 
-/// So many lines of a report, from this layer on, of layers with so many loops and this area.
-fn push_lines(
-    text: &mut String,
-    first: u32,
-    end: u32,
-    loops: u32,
-    area: u32,
-) -> Result<(), AllocError> {
+#[test]
+fn the_widest_grid(rt: HostRuntime) {
+    assert!(rt; is_widest(&rt));
+}
+
+/// From one layer on to before another: the image of each, its loops and its area.
+type Layers<'a> = (u32, u32, &'a [u8], u32, u32);
+
+/// The images of layers.
+fn images_of(alloc: Global, layers: &[Layers<'_>]) -> Result<Vec<u8>, AllocError> {
+    let mut images = Vec::new(alloc);
+    for (first, end, image, _, _) in layers {
+        for _ in *first..*end {
+            images.extend_from_slice(image)?;
+        }
+    }
+    Ok(images)
+}
+
+/// The lines of such layers in a report.
+fn push_lines(text: &mut String, layers: &Layers<'_>) -> Result<(), AllocError> {
+    let (first, end, _, loops, area) = *layers;
     for k in first..end {
         write!(text, "layer {k} loops {loops} area {area}\n")?;
     }
     Ok(())
 }
 
-/// The report of a tower of 17 layers with one pixel each.
-fn tower_report(alloc: Global) -> Result<String, AllocError> {
+/// The report of layers, with this last line.
+fn report_of(alloc: Global, builds: &[Layers<'_>], total: &str) -> Result<String, AllocError> {
     let mut report = String::new(alloc);
-    push_lines(&mut report, 0, 17, 1, 1)?;
-    report.push_str("total 17\n")?;
+    for layers in builds {
+        push_lines(&mut report, layers)?;
+    }
+    report.push_str(total)?;
     Ok(report)
 }
 
-/// The first number of workers by which a mesh has other images or another report.
-fn first_others<R: Threads + Wait + Sync + AllocGlobal>(
+/// A line of words and a mesh, its layers by them, and the last line of the report.
+type Build<'a> = (&'a str, Mesh<'a>, &'a [Layers<'a>], &'a str);
+
+/// Whether a mesh has these images, and the report of a row.
+fn has_images<R: Threads + Wait + Sync + AllocGlobal>(
     rt: &R,
-    line: &str,
-    mesh: Mesh<'_>,
+    row: &Build<'_>,
     images: &[u8],
-    report: &[u8],
-) -> Result<Option<u32>, Fail> {
-    let input = mesh_text(rt.alloc(), mesh)?;
-    for workers in [1, 2, 3, 64] {
-        if !is_sliced(rt, line, workers, input.as_str(), images, report)? {
-            return Ok(Some(workers));
-        }
+) -> bool {
+    let (line, mesh, layers, total) = *row;
+    match report_of(rt.alloc(), layers, total) {
+        Ok(report) => is_sliced(rt, &(line, mesh, images, report.as_str())),
+        Err(_) => false,
     }
-    Ok(None)
 }
 
-#[test]
-fn a_tower_in_three_stripes(rt: HostRuntime) -> Result<(), Fail> {
-    let tower = Boxes(&[[[0, 0, 0], [1, 1, 17]]]);
-    let images = b"P4\n1 1\n\x80".repeat(rt.alloc(), 17)?;
-    let report = tower_report(rt.alloc())?;
-    let line = "--pitch 1 --layer 1";
-    let found = first_others(&rt, line, tower, images.as_slice(), report.as_bytes())?;
-    assert_eq!(rt; found, None);
+/// Whether a mesh has the layers of a row.
+fn is_built<R: Threads + Wait + Sync + AllocGlobal>(rt: &R, row: &Build<'_>) -> bool {
+    match images_of(rt.alloc(), row.2) {
+        Ok(images) => has_images(rt, row, images.as_slice()),
+        Err(_) => false,
+    }
+}
+
+/// `Ok`, or the number of the first row that comes out otherwise.
+fn all_built<R: Threads + Wait + Sync + AllocGlobal>(
+    rt: &R,
+    rows: &[Build<'_>],
+) -> Result<(), usize> {
+    for (n, row) in rows.iter().enumerate() {
+        if !is_built(rt, row) {
+            return Err(n);
+        }
+    }
     Ok(())
 }
 
 /// Two boxes, of which the second begins at another height.
 const PASSING: Mesh<'static> = Boxes(&[[[0, 0, 0], [5, 3, 20]], [[2, 1, 9], [8, 4, 30]]]);
 
-/// Their images: of the first alone in 9 layers, of both in 11, of the second alone in 10.
-fn images_of_two(alloc: Global, both: &[u8]) -> Result<Vec<u8>, AllocError> {
-    let mut images = b"P4\n8 4\n\x00\xf8\xf8\xf8".repeat(alloc, 9)?;
-    images.extend_from_slice(both.repeat(alloc, 11)?.as_slice())?;
-    images.extend_from_slice(b"P4\n8 4\n\x3f\x3f\x3f\x00".repeat(alloc, 10)?.as_slice())?;
-    Ok(images)
-}
+const FIRST_ALONE: &[u8] = b"P4\n8 4\n\x00\xf8\xf8\xf8";
 
-/// Their report, by the area of a layer of both, and the last line.
-fn report_of_two(alloc: Global, area: u32, total: &str) -> Result<String, AllocError> {
-    let mut report = String::new(alloc);
-    push_lines(&mut report, 0, 9, 1, 15)?;
-    push_lines(&mut report, 9, 20, 2, area)?;
-    push_lines(&mut report, 20, 30, 1, 18)?;
-    report.push_str(total)?;
-    Ok(report)
-}
+const SECOND_ALONE: &[u8] = b"P4\n8 4\n\x3f\x3f\x3f\x00";
 
-/// Two boxes by a rule: its word, the image of a layer of both, its area, and the last line of the report.
-static TWO: [(&str, &[u8], u32, &str); 2] = [
+/// A tower in three stripes, and two boxes in four.
+static STRIPES: [Build; 3] = [
+    (
+        "--pitch 1 --layer 1",
+        Boxes(&[[[0, 0, 0], [1, 1, 17]]]),
+        &[(0, 17, b"P4\n1 1\n\x80", 1, 1)],
+        "total 17\n",
+    ),
     (
         "--pitch 1 --layer 1 --rule evenodd",
-        b"P4\n8 4\n\x3f\xc7\xc7\xf8",
-        21,
+        PASSING,
+        &[
+            (0, 9, FIRST_ALONE, 1, 15),
+            (9, 20, b"P4\n8 4\n\x3f\xc7\xc7\xf8", 2, 21),
+            (20, 30, SECOND_ALONE, 1, 18),
+        ],
         "total 546\n",
     ),
     (
         "--pitch 1 --layer 1 --rule nonzero",
-        b"P4\n8 4\n\x3f\xff\xff\xf8",
-        27,
+        PASSING,
+        &[
+            (0, 9, FIRST_ALONE, 1, 15),
+            (9, 20, b"P4\n8 4\n\x3f\xff\xff\xf8", 2, 27),
+            (20, 30, SECOND_ALONE, 1, 18),
+        ],
         "total 612\n",
     ),
 ];
 
 #[test]
-fn two_boxes_in_four_stripes(rt: HostRuntime) -> Result<(), Fail> {
-    for (line, both, area, total) in TWO {
-        let images = images_of_two(rt.alloc(), both)?;
-        let report = report_of_two(rt.alloc(), area, total)?;
-        let found = first_others(&rt, line, PASSING, images.as_slice(), report.as_bytes())?;
-        assert_eq!(rt; found, None);
+fn builds_in_several_stripes(rt: HostRuntime) -> Result<(), usize> {
+    all_built(&rt, &STRIPES)
+}
+
+/// How many bytes are written by a line of words. `None` where the number of workers makes a difference.
+fn length_by_each<R: Threads + Wait + Sync + AllocGlobal>(
+    rt: &R,
+    line: &str,
+    input: &str,
+) -> Option<usize> {
+    match written(rt, line, input) {
+        Some(text) => each_writes(rt, line, "", input, text.as_slice()).then_some(text.len()),
+        None => None,
     }
-    Ok(())
 }
 
 #[test]
-fn slanted_facets_by_many_workers(rt: HostRuntime) -> Result<(), Fail> {
-    let line = "--unit inch --pitch 3 --layer 1";
-    let (images, report) = sliced(&rt, line, 1, OCTAHEDRON)?;
+fn slanted_facets_by_many_workers(rt: HostRuntime) {
+    let images = length_by_each(&rt, "--unit inch --pitch 3 --layer 1", OCTAHEDRON);
     // Rows of 34 pixels have 5 bytes, and there are 102 layers.
-    assert_eq!(rt; images.len(), 102 * (9 + 34 * 5));
-    let found = first_others(
-        &rt,
-        line,
-        Text(OCTAHEDRON),
-        images.as_slice(),
-        report.as_slice(),
-    )?;
-    assert_eq!(rt; found, None);
-    Ok(())
+    assert!(rt; images == Some(102 * (9 + 34 * 5)));
+}
+
+#[test]
+fn a_report_of_slanted_facets_by_many_workers(rt: HostRuntime) {
+    let report = length_by_each(&rt, "--unit inch --pitch 3 --layer 1 --report", OCTAHEDRON);
+    assert!(rt; report.is_some());
 }
 
 static GIVEN: [Row; 6] = [
@@ -418,9 +482,8 @@ static GIVEN: [Row; 6] = [
 ];
 
 #[test]
-fn slices_in_given_grids(rt: HostRuntime) -> Result<(), Fail> {
-    assert_eq!(rt; first_other(&rt, &GIVEN)?, None);
-    Ok(())
+fn slices_in_given_grids(rt: HostRuntime) -> Result<(), usize> {
+    all_sliced(&rt, &GIVEN)
 }
 
 static REFUSED: [Refused; 9] = [
@@ -481,7 +544,6 @@ static REFUSED: [Refused; 9] = [
 ];
 
 #[test]
-fn slices_that_are_refused(rt: HostRuntime) -> Result<(), Fail> {
-    assert_eq!(rt; first_refused_otherwise(&rt, &REFUSED)?, None);
-    Ok(())
+fn slices_that_are_refused(rt: HostRuntime) -> Result<(), usize> {
+    all_refused(&rt, &REFUSED)
 }
