@@ -1,4 +1,4 @@
--- Which tasks a run takes, and which of its faults come when, beside those of its devices and of memory.
+-- Which faults of a run come when, beside those of its devices and of memory.
 use Rattle.std.specs.Prelude.{◌≡◌, ◌≢◌, ℕ, ◌≤◌, ◌⊎◌, List, Option, Err, Ok, length}
 use Rattle.std.specs.Io.KnownBytes.{Keeps}
 use Rattle.raster.specs.Devices.{AppendsFirst, HasFailed}

@@ -1,4 +1,4 @@
-//! The program `stlslice`, but for its `main`: what its words mean, and what a run reads and writes.
+//! The program `stlslice`, but for its `main`: what a run reads and writes. What its words mean is handed on.
 #![tactic(auto)]
 
 mod box_line;
