@@ -1,6 +1,6 @@
 //! What no clause says: the order of the draws, threads that really run, and memory that is refused.
 ghost use Rattle.std.specs.Prelude.{◌≤◌, All, IfOk};
-ghost use Rattle.layer_pool.specs.Passes.{IsOwned};
+ghost use Rattle.stripe_claims.specs.Passes.{IsOwned};
 
 use crate::growth::{Count, first_free_turn};
 use layer_pool::{Claims, Pass};

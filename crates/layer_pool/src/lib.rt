@@ -1,13 +1,9 @@
-//! Workers that claim stripes without a lock.
+//! Workers that make the stripes of a job, each claimed without a lock.
 #![tactic(auto)]
 
-mod claims;
 mod gates;
-mod laws;
-mod machine;
 mod pool;
 
-pub use crate::claims::{Claims, Pass};
 pub use crate::gates::{Gate, OpenGate};
-pub use crate::laws::claims_laws;
 pub use crate::pool::build;
+pub use stripe_claims::{Claims, Pass, claims_laws};

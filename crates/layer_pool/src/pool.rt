@@ -1,14 +1,15 @@
 ghost use Rattle.std.specs.Prelude.{◌≡◌, ◌≤◌, ◌<◌, All, IfOk, length};
 ghost use Rattle.build_book.specs.Layers.{IsComplete, stripe_count};
-ghost use Rattle.layer_pool.specs.Passes.{IsOwned};
+ghost use Rattle.stripe_claims.specs.Passes.{IsOwned};
 
-use crate::claims::{Claims, Pass};
+
 use crate::gates::Gate;
 use build_book::{Book, Build, Job, Sheaf, Slicer};
 use std::alloc::{AllocError, Allocator};
 use std::sync::{Mutex, Wait};
 use std::thread;
 use std::thread::Threads;
+use stripe_claims::{Claims, Pass};
 
 /// The complete build of a job, for 1 to 64 workers and every gate.
 ///

@@ -1,7 +1,7 @@
 use Rattle.std.proofs.Common.{ℕ, Vec, Global}
-use Rattle.layer_pool.specs.Passes.{PassView}
-use Rattle.layer_pool.specs.Passes.{IsOwned}
-use Rattle.layer_pool.proofs.Gathers.{all_last, all_front, all_push}
+use Rattle.stripe_claims.specs.Passes.{PassView}
+use Rattle.stripe_claims.specs.Passes.{IsOwned}
+use Rattle.stripe_claims.proofs.Gathers.{all_last, all_front, all_push}
 use Rattle.integration_tests.proofs.claims.drawn_by_threads.Goals as goal
 
 pub loop-pass-preserved : goal.loop-pass-preserved

@@ -1,6 +1,6 @@
 use Rattle.std.proofs.Common.{All, length, ℕ, Vec, Global}
-use Rattle.layer_pool.specs.Passes.{PassView}
-use Rattle.layer_pool.specs.Passes.{IsOwned}
+use Rattle.stripe_claims.specs.Passes.{PassView}
+use Rattle.stripe_claims.specs.Passes.{IsOwned}
 use Rattle.integration_tests.proofs.claims.drawn_by_threads.Given as goal
 
 abbrev pub invariant-loop-pass : goal.invariant-loop-pass

@@ -1,5 +1,5 @@
 use Rattle.std.proofs.Common.{◌≡◌}
-use Rattle.layer_pool.specs.Passes.{IsOwned}
+use Rattle.stripe_claims.specs.Passes.{IsOwned}
 use Rattle.layer_pool.proofs.pool.gather.Given as goal
 
 abbrev pub invariant-loop : goal.invariant-loop

@@ -1,0 +1,219 @@
+//! Stripes that threads claim without a lock. One claim is one `fetch_add` on the one word of a table.
+ghost use Rattle.std.specs.Prelude.{◌≡◌, ◌+◌, ◌<◌, ◌≤◌, ℕ, [], ◌∷◌, ◌++◌, length, All, Any, IfOk, IfSome, IfNone, None, Some, true, false, if◌then◌else◌, is_none, nat_lt};
+ghost use Rattle.stripe_claims.specs.Machine.{times, once_below, IsEachOnce, given, hand, one_less};
+ghost use Rattle.stripe_claims.specs.Passes.{found_by_all, IsOwned, IsFresh, IsEnd, HasReached};
+
+use crate::machine::{Cuts, Draws, Hand, Joins, Machine, Plan};
+use atomic_table::{Seat, Table};
+use std::alloc::{AllocError, Allocator};
+use std::marker::Model;
+
+/// The numbers below `stripes`, each of which is given out once. Threads share it by reference.
+#[derive(Drop)]
+pub struct Claims<A: Allocator> {
+    table: Table<(), Hand, Plan, Machine, A>,
+    stripes: u64,
+}
+
+impl<A: Allocator> Model for Claims<A> {
+    ghost use Rattle.stripe_claims.specs.Passes.{ClaimsView, claims_code, IsSound};
+
+    ghost Value = { ClaimsView };
+
+    ghost coded = { claims_code };
+
+    ghost view = { λ c. record { stripes = c.stripes; passes = c.table.shared.key.passes; name = c.table.shared.table_id } };
+
+    ghost invariant = { λ c. IsSound c.table.shared.key c.table.shared.table_id c.stripes };
+}
+
+/// What one thread draws with. It is of no use with the claims of another `open`.
+#[derive(Drop)]
+pub struct Pass {
+    seat: Seat<(), Hand>,
+    ended: bool,
+}
+
+impl Model for Pass {
+    ghost use Rattle.std.specs.Prelude.{◌≡◌, []};
+    ghost use Rattle.stripe_claims.specs.Passes.{PassView, pass_code};
+
+    ghost Value = { PassView };
+
+    ghost coded = { pass_code };
+
+    ghost view = { λ p. record { owner = p.seat.table_id; found = p.seat.me.0.found; has_ended = p.ended } };
+
+    ghost invariant = { λ p. (p.seat.me.1 ≡ []) × (p.seat.me.0.stands_for ≡ 1) };
+}
+
+impl<A: Allocator + Copy> Claims<A> {
+    /// Claims to the numbers below `stripes`, and as many passes as asked for, of which none has drawn. Stripes are at
+    /// most 8,192, and passes 1 to 64. The error is a refusal of memory; it leaves nothing behind.
+    pub fn open(
+        alloc: A,
+        stripes: u64,
+        passes: u32,
+    ) -> Result<(Claims<A>, Vec<Pass, A>), AllocError>
+        requires stripes { stripes ≤ 8192 }
+        requires passes { (1 ≤ passes) × (passes ≤ 64) }
+        ensures plan { IfOk result (λ r. (r.0.stripes ≡ stripes) × (r.0.passes ≡ passes)) }
+        ensures count { IfOk result (λ r. length r.1.items ≡ passes) }
+        ensures owned { IfOk result (λ r. All (IsOwned r.0) r.1.items) }
+        ensures fresh { IfOk result (λ r. All IsFresh r.1.items) }
+    {
+        let (claims, rest) = Claims::start(alloc, stripes, u64::from(passes))?;
+        let dealt = claims.deal(alloc, rest, passes)?;
+        Ok((claims, dealt))
+    }
+
+    // The claims, and a seat that stands for all passes.
+    fn start(alloc: A, stripes: u64, passes: u64) -> Result<(Claims<A>, Seat<(), Hand>), AllocError>
+        requires { (stripes ≤ 8192) × (1 ≤ passes) × (passes ≤ 64) }
+        ensures plan { IfOk result (λ r. (r.0.stripes ≡ stripes) × (r.0.passes ≡ passes)) }
+        ensures seat { IfOk result (λ r. (r.1.table_id ≡ r.0.name) × (r.1.me ≡ (hand passes [], []))) }
+    {
+        let plan = Plan { stripes, passes };
+        let (table, rest) = Table::of_words(alloc, &[0], &plan)?;
+        Ok((Claims { table, stripes }, rest))
+    }
+
+    // The passes for which a seat stands that has found nothing.
+    fn deal(
+        &self,
+        alloc: A,
+        mut rest: Seat<(), Hand>,
+        passes: u32,
+    ) -> Result<Vec<Pass, A>, AllocError>
+        requires seat { (rest.table_id ≡ self.now.name) × (rest.me ≡ (hand passes [], [])) }
+        requires some { 1 ≤ passes }
+        ensures count { IfOk result (λ v. length v.items ≡ passes) }
+        ensures owned { IfOk result (λ v. All (IsOwned self.now) v.items) }
+        ensures fresh { IfOk result (λ v. All IsFresh v.items) }
+    {
+        let mut dealt = Vec::with_capacity(alloc, passes as usize)?;
+        for _ in 0..passes - 1 {
+            dealt.push(self.cut(&mut rest))?;
+        }
+        dealt.push(Pass {
+            seat: rest,
+            ended: false,
+        })?;
+        Ok(dealt)
+    }
+
+    // One pass of those for which a seat stands that has found nothing.
+    fn cut(&self, rest: &mut Seat<(), Hand>) -> Pass
+        requires seat { (rest.old.table_id ≡ self.now.name) × (1 < rest.old.me.0.stands_for) × (rest.old.me.0.found ≡ []) }
+        ensures rest { (rest.new.table_id ≡ rest.old.table_id) × (rest.new.me ≡ (one_less rest.old.me.0, rest.old.me.1)) }
+        ensures owned { IsOwned self.now result }
+        ensures fresh { IsFresh result }
+    {
+        Pass {
+            seat: self.table.shared.split_seat::<Cuts>(rest),
+            ended: false,
+        }
+    }
+
+    /// A number below `stripes` that no other draw gives, or `None` where every one of them has been drawn. After a
+    /// `None` the pass has ended, and later draws with it answer `None` without an atomic step. The pass must be of
+    /// these claims. A draw waits for nobody and takes no memory.
+    pub fn draw(&self, pass: &mut Pass) -> Option<u64>
+        requires { IsOwned self.now pass.old }
+        ensures owned { IsOwned self.now pass.new }
+        ensures ended { pass.old.has_ended ≡ true → (result ≡ None) × (pass.new ≡ pass.old) }
+        ensures drawn { pass.old.has_ended ≡ false → (x : ℕ) × (pass.new.found ≡ pass.old.found ++ x ∷ []) × All (λ y. y < x) pass.old.found × (result ≡ (if nat_lt x self.now.stripes then Some x else None)) }
+        ensures ends { pass.new.has_ended ≡ is_none result }
+        ensures below { IfSome result (λ x. x < self.now.stripes) }
+    {
+        if pass.ended {
+            return None;
+        }
+        let number = self.table.shared.fetch_add::<Draws>(&mut pass.seat, 0, 1);
+        if number < self.stripes {
+            Some(number)
+        } else {
+            pass.ended = true;
+            None
+        }
+    }
+
+    /// The word: how many draws made an atomic step. The passes must be of these claims. Where they are as many as were
+    /// opened, they have found the numbers below the word, each once; where all of these have ended, they were given
+    /// all numbers below `stripes`, each once.
+    pub fn close(self, passes: Vec<Pass, A>) -> u64
+        requires { All (IsOwned self) passes.items }
+        ensures machine { IsEnd self passes.items result }
+        ensures once { (x : ℕ) → times x (found_by_all passes.items) ≤ once_below x result }
+        ensures count { length (found_by_all passes.items) ≤ result }
+        ensures ended { Any (λ p. p.has_ended ≡ true) passes.items → self.stripes < result }
+        ensures most { result ≤ self.stripes + self.passes }
+        ensures whole { length passes.items ≡ self.passes → IsEachOnce result (found_by_all passes.items) }
+        ensures all { length passes.items ≡ self.passes → length (found_by_all passes.items) ≡ result }
+        ensures given { length passes.items ≡ self.passes → All (λ p. p.has_ended ≡ true) passes.items → IsEachOnce self.stripes (given self.stripes (found_by_all passes.items)) }
+    {
+        match self.gather(passes) {
+            Some(all) => self.word_with(all),
+            None => self.word(),
+        }
+    }
+
+    // One seat that stands for all these passes.
+    fn gather(&self, mut passes: Vec<Pass, A>) -> Option<Seat<(), Hand>>
+        requires { All (IsOwned self.now) passes.items }
+        ensures none { IfNone result (passes.items ≡ []) }
+        ensures table { IfSome result (λ s. s.table_id ≡ self.now.name) }
+        ensures some { IfSome result (λ _. 0 < length passes.items) }
+        ensures stands_for { IfSome result (λ s. s.me.0.stands_for ≡ length passes.items) }
+        ensures times { IfSome result (λ s. (x : ℕ) → times x s.me.0.found ≡ times x (found_by_all passes.items)) }
+        ensures length { IfSome result (λ s. length s.me.0.found ≡ length (found_by_all passes.items)) }
+    {
+        let mut all = passes.pop()?.into_seat();
+        while let Some(pass) = passes.pop() {
+            self.table
+                .shared
+                .join_seat::<Joins>(&mut all, pass.into_seat());
+        }
+        Some(all)
+    }
+
+    // The last word, where the seat has the last say.
+    fn word_with(self, seat: Seat<(), Hand>) -> u64
+        requires { seat.table_id ≡ self.name }
+        ensures machine { HasReached self seat.me.0 result }
+        ensures once { (x : ℕ) → times x seat.me.0.found ≤ once_below x result }
+        ensures count { length seat.me.0.found ≤ result }
+        ensures most { result ≤ self.stripes + self.passes }
+        ensures whole { seat.me.0.stands_for ≡ self.passes → IsEachOnce result seat.me.0.found }
+        ensures all { seat.me.0.stands_for ≡ self.passes → length seat.me.0.found ≡ result }
+    {
+        let Claims { table, stripes: _ } = self;
+        let closed = table.close_with(seat);
+        let word = closed.word(0);
+        closed.free();
+        word
+    }
+
+    // The last word, where no pass was handed in.
+    fn word(self) -> u64
+        ensures machine { IsEnd self [] result }
+        ensures most { result ≤ self.stripes + self.passes }
+        ensures some { 0 < self.passes }
+    {
+        let Claims { table, stripes: _ } = self;
+        let closed = table.close();
+        let word = closed.word(0);
+        closed.free();
+        word
+    }
+}
+
+impl Pass {
+    fn into_seat(self) -> Seat<(), Hand>
+        ensures seat { (result.table_id ≡ self.owner) × (result.me.1 ≡ []) }
+        ensures hand { (result.me.0.stands_for ≡ 1) × (result.me.0.found ≡ self.found) }
+    {
+        let Pass { seat, ended: _ } = self;
+        seat
+    }
+}
