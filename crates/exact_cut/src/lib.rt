@@ -18,8 +18,6 @@ mod rows;
 mod slides;
 mod units;
 mod walks;
-#[cfg(test)]
-mod worked;
 
 pub use centres::Centre;
 pub use columns::column;

@@ -3,12 +3,12 @@ ghost use Rattle.std.specs.Prelude.{◌≤◌, All, IfOk};
 ghost use Rattle.stripe_claims.specs.Passes.{IsOwned};
 
 use crate::growth::{Count, first_free_turn};
-use layer_pool::{Claims, Pass};
 use short_memory::ShortMemory;
 use std::alloc::{AllocError, Global};
 use std::test::Fail;
 use std::thread;
 use std::thread::Threads;
+use stripe_claims::{Claims, Pass};
 
 fn draw_at(claims: &Claims<Global>, passes: &mut Vec<Pass>, k: usize) -> Option<u64>
     requires { All (IsOwned claims.now) passes.old.items }

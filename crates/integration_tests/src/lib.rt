@@ -9,6 +9,8 @@ mod claims;
 #[cfg(test)]
 mod contours;
 #[cfg(test)]
+mod cuts;
+#[cfg(test)]
 mod filling;
 #[cfg(test)]
 mod growth;
@@ -19,8 +21,12 @@ mod jobs;
 #[cfg(test)]
 mod meshes;
 #[cfg(test)]
+mod number_texts;
+#[cfg(test)]
 mod pool;
 #[cfg(test)]
 mod rays;
+#[cfg(test)]
+mod stl_texts;
 #[cfg(test)]
 mod welding;

@@ -2,7 +2,6 @@ ghost use Rattle.std.specs.Prelude.{◌≡◌, ◌≤◌, ◌<◌, All, IfOk, le
 ghost use Rattle.build_book.specs.Layers.{IsComplete, stripe_count};
 ghost use Rattle.stripe_claims.specs.Passes.{IsOwned};
 
-
 use crate::gates::Gate;
 use build_book::{Book, Build, Job, Sheaf, Slicer};
 use std::alloc::{AllocError, Allocator};

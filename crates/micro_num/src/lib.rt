@@ -16,6 +16,3 @@ pub use faults::NumFault;
 pub use reading::{read_front, read_micro};
 pub use spelling::one_spelling;
 pub use units::Unit;
-
-#[cfg(test)]
-mod worked_texts;

@@ -15,6 +15,3 @@ pub use laws::{one_outcome, written_reads_back};
 pub use points::{Facet, Point};
 pub use reader::{FACET_LIMIT, read_stl, read_stl_at_most};
 pub use words::Word;
-
-#[cfg(test)]
-mod tests;

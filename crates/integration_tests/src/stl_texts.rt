@@ -1,8 +1,9 @@
-use crate::{Facet, Point, StlFault, Word, read_stl, read_stl_at_most};
+//! Texts of meshes with known facets or a known fault.
 use micro_num::{NumFault, Unit};
 use short_memory::ShortMemory;
 use std::alloc::{AllocError, Allocator, Global};
 use std::test::Fail;
+use stl_text::{Facet, Point, StlFault, Word, read_stl, read_stl_at_most};
 
 // How the parts of a file are spelled.
 struct Style {

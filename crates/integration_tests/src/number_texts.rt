@@ -1,4 +1,5 @@
-use super::*;
+//! Decimal texts with known values.
+use micro_num::{NumFault, Unit, ceil_div, one_spelling, read_front, read_micro};
 use std::alloc::{AllocError, Global};
 use std::test::Fail;
 

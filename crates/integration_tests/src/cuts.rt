@@ -1,11 +1,5 @@
-use crate::centres::Centre;
-use crate::columns::column;
-use crate::crossings::crossing;
-use crate::cutting::cuts;
-use crate::edges::Cut;
-use crate::hits::{ray_hit, ray_hit_y};
-use crate::lattice::Lattice;
-use crate::walks::Walk;
+//! Facets whose cuts and crossings are known.
+use exact_cut::{Centre, Cut, Lattice, Walk, column, crossing, cuts, ray_hit, ray_hit_y};
 use stl_text::{Facet, Point};
 
 fn facet(a: [i32; 3], b: [i32; 3], c: [i32; 3]) -> Option<Facet> {
