@@ -4,15 +4,16 @@ use Rattle.std.specs.Prelude.{Option, Some, None, Result, Ok, Err, unsigned_abs,
 use Rattle.std.specs.Char.{is_ascii_digit}
 use Rattle.std.specs.List.{list_all, before_first, position_or_len}
 use Rattle.std.proofs.lemmas.List.{take-append-drop, take_at}
+use Rattle.std.proofs.Math.Seq.{take-append-add}
 use Rattle.std.proofs.lemmas.Bool.{cases_lt, lt-ltb, le-ltb, lt-leb, le-leb}
 use Rattle.micro_num.specs.declared.units.Unit.{Unit as LengthUnit}
 use Rattle.micro_num.specs.declared.faults.NumFault.{NumFault}
 use Rattle.micro_num.specs.declared.faults.NumFault.TheVariants.{NotNumber, TooLong, OutOfRange}
 use Rattle.micro_num.specs.Numeral.{Sign, unsigned, plus, minus, Numeral, IsNumeral, IsSpelled, sign_of, after_sign, numeral_of, numeral_text, sign_text, fraction_text, exponent_text, from_first, fraction_digits, mantissa_digits}
 use Rattle.micro_num.specs.Micrometres.{with_sign, magnitude, unit_factor, unit_power, digits_value, exponent_value, coordinate_or_fault, numeral_coordinate, coordinate_of, micro, is_coordinate}
-use Rattle.micro_num.specs.Scan.{is_other, digits_behind, rest_behind, IsCapped, IsExponentFront, IsNumberFront, scanned, is_numeral, size, size_or_fault, size_of}
-use Rattle.micro_num.proofs.Grammar.{numeral_of-is, numeral_of-text, regrouped, sign-text}
-use Rattle.micro_num.proofs.Scanning.{numeral_of-scanned, scanned_digits, behind-text, scanned-is}
+use Rattle.micro_num.specs.Scan.{is_other, digits_behind, rest_behind, IsCapped, IsExponentFront, IsNumberFront, IsEnded, scanned, is_numeral, size, size_or_fault, size_of}
+use Rattle.micro_num.proofs.Grammar.{and_parts, numeral_of-is, numeral_of-text, regrouped, sign-text, after_sign-is, numeral_unsigned, front-text}
+use Rattle.micro_num.proofs.Scanning.{numeral_of-scanned, scanned_digits, scanned-text, behind-text, scanned-is, ended_take}
 
 -- what is read of a size
 module _ (unit : LengthUnit) (text : List ℕ) (r : ℕ) (is : is_numeral (scanned unsigned text) ≡ true)
@@ -92,6 +93,18 @@ whole_front unit text rest r front none =
     nothing [] h = refl
     nothing (x ∷ xs) h = absurd (omega (arith, h))
 
+-- a text that begins with no number that ends with it is none
+pub unread : (unit : LengthUnit) (text : List ℕ) → ((n : Numeral) → IsNumeral n → n.sign ≡ unsigned → text ≡ numeral_text n ++ [] → ⊥)
+    → Err NotNumber ≡ size_of unit text
+unread unit text none = by_test (is_numeral n) refl
+  where
+    n : Numeral
+    n = scanned unsigned text
+
+    by_test : (b : Bool) → is_numeral n ≡ b → Err NotNumber ≡ size_of unit text
+    by_test true is = absurd (none n (and_parts _ _ is) refl (sym (append-nil (numeral_text n) ∙ scanned-text unsigned text)))
+    by_test false other = sym (ap (λ b. if b then size_or_fault (size unit n) else Err NotNumber) other)
+
 abbrev pub turned : Sign → ℤ → ℤ
 turned unsigned z = z
 turned plus z = z
@@ -149,6 +162,14 @@ module _ (unit : LengthUnit) (word : List ℕ) where
   pub spelled_coordinate : (n : Numeral) → IsNumeral n → word ≡ numeral_text n → length word ≤ 255 → coordinate_of unit word ≡ coordinate_or_fault (micro unit n)
   spelled_coordinate n is spelled short =
       short_coordinate short ∙ ap (numeral_coordinate unit) (ap numeral_of spelled ∙ numeral_of-text n is)
+
+  pub is_spelled : (z : ℤ) → coordinate_of unit word ≡ Ok z → IsSpelled word
+  is_spelled z e = by_cases (cases_lt 255 (length word)) (numeral_of word) refl
+    where
+      by_cases : (255 < length word) ⊎ (length word ≤ 255) → (o : Option Numeral) → numeral_of word ≡ o → IsSpelled word
+      by_cases (inl long) o is = let other = long_coordinate long in cc
+      by_cases (inr short) None is = let other = short_coordinate short ∙ ap (numeral_coordinate unit) is in cc
+      by_cases (inr short) (Some n) is = let read : IsNumeral n × (word ≡ numeral_text n) = numeral_of-is word n is in (short, n, read.0, read.1)
 
   is_range : (z : ℤ) → coordinate_or_fault z ≡ Err NotNumber → ⊥
   is_range z h = by_test (is_coordinate z) h
@@ -211,26 +232,70 @@ module _ (unit : LengthUnit) (word : List ℕ) where
           ∙ ap (λ b. if b then Ok (micro unit n) else Err OutOfRange) (lt-leb (unsigned_abs (micro unit n)) 128000000 far)
 
 -- A number at the front of a text, behind a sign or none, stands for its size with that sign.
-pub front_coordinate : (unit : LengthUnit) (text rest : List ℕ) (r : ℕ) → IsNumberFront unit (after_sign text) rest r → length text ≤ 255
-    → r ≤ 128000000 → coordinate_of unit (take (length text - length rest) text) ≡ Ok (turned (sign_of text) (pos r))
-front_coordinate unit text rest r front short near =
-    let n : Numeral = front.number in
-    let s : Sign = sign_of text in
-    let k : Numeral = record { sign = s; whole = n.whole; fraction = n.fraction; exponent = n.exponent } in
-    let behind : List ℕ = n.whole ++ (fraction_text n.fraction ++ exponent_text n.exponent) in
-    let spelled : text ≡ numeral_text k ++ rest =
-    sym (sign-text text) ∙ ap (λ t. sign_text s ++ t) (front.spelled ∙ ap (λ t. t ++ rest) (unsigned_text n front.no_sign))
-    ∙ sym (append_assoc (sign_text s) behind rest)
-    ∙ ap (λ t. t ++ rest) (sym (regrouped (sign_text s) n.whole (fraction_text n.fraction) (exponent_text n.exponent))) in
-    let sizes : length text ≡ length (numeral_text k) + length rest = ap length spelled ∙ length-append (numeral_text k) rest in
-    let count : length (numeral_text k) ≡ length text - length rest = omega arith in
-    let cut : take (length text - length rest) text ≡ numeral_text k =
-    ap (take (length text - length rest)) spelled ∙ take_at (numeral_text k) rest (length text - length rest) count in
-    spelled_coordinate unit (take (length text - length rest) text) k front.is cut (omega (arith, ap length cut))
-    ∙ sized s (size unit n) ∙ ap (signed s) (by_cases (cases_lt 128000000 (size unit n)))
-  where
-    by_cases : (128000000 < size unit front.number) ⊎ (size unit front.number ≤ 128000000) → size_or_fault (size unit front.number) ≡ Ok (pos r)
-    by_cases (inl far) = absurd (omega (arith, front.capped.beyond far))
-    by_cases (inr within) =
-        ap (λ b. if b then Ok (pos (size unit front.number)) else Err OutOfRange) (le-leb (size unit front.number) 128000000 within)
-        ∙ ap (λ m. Ok (pos m)) (sym (front.capped.within within))
+module _ (unit : LengthUnit) (text rest : List ℕ) (r : ℕ) (front : IsNumberFront unit (after_sign text) rest r) (short : length text ≤ 255) where
+  front_signed : coordinate_of unit (take (length text - length rest) text) ≡ signed (sign_of text) (size_or_fault (size unit front.number))
+  front_signed =
+      let n : Numeral = front.number in
+      let s : Sign = sign_of text in
+      let k : Numeral = record { sign = s; whole = n.whole; fraction = n.fraction; exponent = n.exponent } in
+      let behind : List ℕ = n.whole ++ (fraction_text n.fraction ++ exponent_text n.exponent) in
+      let spelled : text ≡ numeral_text k ++ rest =
+      sym (sign-text text) ∙ ap (λ t. sign_text s ++ t) (front.spelled ∙ ap (λ t. t ++ rest) (unsigned_text n front.no_sign))
+      ∙ sym (append_assoc (sign_text s) behind rest)
+      ∙ ap (λ t. t ++ rest) (sym (regrouped (sign_text s) n.whole (fraction_text n.fraction) (exponent_text n.exponent))) in
+      let sizes : length text ≡ length (numeral_text k) + length rest = ap length spelled ∙ length-append (numeral_text k) rest in
+      let count : length (numeral_text k) ≡ length text - length rest = omega arith in
+      let cut : take (length text - length rest) text ≡ numeral_text k =
+      ap (take (length text - length rest)) spelled ∙ take_at (numeral_text k) rest (length text - length rest) count in
+      spelled_coordinate unit (take (length text - length rest) text) k front.is cut (omega (arith, ap length cut))
+      ∙ sized s (size unit n)
+
+  pub front_coordinate : r ≤ 128000000 → coordinate_of unit (take (length text - length rest) text) ≡ Ok (turned (sign_of text) (pos r))
+  front_coordinate near = front_signed ∙ ap (signed (sign_of text)) (by_cases (cases_lt 128000000 (size unit front.number)))
+    where
+      by_cases : (128000000 < size unit front.number) ⊎ (size unit front.number ≤ 128000000) → size_or_fault (size unit front.number) ≡ Ok (pos r)
+      by_cases (inl far) = absurd (omega (arith, front.capped.beyond far))
+      by_cases (inr within) =
+          ap (λ b. if b then Ok (pos (size unit front.number)) else Err OutOfRange) (le-leb (size unit front.number) 128000000 within)
+          ∙ ap (λ m. Ok (pos m)) (sym (front.capped.within within))
+
+  pub front_beyond : 128000000 < r → coordinate_of unit (take (length text - length rest) text) ≡ Err OutOfRange
+  front_beyond beyond = front_signed ∙ ap (signed (sign_of text)) (by_cases (cases_lt 128000000 (size unit front.number)))
+    where
+      by_cases : (128000000 < size unit front.number) ⊎ (size unit front.number ≤ 128000000) → size_or_fault (size unit front.number) ≡ Err OutOfRange
+      by_cases (inl far) = ap (λ b. if b then Ok (pos (size unit front.number)) else Err OutOfRange) (lt-leb (size unit front.number) 128000000 far)
+      by_cases (inr within) = absurd (omega (arith, front.capped.within within))
+
+-- Bytes begin with a number in range and go on with no byte of one, and so does the text, which is as many of them as a
+-- number may have. Where what is read behind its sign reads every number with no sign, it reads this one.
+pub reads_number : (unit : LengthUnit) (bytes word rest text digits : List ℕ) (limit : ℕ) (z : ℤ) (P : List ℕ → Type 0) → bytes ≡ word ++ rest
+    → IsEnded rest → coordinate_of unit word ≡ Ok z → text ≡ take limit bytes → (length word ≤ 255 → length word ≤ limit) → digits ≡ after_sign text
+    → ((n : Numeral) (left : List ℕ) → IsNumeral n → n.sign ≡ unsigned → digits ≡ numeral_text n ++ left → IsEnded left → P left)
+    → (left : List ℕ) × P left × (text ≡ word ++ left)
+reads_number unit bytes word rest text digits limit z P spelled ended is cut long behind reads =
+    let number : IsSpelled word = is_spelled unit word z is in
+    let n : Numeral = number.1 in
+    let k : Numeral = record { sign = unsigned; whole = n.whole; fraction = n.fraction; exponent = n.exponent } in
+    let left : List ℕ = take (limit - length word) rest in
+    let room : limit ≡ length word + (limit - length word) = omega (arith, long number.0) in
+    let text_is : text ≡ word ++ left = cut ∙ (λ i. take (room i) (spelled i)) ∙ take-append-add word rest (limit - length word) in
+    let digits_are : digits ≡ numeral_text k ++ left =
+    behind ∙ ap after_sign (text_is ∙ ap (λ w. w ++ left) number.3 ∙ front-text n left)
+    ∙ after_sign-is n.sign _ (numeral_unsigned n (exponent_text n.exponent ++ left) number.2)
+    ∙ sym (front-text k left) in
+    (left, reads k left number.2 refl digits_are (ended_take (limit - length word) rest ended), text_is)
+
+-- What is read of as many bytes as the word has is the word's coordinate.
+module _ (unit : LengthUnit) (text word rest : List ℕ) (count : ℕ) (spelled : text ≡ word ++ rest) (long : length word ≡ count) where
+  read_word : coordinate_of unit (take count text) ≡ coordinate_of unit word
+  read_word = ap (coordinate_of unit) (ap (take count) spelled ∙ take_at word rest count long)
+
+  pub found_word : (y z : ℤ) → coordinate_of unit (take count text) ≡ Ok y → coordinate_of unit word ≡ Ok z
+      → ◌≡◌ {A = Option (ℤ × ℕ)} (Some (y, count)) (Some (z, length word))
+  found_word y z read is =
+      let both : Ok y ≡ Ok z = sym read ∙ read_word ∙ is in
+      let same : y ≡ z = cc in
+      λ i. Some (same i, sym long i)
+
+  pub not_beyond : (z : ℤ) → coordinate_of unit (take count text) ≡ Err OutOfRange → coordinate_of unit word ≡ Ok z → ⊥
+  not_beyond z read is = let both : Err OutOfRange ≡ Ok z = sym read ∙ read_word ∙ is in cc

@@ -1,16 +1,14 @@
 -- The number that digits write, cut in two.
-use Rattle.std.proofs.Common.{◌≡◌, ◌⊎◌, inl, inr, ℕ, suc, ◌+◌, ◌*◌, ◌-◌, ◌/◌, ◌^◌, ◌<◌, ◌≤◌, Bool, true, false, List, [], ◌∷◌, ◌++◌, length, drop, get_or, arith, ap, subst, ◌∙◌, refl, lit≤}
-use Rattle.std.specs.Prelude.{not}
+use Rattle.std.proofs.Common.{◌≡◌, ◌⊎◌, inl, inr, ℕ, suc, ◌+◌, ◌*◌, ◌-◌, ◌/◌, ◌^◌, ◌<◌, ◌≤◌, true, List, [], ◌∷◌, ◌++◌, length, drop, get_or, arith, ap, subst, ◌∙◌, lit≤}
 use Rattle.std.specs.Char.{is_ascii_digit}
-use Rattle.std.specs.List.{list_all, position_or_len}
+use Rattle.std.specs.List.{list_all}
 use Rattle.std.proofs.lemmas.List.{length-drop}
-use Rattle.std.proofs.lemmas.List.Folds.{list_all_at}
-use Rattle.std.proofs.lemmas.List.Sums.{fold-append, passes_at_first}
+use Rattle.std.proofs.lemmas.List.Sums.{fold-append}
 use Rattle.std.proofs.lemmas.Bool.{cases_lt}
 use Rattle.std.proofs.lemmas.Nat.{pow-add}
 use Rattle.std.proofs.Math.Nat.{pow-succ', mul-le-mul_right, lt_of_mul-lt-mul_right, one-le-pow, mul-le-mul_left}
 use Rattle.std.proofs.Math.Seq.{drop-cons}
-use Rattle.micro_num.specs.Scan.{IsLeading, IsCarry, digits_after, is_other}
+use Rattle.micro_num.specs.Scan.{IsLeading, IsCarry, digits_after}
 use Rattle.micro_num.proofs.Grammar.{and_parts, bounds}
 
 digits_after-more : (n : ℕ) (ds : List ℕ) → digits_after n ds ≡ n * 10 ^ length ds + digits_after 0 ds
@@ -100,13 +98,6 @@ IsCarry-all xs ys v c leading digits carry =
       low = omega (arith, carry.low);
       high = omega (arith, carry.high);
     }
-
-not_true : (b : Bool) → not b ≡ true → b ≡ false
-not_true false h = refl
-not_true true h = cc
-
-pub not_all_digits : (ds : List ℕ) → position_or_len is_other ds < length ds → list_all is_ascii_digit ds ≡ false
-not_all_digits ds h = list_all_at is_ascii_digit ds (position_or_len is_other ds) 0 h (not_true _ (passes_at_first is_other ds 0 h))
 
 -- the leading digits of a number, where there are few, are the number
 pub near : (v j n : ℕ) → IsLeading v j n → (v ≡ n) ⊎ ((1000000000000000 ≤ v) × (1000000000000000 ≤ n))

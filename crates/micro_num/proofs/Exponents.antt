@@ -1,35 +1,48 @@
 -- An exponent as it is read.
-use Rattle.std.proofs.Common.{◌≡◌, ◌≢◌, ◌⊎◌, inl, inr, ℕ, zero, suc, ◌<◌, ◌≤◌, Bool, true, false, List, [], ◌∷◌, ◌++◌, length, take, drop, ℤ, pos, neg_ℤ, arith, ap, subst, sym, ◌∙◌, refl, append_assoc}
-use Rattle.std.specs.Prelude.{◌&&◌, nat_lt, Some}
+use Rattle.std.proofs.Common.{◌≡◌, ◌≢◌, ◌⊎◌, inl, inr, ℕ, zero, suc, ◌<◌, ◌≤◌, true, false, List, [], ◌∷◌, ◌++◌, length, take, drop, ℤ, pos, neg_ℤ, arith, ap, subst, sym, ◌∙◌, refl, append_assoc}
+use Rattle.std.specs.Prelude.{Option, Some, None, nat_lt}
 use Rattle.std.specs.Char.{is_ascii_digit}
 use Rattle.std.specs.List.{list_all, position_or_len}
 use Rattle.std.proofs.lemmas.Int.{ints}
-use Rattle.std.proofs.lemmas.Bool.{lt-ltb}
+use Rattle.std.proofs.lemmas.Bool.{lt-ltb, ltb-true}
 use Rattle.std.proofs.lemmas.List.{take-append-drop}
-use Rattle.micro_num.specs.Numeral.{Sign, unsigned, plus, minus, are_digits, is_exponent_mark, after_sign, exponent_of, is_exponent, sign_of, sign_text}
+use Rattle.micro_num.specs.Numeral.{Sign, unsigned, plus, minus, Exponent, are_digits, is_exponent_mark, after_sign, is_exponent, sign_of, sign_text, exponent_text, from_first}
 use Rattle.micro_num.specs.Micrometres.{with_sign, digits_value}
-use Rattle.micro_num.specs.Scan.{IsExponentFront, IsLeading, IsNear, is_other}
-use Rattle.micro_num.proofs.Grammar.{sign-text}
-use Rattle.micro_num.proofs.Scanning.{front_digits}
-use Rattle.micro_num.proofs.DigitRows.{not_all_digits, near}
+use Rattle.micro_num.specs.Scan.{IsExponentFront, IsLeading, IsNear, IsEnded, is_other}
+use Rattle.micro_num.proofs.Grammar.{and_parts, place, from-is, sign-text, after_sign-is, digits_unsigned_on}
+use Rattle.micro_num.proofs.Scanning.{front_digits, no_other, ended_other}
+use Rattle.micro_num.proofs.DigitRows.{near}
 
-and_false : (a : Bool) → (a && false) ≡ false
-and_false true = refl
-and_false false = refl
+-- Bytes begin with an exponent, or with none, and go on with no byte of a number. Where they begin with a mark, then
+-- digits stand behind it, and a sign or none, and behind them what they go on with.
+pub marked_rest : (bytes : List ℕ) (x : Option Exponent) (rest : List ℕ) → is_exponent x ≡ true → bytes ≡ exponent_text x ++ rest → IsEnded rest
+    → (mark : ℕ) (text ds : List ℕ) → bytes ≡ mark ∷ text → is_exponent_mark mark ≡ true → ds ≡ after_sign text
+    → (0 < position_or_len is_other ds) × (from_first is_other ds ≡ rest)
+marked_rest bytes x rest is spelled ended mark text ds begins marks behind = by_exponent x is spelled
+  where
+    no_mark : (rest : List ℕ) → IsEnded rest → mark ∷ text ≡ rest → ⊥
+    no_mark [] h e = cc
+    no_mark (byte ∷ more) h e =
+        let same : mark ≡ byte = cc in
+        let other : is_exponent_mark mark ≡ false = ap is_exponent_mark same ∙ h.2 in
+        cc
 
-pub no_digits : (ds : List ℕ) → (position_or_len is_other ds ≡ 0) ⊎ (position_or_len is_other ds < length ds) → are_digits ds ≡ false
-no_digits [] h = refl
-no_digits (d ∷ ds) (inr h) = rw (not_all_digits (d ∷ ds) h) (and_false (nat_lt 0 (length (d ∷ ds))))
-no_digits (d ∷ ds) (inl h) =
-    let few : position_or_len is_other (d ∷ ds) < length (d ∷ ds) = omega arith in
-    rw (not_all_digits (d ∷ ds) few) (and_false (nat_lt 0 (length (d ∷ ds))))
-
-pub no_exponent : (bytes : List ℕ) (mark : ℕ) (text ds : List ℕ) → bytes ≡ mark ∷ text → ds ≡ after_sign text → are_digits ds ≡ false
-    → is_exponent (exponent_of bytes) ≡ false
-no_exponent bytes mark text ds spelled behind none =
-    ap (λ b. is_exponent (exponent_of b)) spelled
-    ∙ ap (λ a. is_exponent_mark mark && a) (ap are_digits (sym behind) ∙ none)
-    ∙ and_false (is_exponent_mark mark)
+    by_exponent : (x : Option Exponent) → is_exponent x ≡ true → bytes ≡ exponent_text x ++ rest
+        → (0 < position_or_len is_other ds) × (from_first is_other ds ≡ rest)
+    by_exponent None is e = absurd (no_mark rest ended (sym begins ∙ e))
+    by_exponent (Some e) is is_text =
+        let digits : are_digits e.digits ≡ true = (and_parts (is_exponent_mark e.mark) (are_digits e.digits) is).1 in
+        let parts : (nat_lt 0 (length e.digits) ≡ true) × (list_all is_ascii_digit e.digits ≡ true) =
+        and_parts (nat_lt 0 (length e.digits)) (list_all is_ascii_digit e.digits) digits in
+        let text_is : text ≡ (sign_text e.sign ++ e.digits) ++ rest = cc in
+        let ds_is : ds ≡ e.digits ++ rest =
+        behind ∙ ap after_sign (text_is ∙ append_assoc (sign_text e.sign) e.digits rest)
+        ∙ after_sign-is e.sign (e.digits ++ rest) (digits_unsigned_on e.digits rest digits) in
+        let clear = no_other e.digits parts.1 in
+        let starts = ended_other rest ended in
+        let count : position_or_len is_other ds ≡ length e.digits = ap (position_or_len is_other) ds_is ∙ place is_other e.digits rest clear starts in
+        (omega (arith, ltb-true 0 (length e.digits) parts.0),
+         ap (from_first is_other) ds_is ∙ from-is is_other e.digits rest clear starts)
 
 -- the digits behind a mark, as far as they go, are an exponent's
 pub front_exponent : (bytes : List ℕ) (mark : ℕ) (text ds : List ℕ) (n : ℕ) (e : ℤ) → bytes ≡ mark ∷ text → ds ≡ after_sign text

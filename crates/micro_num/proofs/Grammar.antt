@@ -20,7 +20,7 @@ Starts p [] = Unit {0}
 Starts p (x ∷ xs) = p x ≡ true
 
 -- the first byte that passes stands behind those that don't
-place : (p : ℕ → Bool) (xs ys : List ℕ) → list_all (λ x. not (p x)) xs ≡ true → Starts p ys
+pub place : (p : ℕ → Bool) (xs ys : List ℕ) → list_all (λ x. not (p x)) xs ≡ true → Starts p ys
     → position_or_len p (xs ++ ys) ≡ length xs
 place p [] [] clear starts = refl
 place p [] (y ∷ ys) clear starts = rw starts refl
@@ -140,6 +140,10 @@ digits_unsigned (d ∷ ds) h =
     let parts : (is_ascii_digit d ≡ true) × (list_all is_ascii_digit ds ≡ true) = and_parts _ _ h in
     (other d parts.0 43 (inl (lit≤ tt)), other d parts.0 45 (inl (lit≤ tt)))
 
+pub digits_unsigned_on : (ds rest : List ℕ) → are_digits ds ≡ true → IsUnsigned (ds ++ rest)
+digits_unsigned_on [] rest h = cc
+digits_unsigned_on (d ∷ ds) rest h = digits_unsigned (d ∷ ds) (and_parts _ _ h).1
+
 pub sign-is : (sign : Sign) (rest : List ℕ) → IsUnsigned rest → sign_of (sign_text sign ++ rest) ≡ sign
 sign-is unsigned [] h = refl
 sign-is unsigned (byte ∷ rest) h = rw (h.0, h.1) refl
@@ -178,11 +182,19 @@ fraction_clear None h = refl
 fraction_clear (Some digits) h = all-weaker is_ascii_digit (λ x. not (is_exponent_mark x)) digit-mark digits h
 
 -- the first byte behind the sign is a digit or the point
-pub mantissa_unsigned : (whole : List ℕ) (fraction : Option (List ℕ)) (rest : List ℕ) → list_all is_ascii_digit whole ≡ true
+mantissa_unsigned : (whole : List ℕ) (fraction : Option (List ℕ)) (rest : List ℕ) → list_all is_ascii_digit whole ≡ true
     → nat_lt 0 (length (whole ++ fraction_digits fraction)) ≡ true → IsUnsigned (whole ++ (fraction_text fraction ++ rest))
 mantissa_unsigned (d ∷ ds) fraction rest h some = digits_unsigned (d ∷ ds) h
 mantissa_unsigned [] None rest h some = cc
 mantissa_unsigned [] (Some digits) rest h some = (refl, refl)
+
+pub numeral_digits : (n : Numeral) → IsNumeral n → (list_all is_ascii_digit n.whole ≡ true) × (list_all is_ascii_digit (fraction_digits n.fraction) ≡ true)
+numeral_digits n is =
+    and_parts _ _ (sym (list_all-append is_ascii_digit n.whole (fraction_digits n.fraction)) ∙ (and_parts _ _ is.0).1)
+
+-- a number has no second sign, whatever comes behind its digits
+pub numeral_unsigned : (n : Numeral) (rest : List ℕ) → IsNumeral n → IsUnsigned (n.whole ++ (fraction_text n.fraction ++ rest))
+numeral_unsigned n rest is = mantissa_unsigned n.whole n.fraction rest (numeral_digits n is).0 (and_parts _ _ is.0).0
 
 -- what is cut from the text of a number are its parts
 pub parts_of-text : (n : Numeral) → IsNumeral n → parts_of (numeral_text n) ≡ n
@@ -216,14 +228,11 @@ parts_of-text n (mantissa, exponent) =
     rest : List ℕ
     rest = n.whole ++ (f ++ e)
 
-    digits : (nat_lt 0 (length (mantissa_digits n)) ≡ true) × (list_all is_ascii_digit (mantissa_digits n) ≡ true)
-    digits = and_parts _ _ mantissa
-
     each : (list_all is_ascii_digit n.whole ≡ true) × (list_all is_ascii_digit (fraction_digits n.fraction) ≡ true)
-    each = and_parts _ _ (sym (list_all-append is_ascii_digit n.whole (fraction_digits n.fraction)) ∙ digits.1)
+    each = numeral_digits n (mantissa, exponent)
 
     clear : IsUnsigned rest
-    clear = mantissa_unsigned n.whole n.fraction e each.0 digits.0
+    clear = numeral_unsigned n e (mantissa, exponent)
 
     after : after_sign (sign_text n.sign ++ rest) ≡ rest
     after = after_sign-is n.sign rest clear
@@ -249,3 +258,10 @@ pub numeral_of-text : (n : Numeral) → IsNumeral n → numeral_of (numeral_text
 numeral_of-text n is =
     ap (λ m. if are_digits (mantissa_digits m) && is_exponent m.exponent then Some m else None) (parts_of-text n is)
     ∙ rw (is.0, is.1) refl
+
+-- a text that begins with a number, from behind
+pub front-text : (n : Numeral) (rest : List ℕ)
+    → numeral_text n ++ rest ≡ sign_text n.sign ++ (n.whole ++ (fraction_text n.fraction ++ (exponent_text n.exponent ++ rest)))
+front-text n rest =
+    append_assoc (sign_text n.sign ++ n.whole ++ fraction_text n.fraction) (exponent_text n.exponent) rest
+    ∙ regrouped (sign_text n.sign) n.whole (fraction_text n.fraction) (exponent_text n.exponent ++ rest)

@@ -9,13 +9,14 @@
 --     IsNear                    a power of ten, or one as far out
 --     IsExponentFront           a text begins with an exponent, or with none
 --     IsNumberFront             a text begins with a number that has no sign
-use Rattle.std.specs.Prelude.{◌≡◌, ℕ, ◌+◌, ◌*◌, ◌^◌, ◌-◌, ◌<◌, ◌≤◌, ◌==◌, Bool, true, ◌&&◌, List, [], ◌∷◌, ◌++◌, length, Option, Some, None, Result, Ok, Err, not, fold, nat_le, if◌then◌else◌, ℤ, pos, neg_ℤ, ◌≤ℤ◌, ◌⊎◌}
+--     IsEnded                   a text goes on with no byte of a number
+use Rattle.std.specs.Prelude.{◌≡◌, ℕ, ◌+◌, ◌*◌, ◌^◌, ◌-◌, ◌<◌, ◌≤◌, ◌==◌, Bool, true, false, ◌&&◌, List, [], ◌∷◌, ◌++◌, length, Option, Some, None, Result, Ok, Err, not, fold, nat_le, if◌then◌else◌, ℤ, pos, neg_ℤ, ◌≤ℤ◌, ◌⊎◌}
 use Rattle.std.specs.Char.{is_ascii_digit}
 use Rattle.std.specs.List.{before_first, list_all}
 use Rattle.micro_num.specs.declared.units.Unit.{Unit as LengthUnit}
 use Rattle.micro_num.specs.declared.faults.NumFault.{NumFault}
 use Rattle.micro_num.specs.declared.faults.NumFault.TheVariants.{NotNumber, OutOfRange}
-use Rattle.micro_num.specs.Numeral.{Sign, unsigned, Exponent, Numeral, IsNumeral, exponent_text, numeral_text, from_first, exponent_of, mantissa_digits, are_digits, is_exponent}
+use Rattle.micro_num.specs.Numeral.{Sign, unsigned, Exponent, Numeral, IsNumeral, is_point, is_exponent_mark, exponent_text, numeral_text, from_first, exponent_of, mantissa_digits, are_digits, is_exponent}
 use Rattle.micro_num.specs.Micrometres.{digits_value, exponent_value, magnitude, unit_factor, power_of}
 
 abbrev pub is_other : ℕ → Bool
@@ -113,3 +114,8 @@ pub record IsNumberFront (unit : LengthUnit) (text rest : List ℕ) (m : ℕ) : 
   pub no_sign : number.sign ≡ unsigned
   pub spelled : text ≡ numeral_text number ++ rest
   pub capped : IsCapped (size unit number) m
+
+-- nothing is left, or the first byte is no digit, no point and neither `e` nor `E`
+abbrev pub IsEnded : List ℕ → Type 0
+IsEnded [] = Unit {0}
+IsEnded (byte ∷ rest) = (is_ascii_digit byte ≡ false) × (is_point byte ≡ false) × (is_exponent_mark byte ≡ false)

@@ -1,8 +1,8 @@
-ghost use Rattle.std.specs.Prelude.{◌≡◌, ◌≤◌, ◌<◌, ◌+◌, ◌++◌, ◌↔◌, ℕ, ℤ, List, length, true, false, IfSome, MatchOption, unsigned_abs};
+ghost use Rattle.std.specs.Prelude.{◌≡◌, ◌≤◌, ◌<◌, ◌+◌, ◌++◌, ◌↔◌, ℕ, Option, List, length, true, IfSome, MatchOption, unsigned_abs};
 ghost use Rattle.std.specs.List.{before_first};
-ghost use Rattle.micro_num.specs.Numeral.{Sign, minus, after_sign, sign_of, exponent_of, is_exponent, from_first, fraction_digits};
-ghost use Rattle.micro_num.specs.Micrometres.{exponent_value, digits_value};
-ghost use Rattle.micro_num.specs.Scan.{IsExponentFront, IsLeading, IsNear, is_other, digits_behind, rest_behind};
+ghost use Rattle.micro_num.specs.Numeral.{Exponent, minus, after_sign, sign_of, exponent_text, is_exponent, from_first, fraction_digits};
+ghost use Rattle.micro_num.specs.Micrometres.{digits_value};
+ghost use Rattle.micro_num.specs.Scan.{IsEnded, IsExponentFront, IsLeading, is_other, digits_behind, rest_behind};
 
 use crate::digits::{Leading, read_digits};
 
@@ -70,8 +70,8 @@ pub fn exponent_front(bytes: &[u8]) -> Option<(i64, &[u8])>
     requires { length bytes.now ≤ 255 }
     ensures front { IfSome result (λ found. IsExponentFront bytes.now found.1.now found.0) }
     ensures small { IfSome result (λ found. unsigned_abs found.0 < 10000000000000000) }
-    ensures other { MatchOption result (is_exponent (exponent_of bytes.now) ≡ false)
-        (λ found. 0 < length found.1.now → is_exponent (exponent_of bytes.now) ≡ false) }
+    ensures reads { (x : Option Exponent) (rest : List ℕ) → is_exponent x ≡ true → bytes.now ≡ exponent_text x ++ rest → IsEnded rest
+        → MatchOption result ⊥ (λ found. found.1.now ≡ rest) }
 {
     let Some((mark, text)) = bytes.split_first() else {
         return Some((0, bytes));

@@ -1,5 +1,5 @@
-ghost use Rattle.std.specs.Prelude.{◌≡◌, ◌≤◌, ◌<◌, ◌↔◌, ◌≤ℤ◌, Err, IfOk, IfSome, List, MatchOption, Ok, false, length, ℕ, pos, take, unsigned_abs};
-ghost use Rattle.micro_num.specs.Scan.{IsNumberFront, is_numeral, scanned, size_of};
+ghost use Rattle.std.specs.Prelude.{◌≡◌, ◌≤◌, ◌<◌, ◌↔◌, ◌≤ℤ◌, ◌++◌, Err, IfOk, IfSome, List, MatchOption, Ok, Some, length, ℕ, ℤ, pos, take, unsigned_abs};
+ghost use Rattle.micro_num.specs.Scan.{IsEnded, IsNumberFront, size_of};
 ghost use Rattle.micro_num.specs.Numeral.{Numeral, IsNumeral, IsSpelled, numeral_text, unsigned};
 ghost use Rattle.micro_num.specs.Micrometres.{coordinate_of, coordinate_or_fault, micro};
 ghost use Rattle.micro_num.specs.declared.faults.NumFault.TheVariants.{NotNumber, OutOfRange, TooLong};
@@ -62,11 +62,15 @@ fn read_unsigned(text: &[u8], unit: Unit) -> Result<i32, NumFault>
 
 /// The number at the front of a text in whole micrometres, as `read_micro` reads it, and how many bytes it takes.
 ///
-/// It goes on as far as its bytes may belong to it. `None` says only that it was not read here.
+/// It goes on as far as its bytes may belong to it. It is read where it is in range, of at most 255 bytes, and the text
+/// ends behind it or goes on with a byte that is no digit, no point and neither `e` nor `E`. Otherwise `None` says only
+/// that it was not read here.
 #[inline(always)]
 pub fn read_front(bytes: &[u8], unit: Unit) -> Option<(i32, usize)>
     ensures exact { IfSome result (λ found. coordinate_of unit (take found.1 bytes.now) ≡ Ok found.0) }
     ensures within { IfSome result (λ found. found.1 ≤ length bytes.now) }
+    ensures reads { (word rest : List ℕ) (z : ℤ) → bytes.now ≡ word ++ rest → IsEnded rest → coordinate_of unit word ≡ Ok z
+        → result ≡ Some (z, length word) }
 {
     let (text, _) = bytes.split_at(bytes.len().min(255));
     let (negative, digits) = split_sign(text);
@@ -85,8 +89,8 @@ pub fn read_front(bytes: &[u8], unit: Unit) -> Option<(i32, usize)>
 fn size_front(text: &[u8], unit: Unit) -> Option<(u64, &[u8])>
     requires { length text.now ≤ 255 }
     ensures front { IfSome result (λ found. IsNumberFront unit text.now found.1.now found.0) }
-    ensures other { MatchOption result (is_numeral (scanned unsigned text.now) ≡ false)
-        (λ found. 0 < length found.1.now → is_numeral (scanned unsigned text.now) ≡ false) }
+    ensures reads { (n : Numeral) (rest : List ℕ) → IsNumeral n → n.sign ≡ unsigned → text.now ≡ numeral_text n ++ rest → IsEnded rest
+        → MatchOption result ⊥ (λ found. found.1.now ≡ rest) }
 {
     let mantissa = read_mantissa(text);
     if mantissa.whole.len() + mantissa.fraction.len() == 0 {

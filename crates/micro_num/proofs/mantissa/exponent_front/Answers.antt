@@ -1,17 +1,12 @@
-use Rattle.std.proofs.Common.{ℕ, ◌≡◌, ◌<◌, List, take, arith, subst, sym, ◌∙◌, true, inl, inr, ℤ, pos, neg_ℤ, w64, to_z, of_z, ◌-ℤ◌}
+use Rattle.std.proofs.Common.{ℕ, ◌≡◌, ◌<◌, List, take, drop, arith, ap, subst, sym, ◌∙◌, true, ℤ, pos, neg_ℤ, w64, to_z, of_z, ◌-ℤ◌}
 use Rattle.std.proofs.lemmas.Int.{ints}
 use Rattle.micro_num.specs.Micrometres.{with_sign, digits_value}
 use Rattle.micro_num.specs.Scan.{IsExponentFront, IsLeading, IsNear, digits_after}
 use Rattle.micro_num.specs.Numeral.{sign_of, is_exponent_mark}
 use Rattle.micro_num.proofs.Leading.{IsLeading-none}
-use Rattle.micro_num.proofs.Exponents.{no_digits, no_exponent, front_exponent, IsNear-minus, IsNear-plus, mark_69, mark_101}
+use Rattle.micro_num.proofs.Exponents.{marked_rest, front_exponent, IsNear-minus, IsNear-plus, mark_69, mark_101}
 use Rattle.micro_num.proofs.mantissa.exponent_front.Goals.{else-mark-ne101-via-then-mark-ne101+else-mark-ne69, else-mark-ne101-via-else-mark-ne101, then-negative, else-negative}
 use Rattle.micro_num.proofs.mantissa.exponent_front.Goals as goal
-
-pub returns-then-digits-eq0-clause-other : goal.returns-then-digits-eq0-clause-other
-returns-then-digits-eq0-clause-other c =
-    no_exponent c.args.bytes.now c.in-Some.mark.now c.in-Some.text.now _ c.in-Some.ensures.cases.0 c.split_sign-negative.ensures.behind
-    (no_digits c.split_sign-negative.result.1.now (inl (sym c.read_digits-digits.ensures.count ∙ c.if-digits-eq0.true)))
 
 pub returns-clause-front : goal.returns-clause-front
 returns-clause-front c =
@@ -35,7 +30,19 @@ returns-clause-front c =
     c.read_digits-digits.ensures.count (omega (arith, c.if-digits-eq0.false)) is_near in
     subst (λ r. IsExponentFront c.args.bytes.now r e) (sym c.split_at.ensures.back) front
 
-pub returns-clause-other : goal.returns-clause-other
-returns-clause-other c = λ more.
-    no_exponent c.args.bytes.now c.in-Some.mark.now c.in-Some.text.now _ c.in-Some.ensures.cases.0 c.split_sign-negative.ensures.behind
-    (no_digits c.split_sign-negative.result.1.now (inr (omega (arith, more, c.read_digits-digits.ensures.count, c.split_at.ensures.back_len))))
+pub returns-then-digits-eq0-clause-reads : goal.returns-then-digits-eq0-clause-reads
+returns-then-digits-eq0-clause-reads c = λ x rest is spelled ended.
+    let mark : is_exponent_mark c.in-Some.mark.now ≡ true =
+    elim c.else-mark-ne101.branch [ else-mark-ne101-via-then-mark-ne101+else-mark-ne69 w ↦ mark_69 c.in-Some.mark.now w.if-mark-ne69.false | else-mark-ne101-via-else-mark-ne101 w ↦ mark_101 c.in-Some.mark.now w.if-mark-ne101.false ] in
+    let read = marked_rest c.args.bytes.now x rest is spelled ended c.in-Some.mark.now c.in-Some.text.now _ c.in-Some.ensures.cases.0 mark
+    c.split_sign-negative.ensures.behind in
+    absurd (omega (arith, read.0, c.read_digits-digits.ensures.count, c.if-digits-eq0.true))
+
+pub returns-clause-reads : goal.returns-clause-reads
+returns-clause-reads c = λ x rest is spelled ended.
+    let ds : List ℕ = c.split_sign-negative.result.1.now in
+    let mark : is_exponent_mark c.in-Some.mark.now ≡ true =
+    elim c.else-mark-ne101.branch [ else-mark-ne101-via-then-mark-ne101+else-mark-ne69 w ↦ mark_69 c.in-Some.mark.now w.if-mark-ne69.false | else-mark-ne101-via-else-mark-ne101 w ↦ mark_101 c.in-Some.mark.now w.if-mark-ne101.false ] in
+    let read = marked_rest c.args.bytes.now x rest is spelled ended c.in-Some.mark.now c.in-Some.text.now ds c.in-Some.ensures.cases.0 mark
+    c.split_sign-negative.ensures.behind in
+    c.split_at.ensures.back ∙ ap (λ n. drop n ds) c.read_digits-digits.ensures.count ∙ read.1
