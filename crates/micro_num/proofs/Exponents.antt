@@ -41,8 +41,8 @@ marked_rest bytes x rest is spelled ended mark text ds begins marks behind = by_
         let clear = no_other e.digits parts.1 in
         let starts = ended_other rest ended in
         let count : position_or_len is_other ds ≡ length e.digits = ap (position_or_len is_other) ds_is ∙ place is_other e.digits rest clear starts in
-        (omega (arith, ltb-true 0 (length e.digits) parts.0),
-         ap (from_first is_other) ds_is ∙ from-is is_other e.digits rest clear starts)
+        let some : 0 < position_or_len is_other ds = omega (arith, ltb-true 0 (length e.digits) parts.0) in
+        (some, ap (from_first is_other) ds_is ∙ from-is is_other e.digits rest clear starts)
 
 -- the digits behind a mark, as far as they go, are an exponent's
 pub front_exponent : (bytes : List ℕ) (mark : ℕ) (text ds : List ℕ) (n : ℕ) (e : ℤ) → bytes ≡ mark ∷ text → ds ≡ after_sign text
