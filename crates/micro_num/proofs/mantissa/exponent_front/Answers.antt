@@ -8,14 +8,16 @@ use Rattle.micro_num.proofs.Exponents.{marked_rest, front_exponent, IsNear-minus
 use Rattle.micro_num.proofs.mantissa.exponent_front.Goals.{else-mark-ne101-via-then-mark-ne101+else-mark-ne69, else-mark-ne101-via-else-mark-ne101, then-negative, else-negative}
 use Rattle.micro_num.proofs.mantissa.exponent_front.Goals as goal
 
+is_mark : (c : goal.Joined-negative) → is_exponent_mark c.in-Some.mark.now ≡ true
+is_mark c =
+    elim c.else-mark-ne101.branch [ else-mark-ne101-via-then-mark-ne101+else-mark-ne69 w ↦ mark_69 c.in-Some.mark.now w.if-mark-ne69.false | else-mark-ne101-via-else-mark-ne101 w ↦ mark_101 c.in-Some.mark.now w.if-mark-ne101.false ]
+
 pub returns-clause-front : goal.returns-clause-front
 returns-clause-front c =
     let ds : List ℕ = c.split_sign-negative.result.1.now in
     let n : ℕ = c.read_digits-digits.result.count in
     let v : ℕ = c.read_digits-digits.result.leading.value in
     let e : ℤ = to_z w64 c.if-negative.result-bits in
-    let mark : is_exponent_mark c.in-Some.mark.now ≡ true =
-    elim c.else-mark-ne101.branch [ else-mark-ne101-via-then-mark-ne101+else-mark-ne69 w ↦ mark_69 c.in-Some.mark.now w.if-mark-ne69.false | else-mark-ne101-via-else-mark-ne101 w ↦ mark_101 c.in-Some.mark.now w.if-mark-ne101.false ] in
     let leads : IsLeading v c.read_digits-digits.result.leading.dropped (digits_after 0 (take n ds)) = c.read_digits-digits.ensures.leads 0 IsLeading-none in
     let size : v < 10000000000000000 = leads.short in
     let low : to_z w64 (of_z w64 (pos 0 -ℤ to_z w64 v)) ≡ neg_ℤ (pos v) = omega (arith, ints) in
@@ -26,7 +28,7 @@ returns-clause-front c =
       | else-negative w ↦ IsNear-plus e v _ _ (sign_of c.in-Some.text.now) leads (w.result-is ∙ high) (λ h. let both = c.split_sign-negative.ensures.minus.1 h in let other = w.if-negative.false in cc)
     ] in
     let front : IsExponentFront c.args.bytes.now _ e =
-    front_exponent c.args.bytes.now c.in-Some.mark.now c.in-Some.text.now ds n e c.in-Some.ensures.cases.0 c.split_sign-negative.ensures.behind mark
+    front_exponent c.args.bytes.now c.in-Some.mark.now c.in-Some.text.now ds n e c.in-Some.ensures.cases.0 c.split_sign-negative.ensures.behind (is_mark c)
     c.read_digits-digits.ensures.count (omega (arith, c.if-digits-eq0.false)) is_near in
     subst (λ r. IsExponentFront c.args.bytes.now r e) (sym c.split_at.ensures.back) front
 
@@ -41,8 +43,6 @@ returns-then-digits-eq0-clause-reads c = λ x rest is spelled ended.
 pub returns-clause-reads : goal.returns-clause-reads
 returns-clause-reads c = λ x rest is spelled ended.
     let ds : List ℕ = c.split_sign-negative.result.1.now in
-    let mark : is_exponent_mark c.in-Some.mark.now ≡ true =
-    elim c.else-mark-ne101.branch [ else-mark-ne101-via-then-mark-ne101+else-mark-ne69 w ↦ mark_69 c.in-Some.mark.now w.if-mark-ne69.false | else-mark-ne101-via-else-mark-ne101 w ↦ mark_101 c.in-Some.mark.now w.if-mark-ne101.false ] in
-    let read = marked_rest c.args.bytes.now x rest is spelled ended c.in-Some.mark.now c.in-Some.text.now ds c.in-Some.ensures.cases.0 mark
+    let read = marked_rest c.args.bytes.now x rest is spelled ended c.in-Some.mark.now c.in-Some.text.now ds c.in-Some.ensures.cases.0 (is_mark c)
     c.split_sign-negative.ensures.behind in
     c.split_at.ensures.back ∙ ap (λ n. drop n ds) c.read_digits-digits.ensures.count ∙ read.1
