@@ -48,7 +48,8 @@ impl<'m, A: Allocator + Copy + Send + Sync> Slicer<'m, A> {
         })
     }
 
-    /// Slices one stripe of the job, its layers from the lowest up. `Err` comes only where a growth was refused.
+    /// Slices one stripe of the job, below its count of stripes: its layers from the lowest up. `Err` comes only where
+    /// a growth was refused.
     pub fn slice(&mut self, s: u64) -> Result<Piece<'m, A>, AllocError>
         requires { s < stripe_count self.old.grid }
         ensures work { IfOk result (λ piece. piece.work ≡ self.old) }
@@ -89,7 +90,8 @@ impl<'m, A: Allocator + Copy + Send + Sync> Slicer<'m, A> {
     }
 }
 
-/// Slices one stripe of a job, its layers from the lowest up, by one sweep.
+/// Slices one stripe of a job, below its count of stripes: its layers from the lowest up, by one sweep. `Err` comes
+/// only where a growth was refused.
 pub fn slice_stripe<'m, A: Allocator + Copy + Send + Sync>(
     alloc: A,
     job: &'m Job<A>,

@@ -8,8 +8,9 @@ use exact_cut::cuts;
 use mesh_weld::Solid;
 use std::alloc::{AllocError, Allocator};
 
-/// The segment of the kept facet with this number at the height `z2`, doubled micrometres; `None`
-/// where not (corners at most `z2` and corners above it).
+/// The segment of the kept facet with this number, below the solid's `count`, at the height `z2`,
+/// doubled micrometres, from -256,200,000 to 256,200,000; `None` where no corner is at most `z2`, or
+/// none is above it.
 pub fn segment_at<A: Allocator>(s: &Solid<A>, facet: u32, z2: i64) -> Option<Segment>
     requires facet { facet < length s.now.facets }
     requires height { IsAtMost 256200000 z2 }
@@ -36,8 +37,9 @@ fn edge_node(corners: &[u32; 3], edge: usize) -> Node
     }
 }
 
-/// The segments at the height `z2`, doubled micrometres, in order of facets. It looks at every kept
-/// facet; a [`Sweep`](crate::Sweep) of many heights doesn't.
+/// The segments at the height `z2`, doubled micrometres, from -256,200,000 to 256,200,000, in order of
+/// facets. It looks at every kept facet; a [`Sweep`](crate::Sweep) of many heights doesn't. `Err`
+/// comes only where a growth was refused.
 pub fn segments<A: Allocator + Copy + Send + Sync>(
     alloc: A,
     s: &Solid<A>,

@@ -15,6 +15,7 @@ pub fn loop_ray<A: Allocator>(s: &Solid<A>, list: &[Segment], c: &Centre) -> i32
     ensures ahead { result ≡ ray (loop_facets s.now.facets list.now) c.now }
     ensures back { result ≡ neg_ray_back (loop_facets s.now.facets list.now) c.now }
 {
+    // (two edges have one number exactly where their ends are the same two points)
     let _numbers = s.edge_numbers();
     let facets = s.count();
     prove!(list.len() <= facets + 1);

@@ -42,7 +42,7 @@ impl Centre {
         }
     }
 
-    /// Doubled.
+    /// The x, in half micrometres.
     pub fn x2(&self) -> i64
         ensures value { result ≡ self.now.x }
         ensures within { IsAtMost 256200000 result }
@@ -50,7 +50,7 @@ impl Centre {
         self.x2
     }
 
-    /// Doubled.
+    /// The y, in half micrometres.
     pub fn y2(&self) -> i64
         ensures value { result ≡ self.now.y }
         ensures within { IsAtMost 256200000 result }
@@ -58,7 +58,7 @@ impl Centre {
         self.y2
     }
 
-    /// Doubled.
+    /// The z, in half micrometres.
     pub fn z2(&self) -> i64
         ensures value { result ≡ self.now.z }
         ensures within { IsAtMost 256200000 result }

@@ -5,7 +5,7 @@ ghost use Rattle.exact_cut.specs.Slides.{ArePartsOf};
 use crate::slides::Parts;
 use micro_num::ceil_div;
 
-/// The least whole number that is not below `n / d`, in 64 bits.
+/// The least whole number that is not below `n / d`: as `ceil_div`, by a division of 64 bits, which is faster.
 pub fn ceil_div_short(n: i64, d: i64) -> i64
     requires { pos 0 <ℤ d }
     ensures { (q : ℤ) → (result ≤ℤ q) ↔ (n ≤ℤ (q *ℤ d)) }

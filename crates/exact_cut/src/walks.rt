@@ -108,8 +108,8 @@ impl Walk {
         self.sign
     }
 
-    /// The column of the next crossing: the least one whose centre is not left of it, or the count
-    /// of columns. The walk goes on to the next row.
+    /// The column of the next crossing, of which one has to be left: the least one whose centre is not
+    /// left of it, or the count of columns. The walk goes on to the next row.
     pub fn next_column(&mut self) -> u32
         requires { 0 < length self.old.columns }
         ensures column { self.old.columns ≡ result ∷ self.new.columns }

@@ -15,6 +15,7 @@ use stripe_claims::{Claims, Pass};
 /// Each worker draws stripes from claims without a lock; the lock round the book is taken for filing
 /// alone, of several pieces at once. A stripe that a worker couldn't make for want of memory, and the
 /// share of a worker that couldn't be started, fall to the others and to the caller's thread at the end.
+/// `Err` comes only where a growth was refused there.
 pub fn build<'m, R: Threads + Wait + Sync, A: Allocator + Copy + Send + Sync, G: Gate<A> + Sync>(
     rt: &R,
     alloc: A,
@@ -93,6 +94,7 @@ fn work<'m, R: Wait, A: Allocator + Copy + Send + Sync, G: Gate<A>>(
         };
         let is_last = gather(claims, gate, worker, &mut pass, &mut slicer, &mut sheaf);
         if !sheaf.is_empty() {
+            // what is not filed is made at the end
             let _ = book.lock(rt).file_all(sheaf);
         }
         if is_last {

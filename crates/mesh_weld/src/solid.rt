@@ -107,7 +107,7 @@ impl<A: Allocator> Solid<A> {
         self.facets.len()
     }
 
-    /// The kept facet with this number.
+    /// The kept facet with this number, below `count`.
     pub fn facet(&self, number: u32) -> Facet
         requires { number < length self.now.facets }
         ensures { slice_get self.now.facets number ≡ Some result }

@@ -19,8 +19,13 @@ use crate::solid::Solid;
 use std::alloc::{AllocError, Allocator};
 use stl_text::{Facet, Point};
 
-/// The solid of closed facets. Memory aside, it succeeds exactly where the directed edges of all
-/// facets balance; facets with two equal corners are dropped. On a fault the list is given up.
+/// The solid of closed facets, at most 1,048,576 of them. Memory aside, it succeeds exactly where the
+/// directed edges of all facets balance; facets with two equal corners are dropped. On a fault the
+/// list is given up.
+///
+/// # Errors
+/// `Open` with the least pair of points that edges don't balance between, and how many run there and
+/// back; `Memory` only where a growth was refused.
 pub fn weld<A: Allocator + Copy + Send + Sync>(
     alloc: A,
     facets: Vec<Facet, A>,

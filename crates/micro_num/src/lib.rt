@@ -1,4 +1,4 @@
-//! Decimal texts read as whole micrometres, and the exact integers that the other crates count with.
+//! Decimal texts read as whole micrometres, and a division that rounds up.
 #![tactic(auto)]
 
 mod digits;

@@ -27,6 +27,7 @@ pub struct Filler<A: Allocator> {
 }
 
 impl<A: Allocator + Copy + Send + Sync> Filler<A> {
+    /// A filler that has filled nothing. It takes no memory.
     pub fn new(alloc: A) -> Filler<A> {
         Filler {
             marks: RowMarks::new(alloc),
@@ -54,6 +55,7 @@ impl<A: Allocator + Copy + Send + Sync> Filler<A> {
         ensures swept { IfOk result (λ spans. (i j : ℕ) → i < g.now.columns → j < g.now.rows
             → covers spans.items i j ≡ is_inside rule (neg_ray_back s.now.facets (centre g.now i j k))) }
     {
+        // (a solid is closed)
         let _closed = s.count();
         let pixels = g.pixels();
         self.marks.start(alloc, pixels.rows)?;
@@ -64,9 +66,9 @@ impl<A: Allocator + Copy + Send + Sync> Filler<A> {
     }
 }
 
-/// The spans of filled pixels of layer k, by the segments of its plane: in order of rows, from the left, neither empty
-/// nor touching. A pixel is filled where the rule holds of its voxel's centre. `Err` comes only where a growth was
-/// refused.
+/// The spans of filled pixels of layer k, below the grid's count, by the segments of its plane: in order of rows, from
+/// the left, neither empty nor touching. A pixel is filled where the rule holds of its voxel's centre. `Err` comes only
+/// where a growth was refused.
 pub fn fill<A: Allocator + Copy + Send + Sync>(
     alloc: A,
     s: &Solid<A>,

@@ -158,7 +158,8 @@ impl Grid {
         self.layers
     }
 
-    /// The centre of the voxel of column i, row j and layer k.
+    /// The centre of the voxel of column i, row j and layer k, each below the grid's count, from 0: columns along x,
+    /// rows along y, layers along z.
     pub fn centre(&self, i: u32, j: u32, k: u32) -> Centre
         requires column { i < self.now.columns }
         requires row { j < self.now.rows }
@@ -191,7 +192,7 @@ impl Grid {
         }
     }
 
-    /// The height of layer k's plane, in half micrometres: that of the centres of its voxels.
+    /// The height of the plane of layer k, below `layers`, in half micrometres: that of the centres of its voxels.
     pub fn plane(&self, k: u32) -> i64
         requires { k < self.now.layers }
         ensures value { result ≡ plane self.now k }
@@ -263,6 +264,7 @@ fn within_limits(
             layers,
         });
     }
+    // (a point's coordinates are in range)
     let _x = origin.x();
     let _y = origin.y();
     let _z = origin.z();

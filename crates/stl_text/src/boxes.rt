@@ -1,4 +1,4 @@
-ghost use Rattle.std.specs.Prelude.{◌≡◌, Some, fold, option_map};
+ghost use Rattle.std.specs.Prelude.{◌≡◌, fold, option_map};
 ghost use Rattle.stl_text.specs.Extent.{bounds, greatest_of, least_of};
 ghost use Rattle.stl_text.specs.Triangle.{corners};
 
@@ -12,40 +12,46 @@ pub fn extent(facets: &[Facet]) -> Option<(Point, Point)>
     let mut low = start;
     let mut high = start;
     for facet in facets {
-        low = lowest(low, facet)?;
-        high = highest(high, facet)?;
+        low = lowest(low, facet);
+        high = highest(high, facet);
     }
     Some((low, high))
 }
 
-/// The least x, y and z of a place and the corners of a facet. There is always such a point.
-fn lowest(place: Point, facet: &Facet) -> Option<Point>
-    ensures { result ≡ Some (fold least_of place (corners facet.now)) }
+/// The least x, y and z of a place and the corners of a facet.
+fn lowest(place: Point, facet: &Facet) -> Point
+    ensures { result ≡ fold least_of place (corners facet.now) }
 {
-    let below_first = lower(place, facet.corner(0))?;
-    let below_second = lower(below_first, facet.corner(1))?;
+    let below_first = lower(place, facet.corner(0));
+    let below_second = lower(below_first, facet.corner(1));
     lower(below_second, facet.corner(2))
 }
 
-/// The greatest x, y and z of a place and the corners of a facet. There is always such a point.
-fn highest(place: Point, facet: &Facet) -> Option<Point>
-    ensures { result ≡ Some (fold greatest_of place (corners facet.now)) }
+/// The greatest x, y and z of a place and the corners of a facet.
+fn highest(place: Point, facet: &Facet) -> Point
+    ensures { result ≡ fold greatest_of place (corners facet.now) }
 {
-    let above_first = higher(place, facet.corner(0))?;
-    let above_second = higher(above_first, facet.corner(1))?;
+    let above_first = higher(place, facet.corner(0));
+    let above_second = higher(above_first, facet.corner(1));
     higher(above_second, facet.corner(2))
 }
 
 /// The lesser x, y and z of two points, in range as theirs are.
-fn lower(p: Point, q: Point) -> Option<Point>
-    ensures { result ≡ Some (least_of p q) }
+fn lower(p: Point, q: Point) -> Point
+    ensures { result ≡ least_of p q }
 {
-    Point::new(p.x().min(q.x()), p.y().min(q.y()), p.z().min(q.z()))
+    let Some(point) = Point::new(p.x().min(q.x()), p.y().min(q.y()), p.z().min(q.z())) else {
+        unreachable!();
+    };
+    point
 }
 
 /// The greater x, y and z of two points, in range as theirs are.
-fn higher(p: Point, q: Point) -> Option<Point>
-    ensures { result ≡ Some (greatest_of p q) }
+fn higher(p: Point, q: Point) -> Point
+    ensures { result ≡ greatest_of p q }
 {
-    Point::new(p.x().max(q.x()), p.y().max(q.y()), p.z().max(q.z()))
+    let Some(point) = Point::new(p.x().max(q.x()), p.y().max(q.y()), p.z().max(q.z())) else {
+        unreachable!();
+    };
+    point
 }

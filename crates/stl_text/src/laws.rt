@@ -1,9 +1,13 @@
 ghost use Rattle.std.specs.Prelude.{◌≡◌, ◌≤◌, ◌⊎◌, List, length, ℕ};
+ghost use Rattle.std.specs.Ordering.{is_lt};
 ghost use Rattle.micro_num.specs.declared.units.Unit.{Unit as LengthUnit};
 ghost use Rattle.stl_text.specs.declared.faults.StlFault.{StlFault};
+ghost use Rattle.stl_text.specs.Position.{Position, is_before};
 ghost use Rattle.stl_text.specs.Text.{IsFaultOf, Reads};
 ghost use Rattle.stl_text.specs.Triangle.{Triangle};
 ghost use Rattle.stl_text.specs.Written.{Written};
+
+use crate::points::Point;
 
 /// A text reads as facets in one way, or has one fault.
 pub fn one_outcome()
@@ -22,4 +26,9 @@ pub fn one_outcome()
 pub fn written_reads_back()
     ensures { (limit : ℕ) (unit : LengthUnit) (facets : List Triangle) (bytes : List ℕ)
         → length facets ≤ limit → Written unit facets bytes → Reads limit unit bytes facets }
+{}
+
+/// Points are ordered by x, then y, then z.
+pub fn points_in_order()
+    ensures { (p q : Position) → is_lt (⟦<Point as Ord>⟧.cmp p q) ≡ is_before p q }
 {}

@@ -11,7 +11,7 @@ mod words;
 
 pub use boxes::extent;
 pub use faults::StlFault;
-pub use laws::{one_outcome, written_reads_back};
+pub use laws::{one_outcome, points_in_order, written_reads_back};
 pub use points::{Facet, Point};
 pub use reader::{FACET_LIMIT, read_stl, read_stl_at_most};
 pub use words::Word;

@@ -5,8 +5,9 @@ ghost use Rattle.stl_text.specs.Triangle.{corner, triangle};
 
 use std::marker::Model;
 
-/// A point of a mesh, in micrometres; each coordinate is -128,000,000 to 128,000,000.
-#[derive(Clone, Copy, Debug, PartialEq, Eq)]
+/// A point of a mesh, in micrometres; each coordinate is -128,000,000 to 128,000,000. Points are ordered by x, then y,
+/// then z.
+#[derive(Clone, Copy, Debug, PartialEq, Eq, PartialOrd, Ord)]
 pub struct Point {
     x: i32,
     y: i32,
@@ -102,7 +103,7 @@ impl Facet {
         Facet([a, b, c])
     }
 
-    /// The corner with this number.
+    /// The corner with this number, 0, 1 or 2.
     pub fn corner(&self, number: usize) -> Point
         requires { number < 3 }
         ensures { result ≡ corner self.now number }

@@ -334,7 +334,7 @@ impl<'t> Reader<'t> {
 ///
 /// A text is one or more solids: `solid` and a name up to the end of its line, any number of facets,
 /// `endsolid` and the rest of its line. Keywords are read in any case, and a normal is any three
-/// words. The text's numbers are in `unit`; points are in whole micrometres.
+/// words. The text's numbers are in `unit`; points are in whole micrometres. `limit` is at most 1,048,576.
 ///
 /// Memory aside, a text that spells no mesh has exactly one fault, and that is the answer:
 /// - `Expected` where the first word that doesn't fit stands in place of a keyword,

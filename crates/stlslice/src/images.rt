@@ -27,6 +27,7 @@ pub(crate) fn write_images<A: Allocator, O: Sink>(
         × HasFailed (O.Failures.failure_count sink.old) (O.Failures.failure_count sink.new)) }
 {
     let grid = build.job().grid();
+    // (a grid has few layers, so the count of bytes has room)
     let _layers = grid.layers();
     let mut written = 0;
     for layer in build.layers() {

@@ -1,22 +1,30 @@
-use Rattle.std.proofs.Common.{◌≡◌, rules, sym}
-use Rattle.std.specs.Prelude.{◌↔◌, IfSome, IsSome}
+use Rattle.std.proofs.Common.{◌≡◌, ◌∙◌, rules}
+use Rattle.std.specs.Prelude.{◌↔◌, IsSome}
 use Rattle.std.specs.Int.{int_min}
 use Rattle.micro_num.specs.Bounds.{IsAtMost}
 use Rattle.stl_text.specs.Extent.{least_of}
 use Rattle.stl_text.specs.Position.{Position, IsMeshPosition}
-use Rattle.stl_text.proofs.Ranges.{min-within, made}
+use Rattle.stl_text.proofs.Ranges.{min-within, there_is}
 use Rattle.stl_text.proofs.boxes.lower.Goals as goal
+
+pub unreachable-requires : goal.unreachable-requires
+unreachable-requires c =
+    let x_is : c.min.result ≡ int_min c.x.result c.x-2.result = search rules in
+    let y_is : c.min-2.result ≡ int_min c.y.result c.y-2.result = search rules in
+    let z_is : c.min-3.result ≡ int_min c.z.result c.z-2.result = search rules in
+    let place : Position = record { x = c.min.result; y = c.min-2.result; z = c.min-3.result } in
+    let x_in : IsAtMost 128000000 c.min.result = rw x_is (min-within 128000000 _ _ c.x.ensures.within c.x-2.ensures.within) in
+    let y_in : IsAtMost 128000000 c.min-2.result = rw y_is (min-within 128000000 _ _ c.y.ensures.within c.y-2.ensures.within) in
+    let z_in : IsAtMost 128000000 c.min-3.result = rw z_is (min-within 128000000 _ _ c.z.ensures.within c.z-2.ensures.within) in
+    let there : IsSome c.new.result ↔ IsMeshPosition place = search rules in
+    there_is c.new.result (there.1 (x_in, y_in, z_in)) c.in_default.is
 
 pub returns : goal.returns
 returns c =
     let x_is : c.min.result ≡ int_min c.x.result c.x-2.result = search rules in
     let y_is : c.min-2.result ≡ int_min c.y.result c.y-2.result = search rules in
     let z_is : c.min-3.result ≡ int_min c.z.result c.z-2.result = search rules in
-    let x_in : IsAtMost 128000000 c.min.result = rw x_is (min-within 128000000 _ _ c.x.ensures.within c.x-2.ensures.within) in
-    let y_in : IsAtMost 128000000 c.min-2.result = rw y_is (min-within 128000000 _ _ c.y.ensures.within c.y-2.ensures.within) in
-    let z_in : IsAtMost 128000000 c.min-3.result = rw z_is (min-within 128000000 _ _ c.z.ensures.within c.z-2.ensures.within) in
     let place : Position = record { x = c.min.result; y = c.min-2.result; z = c.min-3.result } in
-    let there : IsSome c.new.result ↔ IsMeshPosition place = search rules in
-    let value : IfSome c.new.result (λ p. p ≡ place) = search rules in
+    let value : c.in-Some.point ≡ place = search rules in
     let place_is : place ≡ least_of c.args.p c.args.q = cc in
-    rw (← place_is) (made c.new.result place (x_in, y_in, z_in) there value)
+    value ∙ place_is
