@@ -13,6 +13,9 @@ use stlslice::{Counted, WordFault, read_words, run};
 /// The status where the words are not even text.
 const NO_TEXT: u8 = 2;
 
+/// The status where help could not be written.
+const UNWRITTEN: u8 = 7;
+
 fn main(rt: HostRuntime) -> ExitCode {
     let alloc = rt.alloc();
     let words = match words(&rt) {
@@ -48,10 +51,12 @@ fn unread<R: Eprint>(rt: &R, fault: &io::Error) -> ExitCode {
 /// Ends a program whose words are no task. Help that they ask for goes to standard output.
 fn refused<R: Print + Eprint>(rt: &R, fault: &WordFault) -> ExitCode {
     match fault {
-        WordFault::Refused(refusal) => {
-            let _ = refusal.print(rt);
-            ExitCode::from(fault.status())
-        }
+        WordFault::Refused(refusal) => match refusal.print(rt) {
+            Err(_) if fault.status() == 0 => {
+                ended(rt, &"stlslice: the help could not be written", UNWRITTEN)
+            }
+            _ => ExitCode::from(fault.status()),
+        },
         _ => ended(rt, fault, fault.status()),
     }
 }
