@@ -30,7 +30,7 @@ const PLAIN: Task = Task::Slice {
 };
 
 /// Words, and their task.
-const TASKS: [(&str, Task); 6] = [
+const TASKS: [(&str, Task); 7] = [
     ("--box", BOX),
     ("--box --pitch 5 --report --probe 0,0,0", BOX),
     (
@@ -41,6 +41,18 @@ const TASKS: [(&str, Task); 6] = [
     (
         "--rule evenodd --layer=100000 --unit=mm --workers=1 --pitch=50",
         PLAIN,
+    ),
+    (
+        "--pitch 100000 --layer 1 --probe 0,2,1",
+        Task::Probe {
+            unit: Unit::Millimetre,
+            pitch: 100_000,
+            layer: 1,
+            grid: None,
+            i: 0,
+            j: 2,
+            k: 1,
+        },
     ),
     (
         "--probe 003,999999999,0 --report --rule nonzero --pitch 1 --layer 1",
@@ -102,19 +114,22 @@ const GRID: &str = "stlslice: --grid takes COLUMNS,ROWS,LAYERS,X0,Y0,Z0";
 
 const PROBE: &str = "stlslice: --probe takes I,J,K";
 
-/// Words that are no task, and the line of their fault, where it isn't of the form of the command.
-static NO_TASKS: [(&str, &str); 22] = [
+/// Words that are of the form of the command and yet no task, and the line of their fault.
+static NO_TASKS: [(&str, &str); 27] = [
     ("", PITCH),
     ("--layer 1", PITCH),
     ("--pitch 1", LAYER),
     ("--rule odd", RULE),
+    ("--box --rule odd", RULE),
     ("--rule= --box", RULE),
     ("--rule EvenOdd --unit cm --box", RULE),
     ("--unit cm --grid 1 --box", UNIT),
+    ("--unit= --box", UNIT),
+    ("--unit=MM --box", UNIT),
+    ("--grid= --box", GRID),
     ("--grid 1,1,1,0,0 --probe 0,0 --pitch 1 --layer 1", GRID),
     ("--grid 1,1,1,0,0,0,0", GRID),
     ("--grid +1,1,1,0,0,0", GRID),
-    ("--grid -0,1,1,0,0,0 --box", GRID),
     ("--grid=-0,1,1,0,0,0 --box", GRID),
     ("--grid 1,1,1,128000001,0,0", GRID),
     ("--grid 1,1,1,0,+0,0", GRID),
@@ -122,29 +137,27 @@ static NO_TASKS: [(&str, &str); 22] = [
     ("--grid 1,1,1,0,0,-", GRID),
     ("--grid 1234567890,1,1,0,0,0", GRID),
     ("--grid 1,1,1,0,0,0000000000", GRID),
+    ("--probe= --box", PROBE),
+    ("--probe=+1,0,0 --pitch 1 --layer 1", PROBE),
     ("--probe 0,0", PROBE),
     ("--probe 0,0,-0 --box", PROBE),
     ("--probe 0,0,0,0", PROBE),
     ("--probe 1234567890,0,0", PROBE),
 ];
 
-/// Whether a fault has status 2 and this line, or is of the form of the command.
-fn is_told(alloc: Global, fault: &WordFault, told: &str) -> bool {
-    let is_line = match fault {
-        WordFault::Refused(_) => true,
-        _ => match fault.to_string(alloc) {
-            Ok(shown) => shown.as_str() == told,
-            Err(_) => false,
-        },
-    };
-    is_line && fault.status() == 2
+/// Whether a fault has this status and this line.
+fn is_told(alloc: Global, fault: &WordFault, status: u8, told: &str) -> bool {
+    match fault.to_string(alloc) {
+        Ok(shown) => fault.status() == status && shown.as_str() == told,
+        Err(_) => false,
+    }
 }
 
-/// Whether a line of words is no task, by a fault that is told so.
+/// Whether a line of words is no task, by a fault of status 2 that is told so.
 fn is_no_task(alloc: Global, line: &str, told: &str) -> bool {
     match task_of(alloc, line) {
         Ok(_) => false,
-        Err(fault) => is_told(alloc, &fault, told),
+        Err(fault) => is_told(alloc, &fault, 2, told),
     }
 }
 
@@ -163,31 +176,104 @@ fn words_that_are_no_task(rt: HostRuntime) -> Result<(), usize> {
     all_no_task(rt.alloc(), &NO_TASKS)
 }
 
-/// Words that are not of the form of the command, or ask for its help, and the status of their fault.
-static REFUSED: [(&str, u8); 11] = [
-    ("--pitch 0 --layer 1", 2),
-    ("--pitch 100001 --layer 1", 2),
-    ("--pitch 1 --layer 1 --workers 65", 2),
-    ("--pitch 1 --layer 1 --workers 0", 2),
-    ("--pitch= --layer 1 --rule odd", 2),
-    ("--box --box", 2),
-    ("--box --unit mm --unit mm", 2),
-    ("--bo", 2),
-    ("--box part.stl", 2),
-    ("--box --help", 0),
-    ("-h", 0),
-];
-
-/// The status of words that are not of the form of the command, or ask for its help.
-fn refused_status(alloc: Global, line: &str) -> Option<u8> {
-    let fault = task_of(alloc, line).err()?;
-    matches!(&fault, WordFault::Refused(_)).then_some(fault.status())
+#[test]
+fn words_without_memory(rt: HostRuntime) {
+    assert!(rt; is_told(rt.alloc(), &WordFault::Memory, 6, "stlslice: out of memory"));
 }
 
-/// `Ok`, or the number of the first row whose words are not refused with its status.
-fn all_refused(alloc: Global, rows: &[(&str, u8)]) -> Result<(), usize> {
-    for (n, (line, status)) in rows.iter().enumerate() {
-        if refused_status(alloc, line) != Some(*status) {
+const ABOUT: &str = "Slices a closed triangle mesh into one image a layer.\n";
+
+/// Words that are not of the form of the command, or ask for its help; and the status and the front of what is told.
+type Refused<'a> = (&'a str, u8, &'a str);
+
+static REFUSED: [Refused; 13] = [
+    (
+        "--pitch 0 --layer 1",
+        2,
+        "error: invalid value '0' for '--pitch <N>'",
+    ),
+    (
+        "--pitch 100001 --layer 1",
+        2,
+        "error: invalid value '100001' for '--pitch <N>'",
+    ),
+    (
+        "--pitch 1 --layer 0",
+        2,
+        "error: invalid value '0' for '--layer <N>'",
+    ),
+    (
+        "--pitch 1 --layer 100001",
+        2,
+        "error: invalid value '100001' for '--layer <N>'",
+    ),
+    (
+        "--pitch 1 --layer 1 --workers 65",
+        2,
+        "error: invalid value '65' for '--workers <N>'",
+    ),
+    (
+        "--pitch 1 --layer 1 --workers 0",
+        2,
+        "error: invalid value '0' for '--workers <N>'",
+    ),
+    (
+        "--pitch= --layer 1 --rule odd",
+        2,
+        "error: invalid value '' for '--pitch <N>'",
+    ),
+    (
+        "--box --box",
+        2,
+        "error: the argument '--box' cannot be used multiple times",
+    ),
+    (
+        "--box --unit mm --unit mm",
+        2,
+        "error: the argument '--unit <U>' cannot be used multiple times",
+    ),
+    ("--bo", 2, "error: unexpected argument '--bo' found"),
+    (
+        "--box part.stl",
+        2,
+        "error: unexpected argument 'part.stl' found",
+    ),
+    ("--box --help", 0, ABOUT),
+    ("-h", 0, ABOUT),
+];
+
+/// Texts that begin with `-` behind a blank, which the command takes for options. How that is told is left open.
+static DASHED: [Refused; 3] = [
+    ("--grid -0,1,1,0,0,0 --box", 2, ""),
+    ("--grid -1,1,1,0,0,0 --pitch 1 --layer 1", 2, ""),
+    ("--probe -1,0,0 --pitch 1 --layer 1", 2, ""),
+];
+
+/// Whether a fault is of the form of the command and has this status, and what is told of it begins so.
+fn is_refusal(alloc: Global, fault: &WordFault, status: u8, front: &str) -> bool {
+    match fault.to_string(alloc) {
+        Ok(shown) => {
+            matches!(fault, WordFault::Refused(_))
+                && fault.status() == status
+                && shown.as_str().starts_with(front)
+        }
+        Err(_) => false,
+    }
+}
+
+/// Whether words are refused as a row tells.
+fn is_refused(alloc: Global, row: &Refused<'_>) -> bool {
+    let (line, status, front) = *row;
+    match task_of(alloc, line) {
+        Ok(_) => false,
+        Err(fault) => is_refusal(alloc, &fault, status, front),
+    }
+}
+
+/// `Ok`, or the number of the first row whose words are a task or refused otherwise.
+fn all_refused(alloc: Global, rows: &[Refused<'_>]) -> Result<(), usize> {
+    for (n, row) in rows.iter().enumerate() {
+        if !is_refused(alloc, row) {
             return Err(n);
         }
     }
@@ -197,4 +283,9 @@ fn all_refused(alloc: Global, rows: &[(&str, u8)]) -> Result<(), usize> {
 #[test]
 fn words_that_are_refused(rt: HostRuntime) -> Result<(), usize> {
     all_refused(rt.alloc(), &REFUSED)
+}
+
+#[test]
+fn texts_that_begin_with_a_dash(rt: HostRuntime) -> Result<(), usize> {
+    all_refused(rt.alloc(), &DASHED)
 }
