@@ -114,7 +114,7 @@ fn each_growth_refused_in_turn(rt: HostRuntime) -> Result<(), usize> {
 
 #[test]
 fn each_growth_refused_before_a_gap(rt: HostRuntime) {
-    match gap(0) {
+    match gap() {
         Some(fault) => {
             let usual: Usual = (Err(fault), b"");
             assert!(rt; first_free_turn_over(&rt, "--pitch 1 --layer 1", OPEN, &usual) > 8);

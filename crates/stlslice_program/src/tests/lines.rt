@@ -1,9 +1,8 @@
 use super::answers::is_told;
-use super::meshes::gap;
 use micro_num::NumFault;
 use raster::GridFault;
 use std::alloc::Global;
-use stl_text::{StlFault, Word};
+use stl_text::{Point, StlFault, Word};
 use stlslice::RunFault;
 
 /// A fault, and its status and its line.
@@ -80,11 +79,11 @@ const GRIDS: [Row; 5] = [
     (
         RunFault::Grid(GridFault::TooLarge {
             columns: 16385,
-            rows: 1,
-            layers: 1,
+            rows: 2,
+            layers: 3,
         }),
         5,
-        "stlslice: grid too large: 16385 columns, 1 rows, 1 layers",
+        "stlslice: grid too large: 16385 columns, 2 rows, 3 layers",
     ),
     (
         RunFault::Grid(GridFault::NoCells),
@@ -99,11 +98,11 @@ const GRIDS: [Row; 5] = [
     (
         RunFault::Outside {
             columns: 2,
-            rows: 2,
-            layers: 2,
+            rows: 3,
+            layers: 4,
         },
         5,
-        "stlslice: voxel outside the grid: 2 columns, 2 rows, 2 layers",
+        "stlslice: voxel outside the grid: 2 columns, 3 rows, 4 layers",
     ),
 ];
 
@@ -127,10 +126,22 @@ fn faults_of_devices_and_memory(rt: HostRuntime) -> Result<(), usize> {
     all_told(rt.alloc(), &DEVICES)
 }
 
+/// The fault of an edge of which no two numbers are equal.
+fn edge() -> Option<RunFault> {
+    let from = Point::new(-1, 2, -3)?;
+    let to = Point::new(4, -5, 6)?;
+    Some(RunFault::Open {
+        from,
+        to,
+        there: 7,
+        back: 8,
+    })
+}
+
 #[test]
 fn faults_of_open_edges(rt: HostRuntime) -> Result<(), usize> {
-    let line = "stlslice: open edge 0 0 0 to 0 2 -1 there 0 back 1";
-    match gap(-1) {
+    let line = "stlslice: open edge -1 2 -3 to 4 -5 6 there 7 back 8";
+    match edge() {
         Some(fault) => all_told(rt.alloc(), &[(fault, 4, line)]),
         None => Err(0),
     }

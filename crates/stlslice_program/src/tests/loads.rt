@@ -55,7 +55,7 @@ fn is_refused(alloc: Global, mesh: Mesh<'_>, fault: RunFault) -> bool {
 
 #[test]
 fn a_text_with_a_gap(rt: HostRuntime) {
-    match gap(0) {
+    match gap() {
         Some(fault) => assert!(rt; is_refused(rt.alloc(), Facets(OPEN), fault)),
         None => assert!(rt; false),
     }

@@ -181,10 +181,10 @@ fn push_loud(text: &mut String, line: &str) -> Result<(), AllocError> {
     text.push_str("\r\n")
 }
 
-/// The fault of an edge from (0, 0, 0) to (0, 2, z) that is there only back. The open cube's has 0.
-pub(crate) fn gap(z: i32) -> Option<RunFault> {
+/// The open cube's fault, of an edge from (0, 0, 0) to (0, 2, 0) that is there only back.
+pub(crate) fn gap() -> Option<RunFault> {
     let from = Point::new(0, 0, 0)?;
-    let to = Point::new(0, 2, z)?;
+    let to = Point::new(0, 2, 0)?;
     Some(RunFault::Open {
         from,
         to,
