@@ -1,15 +1,16 @@
 use super::answers::{Told, all_written, refuses};
 use super::meshes::Mesh::{Boxes, Facets, Joined, Text};
-use super::meshes::{CUBE, FLAT, OPEN, mesh_text};
+use super::meshes::{CUBE, FLAT, OPEN, SPIKED, mesh_text};
 use std::alloc::Global;
 use std::sync::Wait;
 use std::thread::Threads;
 
-static BOXES: [Told; 7] = [
+static BOXES: [Told; 8] = [
     ("--box", Facets(CUBE), "facets 12 box 0 0 0 2 2 2\n"),
     ("--box", Facets(OPEN), "facets 11 box 0 0 0 2 2 2\n"),
     ("--box", Facets(FLAT), "facets 1 box 0 0 0 2 0 0\n"),
     ("--box", Joined(CUBE, FLAT), "facets 13 box 0 0 0 2 2 2\n"),
+    ("--box", SPIKED, "facets 13 box 0 0 0 9 2 2\n"),
     (
         "--box",
         Boxes(&[[[-128_000_000, -3, 0], [-1, 5, 128_000_000]]]),

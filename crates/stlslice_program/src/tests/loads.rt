@@ -1,5 +1,5 @@
 use super::meshes::Mesh::{Facets, Joined, Text};
-use super::meshes::{CUBE, FLAT, Mesh, OPEN, PAIR, SHEET, gap, mesh_text};
+use super::meshes::{CUBE, FLAT, Mesh, OPEN, PAIR, SHEET, SPIKED, gap, mesh_text};
 use micro_num::Unit;
 use short_memory::ShortMemory;
 use std::alloc::{Allocator, Global};
@@ -25,10 +25,11 @@ fn facts_of_mesh(alloc: Global, mesh: Mesh<'_>) -> Result<Facts, RunFault> {
 /// is (0, 0, 0).
 type Row<'a> = (Mesh<'a>, usize, u32, i32);
 
-static SOLIDS: [Row; 4] = [
+static SOLIDS: [Row; 5] = [
     (Facets(CUBE), 12, 0, 2),
     (Joined(CUBE, PAIR), 14, 0, 2),
     (Joined(CUBE, FLAT), 12, 1, 2),
+    (SPIKED, 12, 1, 2),
     (Facets(SHEET), 2, 0, 0),
 ];
 

@@ -11,6 +11,8 @@ pub(crate) enum Mesh<'a> {
     Facets(&'a str),
     /// The facets of two tables.
     Joined(&'a str, &'a str),
+    /// The facets of two tables, those of the second at the corners of a box.
+    JoinedAt(&'a str, &'a str, Corners),
     /// Boxes, one after the other.
     Boxes(&'a [Corners]),
     /// A box, and one whose facets are inward.
@@ -29,8 +31,9 @@ pub(crate) fn mesh_text(alloc: Global, mesh: Mesh<'_>) -> Result<String, AllocEr
 fn push_mesh(alloc: Global, text: &mut String, mesh: Mesh<'_>) -> Result<(), AllocError> {
     match mesh {
         Mesh::Text(words) => text.push_str(words),
-        Mesh::Facets(facets) => push_joined(text, facets, ""),
-        Mesh::Joined(first, second) => push_joined(text, first, second),
+        Mesh::Facets(facets) => push_joined(text, facets, "", &CUBE_CORNERS),
+        Mesh::Joined(first, second) => push_joined(text, first, second, &CUBE_CORNERS),
+        Mesh::JoinedAt(first, second, corners) => push_joined(text, first, second, &corners),
         Mesh::Boxes(boxes) => push_boxes(text, boxes),
         Mesh::Hollow(outward, inward) => push_hollow(text, &outward, &inward),
         Mesh::Loud(boxes) => push_loud_boxes(alloc, text, boxes),
@@ -59,6 +62,9 @@ pub(crate) const PAIR: &str = "100110111 100111110";
 /// A facet with two equal corners.
 pub(crate) const FLAT: &str = "000000100";
 
+/// The cube, and a facet with two equal corners that reaches out of it along x.
+pub(crate) const SPIKED: Mesh<'static> = Mesh::JoinedAt(CUBE, FLAT, [[0, 0, 0], [9, 9, 9]]);
+
 /// Two facets back to back, below the cube.
 pub(crate) const SHEET: &str = "000100010 000010100";
 
@@ -78,6 +84,8 @@ endsolid o
 /// A box by its least and its greatest corner, in micrometres.
 pub(crate) type Corners = [[i32; 3]; 2];
 
+const CUBE_CORNERS: Corners = [[0, 0, 0], [2, 2, 2]];
+
 /// What stands before and after a number of micrometres, to make it millimetres.
 type Spelling = (&'static str, &'static str);
 
@@ -86,12 +94,16 @@ const DECIMALS: Spelling = ("0.00", "");
 
 const EXPONENT: Spelling = ("", "e-3");
 
-/// The facets of two tables, with three decimals.
-fn push_joined(text: &mut String, first: &str, second: &str) -> Result<(), AllocError> {
-    let corners = [[0, 0, 0], [2, 2, 2]];
+/// The facets of two tables, those of the second at the corners of a box, with three decimals.
+fn push_joined(
+    text: &mut String,
+    first: &str,
+    second: &str,
+    corners: &Corners,
+) -> Result<(), AllocError> {
     text.push_str("solid t\n")?;
-    push_facets(text, first, &corners, DECIMALS)?;
-    push_facets(text, second, &corners, DECIMALS)?;
+    push_facets(text, first, &CUBE_CORNERS, DECIMALS)?;
+    push_facets(text, second, corners, DECIMALS)?;
     text.push_str("endsolid t\n")
 }
 

@@ -1,6 +1,8 @@
 use super::answers::{Refused, all_refused, writes, written};
 use super::meshes::Mesh::{Boxes, Facets, Hollow, Joined, Loud, Text};
-use super::meshes::{CUBE, Corners, FLAT, INWARD, Mesh, OCTAHEDRON, OPEN, PAIR, SHEET, mesh_text};
+use super::meshes::{
+    CUBE, Corners, FLAT, INWARD, Mesh, OCTAHEDRON, OPEN, PAIR, SHEET, SPIKED, mesh_text,
+};
 use std::alloc::{AllocError, Global};
 use std::sync::Wait;
 use std::thread::Threads;
@@ -206,7 +208,7 @@ fn boxes_by_each_rule(rt: HostRuntime) -> Result<(), usize> {
 
 const PAIRED_REPORT: &str = "layer 0 loops 2 area 4\nlayer 1 loops 2 area 4\ntotal 8\n";
 
-static FILL_NOTHING: [Row; 5] = [
+static FILL_NOTHING: [Row; 6] = [
     (
         "--pitch 1 --layer 1",
         Joined(CUBE, PAIR),
@@ -231,6 +233,8 @@ static FILL_NOTHING: [Row; 5] = [
         CUBE_IMAGES,
         CUBE_REPORT,
     ),
+    // The grid fits the facets that are kept.
+    ("--pitch 1 --layer 1", SPIKED, CUBE_IMAGES, CUBE_REPORT),
     (
         "--pitch 1 --layer 1",
         Facets(SHEET),
