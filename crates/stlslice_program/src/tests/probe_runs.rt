@@ -2,7 +2,7 @@ use super::answers::{Refused, Told, all_refused, all_written};
 use super::meshes::Mesh::{Boxes, Facets, Text};
 use super::meshes::{CUBE, INWARD, OCTAHEDRON, OPEN};
 
-static RAYS: [Told; 9] = [
+static RAYS: [Told; 13] = [
     (
         "--pitch 4 --layer 4 --probe 0,0,0",
         Text(OCTAHEDRON),
@@ -42,6 +42,26 @@ static RAYS: [Told; 9] = [
         "--pitch 1 --layer 1 --probe 3,3,2 --grid 9,8,7,-4,-3,-2",
         Facets(CUBE),
         "voxel 3 3 2 x 0 y 0\n",
+    ),
+    (
+        "--pitch 1 --layer 1 --probe 0,0,0 --grid 1,4,1,0,0,0",
+        Facets(CUBE),
+        "voxel 0 0 0 x 1 y 1\n",
+    ),
+    (
+        "--pitch 1 --layer 1 --probe 0,3,0 --grid 1,4,1,0,0,0",
+        Facets(CUBE),
+        "voxel 0 3 0 x 0 y 0\n",
+    ),
+    (
+        "--pitch 1 --layer 1 --probe 003,0,0 --grid 4,1,1,-3,0,0",
+        Facets(CUBE),
+        "voxel 3 0 0 x 1 y 1\n",
+    ),
+    (
+        "--pitch 1 --layer 1 --probe 16383,16383,65534 --grid 16384,16384,65535,-16382,-16382,-65533",
+        Facets(CUBE),
+        "voxel 16383 16383 65534 x 1 y 1\n",
     ),
     (
         "--pitch 1 --layer 1 --probe 0,1,0 --grid 1,2,1,0,0,0",
