@@ -440,10 +440,28 @@ fn slanted_facets_by_many_workers(rt: HostRuntime) {
     assert!(rt; images == Some(102 * (9 + 34 * 5)));
 }
 
+/// Whether what is written ends so, and the number of workers makes no difference.
+fn ends_by_each<R: Threads + Wait + Sync + AllocGlobal>(
+    rt: &R,
+    line: &str,
+    input: &str,
+    end: &[u8],
+) -> bool {
+    match written(rt, line, input) {
+        Some(text) => {
+            text.as_slice().ends_with(end) && each_writes(rt, line, "", input, text.as_slice())
+        }
+        None => false,
+    }
+}
+
 #[test]
 fn a_report_of_slanted_facets_by_many_workers(rt: HostRuntime) {
-    let report = length_by_each(&rt, "--unit inch --pitch 3 --layer 1 --report", OCTAHEDRON);
-    assert!(rt; report.is_some());
+    let line = "--unit inch --pitch 3 --layer 1 --report";
+    // Inside, the amounts of x, y and z sum to less than 51 micrometres. That holds for 19584 centres of voxels, which
+    // are at odd halves of 3, 3 and 1.
+    let end = b"layer 101 loops 1 area 0\ntotal 19584\n";
+    assert!(rt; ends_by_each(&rt, line, OCTAHEDRON, end));
 }
 
 static GIVEN: [Row; 6] = [
