@@ -508,7 +508,7 @@ fn slices_in_given_grids(rt: HostRuntime) -> Result<(), usize> {
     all_sliced(&rt, &GIVEN)
 }
 
-static REFUSED: [Refused; 9] = [
+static REFUSED: [Refused; 14] = [
     (
         "--pitch 1 --layer 1",
         Facets(OPEN),
@@ -540,6 +540,18 @@ static REFUSED: [Refused; 9] = [
         "stlslice: grid too large: 16385 columns, 1 rows, 1 layers",
     ),
     (
+        "--pitch 1 --layer 1",
+        Boxes(&[[[0, 0, 0], [1, 16385, 1]]]),
+        5,
+        "stlslice: grid too large: 1 columns, 16385 rows, 1 layers",
+    ),
+    (
+        "--pitch 1 --layer 1",
+        Boxes(&[[[0, 0, 0], [1, 1, 65536]]]),
+        5,
+        "stlslice: grid too large: 1 columns, 1 rows, 65536 layers",
+    ),
+    (
         "--pitch 1 --layer 1 --grid 0,1,1,0,0,0",
         Facets(CUBE),
         5,
@@ -547,6 +559,24 @@ static REFUSED: [Refused; 9] = [
     ),
     (
         "--pitch 1 --layer 1 --grid 16385,1,1,0,0,0",
+        Facets(CUBE),
+        5,
+        "stlslice: grid too large: 16385 columns, 1 rows, 1 layers",
+    ),
+    (
+        "--pitch 1 --layer 1 --grid 1,16385,1,0,0,0",
+        Facets(CUBE),
+        5,
+        "stlslice: grid too large: 1 columns, 16385 rows, 1 layers",
+    ),
+    (
+        "--pitch 1 --layer 1 --grid 1,1,65536,0,0,0",
+        Facets(CUBE),
+        5,
+        "stlslice: grid too large: 1 columns, 1 rows, 65536 layers",
+    ),
+    (
+        "--pitch 100 --layer 1 --grid 16385,1,1,128000000,0,0",
         Facets(CUBE),
         5,
         "stlslice: grid too large: 16385 columns, 1 rows, 1 layers",
