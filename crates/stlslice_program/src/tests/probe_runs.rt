@@ -2,7 +2,7 @@ use super::answers::{Refused, Told, all_refused, all_written};
 use super::meshes::Mesh::{Boxes, Facets, Text};
 use super::meshes::{CUBE, INWARD, OCTAHEDRON, OPEN};
 
-static RAYS: [Told; 13] = [
+static RAYS: [Told; 14] = [
     (
         "--pitch 4 --layer 4 --probe 0,0,0",
         Text(OCTAHEDRON),
@@ -62,6 +62,12 @@ static RAYS: [Told; 13] = [
         "--pitch 1 --layer 1 --probe 16383,16383,65534 --grid 16384,16384,65535,-16382,-16382,-65533",
         Facets(CUBE),
         "voxel 16383 16383 65534 x 1 y 1\n",
+    ),
+    // The last centres are at 128100000, as far as a grid may reach.
+    (
+        "--pitch 64 --layer 64 --probe 0,0,0 --grid 1563,1563,1563,128000000,128000000,128000000",
+        Facets(CUBE),
+        "voxel 0 0 0 x 0 y 0\n",
     ),
     (
         "--pitch 1 --layer 1 --probe 0,1,0 --grid 1,2,1,0,0,0",

@@ -508,7 +508,7 @@ fn slices_in_given_grids(rt: HostRuntime) -> Result<(), usize> {
     all_sliced(&rt, &GIVEN)
 }
 
-static REFUSED: [Refused; 14] = [
+static REFUSED: [Refused; 17] = [
     (
         "--pitch 1 --layer 1",
         Facets(OPEN),
@@ -583,6 +583,25 @@ static REFUSED: [Refused; 14] = [
     ),
     (
         "--pitch 100 --layer 1 --grid 16384,1,1,128000000,0,0",
+        Facets(CUBE),
+        5,
+        "stlslice: grid reaches too far",
+    ),
+    // The centre of one before the last is at 128100000, which is allowed.
+    (
+        "--pitch 64 --layer 1 --grid 1564,1,1,128000000,0,0",
+        Facets(CUBE),
+        5,
+        "stlslice: grid reaches too far",
+    ),
+    (
+        "--pitch 64 --layer 1 --grid 1,1564,1,0,128000000,0",
+        Facets(CUBE),
+        5,
+        "stlslice: grid reaches too far",
+    ),
+    (
+        "--pitch 1 --layer 64 --grid 1,1,1564,0,0,128000000",
         Facets(CUBE),
         5,
         "stlslice: grid reaches too far",
