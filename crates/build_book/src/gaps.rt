@@ -1,6 +1,6 @@
 ghost use Rattle.std.specs.Prelude.{◌≡◌, ◌+◌, ◌*◌, ◌<◌, ◌≤◌, ℕ, IfOk, IfNone, IfSome, IsTrue, None, length, replicate, not, is_some, flat_map, option_to_list};
 ghost use Rattle.build_book.specs.Filing.{AreFree, IsTaken, IsTakenAt, filled, or_layer};
-ghost use Rattle.build_book.specs.Layers.{IsComplete, IsLawfulShelf, filed_count, place_area, stripe_count, total_area};
+ghost use Rattle.build_book.specs.Layers.{IsLawfulShelf, filed_count, place_area, stripe_count, total_area};
 
 use crate::jobs::Job;
 use crate::layers::Layer;

@@ -1,9 +1,9 @@
-ghost use Rattle.std.specs.Prelude.{◌++◌, Bool, true, false, ◌≡◌, ◌<◌, ◌≤◌, ℕ, ℤ, All, List, IfOk, OnOk, length, slice_index_or};
+ghost use Rattle.std.specs.Prelude.{◌++◌, true, false, ◌≡◌, ◌<◌, ◌≤◌, ℕ, ℤ, All, List, IfOk, OnOk, length, slice_index_or};
 ghost use Rattle.micro_num.specs.Bounds.{IsAtMost};
 ghost use Rattle.mesh_weld.specs.Balance.{IsBalanced};
 ghost use Rattle.mesh_weld.specs.EdgeNumbers.{AreEdgeNumbers};
 ghost use Rattle.contour.specs.Contour.{AreLoops, loops, segments};
-ghost use Rattle.contour.specs.Linking.{AreLinks, ArePassedEdges, AreEven, AreTaken, HasFirsts, HasLeft, HasNexts, IsClear, edge_at_node, no_place, IsTakenLoop, LeavesLoops, Rises, has_passed};
+ghost use Rattle.contour.specs.Linking.{AreLinks, ArePassedEdges, AreTaken, HasFirsts, HasLeft, HasNexts, IsClear, edge_at_node, no_place, IsTakenLoop, LeavesLoops, Rises, has_passed};
 
 use crate::nodes::{Node, Segment};
 use crate::rings::Loops;

@@ -1,4 +1,4 @@
-ghost use Rattle.std.specs.Prelude.{◌≡◌, ℤ, ◌<◌, ◌≤◌};
+ghost use Rattle.std.specs.Prelude.{◌≡◌, ◌<◌, ◌≤◌};
 ghost use Rattle.micro_num.specs.Bounds.{IsAtMost};
 ghost use Rattle.exact_cut.specs.Columns.{IsLeastColumn, clamp};
 

@@ -1,4 +1,4 @@
-ghost use Rattle.std.specs.Prelude.{◌≡◌, ℤ, ◌<◌, ◌≤ℤ◌, ◌<ℤ◌, ◌*ℤ◌, ◌↔◌, IsTrue, MatchOption};
+ghost use Rattle.std.specs.Prelude.{◌≡◌, ℤ, ◌<◌, ◌<ℤ◌, ◌*ℤ◌, ◌↔◌, IsTrue, MatchOption};
 ghost use Rattle.std.specs.Prelude.{pos};
 ghost use Rattle.micro_num.specs.Bounds.{IsAtMost};
 ghost use Rattle.stl_text.specs.Triangle.{twice};

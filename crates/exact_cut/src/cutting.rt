@@ -1,4 +1,4 @@
-ghost use Rattle.std.specs.Prelude.{◌≡◌, ◌<◌, ◌≤ℤ◌, ◌↔◌, IsTrue, MatchOption};
+ghost use Rattle.std.specs.Prelude.{◌<◌, ◌≤ℤ◌, ◌↔◌, IsTrue, MatchOption};
 ghost use Rattle.micro_num.specs.Bounds.{IsAtMost};
 ghost use Rattle.stl_text.specs.Triangle.{corner, twice};
 ghost use Rattle.exact_cut.specs.Cutting.{IsBetween, IsCut};

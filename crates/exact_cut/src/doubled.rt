@@ -1,4 +1,3 @@
-ghost use Rattle.std.specs.Prelude.{◌≡◌};
 ghost use Rattle.micro_num.specs.Bounds.{IsAtMost};
 
 /// A point of a mesh in doubled coordinates, half micrometres.

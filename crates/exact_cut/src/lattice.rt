@@ -1,4 +1,4 @@
-ghost use Rattle.std.specs.Prelude.{◌≡◌, ◌*ℤ◌, ◌+ℤ◌, ◌<◌, ◌≤ℤ◌, ◌≤◌, pos, ℤ};
+ghost use Rattle.std.specs.Prelude.{◌*ℤ◌, ◌+ℤ◌, ◌<◌, ◌≤ℤ◌, ◌≤◌, pos, ℤ};
 ghost use Rattle.micro_num.specs.Bounds.{IsAtMost};
 
 /// The pixel centres of a layer: column i has its centre at the doubled x `x2 + 2 * step * i`, and

@@ -1,4 +1,3 @@
-ghost use Rattle.std.specs.Prelude.{◌≡◌};
 ghost use Rattle.micro_num.specs.Bounds.{IsAtMost};
 
 /// How a corner lies from a centre, doubled.

@@ -1,4 +1,4 @@
-ghost use Rattle.std.specs.Prelude.{◌≡◌, ◌*ℤ◌, ◌+◌, ◌<◌, ◌<ℤ◌, ◌≤ℤ◌, ◌≤◌, ◌↔◌, pos, unsigned_abs, ℤ};
+ghost use Rattle.std.specs.Prelude.{◌*ℤ◌, ◌+◌, ◌<◌, ◌<ℤ◌, ◌≤ℤ◌, ◌≤◌, ◌↔◌, pos, unsigned_abs, ℤ};
 ghost use Rattle.micro_num.specs.Bounds.{IsAtMost};
 ghost use Rattle.exact_cut.specs.Slides.{ArePartsOf};
 

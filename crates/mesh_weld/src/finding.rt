@@ -1,5 +1,5 @@
 //! The distinct corners of facets, by a table of hashes: faster than a sort of all. What comes of it is checked.
-ghost use Rattle.std.specs.Prelude.{◌≡◌, ◌≤◌, ◌<◌, IfOk, IfSome, OnOk, length, flat_map};
+ghost use Rattle.std.specs.Prelude.{◌≤◌, ◌<◌, IfOk, IfSome, OnOk, length, flat_map};
 ghost use Rattle.std.specs.List.{All, Contains};
 ghost use Rattle.stl_text.specs.Triangle.{corners};
 ghost use Rattle.mesh_weld.specs.Entries.{IsNoted};

@@ -1,5 +1,5 @@
 //! Facets by the numbers of their corners, from the names that were found for these.
-ghost use Rattle.std.specs.Prelude.{◌≡◌, ◌≤◌, ◌<◌, IfOk, IfSome, IsTrue, length, map, flat_map, slice_index, slice_index_or};
+ghost use Rattle.std.specs.Prelude.{◌≡◌, ◌≤◌, ◌<◌, IfOk, IfSome, length, map, flat_map, slice_index, slice_index_or};
 ghost use Rattle.std.specs.List.{All, Contains};
 ghost use Rattle.stl_text.specs.Position.{origin};
 ghost use Rattle.stl_text.specs.Triangle.{corners};

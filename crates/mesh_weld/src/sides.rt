@@ -1,7 +1,6 @@
-ghost use Rattle.std.specs.Prelude.{◌≡◌, ◌↔◌, ◌≤◌, ◌<◌, ◌*◌, ◌+◌, ◌-◌, ◌^◌, IfOk, OnOk, IsTrue, MatchOption, IfSome, ◌++◌, ◌∷◌, [], length, vec_len, min, max};
-ghost use Rattle.std.specs.List.{filter};
+ghost use Rattle.std.specs.Prelude.{◌≡◌, ◌↔◌, ◌≤◌, ◌<◌, ◌*◌, ◌+◌, ◌-◌, ◌^◌, IfOk, OnOk, IsTrue, MatchOption, ◌++◌, ◌∷◌, [], length, vec_len, min, max};
 ghost use Rattle.std.specs.List.Sorted.{IsPermutation, IsNonDecreasingBy};
-ghost use Rattle.mesh_weld.specs.Entries.{sides_from, is_placed, pair_key, started, counted, IsEven, IsLeastUneven, ArePairNumbers};
+ghost use Rattle.mesh_weld.specs.Entries.{sides_from, pair_key, started, counted, IsEven, IsLeastUneven, ArePairNumbers};
 
 use std::alloc::{AllocError, Allocator};
 

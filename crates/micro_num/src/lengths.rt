@@ -1,4 +1,4 @@
-ghost use Rattle.std.specs.Prelude.{◌≡◌, ◌≤◌, ◌<◌, ◌+◌, ◌*◌, ◌++◌, ◌+ℤ◌, ◌-ℤ◌, List, length, ℕ, ℤ, pos, true, unsigned_abs};
+ghost use Rattle.std.specs.Prelude.{◌≡◌, ◌≤◌, ◌<◌, ◌+◌, ◌*◌, ◌++◌, ◌+ℤ◌, ◌-ℤ◌, length, ℤ, pos, unsigned_abs};
 ghost use Rattle.micro_num.specs.Micrometres.{digits_value, magnitude, unit_factor, unit_power};
 ghost use Rattle.micro_num.specs.Scan.{IsCapped, IsCarry, IsCut, IsMantissa, IsNear};
 

@@ -1,4 +1,4 @@
-ghost use Rattle.std.specs.Prelude.{◌≡◌, ◌≤◌, ◌<◌, ◌+◌, ◌*◌, ◌^◌, ℕ, List, length};
+ghost use Rattle.std.specs.Prelude.{◌≡◌, ◌<◌, ◌+◌, ◌*◌, ◌^◌, ℕ, length};
 ghost use Rattle.micro_num.specs.Scan.{IsCapped, IsCarry, digits_after};
 ghost use Rattle.micro_num.specs.Micrometres.{magnitude, rounded_quotient};
 

@@ -1,4 +1,4 @@
-ghost use Rattle.std.specs.Prelude.{◌≡◌, ◌<◌, ◌≤◌, ◌≤ℤ◌, IfSome, Some, option_map, ◌-◌, ℕ, int_lt, pos};
+ghost use Rattle.std.specs.Prelude.{◌≡◌, ◌<◌, ◌≤◌, ◌≤ℤ◌, IfSome, Some, option_map, ◌-◌, int_lt, pos};
 ghost use Rattle.micro_num.specs.Bounds.{IsAtMost};
 ghost use Rattle.raster.specs.Lattice.{IsBox, cell_count, centre, exceeds, fitted_grid, given_grid, grid_within, lattice, middle, plane, reaches_too_far, within_limits};
 

@@ -1,4 +1,4 @@
-ghost use Rattle.std.specs.Prelude.{◌≡◌, ◌<◌, ◌≤◌, ◌+◌, ℕ, length, slice_index, true};
+ghost use Rattle.std.specs.Prelude.{◌≡◌, ◌≤◌, ◌+◌, ℕ, length, slice_index, true};
 ghost use Rattle.std.specs.Int.{div_ceil};
 ghost use Rattle.raster.specs.Fill.{AreSpans};
 ghost use Rattle.raster.specs.Picture.{row_bytes};

@@ -1,4 +1,4 @@
-ghost use Rattle.std.specs.Prelude.{◌≡◌, ◌≤◌};
+ghost use Rattle.std.specs.Prelude.{◌≡◌};
 ghost use Rattle.raster.specs.Fill.{IsLayerOfSpans, span_area};
 
 /// Filled pixels of one row of a layer: the columns from `from` up to and without `to`.

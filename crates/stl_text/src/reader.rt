@@ -1,4 +1,4 @@
-ghost use Rattle.std.specs.Prelude.{◌≡◌, ◌≢◌, ◌+◌, ◌-◌, ◌<◌, ◌≤◌, ◌↔◌, ℕ, ℤ, [], ◌∷◌, ◌++◌, length, flat_map, codes, IfErr, IfOk, IsTrue, List, MatchResult, Some, vec_len};
+ghost use Rattle.std.specs.Prelude.{◌≡◌, ◌≢◌, ◌+◌, ◌-◌, ◌<◌, ◌≤◌, ◌↔◌, ℤ, [], ◌∷◌, ◌++◌, length, flat_map, IfErr, IfOk, IsTrue, List, MatchResult, Some, vec_len};
 ghost use Rattle.std.specs.Bool.{MatchBool};
 ghost use Rattle.micro_num.specs.Bounds.{IsAtMost};
 ghost use Rattle.stl_text.specs.declared.faults.StlFault.TheVariants.{Ended, Memory};
