@@ -3,7 +3,7 @@ use Rattle.std.proofs.Common.{◌≡◌, ◌<◌, ◌↔◌, [], ◌∷◌, ℤ,
 use Rattle.std.proofs.lemmas.Int.{ints, quot-rem, rem_below}
 use lib.IntN.{*ℤ_comm}
 use Rattle.micro_num.proofs.Identity.{reads, identity}
-use Rattle.micro_num.proofs.Signs.{mul_le_left, lt_of_mul_left}
+use Rattle.micro_num.proofs.Signs.{weak, mul_le_left, lt_of_mul_left}
 
 above : (n s r d x y z : ℤ) → s +ℤ r ≡ n → r <ℤ d → x ≤ℤ y → y ≡ z → x ≡ s +ℤ d → n ≤ℤ z
 above n s r d x y z e b l f g = omega (arith, ints)
@@ -13,9 +13,6 @@ less n s r x y z e b l f g = omega (arith, ints)
 
 next : (x y : ℤ) → x <ℤ y → (x +ℤ pos 1) ≤ℤ y
 next x y h = omega (arith, ints)
-
-weak : (d : ℤ) → pos 0 <ℤ d → pos 0 ≤ℤ d
-weak d h = omega (arith, ints)
 
 -- over q and r with n = q*d + r
 up : (n d q r : ℤ) → pos 0 <ℤ d → q *ℤ d +ℤ r ≡ n → pos 0 <ℤ r → r <ℤ d → (k : ℤ) → ((q +ℤ pos 1) ≤ℤ k) ↔ (n ≤ℤ (k *ℤ d))

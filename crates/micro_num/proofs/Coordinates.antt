@@ -5,14 +5,14 @@ use Rattle.std.specs.Char.{is_ascii_digit}
 use Rattle.std.specs.List.{list_all, before_first, position_or_len}
 use Rattle.std.proofs.lemmas.List.{take-append-drop, take_at}
 use Rattle.std.proofs.Math.Seq.{take-append-add}
-use Rattle.std.proofs.lemmas.Bool.{cases_lt, lt-ltb, le-ltb, lt-leb, le-leb}
+use Rattle.std.proofs.lemmas.Bool.{and_parts, cases_lt, lt-ltb, le-ltb, lt-leb, le-leb}
 use Rattle.micro_num.specs.declared.units.Unit.{Unit as LengthUnit}
 use Rattle.micro_num.specs.declared.faults.NumFault.{NumFault}
 use Rattle.micro_num.specs.declared.faults.NumFault.TheVariants.{NotNumber, TooLong, OutOfRange}
 use Rattle.micro_num.specs.Numeral.{Sign, unsigned, plus, minus, Numeral, IsNumeral, IsSpelled, sign_of, after_sign, numeral_of, numeral_text, sign_text, fraction_text, exponent_text, from_first, fraction_digits, mantissa_digits}
 use Rattle.micro_num.specs.Micrometres.{with_sign, magnitude, unit_factor, unit_power, digits_value, exponent_value, coordinate_or_fault, numeral_coordinate, coordinate_of, micro, is_coordinate}
 use Rattle.micro_num.specs.Scan.{is_other, digits_behind, rest_behind, IsCapped, IsExponentFront, IsNumberFront, IsEnded, scanned, is_numeral, size, size_or_fault, size_of}
-use Rattle.micro_num.proofs.Grammar.{and_parts, numeral_of-is, numeral_of-text, regrouped, sign-text, after_sign-is, numeral_unsigned, front-text}
+use Rattle.micro_num.proofs.Grammar.{numeral_of-is, numeral_of-text, regrouped, sign-text, after_sign-is, numeral_unsigned, front-text}
 use Rattle.micro_num.proofs.Scanning.{numeral_of-scanned, scanned_digits, scanned-text, behind-text, scanned-is, ended_take}
 
 -- what is read of a size

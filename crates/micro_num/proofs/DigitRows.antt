@@ -4,12 +4,12 @@ use Rattle.std.specs.Char.{is_ascii_digit}
 use Rattle.std.specs.List.{list_all}
 use Rattle.std.proofs.lemmas.List.{length-drop}
 use Rattle.std.proofs.lemmas.List.Sums.{fold-append}
-use Rattle.std.proofs.lemmas.Bool.{cases_lt}
+use Rattle.std.proofs.lemmas.Bool.{and_parts, cases_lt}
 use Rattle.std.proofs.lemmas.Nat.{pow-add}
 use Rattle.std.proofs.Math.Nat.{pow-succ', mul-le-mul_right, lt_of_mul-lt-mul_right, one-le-pow, mul-le-mul_left}
 use Rattle.std.proofs.Math.Seq.{drop-cons}
 use Rattle.micro_num.specs.Scan.{IsLeading, IsCarry, digits_after}
-use Rattle.micro_num.proofs.Grammar.{and_parts, bounds}
+use Rattle.micro_num.proofs.Grammar.{bounds}
 
 digits_after-more : (n : ℕ) (ds : List ℕ) → digits_after n ds ≡ n * 10 ^ length ds + digits_after 0 ds
 digits_after-more n [] = omega arith

@@ -4,12 +4,12 @@ use Rattle.std.specs.Prelude.{Option, Some, None, nat_lt}
 use Rattle.std.specs.Char.{is_ascii_digit}
 use Rattle.std.specs.List.{list_all, position_or_len}
 use Rattle.std.proofs.lemmas.Int.{ints}
-use Rattle.std.proofs.lemmas.Bool.{lt-ltb, ltb-true}
+use Rattle.std.proofs.lemmas.Bool.{and_parts, lt-ltb, ltb-true}
 use Rattle.std.proofs.lemmas.List.{take-append-drop}
 use Rattle.micro_num.specs.Numeral.{Sign, unsigned, plus, minus, Exponent, are_digits, is_exponent_mark, after_sign, is_exponent, sign_of, sign_text, exponent_text, from_first}
 use Rattle.micro_num.specs.Micrometres.{with_sign, digits_value}
 use Rattle.micro_num.specs.Scan.{IsExponentFront, IsLeading, IsNear, IsEnded, is_other}
-use Rattle.micro_num.proofs.Grammar.{and_parts, place, from-is, sign-text, after_sign-is, digits_unsigned_on}
+use Rattle.micro_num.proofs.Grammar.{place, from-is, sign-text, after_sign-is, digits_unsigned_on}
 use Rattle.micro_num.proofs.Scanning.{front_digits, no_other, ended_other}
 use Rattle.micro_num.proofs.DigitRows.{near}
 

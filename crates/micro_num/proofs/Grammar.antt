@@ -7,12 +7,8 @@ use Rattle.std.proofs.lemmas.List.{take-append-drop}
 use Rattle.std.proofs.lemmas.List.Folds.{list_all-append}
 use Rattle.std.proofs.Math.Seq.{take-append_seam, drop-append_seam}
 use Rattle.std.proofs.Math.Numerals.{one-add}
-use Rattle.std.proofs.lemmas.Bool.{eqb-true, leb-true, ne_eqb}
+use Rattle.std.proofs.lemmas.Bool.{and_parts, eqb-true, leb-true, ne_eqb}
 use Rattle.micro_num.specs.Numeral.{Sign, unsigned, plus, minus, Exponent, Numeral, is_exponent_mark, is_point, sign_text, fraction_text, exponent_text, numeral_text, fraction_digits, mantissa_digits, are_digits, is_exponent, IsNumeral, sign_of, after_sign, from_first, fraction_of, exponent_of, parts_of, numeral_of}
-
-pub and_parts : (a b : Bool) → (a && b) ≡ true → (a ≡ true) × (b ≡ true)
-and_parts true b h = (refl, h)
-and_parts false b h = cc
 
 -- nothing, or what begins with a byte that passes
 abbrev pub Starts : (ℕ → Bool) → List ℕ → Type 0
@@ -122,7 +118,7 @@ module _ (d : ℕ) (h : is_ascii_digit d ≡ true) where
   digit-mark : not (is_exponent_mark d) ≡ true
   digit-mark = rw (other 69 (inr (lit≤ tt)), other 101 (inr (lit≤ tt))) refl
 
-pub all-weaker : (p q : ℕ → Bool) → ((x : ℕ) → p x ≡ true → q x ≡ true) → (xs : List ℕ)
+pub all-weaker : {X : Type 0} (p q : X → Bool) → ((x : X) → p x ≡ true → q x ≡ true) → (xs : List X)
     → list_all p xs ≡ true → list_all q xs ≡ true
 all-weaker p q weaker [] h = refl
 all-weaker p q weaker (x ∷ xs) h =

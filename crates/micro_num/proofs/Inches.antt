@@ -5,13 +5,12 @@ use Rattle.std.specs.Char.{is_ascii_digit}
 use Rattle.std.specs.List.{list_all}
 use Rattle.std.proofs.lemmas.List.{drop_all, take-append-drop, length-drop}
 use Rattle.std.proofs.lemmas.List.Folds.{list_all-append}
-use Rattle.std.proofs.lemmas.Bool.{cases_lt}
+use Rattle.std.proofs.lemmas.Bool.{and_parts, cases_lt}
 use Rattle.std.proofs.Math.Nat.{pow-le-pow_right}
 use Rattle.micro_num.specs.declared.units.Unit.{Unit as LengthUnit}
 use Rattle.micro_num.specs.declared.units.Unit.TheVariants.{Millimetre, Inch}
 use Rattle.micro_num.specs.Micrometres.{unit_factor, unit_power}
 use Rattle.micro_num.specs.Scan.{IsLeading, IsCarry, IsCut, digits_after}
-use Rattle.micro_num.proofs.Grammar.{and_parts}
 use Rattle.micro_num.proofs.Powers.{power_suc}
 use Rattle.micro_num.proofs.DigitRows.{digits_after-append, IsCarry-none, IsCarry-all}
 

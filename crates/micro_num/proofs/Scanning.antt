@@ -6,10 +6,10 @@ use Rattle.std.specs.List.{list_all, before_first, position_or_len}
 use Rattle.std.proofs.lemmas.List.{take-append-drop}
 use Rattle.std.proofs.lemmas.List.Folds.{list_all-append}
 use Rattle.std.proofs.Math.Numerals.{one-add}
-use Rattle.std.proofs.lemmas.Bool.{eqb-true, ltb-true}
+use Rattle.std.proofs.lemmas.Bool.{and_parts, eqb-true, ltb-true}
 use Rattle.micro_num.specs.Numeral.{Sign, unsigned, Exponent, Numeral, is_point, is_exponent_mark, sign_text, fraction_text, exponent_text, numeral_text, fraction_digits, mantissa_digits, is_exponent, IsNumeral, sign_of, after_sign, from_first, exponent_of, numeral_of}
 use Rattle.micro_num.specs.Scan.{is_other, digits_behind, rest_behind, scanned, is_numeral, IsEnded}
-use Rattle.micro_num.proofs.Grammar.{and_parts, Starts, before-is, from-is, sign-text, exponent-text, regrouped, all-weaker, IsUnsigned, sign-is, after_sign-is, exponent-is, numeral_digits, numeral_unsigned, numeral_of-is, numeral_of-text, front-text}
+use Rattle.micro_num.proofs.Grammar.{Starts, before-is, from-is, sign-text, exponent-text, regrouped, all-weaker, IsUnsigned, sign-is, after_sign-is, exponent-is, numeral_digits, numeral_unsigned, numeral_of-is, numeral_of-text, front-text}
 
 -- digits alone stand in front of what is none
 pub front_digits : (xs : List ℕ) → list_all is_ascii_digit (before_first is_other xs) ≡ true

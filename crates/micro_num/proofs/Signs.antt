@@ -11,6 +11,9 @@ sign_cases (pos zero) = inr (inl refl)
 sign_cases (pos (suc n)) = inr (inr (omega (arith, ints)))
 sign_cases (negsuc n) = inl (omega (arith, ints))
 
+pub weak : (a : ℤ) → pos 0 <ℤ a → pos 0 ≤ℤ a
+weak a h = omega (arith, ints)
+
 pub at_most_or_above : (a b : ℤ) → (a ≤ℤ b) ⊎ (b <ℤ a)
 at_most_or_above a b = grind (arith, ints)
 
@@ -38,7 +41,7 @@ mul_negative_right a b h k = below_zero (a *ℤ b) (subst (λ z. pos 0 <ℤ z) (
 pub mul_negative_left : (a b : ℤ) → a <ℤ pos 0 → pos 0 <ℤ b → (a *ℤ b) <ℤ pos 0
 mul_negative_left a b h k = below_zero (a *ℤ b) (subst (λ z. pos 0 <ℤ z) (neg_mul a b) (mul_positive (neg_ℤ a) b (omega (arith, ints)) k))
 
-two_negs : (a b : ℤ) → neg_ℤ a *ℤ neg_ℤ b ≡ a *ℤ b
+pub two_negs : (a b : ℤ) → neg_ℤ a *ℤ neg_ℤ b ≡ a *ℤ b
 two_negs a b = identity (a ∷ b ∷ []) (search reads depth 40) refl
 
 pub mul_of_negatives : (a b : ℤ) → a <ℤ pos 0 → b <ℤ pos 0 → pos 0 <ℤ (a *ℤ b)
@@ -59,7 +62,7 @@ zero_right : (a b : ℤ) → b ≡ pos 0 → a *ℤ b ≡ pos 0
 zero_right a b e = ap (λ z. a *ℤ z) e ∙ identity (a ∷ []) (search reads depth 40) refl
 
 -- ---- and back
-clash : (z : ℤ) → pos 0 <ℤ z → z ≤ℤ pos 0 → ⊥
+pub clash : (z : ℤ) → pos 0 <ℤ z → z ≤ℤ pos 0 → ⊥
 clash z h k = omega (arith, ints)
 
 clash_zero : (z : ℤ) → pos 0 <ℤ z → z ≡ pos 0 → ⊥
@@ -100,16 +103,13 @@ same_sign a b k = by (sign_cases a)
 pub square_not_negative : (a : ℤ) → pos 0 ≤ℤ (a *ℤ a)
 square_not_negative a = by (sign_cases a)
   where
-    weaken : (z : ℤ) → pos 0 <ℤ z → pos 0 ≤ℤ z
-    weaken z h = omega (arith, ints)
-
     from_zero : (z : ℤ) → z ≡ pos 0 → pos 0 ≤ℤ z
     from_zero z h = omega (arith, ints)
 
     by : (a <ℤ pos 0) ⊎ (a ≡ pos 0) ⊎ (pos 0 <ℤ a) → pos 0 ≤ℤ (a *ℤ a)
-    by (inl n) = weaken (a *ℤ a) (mul_of_negatives a a n n)
+    by (inl n) = weak (a *ℤ a) (mul_of_negatives a a n n)
     by (inr (inl e)) = from_zero (a *ℤ a) (zero_left a a e)
-    by (inr (inr p)) = weaken (a *ℤ a) (mul_positive a a p p)
+    by (inr (inr p)) = weak (a *ℤ a) (mul_positive a a p p)
 
 -- ---- a positive factor on both sides
 pub lt_from_difference : (a b : ℤ) → pos 0 <ℤ (b -ℤ a) → a <ℤ b
@@ -159,9 +159,6 @@ fraction_trans a b c d e f pb pd pf h k =
     let y = mul_le_left b (c *ℤ f) (e *ℤ d) (weak b pb) k in
     lt_of_mul_left d (a *ℤ f) (e *ℤ b) (weak d pd) (chain (f *ℤ (a *ℤ d)) (f *ℤ (c *ℤ b)) (b *ℤ (c *ℤ f)) (b *ℤ (e *ℤ d)) (d *ℤ (a *ℤ f)) (d *ℤ (e *ℤ b)) x y e1 e2 e3)
   where
-    weak : (x : ℤ) → pos 0 <ℤ x → pos 0 ≤ℤ x
-    weak x h = omega (arith, ints)
-
     e1 : f *ℤ (c *ℤ b) ≡ b *ℤ (c *ℤ f)
     e1 = identity (b ∷ c ∷ f ∷ []) (search reads depth 40) refl
 
