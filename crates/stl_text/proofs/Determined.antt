@@ -5,7 +5,7 @@ use Rattle.std.specs.Prelude.{Option, Some, None, Ok, Err, Result, ℤ, ◌==◌
 use Rattle.std.specs.Str.{bytes_eq}
 use Rattle.std.specs.Ordering.{int_eq}
 use Rattle.std.proofs.lemmas.Slice.Eq.{bytes_eq-Decides}
-use Rattle.std.proofs.lemmas.Bool.{eqb-true}
+use Rattle.std.proofs.lemmas.Bool.{and_parts, eqb-true}
 use Rattle.std.proofs.lemmas.Bool.Decides.{Decides-int_eq}
 use Rattle.micro_num.specs.declared.units.Unit.{Unit as LengthUnit}
 use Rattle.micro_num.specs.declared.faults.NumFault.{NumFault}
@@ -14,7 +14,6 @@ use Rattle.stl_text.specs.declared.words.Word.{Word}
 use Rattle.stl_text.specs.declared.words.Word.TheVariants.{Solid, FacetOrEnd, Normal, Outer, Loop, Vertex, Number, EndLoop, EndFacet}
 use Rattle.stl_text.specs.Triangle.{Triangle}
 use Rattle.stl_text.specs.Text.{Piece, keyword, normal_part, coordinate, rest_of_line, end_word, facet_pieces, solid_pieces, is_keyword, is_read_as, begins_with, after_piece, rest_behind, first_word}
-use Rattle.stl_text.proofs.Parts.{and_parts}
 
 -- What may stand in a place: a keyword, a word of a normal, a coordinate, a rest of a line.
 pub data Slot : Type 0 where

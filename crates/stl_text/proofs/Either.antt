@@ -10,7 +10,7 @@ use Rattle.std.proofs.lemmas.List.{take-append-drop}
 use Rattle.std.proofs.Math.Numerals.{one-add}
 use Rattle.std.proofs.lemmas.Grind.{flat_map-append}
 use Rattle.std.proofs.lemmas.List.Sums.{sum_by-append}
-use Rattle.stl_text.specs.Reading.{begun_in, open_pieces}
+use Rattle.stl_text.specs.Reading.{begun_in}
 use Rattle.stl_text.proofs.OneFault.{begun-facets, begun-solids}
 use Rattle.micro_num.specs.declared.units.Unit.{Unit as LengthUnit}
 use Rattle.micro_num.specs.declared.faults.NumFault.{NumFault}
@@ -281,6 +281,10 @@ no_word-space bytes e = by_front (after_space bytes) refl (front_is bytes) e
 
 abbrev end_pieces : List Piece
 end_pieces = end_word ∷ rest_of_line ∷ []
+
+-- a solid as far as these facets
+abbrev pub open_pieces : List Triangle → List Piece
+open_pieces facets = keyword Solid (codes "solid") ∷ rest_of_line ∷ flat_map facet_pieces facets
 
 -- one more solid, open
 cut_open : (solids : List (List Triangle)) (facets : List Triangle)

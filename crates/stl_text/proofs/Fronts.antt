@@ -4,7 +4,7 @@ use Rattle.std.specs.Prelude.{Option, Some, None, Ok, Err, ℤ, ◌==◌, nat_lt
 use Rattle.std.specs.Char.{is_ascii_digit, to_ascii_lowercase}
 use Rattle.std.specs.Str.{str_to_ascii_lowercase}
 use Rattle.std.specs.List.{list_all, before_first}
-use Rattle.std.proofs.lemmas.Bool.{cases_lt, lt-leb, ne_eqb, eqb-true}
+use Rattle.std.proofs.lemmas.Bool.{and_parts, cases_lt, lt-leb, ne_eqb, eqb-true}
 use Rattle.std.proofs.lemmas.List.{take-append-drop}
 use Rattle.std.proofs.lemmas.List.Folds.{list_all-append}
 use Rattle.std.proofs.lemmas.Slice.Eq.{bytes_eq-Decides}
@@ -16,7 +16,6 @@ use Rattle.micro_num.specs.Micrometres.{coordinate_of, numeral_coordinate}
 use Rattle.micro_num.proofs.Grammar.{Starts, before-is, from-is, all-weaker, bounds, numeral_of-is}
 use Rattle.stl_text.specs.Text.{is_white, is_keyword}
 use Rattle.stl_text.specs.Written.{IsApart}
-use Rattle.stl_text.proofs.Parts.{and_parts}
 
 abbrev is_black : ℕ → Bool
 is_black byte = not (is_white byte)

@@ -1,4 +1,3 @@
-pub mod Parts
 pub mod Ranges
 pub mod Meshes
 mod Rows

@@ -6,6 +6,7 @@ use Rattle.std.specs.List.{list_all, before_first}
 use Rattle.std.proofs.lemmas.List.Folds.{list_all-append}
 use Rattle.std.proofs.lemmas.List.Sums.{sum_by-append, sum_by-cons}
 use Rattle.std.proofs.lemmas.Slice.Eq.{bytes_eq-Decides}
+use Rattle.std.proofs.lemmas.Bool.{and_parts}
 use Rattle.micro_num.specs.declared.units.Unit.{Unit as LengthUnit}
 use Rattle.micro_num.specs.declared.faults.NumFault.{NumFault}
 use Rattle.micro_num.specs.Micrometres.{coordinate_of}
@@ -16,7 +17,6 @@ use Rattle.stl_text.specs.declared.faults.StlFault.TheVariants as fault
 use Rattle.stl_text.specs.Triangle.{Triangle}
 use Rattle.stl_text.specs.Text.{Piece, keyword, normal_part, coordinate, rest_of_line, facet_word, end_word, facet_pieces, solid_pieces, is_keyword, is_text_of, is_wanted, is_facet_word, wanted, begins_with, rest_behind, first_word, after_space, is_white, facets_of, Reads, Wants, IsFaultOf}
 use Rattle.stl_text.specs.Reading.{begun_in}
-use Rattle.stl_text.proofs.Parts.{and_parts}
 use Rattle.stl_text.proofs.Determined.{Slot, fixed, any_word, any_coordinate, any_line, facet_slots, Place, Prefixes, Prefixes.longer, Prefixes.shorter, word_code, word_at, word_at-code, matches, outside, next, next_in, run, run-append, then-some, then_at, only, passed, shape-is, read-is, solid_slot, facet_slot, end_slot, solids-run, agree}
 use Rattle.stl_text.proofs.OneReading.{GoesOn, goes_on, nothing_more}
 

@@ -10,11 +10,10 @@ use Rattle.micro_num.specs.declared.units.Unit.{Unit as LengthUnit}
 use Rattle.stl_text.specs.Position.{origin}
 use Rattle.stl_text.specs.Triangle.{Triangle, triangle}
 use Rattle.stl_text.specs.Text.{Piece, keyword, normal_part, coordinate, rest_of_line, wanted, facets_of, after_space, Reads, Wants, IsFaultOf, facet_word, end_word, facet_pieces, solid_pieces, is_keyword, first_word, after_word, after_line, rest_behind}
-use Rattle.stl_text.specs.Reading.{Cursor, IsStop, start as begin, Spells, Stops, Breaks, begun_in, left_at, facet_tail, open_pieces}
+use Rattle.stl_text.specs.Reading.{Cursor, IsStop, start as begin, Spells, Stops, Breaks, begun_in, left_at, facet_tail}
 use Rattle.stl_text.proofs.OneFault.{begun-facets, begun-solids, not_both}
-use Rattle.stl_text.proofs.Either.{after_word-lt, rest-le, no_word-space}
-use Rattle.stl_text.proofs.Parts.{and_parts}
-use Rattle.std.proofs.lemmas.Bool.{false≢true}
+use Rattle.stl_text.proofs.Either.{after_word-lt, open_pieces, rest-le, no_word-space}
+use Rattle.std.proofs.lemmas.Bool.{and_parts, false≢true}
 use Rattle.stl_text.proofs.Steps.{begun-append, breaks_first, spells_then, stops_within_at}
 
 abbrev end_pieces : List Piece

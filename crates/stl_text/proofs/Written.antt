@@ -6,7 +6,7 @@ use Rattle.std.specs.Char.{to_ascii_lowercase}
 use Rattle.std.specs.List.{before_first, list_all}
 use Rattle.std.specs.Ordering.{int_eq}
 use Rattle.std.proofs.Math.Numerals.{one-add}
-use Rattle.std.proofs.lemmas.Bool.{lt-ltb}
+use Rattle.std.proofs.lemmas.Bool.{and_parts, lt-ltb}
 use Rattle.std.proofs.lemmas.Bool.Decides.{Decides-int_eq, nat_tests}
 use Rattle.std.proofs.lemmas.Slice.Eq.{bytes_eq-Decides}
 use Rattle.micro_num.specs.declared.units.Unit.{Unit as LengthUnit}
@@ -16,7 +16,6 @@ use Rattle.stl_text.specs.declared.words.Word.TheVariants.{FacetOrEnd, Solid}
 use Rattle.stl_text.specs.Triangle.{Triangle}
 use Rattle.stl_text.specs.Text.{Piece, keyword, normal_part, coordinate, rest_of_line, end_word, facet_pieces, solid_pieces, is_white, is_line_end, is_read_as, begins_with, after_space, first_word, after_word, after_piece, rest_behind, Reads}
 use Rattle.stl_text.specs.Written.{Token, is_word, are_white, laid_out, IsWordOf, AreTokensOf, IsApart, IsRemark, WrittenSolid, AreWrittenSolids, Written}
-use Rattle.stl_text.proofs.Parts.{and_parts}
 use Rattle.stl_text.proofs.Steps.{spelled-append}
 
 -- white space in front is passed

@@ -4,7 +4,7 @@
 --     IsStop        what a fault says of the place where it stands
 --     Stops         the text goes on with a front of these pieces, and has this fault behind it
 --     Breaks        the same, however many facets may begin
-use Rattle.std.specs.Prelude.{◌≡◌, ◌≢◌, ℕ, ◌+◌, ◌<◌, ◌≤◌, true, false, List, [], ◌∷◌, ◌++◌, length, Option, Some, None, Err, ℤ, codes, flat_map, count_by}
+use Rattle.std.specs.Prelude.{◌≡◌, ◌≢◌, ℕ, ◌+◌, ◌<◌, ◌≤◌, true, false, List, [], ◌∷◌, ◌++◌, length, Option, Some, None, Err, ℤ, codes, count_by}
 use Rattle.micro_num.specs.declared.units.Unit.{Unit as LengthUnit}
 use Rattle.micro_num.specs.declared.faults.NumFault.{NumFault}
 use Rattle.micro_num.specs.Micrometres.{coordinate_of}
@@ -13,7 +13,7 @@ use Rattle.stl_text.specs.declared.words.Word.TheVariants.{Solid, FacetOrEnd, No
 use Rattle.stl_text.specs.declared.faults.StlFault.{StlFault}
 use Rattle.stl_text.specs.declared.faults.StlFault.TheVariants as fault
 use Rattle.stl_text.specs.Triangle.{Triangle}
-use Rattle.stl_text.specs.Text.{Piece, keyword, coordinate, rest_of_line, facet_word, facet_pieces, normal_pieces, loop_pieces, is_facet_word, is_keyword, is_wanted, wanted, rest_behind, first_word, after_space}
+use Rattle.stl_text.specs.Text.{Piece, keyword, coordinate, facet_word, normal_pieces, loop_pieces, is_facet_word, is_keyword, is_wanted, wanted, rest_behind, first_word, after_space}
 
 pub record Cursor : Type 0 where
   pub unit : LengthUnit
@@ -91,7 +91,3 @@ unread cause (b ∷ bs) at = fault.Number cause at
 -- what a facet is written with behind its first word
 abbrev pub facet_tail : Triangle → List Piece
 facet_tail t = normal_pieces ++ loop_pieces t ++ keyword EndFacet (codes "endfacet") ∷ []
-
--- a solid as far as these facets
-abbrev pub open_pieces : List Triangle → List Piece
-open_pieces facets = keyword Solid (codes "solid") ∷ rest_of_line ∷ flat_map facet_pieces facets
