@@ -53,7 +53,7 @@ signed_sum w up down d1 d2 p1 p2 (winds_down e a b) =
     minus a b h k = omega (arith, ints)
 signed_sum w up down d1 d2 p1 p2 (winds_not e) = inl e
 
-span_positive : (u v : Position) (z : ℤ) → Rises u v z → pos 0 <ℤ cut_d u v
+pub span_positive : (u v : Position) (z : ℤ) → Rises u v z → pos 0 <ℤ cut_d u v
 span_positive u v z h = let a = h.low in let b = h.high in omega (arith, ints)
 
 -- where the wind isn't 0, its product with the denominator is above 0

@@ -2,7 +2,7 @@
 use Rattle.std.proofs.Common.{◌≡◌, [], ◌∷◌, ℤ, pos, negsuc, ◌+ℤ◌, ◌-ℤ◌, ◌*ℤ◌, neg_ℤ, ◌≤ℤ◌, ◌<ℤ◌, int_lt, if◌then◌else◌, refl, sym, ◌∙◌, ap, subst, arith}
 use Rattle.std.proofs.lemmas.Int.{ints}
 use Rattle.micro_num.proofs.Identity.{reads, identity}
-use Rattle.micro_num.proofs.Signs.{mul_positive, mul_not_negative, mul_not_positive_right}
+use Rattle.micro_num.proofs.Signs.{weak, mul_positive, mul_not_negative, mul_not_positive_right}
 use Rattle.exact_cut.specs.CornerTurns.{where_not_zero}
 
 -- the turn of the edge up, and of the edge down, by the side on which its cut point lies
@@ -69,9 +69,6 @@ below-2 m n h k = omega (arith, ints)
 
 swap-mul : (a b : ℤ) → a *ℤ b ≡ b *ℤ a
 swap-mul a b = identity (a ∷ b ∷ []) (search reads depth 40) refl
-
-weak : (a : ℤ) → pos 0 <ℤ a → pos 0 ≤ℤ a
-weak a h = omega (arith, ints)
 
 -- products of one number above 0 or at most 0 with another
 pp : (a b : ℤ) → pos 0 <ℤ a → pos 0 <ℤ b → pos 0 <ℤ (a *ℤ b)

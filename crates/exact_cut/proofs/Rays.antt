@@ -2,15 +2,15 @@
 use Rattle.std.proofs.Common.{◌≡◌, ◌⊎◌, inl, inr, zero, suc, [], ◌∷◌, ℤ, pos, negsuc, ◌+ℤ◌, ◌-ℤ◌, ◌*ℤ◌, neg_ℤ, ◌≤ℤ◌, ◌<ℤ◌, refl, sym, ◌∙◌, ap, subst, arith}
 use Rattle.std.proofs.lemmas.Int.{ints}
 use Rattle.micro_num.proofs.Identity.{reads, identity}
-use Rattle.micro_num.proofs.Signs.{sign_cases, mul_positive, mul_negative_right, right_of_positive}
+use Rattle.micro_num.proofs.Signs.{clash, weak, sign_cases, mul_positive, mul_negative_right, right_of_positive}
 use Rattle.stl_text.specs.Position.{Position}
 use Rattle.stl_text.specs.Triangle.{Triangle}
 use Rattle.stl_text.specs.Winding.{left, turn_of, turn, wind, volume, normal_x, normal_y, hit, left_x, turn_x, wind_y, hit_y}
 use Rattle.exact_cut.specs.CornerTurns.{where_not_zero, corner_turn}
-use Rattle.exact_cut.specs.Cut.{Rises, cut_x, cut_y, cut_d}
+use Rattle.exact_cut.specs.Cut.{cut_x, cut_y, cut_d}
 use Rattle.exact_cut.proofs.Turns.{turn_of-up, turn_of-down, turn_of-below, turn_of-above}
 use Rattle.exact_cut.proofs.Winds.{Passes, Quiet, den_of, num_of}
-use Rattle.exact_cut.proofs.Ahead.{cut-left, cut-left_down}
+use Rattle.exact_cut.proofs.Ahead.{span_positive, cut-left, cut-left_down}
 use Rattle.exact_cut.proofs.Quadrants.{UpTurn, up_yes, up_no, DownTurn, down_yes, down_no, SameSign, both_above, both_zero, both_below, taken, quadrants, quadrants-flat}
 
 cut-left_x : (u v : Position) (x z : ℤ) → left_x u v x z ≡ cut_x u v z -ℤ x *ℤ cut_d u v
@@ -64,20 +64,8 @@ same_turns d1 d2 u d tu td h1 h2 e (up_yes f a) (down_yes g b) = (λ i. f i +ℤ
 same_turns d1 d2 u d tu td h1 h2 e (up_no f a) (down_no g b) = (λ i. f i +ℤ g i)
 same_turns d1 d2 u d tu td h1 h2 e (up_yes f a) (down_no g b) =
     absurd (clash d (right_of_positive d2 d (weak d2 h2) (subst (λ i. pos 0 <ℤ i) e (mul_positive d1 u h1 a))) b)
-  where
-    clash : (i : ℤ) → pos 0 <ℤ i → i ≤ℤ pos 0 → ⊥
-    clash i h k = omega (arith, ints)
-
-    weak : (i : ℤ) → pos 0 <ℤ i → pos 0 ≤ℤ i
-    weak i h = omega (arith, ints)
 same_turns d1 d2 u d tu td h1 h2 e (up_no f a) (down_yes g b) =
     absurd (clash u (right_of_positive d1 u (weak d1 h1) (subst (λ i. pos 0 <ℤ i) (sym e) (mul_positive d2 d h2 b))) a)
-  where
-    clash : (i : ℤ) → pos 0 <ℤ i → i ≤ℤ pos 0 → ⊥
-    clash i h k = omega (arith, ints)
-
-    weak : (i : ℤ) → pos 0 <ℤ i → pos 0 ≤ℤ i
-    weak i h = omega (arith, ints)
 
 -- ---- the sign of the volume
 volume_sign : (h v k : ℤ) → pos 0 <ℤ h → k ≡ h *ℤ v → SameSign k v
@@ -123,9 +111,6 @@ add_nothing a b h n e f = f ∙ ap (λ i. b +ℤ i *ℤ n) e ∙ identity (b ∷
 
 take_nothing : (a b h n : ℤ) → h ≡ pos 0 → a ≡ b +ℤ neg_ℤ (h *ℤ n) → a ≡ b
 take_nothing a b h n e f = f ∙ ap (λ i. b +ℤ neg_ℤ (i *ℤ n)) e ∙ identity (b ∷ n ∷ []) (search reads depth 40) refl
-
-span_positive : (u v : Position) (z : ℤ) → Rises u v z → pos 0 <ℤ cut_d u v
-span_positive u v z h = let a = h.low in let b = h.high in omega (arith, ints)
 
 -- the two cut points don't lie on opposite sides of (x, y), which is what a facet that doesn't touch (x, y, z) gives
 pub record Apart (r s p q : Position) (x y z : ℤ) : Type 0 where

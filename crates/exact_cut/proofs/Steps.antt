@@ -2,7 +2,7 @@
 use Rattle.std.proofs.Common.{◌+◌, ◌≡◌, ◌⊎◌, inl, inr, ℕ, [], ◌∷◌, ℤ, pos, negsuc, ◌+ℤ◌, ◌-ℤ◌, ◌*ℤ◌, neg_ℤ, ◌≤ℤ◌, ◌<ℤ◌, refl, sym, ◌∙◌, ap, subst, arith}
 use Rattle.std.proofs.lemmas.Int.{ints}
 use Rattle.micro_num.proofs.Identity.{reads, identity}
-use Rattle.micro_num.proofs.Signs.{at_most_or_above}
+use Rattle.micro_num.proofs.Signs.{weak, at_most_or_above, two_negs}
 use Rattle.stl_text.specs.Position.{Position}
 use Rattle.stl_text.specs.Triangle.{Triangle}
 use Rattle.stl_text.specs.Winding.{hit, wind, left, volume, hit_y, wind_y}
@@ -15,7 +15,7 @@ use Rattle.exact_cut.proofs.Ahead.{WindCase, winds_up, winds_down, winds_not, wi
 use Rattle.exact_cut.proofs.Hitting.{hit-wind, hit-zero}
 use Rattle.exact_cut.proofs.Quadrants.{taken, taken_none}
 use Rattle.exact_cut.proofs.Rays.{hit-taken, hit_y-taken}
-use Rattle.exact_cut.proofs.Touching.{on_a, on_b, on_c, not_negative_a, not_negative_b, not_negative_c, plus, weak, below, not_below, m1, n1, m2, n2, m1_in, n1_in, m2_in, n2_in, total, corners}
+use Rattle.exact_cut.proofs.Touching.{on_a, on_b, on_c, not_negative_a, not_negative_b, not_negative_c, plus, below, not_below, m1, n1, m2, n2, m1_in, n1_in, m2_in, n2_in, total, corners}
 
 -- by whole numbers that aren't negative
 between_from : (t : Triangle) (p q : Position) (l m n i j : ℤ) → pos 0 ≤ℤ l → pos 0 ≤ℤ m → pos 0 ≤ℤ n → pos 0 <ℤ (l +ℤ m +ℤ n) → pos 0 ≤ℤ i → pos 0 ≤ℤ j → pos 0 <ℤ (i +ℤ j)
@@ -282,9 +282,6 @@ wind-swap t x z = refl
 
 vol-swap : (t : Triangle) (c : Position) → volume t c ≡ neg_ℤ (volume (swap_tri t) (swap c))
 vol-swap t c = identity (t.a.x ∷ t.a.y ∷ t.a.z ∷ t.b.x ∷ t.b.y ∷ t.b.z ∷ t.c.x ∷ t.c.y ∷ t.c.z ∷ c.x ∷ c.y ∷ c.z ∷ []) (search reads depth 40 fits 5000) refl
-
-two_negs : (w v : ℤ) → neg_ℤ w *ℤ neg_ℤ v ≡ w *ℤ v
-two_negs w v = identity (w ∷ v ∷ []) (search reads depth 40) refl
 
 chosen-neg : (k w : ℤ) → (if int_lt (pos 0) k then neg_ℤ w else pos 0) ≡ neg_ℤ (if int_lt (pos 0) k then w else pos 0)
 chosen-neg k w = by (int_lt (pos 0) k)

@@ -2,11 +2,11 @@
 use Rattle.std.proofs.Common.{◌≡◌, ℕ, zero, suc, [], ◌∷◌, ℤ, pos, negsuc, ◌+ℤ◌, ◌-ℤ◌, ◌*ℤ◌, neg_ℤ, ◌≤ℤ◌, ◌<ℤ◌, refl, sym, ◌∙◌, ap, subst, arith}
 use Rattle.std.proofs.lemmas.Int.{ints}
 use Rattle.micro_num.proofs.Identity.{reads, identity}
-use Rattle.micro_num.proofs.Signs.{mul_positive, mul_not_negative}
+use Rattle.micro_num.proofs.Signs.{weak, mul_positive, mul_not_negative}
 use Rattle.stl_text.specs.Position.{Position}
 use Rattle.stl_text.specs.Triangle.{Triangle}
-use Rattle.stl_text.specs.Winding.{hit, wind, turn, turn_of, hit_y, wind_y, turn_x, left_x}
-use Rattle.exact_cut.proofs.Turns.{turn-opposite, turn_of-opposite}
+use Rattle.stl_text.specs.Winding.{hit, wind, turn, hit_y, wind_y, turn_x}
+use Rattle.exact_cut.proofs.Turns.{turn-opposite, turn_x-opposite}
 use Rattle.stl_text.specs.Touch.{Touches}
 use Rattle.exact_cut.specs.CornerTurns.{corner_turn, where_not_zero}
 use Rattle.exact_cut.specs.Cut.{start, finish, Rises, cut_x, cut_y, cut_d}
@@ -117,9 +117,6 @@ not_below a b h = omega (arith, ints)
 
 pub below : (a b : ℤ) → a <ℤ b → pos 0 <ℤ (b -ℤ a)
 below a b h = omega (arith, ints)
-
-pub weak : (a : ℤ) → pos 0 <ℤ a → pos 0 ≤ℤ a
-weak a h = omega (arith, ints)
 
 module _ (t : Triangle) (c : Position) (d u : ℕ) (falls : Rises (finish t d) (start t d) c.z) (rises : Rises (start t u) (finish t u) c.z) (k1 k2 : ℤ) (h1 : pos 0 ≤ℤ k1) (h2 : pos 0 ≤ℤ k2) where
   abbrev pub m1 : ℤ
@@ -253,9 +250,6 @@ ray-difference t c n = by (sides t c.z)
         hits-differ t c (finish t d) (start t d) (start t u) (finish t u) (passes t c.z d u falls rises) (apart t c d u n falls rises)
 
 -- an edge and its opposite add opposite amounts
-left_x-opposite : (u v : Position) (x z : ℤ) → left_x v u x z ≡ neg_ℤ (left_x u v x z)
-left_x-opposite u v x z = identity (u.x ∷ u.z ∷ v.x ∷ v.z ∷ x ∷ z ∷ []) (search reads depth 40) refl
-
 where-opposite : (a b : ℤ) → where_not_zero (neg_ℤ a) (neg_ℤ b) ≡ neg_ℤ (where_not_zero a b)
 where-opposite a (pos zero) = refl
 where-opposite a (pos (suc n)) = refl
@@ -263,5 +257,5 @@ where-opposite a (negsuc n) = refl
 
 pub corner_turn-opposite : (c u v : Position) → corner_turn c v u ≡ neg_ℤ (corner_turn c u v)
 corner_turn-opposite c u v =
-    (λ i. where_not_zero (turn-opposite u v c.y c.z i) ((ap (turn_of v.z u.z c.z) (left_x-opposite u v c.x c.z) ∙ turn_of-opposite u.z v.z c.z (left_x u v c.x c.z)) i))
+    (λ i. where_not_zero (turn-opposite u v c.y c.z i) (turn_x-opposite u v c.x c.z i))
     ∙ where-opposite (turn u v c.y c.z) (turn_x u v c.x c.z)

@@ -3,7 +3,7 @@ use Rattle.std.proofs.Common.{◌≡◌, ◌⊎◌, [], ◌∷◌, ℤ, pos, neg
 use Rattle.std.proofs.lemmas.Int.{ints}
 use Rattle.micro_num.proofs.Identity.{reads, identity}
 use Rattle.stl_text.specs.Position.{Position}
-use Rattle.stl_text.specs.Winding.{left, turn_of, turn}
+use Rattle.stl_text.specs.Winding.{left, turn_of, turn, left_x, turn_x}
 
 -- ---- by the tests alone
 pub turn_of-up : (u v z l : ℤ) → u ≤ℤ z → z <ℤ v → ((turn_of u v z l ≡ pos 1) × (pos 0 <ℤ l)) ⊎ ((turn_of u v z l ≡ pos 0) × (l ≤ℤ pos 0))
@@ -31,3 +31,9 @@ left-opposite u v y z = identity (u.y ∷ u.z ∷ v.y ∷ v.z ∷ y ∷ z ∷ []
 
 pub turn-opposite : (u v : Position) (y z : ℤ) → turn v u y z ≡ neg_ℤ (turn u v y z)
 turn-opposite u v y z = ap (turn_of v.z u.z z) (left-opposite u v y z) ∙ turn_of-opposite u.z v.z z (left u v y z)
+
+pub left_x-opposite : (u v : Position) (x z : ℤ) → left_x v u x z ≡ neg_ℤ (left_x u v x z)
+left_x-opposite u v x z = identity (u.x ∷ u.z ∷ v.x ∷ v.z ∷ x ∷ z ∷ []) (search reads depth 40) refl
+
+pub turn_x-opposite : (u v : Position) (x z : ℤ) → turn_x v u x z ≡ neg_ℤ (turn_x u v x z)
+turn_x-opposite u v x z = ap (turn_of v.z u.z z) (left_x-opposite u v x z) ∙ turn_of-opposite u.z v.z z (left_x u v x z)
