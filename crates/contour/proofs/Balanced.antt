@@ -3,24 +3,25 @@ use Rattle.std.proofs.Common.{◌≡◌, ℕ, zero, suc, ◌+◌, ◌*◌, ◌<�
 use Rattle.std.specs.Prelude.{Option, ℤ, filter_map, find, count_by, int_le, int_lt, ◌==◌}
 use Rattle.std.specs.List.{enumerate_from, cons_option}
 use Rattle.std.proofs.lemmas.Int.{ints}
-use Rattle.std.proofs.lemmas.Bool.{eqb-true, eq-eqb}
+use Rattle.std.proofs.lemmas.Bool.{and_from, and_parts, eqb-true, eq-eqb, or_cases, or_left, or_right}
 use Rattle.stl_text.specs.Position.{Position, origin, same}
 use Rattle.stl_text.specs.Triangle.{Triangle, triangle, Edge, edge, edges, sides}
 use Rattle.mesh_weld.specs.Balance.{IsBalanced, edge_count}
 use Rattle.mesh_weld.specs.Mesh.{vertices, number_of, facet_at}
 use Rattle.mesh_weld.specs.EdgeNumbers.{AreEdgeNumbers, HaveSameEnds, edge_of, edge_number}
 use Rattle.mesh_weld.proofs.InOrder.{is_in}
+use Rattle.mesh_weld.proofs.Order.{same-self}
 use Rattle.mesh_weld.proofs.Transfer.{number_found, ends_are_vertices}
-use Rattle.mesh_weld.proofs.Edges.{and_parts, runs, runs-is}
+use Rattle.mesh_weld.proofs.Edges.{count_by-cons, runs, runs-is}
 use Rattle.contour.specs.declared.nodes.Node.{Node}
 use Rattle.contour.specs.declared.nodes.Segment.{Segment}
 use Rattle.contour.specs.Contour.{between, both_of, height, is_downward, is_node, is_upward, node_of, rises_through, segment_of, segments}
 use Rattle.contour.specs.Linking.{edge_at_node, edge_of_facet, start_edge, finish_edge}
-use Rattle.contour.proofs.Counts.{count-cons, count-append}
+use Rattle.contour.proofs.Counts.{AreEven, count-append}
 use Rattle.contour.proofs.Cutting.{triples_at}
 use Rattle.contour.proofs.Links.{AreFrom, edge_below, segments_ascend}
 use Rattle.contour.proofs.Counts.{times}
-use Rattle.contour.specs.Linking.{AreEven, ArePassedEdges}
+use Rattle.contour.specs.Linking.{ArePassedEdges}
 
 edge-at : (fs : List Triangle) (k s : ℕ) → k < length fs → s < 3
     → (3 * k + s < length (edges fs)) × (get_or (edges fs) (3 * k + s) (edge origin origin) ≡ edge_of fs k s)
@@ -139,10 +140,10 @@ picked false false false t P = refl
 
 counted_sides : (q P : Edge → Bool) (t : Triangle) → count_by (λ e. q e && P e) (sides t) ≡ sum_of (q (edge t.a t.b)) (q (edge t.b t.c)) (q (edge t.c t.a)) t P
 counted_sides q P t =
-    count-cons (λ e. q e && P e) (edge t.a t.b) (edge t.b t.c ∷ edge t.c t.a ∷ [])
+    count_by-cons (λ e. q e && P e) (edge t.a t.b) (edge t.b t.c ∷ edge t.c t.a ∷ [])
     ∙ ap (λ n. cond (q (edge t.a t.b) && P (edge t.a t.b)) 1 0 + n)
-    (count-cons (λ e. q e && P e) (edge t.b t.c) (edge t.c t.a ∷ [])
-    ∙ ap (λ n. cond (q (edge t.b t.c) && P (edge t.b t.c)) 1 0 + n) (count-cons (λ e. q e && P e) (edge t.c t.a) []))
+    (count_by-cons (λ e. q e && P e) (edge t.b t.c) (edge t.c t.a ∷ [])
+    ∙ ap (λ n. cond (q (edge t.b t.c) && P (edge t.b t.c)) 1 0 + n) (count_by-cons (λ e. q e && P e) (edge t.c t.a) []))
 
 downs : (z : ℤ) (t : Triangle) (P : Edge → Bool)
     → picks (find (is_downward z) (sides t)) (find (is_upward z) (sides t)) P ≡ count_by (λ e. is_downward z e && P e) (sides t)
@@ -184,33 +185,16 @@ same_test true b h k = sym (h refl)
 same_test false true h k = k refl
 same_test false false h k = refl
 
-own_same : (p : Position) → same p p ≡ true
-own_same p = grind (arith, ints)
-
-both_true : (a b : Bool) → a ≡ true → b ≡ true → (a && b) ≡ true
-both_true a b h k = λ i. h i && k i
-
-either_true : (a b : Bool) → (a || b) ≡ true → (a ≡ true) ⊎ (b ≡ true)
-either_true true b h = inl refl
-either_true false b h = inr h
-
-first_true : (a b : Bool) → a ≡ true → (a || b) ≡ true
-first_true a b h = λ i. h i || b
-
-second_true : (a b : Bool) → b ≡ true → (a || b) ≡ true
-second_true true b h = refl
-second_true false b h = h
-
 runs-own : (c : Edge) (u v : Position) → c.from ≡ u → c.to ≡ v → runs u v c ≡ true
 runs-own c u v h k =
-    both_true (same c.from u) (same c.to v) (ap (same c.from) (sym h) ∙ own_same c.from) (ap (same c.to) (sym k) ∙ own_same c.to)
+    and_from (same c.from u) (same c.to v) (ap (same c.from) (sym h) ∙ same-self c.from) (ap (same c.to) (sym k) ∙ same-self c.to)
 
 runs-ends : (c : Edge) (d : Edge) → HaveSameEnds c d → (runs d.from d.to c || runs d.to d.from c) ≡ true
-runs-ends c d (inl h) = first_true _ _ (runs-own c d.from d.to h.0 h.1)
-runs-ends c d (inr h) = second_true (runs d.from d.to c) (runs d.to d.from c) (runs-own c d.to d.from h.0 h.1)
+runs-ends c d (inl h) = or_left _ _ (runs-own c d.from d.to h.0 h.1)
+runs-ends c d (inr h) = or_right (runs d.from d.to c) (runs d.to d.from c) (runs-own c d.to d.from h.0 h.1)
 
 ends-run : (c : Edge) (d : Edge) → (runs d.from d.to c || runs d.to d.from c) ≡ true → HaveSameEnds c d
-ends-run c d h = by_way (either_true (runs d.from d.to c) (runs d.to d.from c) h)
+ends-run c d h = by_way (or_cases (runs d.from d.to c) (runs d.to d.from c) h)
   where
     by_way : (runs d.from d.to c ≡ true) ⊎ (runs d.to d.from c ≡ true) → HaveSameEnds c d
     by_way (inl h) = let e = runs-is d.from d.to c h in inl (ap (λ (x : Edge). x.from) e, ap (λ (x : Edge). x.to) e)
@@ -248,14 +232,14 @@ module _ (q : Edge → Bool) (d : Edge) (one_way : q d ≡ true → q (edge d.to
       → (cond (q d) (cond (runs d.from d.to c) 1 0) 0 + cond (q (edge d.to d.from)) (cond (runs d.to d.from c) 1 0) 0) + ahead es ≡ ahead (c ∷ es)
   ahead-cons c es =
       sums (q d) (q (edge d.to d.from)) _ _ _ _
-      ∙ (λ i. cond (q d) (sym (count-cons (runs d.from d.to) c es) i) 0 + cond (q (edge d.to d.from)) (sym (count-cons (runs d.to d.from) c es) i) 0)
+      ∙ (λ i. cond (q d) (sym (count_by-cons (runs d.from d.to) c es) i) 0 + cond (q (edge d.to d.from)) (sym (count_by-cons (runs d.to d.from) c es) i) 0)
 
   -- over a list
   pub those_ahead : (P : Edge → Bool) (es : List Edge) → ((k : ℕ) → k < length es → P (get_or es k (edge origin origin)) ≡ (runs d.from d.to (get_or es k (edge origin origin)) || runs d.to d.from (get_or es k (edge origin origin))))
       → count_by (λ c. q c && P c) es ≡ ahead es
   those_ahead P [] h = ahead-none
   those_ahead P (c ∷ es) h =
-      count-cons (λ c. q c && P c) c es
+      count_by-cons (λ c. q c && P c) c es
       ∙ (λ i. one c (P c) (h 0 (omega arith)) i + those_ahead P es (λ k l. h (suc k) (omega (arith, l))) i)
       ∙ ahead-cons c es
 
@@ -315,7 +299,7 @@ module _ (facets : List Triangle) (numbers : List (List ℕ)) (count : ℕ) (num
       where
         pick_one : (o : Option Segment) (rest : List Segment) → count_by test (cons_option o rest) ≡ seg_pick test o + count_by test rest
         pick_one None rest = omega arith
-        pick_one (Some x) rest = count-cons test x rest
+        pick_one (Some x) rest = count_by-cons test x rest
 
         here : (n < length facets) × (facet_at facets n ≡ t)
         here = let zr : n + 0 ≡ n = omega arith in subst (λ m. (m < length facets) × (facet_at facets m ≡ t)) zr (h 0 (omega arith))
@@ -381,13 +365,13 @@ module _ (facets : List Triangle) (numbers : List (List ℕ)) (count : ℕ) (num
   count-map : (g : Segment → ℕ) (e : ℕ) (list : List Segment) → times e (map g list) ≡ count_by (λ x. g x == e) list
   count-map g e [] = refl
   count-map g e (x ∷ list) =
-      count-cons (λ n. n == e) (g x) (map g list) ∙ ap (λ n. cond (g x == e) 1 0 + n) (count-map g e list) ∙ sym (count-cons (λ x. g x == e) x list)
+      count_by-cons (λ n. n == e) (g x) (map g list) ∙ ap (λ n. cond (g x == e) 1 0 + n) (count-map g e list) ∙ sym (count_by-cons (λ x. g x == e) x list)
 
   none_past : (g : Segment → ℕ) → ((x : Segment) → x.facet < length facets → g x < count) → (e : ℕ) → count ≤ e
       → (a : ℕ) (list : List Segment) → AreFrom a (length facets) list → count_by (λ x. g x == e) list ≡ 0
   none_past g low e past a [] h = refl
   none_past g low e past a (x ∷ list) h =
-      count-cons (λ x. g x == e) x list
+      count_by-cons (λ x. g x == e) x list
       ∙ (let small : g x < count = low x h.1 in
       let other : eqb (g x) e ≡ false = unequal (g x) e (omega (arith, small, past)) in
       λ i. cond (other i) 1 0 + none_past g low e past (x.facet + 1) list h.2 i)

@@ -4,16 +4,14 @@ use Rattle.std.proofs.lemmas.List.{take-append-drop}
 use Rattle.std.specs.Prelude.{count_by, filter, IsPermutation, nat_lt, ◌==◌}
 use Rattle.std.specs.List.{range_with_len, prefix_len}
 use Rattle.std.specs.List.Sorted.{IsNonDecreasing}
-use Rattle.std.proofs.lemmas.List.Sums.{sum_by-cons, sum_by-append}
+use Rattle.std.proofs.lemmas.List.Sums.{sum_by-append}
 use Rattle.std.proofs.lemmas.List.Sorted.{sum_by-IsPermutation}
 use Rattle.std.proofs.lemmas.Bool.{eqb-true}
 use Rattle.std.proofs.lemmas.Bool.Decides.{nat_tests}
+use Rattle.mesh_weld.proofs.Edges.{count_by-cons}
 use Rattle.contour.specs.Sweeping.{weave}
 
 -- ---- counts
-pub count-cons : {X : Type 0} (p : X → Bool) (x : X) (xs : List X) → count_by p (x ∷ xs) ≡ cond (p x) 1 0 + count_by p xs
-count-cons p x xs = sum_by-cons (λ y. cond (p y) 1 0) x xs
-
 pub count-append : {X : Type 0} (p : X → Bool) (xs ys : List X) → count_by p (xs ++ ys) ≡ count_by p xs + count_by p ys
 count-append p xs ys = sum_by-append (λ y. cond (p y) 1 0) xs ys
 
@@ -22,6 +20,10 @@ count-permutation p xs ys h = sum_by-IsPermutation (λ y. cond (p y) 1 0) xs ys 
 
 abbrev pub times : ℕ → List ℕ → ℕ
 times n xs = count_by (λ m. m == n) xs
+
+-- each edge starts as often as it finishes
+abbrev pub AreEven : List ℕ → List ℕ → Type 0
+AreEven starts finishes = (e : ℕ) → times e starts ≡ times e finishes
 
 one_if : Bool → ℕ
 one_if b = cond b 1 0
@@ -36,10 +38,10 @@ eqb-other' : (m n : ℕ) → n < m → eqb m n ≡ false
 eqb-other' m n h = grind (arith, nat_tests)
 
 pub times-own : (x : ℕ) (xs : List ℕ) → times x (x ∷ xs) ≡ 1 + times x xs
-times-own x xs = count-cons (λ m. m == x) x xs ∙ ap (λ b. cond b 1 0 + times x xs) (eqb-own x)
+times-own x xs = count_by-cons (λ m. m == x) x xs ∙ ap (λ b. cond b 1 0 + times x xs) (eqb-own x)
 
 pub times-other : (n x : ℕ) (xs : List ℕ) → eqb x n ≡ false → times n (x ∷ xs) ≡ times n xs
-times-other n x xs h = count-cons (λ m. m == n) x xs ∙ ap (λ b. cond b 1 0 + times n xs) h ∙ plain (times n xs)
+times-other n x xs h = count_by-cons (λ m. m == n) x xs ∙ ap (λ b. cond b 1 0 + times n xs) h ∙ plain (times n xs)
   where
     plain : (k : ℕ) → 0 + k ≡ k
     plain k = omega arith
@@ -47,7 +49,7 @@ times-other n x xs h = count-cons (λ m. m == n) x xs ∙ ap (λ b. cond b 1 0 +
 -- a filter keeps the numbers that pass
 module _ (p : ℕ → Bool) (n x : ℕ) (xs kept : List ℕ) (rest : times n kept ≡ cond (p n) (times n xs) 0) where
   own : (ys : List ℕ) → eqb x n ≡ true → times n (x ∷ ys) ≡ 1 + times n ys
-  own ys e = count-cons (λ m. m == n) x ys ∙ ap (λ b. cond b 1 0 + times n ys) e
+  own ys e = count_by-cons (λ m. m == n) x ys ∙ ap (λ b. cond b 1 0 + times n ys) e
 
   same : (b : Bool) → eqb x n ≡ true → p x ≡ b → p n ≡ b
   same b e h = ap p (sym (eqb-true x n e)) ∙ h
@@ -115,7 +117,7 @@ tails_agree : (x : ℕ) (xs : List ℕ) (y : ℕ) (ys : List ℕ) → x ≡ y
     → ((n : ℕ) → times n (x ∷ xs) ≡ times n (y ∷ ys)) → (n : ℕ) → times n xs ≡ times n ys
 tails_agree x xs y ys heads h n =
     less (cond (eqb x n) 1 0) (times n xs) (times n ys)
-    (sym (count-cons (λ m. m == n) x xs) ∙ h n ∙ count-cons (λ m. m == n) y ys ∙ ap (λ z. cond (eqb z n) 1 0 + times n ys) (sym heads))
+    (sym (count_by-cons (λ m. m == n) x xs) ∙ h n ∙ count_by-cons (λ m. m == n) y ys ∙ ap (λ z. cond (eqb z n) 1 0 + times n ys) (sym heads))
 
 pub same_from_counts : (xs ys : List ℕ) → Ascends xs → Ascends ys → ((n : ℕ) → times n xs ≡ times n ys) → xs ≡ ys
 same_from_counts [] [] h k e = refl
@@ -210,9 +212,9 @@ times-weave n (x ∷ ns) ms = by_parts (times-weave n ns (drop (prefix_len (λ m
         → times n (take k ms ++ x ∷ weave ns (drop k ms)) ≡ times n (x ∷ ns) + times n ms
     by_parts rest =
         sums _ _ _ _ _ _ _ (count-append (λ m. m == n) (take k ms) (x ∷ weave ns (drop k ms)))
-        (count-cons (λ m. m == n) x (weave ns (drop k ms))) rest
+        (count_by-cons (λ m. m == n) x (weave ns (drop k ms))) rest
         ∙ moved (cond (eqb x n) 1 0) _ _ _ _ (times-take_drop n k ms)
-        ∙ ap (λ j. j + times n ms) (sym (count-cons (λ m. m == n) x ns))
+        ∙ ap (λ j. j + times n ms) (sym (count_by-cons (λ m. m == n) x ns))
 
 -- each of xs is at most x
 abbrev NotAbove : ℕ → List ℕ → Type 0

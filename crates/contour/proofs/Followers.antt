@@ -11,11 +11,12 @@ use Rattle.stl_text.specs.Triangle.{Triangle, triangle, Edge, edge, sides}
 use Rattle.mesh_weld.specs.Balance.{IsBalanced}
 use Rattle.mesh_weld.specs.Mesh.{vertices, facet_at}
 use Rattle.mesh_weld.specs.EdgeNumbers.{AreEdgeNumbers, edge_of}
+use Rattle.mesh_weld.proofs.Edges.{count_by-cons}
 use Rattle.contour.specs.declared.nodes.Segment.{Segment}
 use Rattle.contour.specs.Contour.{both_of, follower, is_downward, is_node, is_segment, is_upward, node_of, segment_of, segments, turn_at_end}
-use Rattle.contour.specs.Linking.{AreEven, AreLinks, ArePassedEdges, AreTaken, edge_of_facet, finish_edge, no_place, places, start_edge}
+use Rattle.contour.specs.Linking.{AreLinks, ArePassedEdges, AreTaken, edge_of_facet, finish_edge, no_place, places, start_edge}
 use Rattle.contour.proofs.Balanced.{node_at, own_edge, own_node, same_ends, same_nodes, passed_even, same_test}
-use Rattle.contour.proofs.Counts.{count-cons, times}
+use Rattle.contour.proofs.Counts.{AreEven, times}
 use Rattle.contour.proofs.Links.{AreFrom, segments_ascend}
 use Rattle.contour.proofs.Places.{AtPlace, length-places, places-at}
 
@@ -47,9 +48,9 @@ count_by_numbers : {X : Type 0} (p : X → Bool) (g : X → ℕ) (e : ℕ) (d : 
 count_by_numbers p g e d zero xs h = refl
 count_by_numbers p g e d (suc j) [] h = refl
 count_by_numbers p g e d (suc j) (x ∷ xs) h =
-    count-cons p x (take j xs)
+    count_by-cons p x (take j xs)
     ∙ (λ i. cond (h 0 (omega arith) i) 1 0 + count_by_numbers p g e d j xs (λ k l. h (suc k) (omega (arith, l))) i)
-    ∙ sym (count-cons (λ m. m == e) (g x) (take j (map g xs)))
+    ∙ sym (count_by-cons (λ m. m == e) (g x) (take j (map g xs)))
 
 -- the place of a segment among those that pass a test
 turn_is : (a b : ℕ) (p : Segment → Bool) (list : List Segment) (j : ℕ) (d : Segment) → AreFrom a b list → j < length list → p (get_or list j d) ≡ true
@@ -60,7 +61,7 @@ turn_is a b p (x ∷ list) zero d up l h =
     ∙ ap (λ t. cond (not t) (1 + prefix_len (λ y. not (is_segment x y)) (filter p list)) 0) (eq-eqb x.facet x.facet refl)
 turn_is a b p (x ∷ list) (suc j) d up l h =
     by_test (p x) (turn_is (x.facet + 1) b p list j d up.2 (omega (arith, l)) h)
-    ∙ sym (count-cons p x (take j list))
+    ∙ sym (count_by-cons p x (take j list))
   where
     far : (c : ℕ) (ys : List Segment) (k : ℕ) → AreFrom c b ys → k < length ys → c ≤ (get_or ys k d).facet
     far c [] k u m = absurd (omega (arith, m))
@@ -82,7 +83,7 @@ times_up e (suc i) zero xs l = absurd (omega (arith, l))
 times_up e (suc i) (suc j) [] l = omega arith
 times_up e (suc i) (suc j) (x ∷ xs) l =
     let rest = times_up e i j xs (omega (arith, l)) in
-    let a = count-cons (λ m. m == e) x (take i xs) in let b = count-cons (λ m. m == e) x (take j xs) in omega (arith, rest, a, b)
+    let a = count_by-cons (λ m. m == e) x (take i xs) in let b = count_by-cons (λ m. m == e) x (take j xs) in omega (arith, rest, a, b)
 
 times_past : (e i j : ℕ) (xs : List ℕ) → i < j → i < length xs → get_or xs i 0 ≡ e → times e (take i xs) < times e (take j xs)
 times_past e i j xs l m h =

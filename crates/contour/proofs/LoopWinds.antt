@@ -13,7 +13,7 @@ use Rattle.mesh_weld.specs.EdgeNumbers.{AreEdgeNumbers, HaveSameEnds, edge_of}
 use Rattle.mesh_weld.specs.Mesh.{facet_at, vertices}
 use Rattle.mesh_weld.specs.MeshLaws.{IsOpposite, round}
 use Rattle.mesh_weld.proofs.Sums.{total-difference, total-map}
-use Rattle.mesh_weld.proofs.Turning.{turn-opposite}
+use Rattle.exact_cut.proofs.Turns.{turn-opposite}
 use Rattle.contour.specs.declared.nodes.Segment.{Segment}
 use Rattle.contour.specs.Contour.{Closes, IsCycle, both_of, follower, height, is_downward, is_node, is_upward, loop_facets, loops, node_of, rises_through, segment_of, segments, turn_at_end}
 use Rattle.contour.proofs.Balanced.{first_of, low_at, node_at, rises-is, same_ends}

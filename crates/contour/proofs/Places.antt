@@ -5,8 +5,8 @@ use Rattle.std.specs.Prelude.{◌==◌}
 use Rattle.std.proofs.lemmas.List.{drop_more, get_or_default, get_or_past, get_or-drop, drop_all, take_all}
 use Rattle.std.proofs.lemmas.List.Sums.{count_by_more_yes, count_by_more_no}
 use Rattle.std.proofs.lemmas.Bool.{eqb-true, eqb-false, eq-eqb, ne_eqb}
-use Rattle.contour.specs.Linking.{AreEven, AreTaken, HasFirsts, HasLeft, HasNexts, IsClear, no_place, place_after, places}
-use Rattle.contour.proofs.Counts.{times, times-own, times-other}
+use Rattle.contour.specs.Linking.{AreTaken, HasFirsts, HasLeft, HasNexts, IsClear, no_place, place_after, places}
+use Rattle.contour.proofs.Counts.{AreEven, times, times-own, times-other}
 
 -- equal or not
 pub either : (a b : ℕ) → (a ≡ b) ⊎ (a ≡ b → ⊥)

@@ -10,9 +10,10 @@ use Rattle.std.proofs.lemmas.Int.{ints}
 use Rattle.stl_text.specs.Position.{origin}
 use Rattle.stl_text.specs.Triangle.{Triangle, triangle, corners}
 use Rattle.mesh_weld.specs.Mesh.{facet_at, least_z, IsByHeight, is_lower}
+use Rattle.mesh_weld.proofs.Edges.{count_by-cons}
 use Rattle.contour.specs.Contour.{height, is_cut, active_facets, passed_count, greatest_z}
 use Rattle.contour.specs.Sweeping.{top_of, is_begun, is_topped, weave}
-use Rattle.contour.proofs.Counts.{times, times-filter, times-weave, count-cons, count-permutation, Ascends, Ascends-filter, Ascends-range, Ascends-weave, Ascends-from_sorted, same_from_counts}
+use Rattle.contour.proofs.Counts.{times, times-filter, times-weave, count-permutation, Ascends, Ascends-filter, Ascends-range, Ascends-weave, Ascends-from_sorted, same_from_counts}
 
 -- ---- a test that fails for good
 abbrev pub Fades : {X : Type 0} → (X → Bool) → List X → Type 0
@@ -68,11 +69,11 @@ rest-is p (x ∷ xs) h = by_test (rest-is p xs h.1) (p x) refl
 none_counted : {X : Type 0} (p : X → Bool) (xs : List X) → AllByRecursion (λ y. p y ≡ false) xs → count_by p xs ≡ 0
 none_counted p [] h = refl
 none_counted p (x ∷ xs) h =
-    count-cons p x xs ∙ (λ i. cond (h.0 i) 1 0 + none_counted p xs h.1 i)
+    count_by-cons p x xs ∙ (λ i. cond (h.0 i) 1 0 + none_counted p xs h.1 i)
 
 pub front-counted : {X : Type 0} (p : X → Bool) (xs : List X) → Fades p xs → prefix_len p xs ≡ count_by p xs
 front-counted p [] h = refl
-front-counted p (x ∷ xs) h = by_test (front-counted p xs h.1) (p x) refl ∙ sym (count-cons p x xs)
+front-counted p (x ∷ xs) h = by_test (front-counted p xs h.1) (p x) refl ∙ sym (count_by-cons p x xs)
   where
     by_test : prefix_len p xs ≡ count_by p xs → (b : Bool) → p x ≡ b
         → cond b (1 + prefix_len p xs) 0 ≡ cond b 1 0 + count_by p xs
@@ -88,13 +89,13 @@ counted_beyond p q wider (x ∷ xs) = by_test (counted_beyond p q wider xs) (p x
     by_test : count_by p xs + count_by q (filter (λ y. not (p y)) xs) ≡ count_by q xs → (b : Bool) → p x ≡ b
         → count_by p (x ∷ xs) + count_by q (cond (not b) (x ∷ filter (λ y. not (p y)) xs) (filter (λ y. not (p y)) xs)) ≡ count_by q (x ∷ xs)
     by_test rest true e =
-        (let one : count_by p (x ∷ xs) ≡ 1 + count_by p xs = count-cons p x xs ∙ ap (λ b. cond b 1 0 + count_by p xs) e in
-        let one' : count_by q (x ∷ xs) ≡ 1 + count_by q xs = count-cons q x xs ∙ ap (λ b. cond b 1 0 + count_by q xs) (wider x e) in
+        (let one : count_by p (x ∷ xs) ≡ 1 + count_by p xs = count_by-cons p x xs ∙ ap (λ b. cond b 1 0 + count_by p xs) e in
+        let one' : count_by q (x ∷ xs) ≡ 1 + count_by q xs = count_by-cons q x xs ∙ ap (λ b. cond b 1 0 + count_by q xs) (wider x e) in
         omega arith)
     by_test rest false e =
-        (let none : count_by p (x ∷ xs) ≡ 0 + count_by p xs = count-cons p x xs ∙ ap (λ b. cond b 1 0 + count_by p xs) e in
-        let there : count_by q (x ∷ filter (λ y. not (p y)) xs) ≡ cond (q x) 1 0 + count_by q (filter (λ y. not (p y)) xs) = count-cons q x (filter (λ y. not (p y)) xs) in
-        let here : count_by q (x ∷ xs) ≡ cond (q x) 1 0 + count_by q xs = count-cons q x xs in
+        (let none : count_by p (x ∷ xs) ≡ 0 + count_by p xs = count_by-cons p x xs ∙ ap (λ b. cond b 1 0 + count_by p xs) e in
+        let there : count_by q (x ∷ filter (λ y. not (p y)) xs) ≡ cond (q x) 1 0 + count_by q (filter (λ y. not (p y)) xs) = count_by-cons q x (filter (λ y. not (p y)) xs) in
+        let here : count_by q (x ∷ xs) ≡ cond (q x) 1 0 + count_by q xs = count_by-cons q x xs in
         omega arith)
 
 -- ---- facets by number
@@ -146,9 +147,9 @@ counted : {X : Type 0} (f : ℕ → X) (q : X → Bool) (k : ℕ) (xs : List X) 
     → count_by q xs ≡ count_by (λ n. q (f n)) (range_with_len k (length xs))
 counted f q k [] h = refl
 counted f q k (x ∷ xs) h =
-    count-cons q x xs
+    count_by-cons q x xs
     ∙ (λ i. cond (q (sym h.0 i)) 1 0 + counted f q (k + 1) xs h.1 i)
-    ∙ sym (count-cons (λ n. q (f n)) k (range_with_len (k + 1) (length xs)))
+    ∙ sym (count_by-cons (λ n. q (f n)) k (range_with_len (k + 1) (length xs)))
 
 -- ---- heights of corners
 le_least : (a b z : ℤ) → (int_le (pos 2 *ℤ a) z || int_le (pos 2 *ℤ b) z) ≡ int_le (pos 2 *ℤ int_min a b) z

@@ -6,10 +6,11 @@ use Rattle.std.specs.List.Sorted.{IsStrictlyIncreasing}
 use Rattle.std.proofs.lemmas.Bool.{and_parts, eq-eqb, eqb-false, ne_eqb}
 use Rattle.std.proofs.lemmas.Bool.Decides.{nat_tests}
 use Rattle.stl_text.specs.Triangle.{Triangle}
+use Rattle.mesh_weld.proofs.Edges.{count_by-cons}
 use Rattle.contour.specs.declared.nodes.Segment.{Segment}
 use Rattle.contour.specs.Contour.{AreLoops, Closes, IsCycle, count_of, cycle, first_facet, follower, is_from_least, is_leader, is_node, loops, run_from, segments, turn_at_end}
 use Rattle.contour.specs.Linking.{no_segment}
-use Rattle.contour.proofs.Counts.{count-append, count-cons}
+use Rattle.contour.proofs.Counts.{count-append}
 use Rattle.contour.proofs.Cycles.{NoneOf, onward, run-is}
 use Rattle.contour.proofs.Links.{AreFrom, segments_ascend}
 use Rattle.contour.proofs.Places.{either}
@@ -23,7 +24,7 @@ facets s t e = ap (λ (u : Segment). u.facet) e
 
 -- ---- how many are of a facet
 counted : (n : ℕ) (x : Segment) (xs : List Segment) → count_of n (x ∷ xs) ≡ cond (eqb x.facet n) 1 0 + count_of n xs
-counted n x xs = count-cons (λ (s : Segment). s.facet == n) x xs
+counted n x xs = count_by-cons (λ (s : Segment). s.facet == n) x xs
 
 count-own : (n : ℕ) (x : Segment) (xs : List Segment) → x.facet ≡ n → count_of n (x ∷ xs) ≡ 1 + count_of n xs
 count-own n x xs e = counted n x xs ∙ ap (λ b. cond b 1 0 + count_of n xs) (eq-eqb x.facet n e)

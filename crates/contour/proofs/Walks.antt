@@ -4,10 +4,11 @@ use Rattle.std.specs.Prelude.{nat_le, ◌==◌}
 use Rattle.std.specs.List.{list_all}
 use Rattle.std.proofs.lemmas.List.{length-set}
 use Rattle.std.proofs.lemmas.Bool.Decides.{nat_tests}
+use Rattle.mesh_weld.proofs.Edges.{count_by-cons}
 use Rattle.contour.specs.declared.nodes.Segment.{Segment}
 use Rattle.contour.specs.Contour.{Closes, IsCycle, count_of, first_facet, follower}
 use Rattle.contour.specs.Linking.{AreLinks, IsTakenLoop, LeavesLoops, Rises, facet_of, has_passed, left, no_place, no_segment}
-use Rattle.contour.proofs.Counts.{count-append, count-cons}
+use Rattle.contour.proofs.Counts.{count-append}
 use Rattle.contour.proofs.Places.{either}
 
 abbrev pub segment_in : List Segment → ℕ → Segment
@@ -41,12 +42,12 @@ left-pass n [] [] at e l h = absurd (omega (arith, l))
 left-pass n [] (x ∷ list) at e l h = absurd (omega (arith, e))
 left-pass n (b ∷ passed) [] at e l h = absurd (omega (arith, l))
 left-pass n (b ∷ passed) (x ∷ list) zero e l h =
-    sym (count-cons (λ (s : Segment). s.facet == n) x (left passed list)) ∙ ap (λ c. count_of n (cond c (left passed list) (x ∷ left passed list))) (sym h)
+    sym (count_by-cons (λ (s : Segment). s.facet == n) x (left passed list)) ∙ ap (λ c. count_of n (cond c (left passed list) (x ∷ left passed list))) (sym h)
 left-pass n (true ∷ passed) (x ∷ list) (suc at) e l h = left-pass n passed list at (omega (arith, e)) (omega (arith, l)) h
 left-pass n (false ∷ passed) (x ∷ list) (suc at) e l h =
     let rest = left-pass n passed list at (omega (arith, e)) (omega (arith, l)) h in
-    let a = count-cons (λ (s : Segment). s.facet == n) x (left (set passed at true) list) in
-    let b = count-cons (λ (s : Segment). s.facet == n) x (left passed list) in
+    let a = count_by-cons (λ (s : Segment). s.facet == n) x (left (set passed at true) list) in
+    let b = count_by-cons (λ (s : Segment). s.facet == n) x (left passed list) in
     omega (arith, rest, a, b)
 
 -- where a walk stands
@@ -151,7 +152,7 @@ module _ (list : List Segment) (next : List ℕ) (links : AreLinks list next) (r
       least = all-push (λ t. nat_le (facet_of list first) t.facet) part (segment_in list at) w.least high;
       once = λ n.
           let a = count-append (λ (s : Segment). s.facet == n) part (segment_in list at ∷ []) in
-          let b = count-cons (λ (s : Segment). s.facet == n) (segment_in list at) [] in
+          let b = count_by-cons (λ (s : Segment). s.facet == n) (segment_in list at) [] in
           let c = left-pass n passed list at w.size w.inside here in
           let d = w.once n in omega (arith, a, b, c, d);
       kept = λ j h. struck j (w.kept j h);

@@ -68,10 +68,6 @@ abbrev pub AreTaken : List ℕ → List ℕ → List ℕ → ℕ → Type 0
 AreTaken next starts finishes n =
     (j : ℕ) → j < n → slice_index_or next j no_place ≡ place_after starts finishes j (slice_index finishes j)
 
--- each edge starts as often as it finishes
-abbrev pub AreEven : List ℕ → List ℕ → Type 0
-AreEven starts finishes = (e : ℕ) → count_by (λ f. f == e) starts ≡ count_by (λ f. f == e) finishes
-
 -- each segment has the place of its follower, and no two have the same
 pub record AreLinks (list : List Segment) (next : List ℕ) : Type 0 where
   pub size : length next ≡ length list

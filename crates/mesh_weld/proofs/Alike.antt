@@ -1,10 +1,10 @@
 -- When two points and two facets compare as equal.
 use Rattle.std.proofs.Common.{◌≡◌, Bool, true, false, ◌&&◌, Decides, refl, subst}
 use Rattle.std.specs.Ordering.{int_eq}
+use Rattle.std.proofs.lemmas.Bool.{and_parts}
 use Rattle.std.proofs.lemmas.Bool.Decides.{Decides-int_eq}
 use Rattle.stl_text.specs.Position.{Position}
 use Rattle.stl_text.specs.Triangle.{Triangle}
-use Rattle.mesh_weld.proofs.Edges.{and_parts}
 
 abbrev pub alike : Position → Position → Bool
 alike p q = int_eq p.x q.x && (int_eq p.y q.y && int_eq p.z q.z)

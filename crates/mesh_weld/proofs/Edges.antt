@@ -5,15 +5,14 @@ use Rattle.std.specs.List.{list_all}
 use Rattle.std.specs.Ordering.{int_eq}
 use Rattle.std.proofs.lemmas.List.Sums.{sum_by-cons}
 use Rattle.std.proofs.lemmas.Bool.Decides.{Decides-int_eq}
-use Rattle.std.proofs.lemmas.Bool.{eqb-true}
+use Rattle.std.proofs.lemmas.Bool.{and_parts, eqb-true}
 use Rattle.stl_text.specs.Position.{Position, same, is_before}
 use Rattle.stl_text.specs.Triangle.{Triangle, Edge, edge}
 use Rattle.stl_text.specs.Triangle.{edges}
 use Rattle.mesh_weld.specs.Balance.{edge_count, IsBalanced, is_edge_before}
 
-pub and_parts : (a b : Bool) → (a && b) ≡ true → (a ≡ true) × (b ≡ true)
-and_parts true b h = (refl, h)
-and_parts false b h = cc
+pub count_by-cons : {X : Type 0} (p : X → Bool) (x : X) (xs : List X) → count_by p (x ∷ xs) ≡ cond (p x) 1 0 + count_by p xs
+count_by-cons p x xs = sum_by-cons (λ y. cond (p y) 1 0) x xs
 
 pub same-is : (p q : Position) → same p q ≡ true → p ≡ q
 same-is p q h =
@@ -37,11 +36,8 @@ none-or_some {X} p q (x ∷ xs) h = at_head (none-or_some p q xs parts.1) (p x) 
     parts : (q x ≡ true) × (list_all q xs ≡ true)
     parts = and_parts _ _ h
 
-    counted : count_by p (x ∷ xs) ≡ cond (p x) 1 0 + count_by p xs
-    counted = sum_by-cons (λ y. cond (p y) 1 0) x xs
-
     at_tail : p x ≡ false → Either xs → Either (x ∷ xs)
-    at_tail fails (inl none) = inl (counted ∙ ap (λ b. cond b 1 0 + count_by p xs) fails ∙ ap (λ n. 0 + n) none)
+    at_tail fails (inl none) = inl (count_by-cons p x xs ∙ ap (λ b. cond b 1 0 + count_by p xs) fails ∙ ap (λ n. 0 + n) none)
     at_tail fails (inr some) = inr some
 
     at_head : Either xs → (b : Bool) → p x ≡ b → Either (x ∷ xs)

@@ -9,7 +9,7 @@ use Rattle.stl_text.specs.Winding.{turn, turn_x, wind, hit, wind_y, hit_y, volum
 use Rattle.mesh_weld.specs.Balance.{edge_count, IsBalanced}
 use Rattle.mesh_weld.specs.Mesh.{is_kept, kept_facets}
 use Rattle.mesh_weld.proofs.Edges.{same-is}
-use Rattle.mesh_weld.proofs.Turning.{turn-opposite, turn_x-opposite}
+use Rattle.exact_cut.proofs.Turns.{turn-opposite, turn_x-opposite}
 
 -- ---- which facets are dropped
 either_of_three : (a b c : Bool) → not (a || b || c) ≡ false → (a ≡ true) ⊎ (b ≡ true) ⊎ (c ≡ true)

@@ -15,7 +15,6 @@ pub mod Welds
 pub mod EdgeCount
 pub mod Alike
 mod Closed
-pub mod Turning
 pub mod Flat
 pub mod Sums
 pub mod Probing

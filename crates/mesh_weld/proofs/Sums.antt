@@ -1,17 +1,16 @@
 -- The edges of a closed mesh are, but for their order, its edges taken back: so what is opposite there sums up to nothing.
 use Rattle.std.proofs.Common.{◌≡◌, ℕ, ◌+◌, Bool, true, false, cond, ◌&&◌, List, [], ◌∷◌, ◌++◌, map, ◌⊎◌, ℤ, pos, ◌+ℤ◌, ◌-ℤ◌, neg_ℤ, refl, sym, ◌∙◌, ap, inl, inr, arith}
 use Rattle.std.specs.Prelude.{count_by}
-use Rattle.std.proofs.lemmas.List.Sums.{sum_by-cons}
 use Rattle.std.proofs.lemmas.Int.{ints}
-use Rattle.std.proofs.lemmas.Bool.Decides.{Decides-int_eq}
 use Rattle.stl_text.specs.Position.{Position, same, doubled}
 use Rattle.stl_text.specs.Triangle.{Triangle, Edge, edge, edges, sides, twice}
 use Rattle.stl_text.specs.Winding.{total, turn, turn_x, wind, wind_y, hit, ray, neg_ray_back}
 use Rattle.mesh_weld.specs.Balance.{IsBalanced}
 use Rattle.mesh_weld.specs.MeshLaws.{IsOpposite, round}
-use Rattle.mesh_weld.proofs.Edges.{runs, runs-is}
+use Rattle.mesh_weld.proofs.Edges.{count_by-cons, runs, runs-is}
+use Rattle.mesh_weld.proofs.Order.{same-self}
 use Rattle.mesh_weld.proofs.Flat.{and_swap, own_opposite}
-use Rattle.mesh_weld.proofs.Turning.{turn-opposite, turn_x-opposite}
+use Rattle.exact_cut.proofs.Turns.{turn-opposite, turn_x-opposite}
 
 -- ---- sums over lists
 pub total-append : {X : Type 0} (f : X → ℤ) (xs ys : List X) → total f (xs ++ ys) ≡ total f xs +ℤ total f ys
@@ -39,18 +38,9 @@ pub total-map : {X Y : Type 0} (f : Y → ℤ) (g : X → Y) (xs : List X) → t
 total-map f g [] = refl
 total-map f g (x ∷ xs) = ap (λ z. f (g x) +ℤ z) (total-map f g xs)
 
-count_by-cons : {X : Type 0} (p : X → Bool) (x : X) (xs : List X) → count_by p (x ∷ xs) ≡ cond (p x) 1 0 + count_by p xs
-count_by-cons p x xs = sum_by-cons (λ y. cond (p y) 1 0) x xs
-
 -- ---- lists with as many of each edge have the same sums
-pub same-refl : (p : Position) → same p p ≡ true
-same-refl p = all_three _ _ _ ((Decides-int_eq p.x p.x).1 refl) ((Decides-int_eq p.y p.y).1 refl) ((Decides-int_eq p.z p.z).1 refl)
-  where
-    all_three : (a b c : Bool) → a ≡ true → b ≡ true → c ≡ true → (a && b && c) ≡ true
-    all_three a b c e f g = ap (λ d. d && b && c) e ∙ ap (λ d. d && c) f ∙ g
-
 runs-own : (e : Edge) → runs e.from e.to e ≡ true
-runs-own e = ap (λ b. b && same e.to e.to) (same-refl e.from) ∙ same-refl e.to
+runs-own e = ap (λ b. b && same e.to e.to) (same-self e.from) ∙ same-self e.to
 
 -- a list is one edge and the rest, in another order
 record Taken (x : Edge) (ys : List Edge) : Type 0 where

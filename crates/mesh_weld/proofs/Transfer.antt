@@ -2,7 +2,7 @@
 use Rattle.std.proofs.Common.{◌≡◌, ◌≢◌, ℕ, zero, suc, ◌≤◌, ◌<◌, ◌+◌, ◌^◌, Bool, true, false, cond, not, ◌==◌, ◌&&◌, ◌||◌, List, [], ◌∷◌, length, map, get_or, count_by, refl, sym, ap, ◌∙◌, subst, inl, inr, ◌⊎◌, arith}
 use Rattle.std.specs.List.{All, flat_map}
 use Rattle.std.specs.List.Sorted.{IsPermutation}
-use Rattle.std.proofs.lemmas.Bool.{cases_lt, cases_order, cases_Bool}
+use Rattle.std.proofs.lemmas.Bool.{cases_lt, cases_order, cases_Bool, or_left}
 use Rattle.std.proofs.lemmas.Bool.Decides.{nat_tests}
 use Rattle.std.proofs.lemmas.List.Elements.{All-head, All-tail, All-cons, All-weaker}
 use Rattle.std.proofs.lemmas.List.Sorted.{sum_by-IsPermutation}
@@ -89,10 +89,6 @@ weaker_in p false true c r h = refl
 weaker_in p false false true r h = refl
 weaker_in p false false false r h = h
 
-or_first : (a r : Bool) → a ≡ true → (a || r) ≡ true
-or_first true r h = refl
-or_first false r h = cc
-
 or_second : (a b r : Bool) → b ≡ true → (a || (b || r)) ≡ true
 or_second true b r h = refl
 or_second false true r h = refl
@@ -111,7 +107,7 @@ ends_among : (fs : List Triangle) → All (HasEnds (flat_map corners fs)) (edges
 ends_among [] = λ k d l. absurd (omega (arith, l))
 ends_among (t ∷ ts) =
     let cs : List Position = flat_map corners ts in
-    let a : is_in t.a (flat_map corners (t ∷ ts)) ≡ true = or_first (same t.a t.a) _ (same-self t.a) in
+    let a : is_in t.a (flat_map corners (t ∷ ts)) ≡ true = or_left (same t.a t.a) _ (same-self t.a) in
     let b : is_in t.b (flat_map corners (t ∷ ts)) ≡ true = or_second (same t.b t.a) (same t.b t.b) _ (same-self t.b) in
     let c : is_in t.c (flat_map corners (t ∷ ts)) ≡ true = or_third (same t.c t.a) (same t.c t.b) (same t.c t.c) _ (same-self t.c) in
     let rest : All (HasEnds (flat_map corners (t ∷ ts))) (edges ts) = All-weaker (HasEnds cs) (HasEnds (flat_map corners (t ∷ ts))) (λ e h. (weaker_in e.from (same e.from t.a) (same e.from t.b) (same e.from t.c) (is_in e.from cs) h.0, weaker_in e.to (same e.to t.a) (same e.to t.b) (same e.to t.c) (is_in e.to cs) h.1)) (edges ts) (ends_among ts) in
