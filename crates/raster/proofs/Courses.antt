@@ -1,11 +1,12 @@
 -- What the crossings of one facet add to each row.
-use Rattle.std.proofs.Common.{◌≡◌, ◌≢◌, ℕ, zero, suc, ◌+◌, ◌-◌, ◌<◌, ◌≤◌, ◌⊎◌, inl, inr, List, [], ◌∷◌, ◌++◌, Bool, true, false, cond, ◌&&◌, length, refl, ap, sym, subst, ◌∙◌, append_assoc, arith}
+use Rattle.std.proofs.Common.{◌≡◌, ◌≢◌, ℕ, zero, suc, ◌+◌, ◌-◌, ◌<◌, ◌≤◌, ◌⊎◌, inl, inr, List, [], ◌∷◌, ◌++◌, Bool, true, false, cond, length, refl, ap, sym, subst, ◌∙◌, append_assoc, arith}
 use Rattle.std.specs.Prelude.{All, ℤ, pos, negsuc, ◌+ℤ◌, ◌-ℤ◌, nat_le, ◌==◌, int_lt, ◌*ℤ◌, slice_index}
 use Rattle.std.specs.Ordering.{int_eq}
 use Rattle.std.specs.List.{list_all}
 use Rattle.std.proofs.lemmas.Int.{ints}
 use Rattle.std.proofs.lemmas.List.{append-nil, get_or_default}
 use Rattle.std.proofs.lemmas.List.Folds.{list_all-append}
+use Rattle.std.proofs.lemmas.Bool.{and_from}
 use Rattle.std.proofs.lemmas.Bool.Decides.{nat_tests}
 use mir.Syntax.{w16}
 use mir.Val.{Fits}
@@ -142,9 +143,6 @@ course-passed t z l c i j h inside low = go (placed c.row (length c.columns) j)
         ∙ at n k
         ∙ ap (λ (m : ℕ). wind t (row_y l m) z -ℤ hit t (pixel l z i m)) (sym e)
 
-both : (a b : Bool) → a ≡ true → b ≡ true → (a && b) ≡ true
-both a b h k = ap (λ (x : Bool). x && b) h ∙ k
-
 along-within : (n row : ℕ) (up : Bool) (columns : List ℕ) (j : ℕ) → ((k : ℕ) → k < length columns → slice_index columns k ≤ n) → list_all (λ m. nat_le m.column n) (marks_along row up columns j) ≡ true
 along-within n row up [] j h = refl
 along-within n row up (c ∷ columns) j h =
@@ -154,7 +152,7 @@ along-within n row up (c ∷ columns) j h =
     small a h' = grind (arith, nat_tests)
 
     one : (b : Bool) (marks : List Mark) → nat_le c n ≡ true → list_all (λ m. nat_le m.column n) marks ≡ true → list_all (λ m. nat_le m.column n) (cond b ((record { column = c; is_up = up }) ∷ marks) marks) ≡ true
-    one true marks e f = both (nat_le c n) (list_all (λ m. nat_le m.column n) marks) e f
+    one true marks e f = and_from (nat_le c n) (list_all (λ m. nat_le m.column n) marks) e f
     one false marks e f = f
 
 -- each row has the marks that it had, and those of a course
@@ -177,7 +175,7 @@ pub within-more : (t : Triangle) (z : ℤ) (l : Lattice) (c : Course) (old new :
 within-more t z l c old new h e k = λ j.
     ap (list_all (λ m. nat_le m.column l.columns)) (e j)
     ∙ list_all-append (λ m. nat_le m.column l.columns) (marks_in old j) (marks_along c.row (int_eq c.sign (pos 1)) c.columns j)
-    ∙ both (list_all (λ m. nat_le m.column l.columns) (marks_in old j)) (list_all (λ m. nat_le m.column l.columns) (marks_along c.row (int_eq c.sign (pos 1)) c.columns j)) (k j)
+    ∙ and_from (list_all (λ m. nat_le m.column l.columns) (marks_in old j)) (list_all (λ m. nat_le m.column l.columns) (marks_along c.row (int_eq c.sign (pos 1)) c.columns j)) (k j)
     (along-within l.columns c.row (int_eq c.sign (pos 1)) c.columns j (λ n m. (h.crossed n m).least.in_row))
 
 pub passed-none : (t : Triangle) (z : ℤ) (l : Lattice) (s : ℤ) → IsUncrossed t z l → (i j : ℕ) → j < l.rows → s ≡ s +ℤ (wind t (row_y l j) z -ℤ hit t (pixel l z i j))

@@ -4,6 +4,7 @@ use Rattle.std.specs.Prelude.{nat_lt, nat_le, ◌==◌}
 use Rattle.std.specs.List.{list_all}
 use Rattle.std.proofs.lemmas.List.{take-append-drop, get_or-take, get_or-drop, length-take-le}
 use Rattle.std.proofs.lemmas.List.Folds.{list_any-append}
+use Rattle.std.proofs.lemmas.Bool.{and_from}
 use Rattle.std.proofs.lemmas.Bool.Decides.{nat_tests}
 use Rattle.raster.specs.declared.spans.Span.{Span}
 use Rattle.raster.specs.Fill.{covers, is_span_within}
@@ -36,10 +37,7 @@ pub all-take : {X : Type 0} (p : X → Bool) (n : ℕ) (xs : List X) → list_al
 all-take p zero xs h = refl
 all-take p (suc n) [] h = h
 all-take p (suc n) (x ∷ xs) h =
-    both (p x) (list_all p (take n xs)) (and-left (p x) (list_all p xs) h) (all-take p n xs (and-right (p x) (list_all p xs) h))
-  where
-    both : (a b : Bool) → a ≡ true → b ≡ true → (a && b) ≡ true
-    both a b h k = ap (λ (c : Bool). c && b) h ∙ k
+    and_from (p x) (list_all p (take n xs)) (and-left (p x) (list_all p xs) h) (all-take p n xs (and-right (p x) (list_all p xs) h))
 
 pub within-columns : (columns rows : ℕ) (spans : List Span) → list_all (is_span_within columns rows) spans ≡ true → are_within columns spans ≡ true
 within-columns columns rows [] h = refl

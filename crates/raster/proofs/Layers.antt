@@ -3,8 +3,9 @@ use Rattle.std.proofs.Common.{◌≡◌, ℕ, ◌+◌, ◌<◌, ◌⊎◌, inl, 
 use Rattle.std.specs.Prelude.{neg_ℤ, nat_le, nat_lt, ◌==◌}
 use Rattle.std.specs.List.{list_all}
 use Rattle.std.proofs.lemmas.List.{take-append-drop}
-use Rattle.std.proofs.lemmas.List.Folds.{list_all-append}
+use Rattle.std.proofs.lemmas.Bool.{and_from}
 use Rattle.std.proofs.lemmas.Bool.Decides.{nat_tests}
+use Rattle.micro_num.proofs.Grammar.{all-weaker}
 use Rattle.raster.specs.declared.rules.Rule.{Rule}
 use Rattle.raster.specs.declared.spans.Span.{Span}
 use Rattle.raster.specs.declared.filling.Mark.{Mark}
@@ -12,17 +13,7 @@ use Rattle.raster.specs.Fill.{are_apart, covers, is_inside, is_span_before}
 use Rattle.raster.specs.Marks.{AreRowSpans}
 use Rattle.raster.specs.Crossings.{AreMarksWithin, AreSpansBelow, marks_in, row_passed}
 use Rattle.raster.proofs.Areas.{and-left, and-right}
-use Rattle.raster.proofs.Sweeps.{covers-append}
-
-both : (a b : Bool) → a ≡ true → b ≡ true → (a && b) ≡ true
-both a b h k = ap (λ (c : Bool). c && b) h ∙ k
-
-all-weaker : (p q : Span → Bool) → ((s : Span) → p s ≡ true → q s ≡ true) → (spans : List Span) → list_all p spans ≡ true → list_all q spans ≡ true
-all-weaker p q f [] h = refl
-all-weaker p q f (s ∷ spans) h = both (q s) (list_all q spans) (f s (and-left (p s) (list_all p spans) h)) (all-weaker p q f spans (and-right (p s) (list_all p spans) h))
-
-all-join : (p : Span → Bool) (xs ys : List Span) → list_all p xs ≡ true → list_all p ys ≡ true → list_all p (xs ++ ys) ≡ true
-all-join p xs ys h k = list_all-append p xs ys ∙ both (list_all p xs) (list_all p ys) h k
+use Rattle.raster.proofs.Sweeps.{all-join, covers-append}
 
 covers-not : (p : Span → Bool) (i j : ℕ) → ((s : Span) → p s ≡ true → (s.row == j) ≡ false) → (spans : List Span) → list_all p spans ≡ true → covers spans i j ≡ false
 covers-not p i j f [] h = refl
@@ -36,7 +27,7 @@ covers-not p i j f (s ∷ spans) h =
 apart-join : (row : ℕ) (xs ys : List Span) → list_all (λ s. nat_lt s.row row) xs ≡ true → list_all (λ s. s.row == row) ys ≡ true → are_apart xs ≡ true → are_apart ys ≡ true → are_apart (xs ++ ys) ≡ true
 apart-join row [] ys low here h k = k
 apart-join row (s ∷ xs) ys low here h k =
-    both (list_all (is_span_before s) (xs ++ ys)) (are_apart (xs ++ ys))
+    and_from (list_all (is_span_before s) (xs ++ ys)) (are_apart (xs ++ ys))
     (all-join (is_span_before s) xs ys (and-left (list_all (is_span_before s) xs) (are_apart xs) h)
     (all-weaker (λ t. t.row == row) (is_span_before s) (λ t e. before s.row s.to t.row t.from (and-left (nat_lt s.row row) (list_all (λ t. nat_lt t.row row) xs) low) e) ys here))
     (apart-join row xs ys (and-right (nat_lt s.row row) (list_all (λ t. nat_lt t.row row) xs) low) here (and-right (list_all (is_span_before s) xs) (are_apart xs) h) k)
