@@ -1,7 +1,7 @@
 -- When two grids, and two rules, compare as equal.
-use Rattle.std.proofs.Common.{◌≡◌, ℕ, Bool, true, false, ◌&&◌, Decides, refl, subst, int_eq, arith}
+use Rattle.std.proofs.Common.{◌≡◌, ℕ, Bool, true, ◌&&◌, Decides, refl, subst, int_eq, arith}
 use Rattle.std.specs.Prelude.{◌==◌}
-use Rattle.std.proofs.lemmas.Bool.{eqb-true, and_parts}
+use Rattle.std.proofs.lemmas.Bool.{eqb-true, and_from, and_parts}
 use Rattle.std.proofs.lemmas.Bool.Decides.{Decides-int_eq, nat_tests}
 use Rattle.raster.specs.Lattice.{Lattice}
 use Rattle.raster.specs.declared.rules.Rule.{Rule}
@@ -14,22 +14,17 @@ are_alike a b =
     (int_eq a.origin.x b.origin.x && (int_eq a.origin.y b.origin.y && int_eq a.origin.z b.origin.z))
     && (a.pitch == b.pitch && (a.layer_height == b.layer_height && (a.columns == b.columns && (a.rows == b.rows && a.layers == b.layers))))
 
-all_of : (a b : Bool) → a ≡ true → b ≡ true → (a && b) ≡ true
-all_of true true h k = refl
-all_of true false h k = cc
-all_of false b h k = cc
-
 equal_self : (n : ℕ) → (n == n) ≡ true
 equal_self n = grind (arith, nat_tests)
 
 alike_self : (a : Lattice) → are_alike a a ≡ true
 alike_self a =
-    all_of _ _
-    (all_of _ _ ((Decides-int_eq a.origin.x a.origin.x).1 refl)
-    (all_of _ _ ((Decides-int_eq a.origin.y a.origin.y).1 refl) ((Decides-int_eq a.origin.z a.origin.z).1 refl)))
-    (all_of _ _ (equal_self a.pitch)
-    (all_of _ _ (equal_self a.layer_height)
-    (all_of _ _ (equal_self a.columns) (all_of _ _ (equal_self a.rows) (equal_self a.layers)))))
+    and_from _ _
+    (and_from _ _ ((Decides-int_eq a.origin.x a.origin.x).1 refl)
+    (and_from _ _ ((Decides-int_eq a.origin.y a.origin.y).1 refl) ((Decides-int_eq a.origin.z a.origin.z).1 refl)))
+    (and_from _ _ (equal_self a.pitch)
+    (and_from _ _ (equal_self a.layer_height)
+    (and_from _ _ (equal_self a.columns) (and_from _ _ (equal_self a.rows) (equal_self a.layers)))))
 
 alike-is : (a b : Lattice) → are_alike a b ≡ true → a ≡ b
 alike-is a b h =

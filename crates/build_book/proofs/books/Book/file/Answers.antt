@@ -1,11 +1,10 @@
-use Rattle.std.proofs.Common.{◌∙◌, ◌≡◌, ap, false, refl, sym, true}
+use Rattle.std.proofs.Common.{◌∙◌, ap, refl, sym}
+use Rattle.std.proofs.lemmas.Bool.{false≢true}
 use Rattle.build_book.specs.Layers.{Shelf}
 use Rattle.build_book.proofs.books.Book.file.Goals as goal
 
 pub returns-then-not-same-clause-fault : goal.returns-then-not-same-clause-fault
-returns-then-not-same-clause-fault g c = λ e.
-    let no : false ≡ true = c.if-not-same.ensures.1 (ap (λ (s : Shelf). s.work) c.self.view_is ∙ sym e ∙ sym c.job.ensures) in
-    cc
+returns-then-not-same-clause-fault g c = λ e. false≢true (c.if-not-same.ensures.1 (ap (λ (s : Shelf). s.work) c.self.view_is ∙ sym e ∙ sym c.job.ensures))
 
 pub fault_of-requires-after_bounds : goal.fault_of-requires-after_bounds
 fault_of-requires-after_bounds g c = λ κs within.

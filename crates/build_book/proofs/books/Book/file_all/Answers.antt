@@ -1,4 +1,5 @@
-use Rattle.std.proofs.Common.{◌≡◌, true, false, [], refl, sym, ap, ◌∙◌, subst}
+use Rattle.std.proofs.Common.{[], refl, sym, ap, ◌∙◌, subst}
+use Rattle.std.proofs.lemmas.Bool.{false≢true}
 use Rattle.build_book.specs.Layers.{Shelf}
 use Rattle.build_book.specs.Filing.{FilesAll}
 use Rattle.build_book.proofs.InTurn.{files_whole}
@@ -22,12 +23,9 @@ returns-clause-rest g c = c.file_own.ensures.rest
 pub returns-clause-back : goal.returns-clause-back
 returns-clause-back g c = c.file_own.ensures.work
 
-not_true : false ≡ true → ⊥
-not_true e = cc
-
 pub returns-then-not-same-clause-fault : goal.returns-then-not-same-clause-fault
 returns-then-not-same-clause-fault g c = (
   c.in-Some.first.now,
   c.in-Some.ensures.some,
-  λ e. not_true (c.if-not-same.ensures.1 (ap (λ (s : Shelf). s.work) c.self.view_is ∙ sym e ∙ sym c.job.ensures)),
+  λ e. false≢true (c.if-not-same.ensures.1 (ap (λ (s : Shelf). s.work) c.self.view_is ∙ sym e ∙ sym c.job.ensures)),
 )
