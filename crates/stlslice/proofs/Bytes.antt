@@ -1,19 +1,11 @@
 -- Bytes that go out piece by piece.
-use Rattle.std.proofs.Common.{◌≡◌, ℕ, ◌+◌, ◌-◌, ◌≤◌, List, ◌++◌, ◌∙◌, length, take, drop, Option, Some, None, append_assoc, ap, subst, sym}
+use Rattle.std.proofs.Common.{◌≡◌, ℕ, ◌+◌, ◌-◌, ◌≤◌, List, ◌++◌, length, take, drop, Option, Some, None, subst, sym}
 use Rattle.std.specs.Prelude.{Err, IfErr, IfSome, Ok, Result}
 use Rattle.std.proofs.lemmas.List.{length-take-le, take_rest, take-append-drop}
 use Rattle.std.proofs.Math.Seq.{take-append-add}
-use Rattle.std.specs.Io.KnownBytes.{Appends}
 use Rattle.raster.specs.Devices.{AppendsFirst}
 use Rattle.stlslice.specs.declared.run_faults.RunFault.{RunFault}
 use Rattle.stlslice.specs.declared.run_faults.RunFault.TheVariants as fault
-
--- two pieces, one after the other
-pub appended : (old middle new : Option (List ℕ)) (xs ys : List ℕ) → Appends old middle xs → Appends middle new ys → Appends old new (xs ++ ys)
-appended None middle new xs ys h k = tt
-appended (Some a) None new xs ys h k = absurd h
-appended (Some a) (Some b) None xs ys h k = absurd k
-appended (Some a) (Some b) (Some d) xs ys h k = k ∙ ap (λ (s : List ℕ). s ++ ys) h ∙ append_assoc a xs ys
 
 -- so many bytes more of a text
 pub taken_on : (text : List ℕ) (written count : ℕ) → written ≤ length text

@@ -15,9 +15,9 @@ use Rattle.raster.specs.Devices.{AppendsFirst}
 use Rattle.raster.specs.Fill.{area_of, below, covers, is_filled}
 use Rattle.raster.specs.Lattice.{centre, plane}
 use Rattle.raster.specs.Picture.{layer_picture}
+use Rattle.raster.proofs.Sent.{appends-after}
 use Rattle.build_book.specs.Layers.{AreLawfulFrom, IsComplete, IsLawful, Layer, Work, layers_area}
 use Rattle.stlslice.specs.Stream.{image, layer_line, line_of_layer, report_text, total_line}
-use Rattle.stlslice.proofs.Bytes.{appended}
 use Rattle.stlslice.proofs.Pictures.{same-picture}
 
 -- the layer in a place of a complete build is the lawful one of that number
@@ -122,5 +122,5 @@ part_out f n i old middle new before written h done within out more =
     let long : length (flat_map f (below n)) ≡ length front + (length (f i) + length rest) =
     ap (λ (l : List ℕ). length l) all ∙ length-append front (f i ++ rest) ∙ ap (λ (m : ℕ). length front + m) (length-append (f i) rest) in (
       omega (arith, done, within, long),
-      subst (λ (l : List ℕ). Appends old new l) (sym taken) (appended old middle new front (take written (f i)) out more),
+      subst (λ (l : List ℕ). Appends old new l) (sym taken) (appends-after old middle new front (take written (f i)) out more),
     )

@@ -1,5 +1,4 @@
-ghost use Rattle.std.specs.Prelude.{◌≡◌, ◌⊎◌, IfErr, IfOk, List, vec_len};
-ghost use Rattle.micro_num.specs.declared.units.Unit.{Unit as LengthUnit};
+ghost use Rattle.std.specs.Prelude.{◌≡◌, IfErr, IfOk, List};
 ghost use Rattle.mesh_weld.specs.Balance.{IsBalanced};
 ghost use Rattle.mesh_weld.specs.Mesh.{mesh_of};
 ghost use Rattle.stl_text.specs.Text.{Reads, facet_limit};

@@ -4,9 +4,9 @@ use Rattle.std.specs.Io.KnownBytes.{Appends}
 use Rattle.raster.specs.Devices.{AppendsFirst}
 use Rattle.raster.specs.Fill.{below}
 use Rattle.raster.specs.Picture.{layer_picture}
+use Rattle.raster.proofs.Sent.{appends-after}
 use Rattle.build_book.specs.Layers.{Layer, Work}
 use Rattle.stlslice.specs.Stream.{image}
-use Rattle.stlslice.proofs.Bytes.{appended}
 use Rattle.stlslice.proofs.Faults.{passed_on}
 use Rattle.stlslice.proofs.Stream.{layer_at, one_more, part_out, picture_at}
 use Rattle.stlslice.proofs.images.write_images.Goals as goal
@@ -38,7 +38,7 @@ loop-layer-preserved g c =
     ap (λ (l : List ℕ). length l) more ∙ length-append front (image c.grid-grid.result.now c.spans.result.now) in
     record {
       out = subst (λ (l : List ℕ). Appends (g.O.Sink.contents c.args.sink.now) (g.O.Sink.contents c.write_image.new.sink) l) (sym more)
-          (appended _ _ _ front _ c.loop-layer.invariant.out c.in_ok-written.ensures.ok);
+          (appends-after _ _ _ front _ c.loop-layer.invariant.out c.in_ok-written.ensures.ok);
       total = omega (arith, c.in_ok-written.ensures.total, c.loop-layer.invariant.total, longer);
       counted = c.in_ok-written.ensures.same ∙ c.loop-layer.invariant.counted;
       small = omega (arith, c.in_ok-written.ensures.total, c.in_ok-written.ensures.small, c.loop-layer.invariant.small);
