@@ -5,7 +5,7 @@ use std::test::Fail;
 
 #[test]
 fn spellings(rt: HostRuntime) {
-    let rows: [(&[u8], Result<i32, NumFault>); 20] = [
+    let rows: [(&[u8], Result<i32, NumFault>); 21] = [
         (b"0.0005", Ok(1)),
         (b"-0.0005", Ok(-1)),
         (b"4.9999E-4", Ok(0)),
@@ -15,6 +15,7 @@ fn spellings(rt: HostRuntime) {
         (b"+.5", Ok(500)),
         (b"8000.0004", Ok(8_000_000)),
         (b"8000.0005", Ok(8_000_001)),
+        (b"128000.0004", Ok(128_000_000)),
         (b"-128000.0004", Ok(-128_000_000)),
         (b"128000.0005", Err(NumFault::OutOfRange)),
         (b"-128000.0005", Err(NumFault::OutOfRange)),
@@ -64,18 +65,18 @@ fn inches(rt: HostRuntime) {
     }
 }
 
-/// `front`, a row of one digit, and `back`.
+/// `front`, a row of one byte, and `back`.
 fn long_word(
     alloc: Global,
     front: &[u8],
-    digit: u8,
+    byte: u8,
     count: usize,
     back: &[u8],
 ) -> Result<Vec<u8>, AllocError> {
     let mut word = Vec::new(alloc);
     word.extend_from_slice(front)?;
     for _ in 0..count {
-        word.push(digit)?;
+        word.push(byte)?;
     }
     word.extend_from_slice(back)?;
     Ok(word)
@@ -83,7 +84,7 @@ fn long_word(
 
 #[test]
 fn long_words(rt: HostRuntime) -> Result<(), Fail> {
-    let millimetres: [(&[u8], u8, usize, &[u8], Result<i32, NumFault>); 9] = [
+    let millimetres: [(&[u8], u8, usize, &[u8], Result<i32, NumFault>); 11] = [
         (b"", b'0', 255, b"", Ok(0)),
         (b"", b'0', 256, b"", Err(NumFault::TooLong)),
         (b"0e", b'9', 253, b"", Ok(0)),
@@ -93,9 +94,12 @@ fn long_words(rt: HostRuntime) -> Result<(), Fail> {
         (b"0.", b'0', 240, b"1e241", Ok(1000)),
         (b"0.", b'0', 240, b"5e237", Ok(1)),
         (b"0.00049", b'9', 240, b"", Ok(0)),
+        // a length is looked at before letters
+        (b"", b'a', 255, b"", Err(NumFault::NotNumber)),
+        (b"", b'a', 256, b"", Err(NumFault::TooLong)),
     ];
-    for (front, digit, count, back, wanted) in millimetres {
-        let word = long_word(rt.alloc(), front, digit, count, back)?;
+    for (front, byte, count, back, wanted) in millimetres {
+        let word = long_word(rt.alloc(), front, byte, count, back)?;
         assert!(rt; read_micro(&word, Unit::Millimetre) == wanted);
     }
     let inches: [(&[u8], u8, i32); 2] = [(b"0.0025", b'0', 64), (b"0.00249", b'9', 63)];
