@@ -182,6 +182,19 @@ fn a_number_of_256_digits(rt: HostRuntime) -> Result<(), Fail> {
     Ok(())
 }
 
+// The mark with which some programs begin a text is part of the first word.
+#[test]
+fn a_file_behind_a_mark(rt: HostRuntime) -> Result<(), Fail> {
+    let mut text = b"\xef\xbb\xbf".to_vec(rt.alloc())?;
+    put_cube(&mut text, &PLAIN, b"0.000", b"0.002")?;
+    let fault = StlFault::Expected {
+        word: Word::Solid,
+        at: 0,
+    };
+    assert_eq!(rt; fault_of(rt.alloc(), text.as_slice()), Some(fault));
+    Ok(())
+}
+
 #[test]
 fn a_file_cut_behind_a_loop(rt: HostRuntime) -> Result<(), Fail> {
     let file = cube_file(rt.alloc())?;
@@ -218,6 +231,35 @@ fn limits(rt: HostRuntime) -> Result<(), Fail> {
     assert_eq!(rt; none, Some(StlFault::TooMany { at: 8 }));
     let facets = read_stl_at_most(rt.alloc(), text, 12, Unit::Millimetre).map_err(|_| "refused")?;
     assert!(rt; are_cube(&facets, 0, 2));
+    Ok(())
+}
+
+// What is wrong with the file of a cube and these bytes behind it, of which at most 12 facets are read.
+fn fault_behind(alloc: Global, back: &[u8]) -> Result<Option<StlFault>, AllocError> {
+    let mut text = cube_file(alloc)?;
+    text.extend_from_slice(back)?;
+    Ok(read_stl_at_most(alloc, text.as_slice(), 12, Unit::Millimetre).err())
+}
+
+// Facets are counted over all solids. The word behind the second solid's name begins at byte 1491.
+#[test]
+fn limit_over_two_solids(rt: HostRuntime) -> Result<(), Fail> {
+    let cube = cube_file(rt.alloc())?;
+    let many = StlFault::TooMany { at: 1491 };
+    let other = StlFault::Expected {
+        word: Word::FacetOrEnd,
+        at: 1491,
+    };
+    let rows: [(&[u8], Option<StlFault>); 5] = [
+        (cube.as_slice(), Some(many)),
+        (b"solid t\nfacet", Some(many)),
+        (b"solid t\nfacets", Some(other)),
+        (b"solid t\nvertex", Some(other)),
+        (b"solid t\nendsolid", None),
+    ];
+    for (back, fault) in rows {
+        assert_eq!(rt; fault_behind(rt.alloc(), back)?, fault);
+    }
     Ok(())
 }
 
@@ -303,4 +345,24 @@ fn faults_as_text(rt: HostRuntime) -> Result<(), Fail> {
         assert_eq!(rt; printed.as_str(), text);
     }
     Ok(())
+}
+
+// The coordinates of the point with these.
+fn placed([x, y, z]: [i32; 3]) -> Option<[i32; 3]> {
+    let point = Point::new(x, y, z)?;
+    Some([point.x(), point.y(), point.z()])
+}
+
+#[test]
+fn farthest_points(rt: HostRuntime) {
+    for far in [128_000_000, -128_000_000] {
+        for place in [[far, 0, 0], [0, far, 0], [0, 0, far]] {
+            assert_eq!(rt; placed(place), Some(place));
+        }
+    }
+    for beyond in [128_000_001, -128_000_001] {
+        for place in [[beyond, 0, 0], [0, beyond, 0], [0, 0, beyond]] {
+            assert_eq!(rt; placed(place), None);
+        }
+    }
 }
