@@ -49,6 +49,27 @@ fn crosses_the_octant(rt: HostRuntime) {
     assert!(rt; column(&c, 0, 4, 1) == 1);
 }
 
+/// The octahedron's facet beside it, which looks to lesser x.
+fn western() -> Option<Facet> {
+    facet([0, 2, 0], [-2, 0, 0], [0, 0, 2])
+}
+
+// A line along x goes into the octahedron here, where it goes out of it at the octant.
+#[test]
+fn crosses_a_facet_that_looks_west(rt: HostRuntime) {
+    let Some(f) = western() else {
+        assert!(rt; false);
+        return;
+    };
+    let Some(c) = crossing(&f, 0, 0) else {
+        assert!(rt; false);
+        return;
+    };
+    assert!(rt; c.sign() == -1);
+    assert!(rt; c.num() > -5 * c.den());
+    assert!(rt; c.num() <= -4 * c.den());
+}
+
 #[test]
 fn crosses_a_slanted_facet(rt: HostRuntime) {
     let Some(f) = slanted() else {
