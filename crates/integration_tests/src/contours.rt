@@ -3,13 +3,53 @@ ghost use Rattle.std.specs.Prelude.{◌≡◌};
 ghost use Rattle.contour.specs.Contour.{loops as all_loops, segments as all_segments};
 
 use crate::growth::{Count, first_free_turn};
-use crate::meshes::{CUBE_AND_PAIR, OCTAHEDRON, Part, TWO_CUBES, solid_of};
-use contour::{Linker, Loops, Segment, Sweep, loop_ray, loops, segments};
+use crate::meshes::{CUBE, CUBE_AND_PAIR, OCTAHEDRON, Part, TWO_CUBES, solid_of};
+use contour::{Linker, Loops, Node, Segment, Sweep, loop_ray, loops, segments};
 use exact_cut::Centre;
 use mesh_weld::Solid;
 use short_memory::ShortMemory;
 use std::alloc::{AllocError, Allocator, Global};
 use std::test::Fail;
+
+/// Segments, each as `FACET: LOW HIGH to LOW HIGH` by the vertices of the edges that it runs between.
+macro_rules! cut {
+    ($($facet:literal: $a:literal $b:literal to $c:literal $d:literal);*) => {
+        [$(Segment {
+            facet: $facet,
+            from: Node { low: $a, high: $b },
+            to: Node { low: $c, high: $d },
+        }),*]
+    };
+}
+
+// The segments of the cube's sides, and those of the two facets beside it: of facet 10 once more, and of its mirror.
+static SEGMENTS: [Segment; 10] = cut![
+    4: 0 5 to 4 5;
+    5: 0 1 to 0 5;
+    6: 2 7 to 2 3;
+    7: 6 7 to 2 7;
+    8: 0 3 to 0 1;
+    9: 2 3 to 0 3;
+    10: 4 7 to 6 7;
+    11: 4 5 to 4 7;
+    12: 4 7 to 6 7;
+    13: 6 7 to 4 7
+];
+
+// Whether a mesh has just these segments at the height of half a micrometre.
+fn are_segments(alloc: Global, parts: &[Part<'_>], told: &[Segment]) -> Option<bool> {
+    let solid = solid_of(alloc, parts).ok()?;
+    let list = segments(alloc, &solid, 1).ok()?;
+    Some(list.as_slice() == told)
+}
+
+#[test]
+fn segments_from_edge_to_edge(rt: HostRuntime) -> Result<(), Fail> {
+    let all = SEGMENTS.as_slice();
+    assert_eq!(rt; are_segments(rt.alloc(), CUBE, &all[..8]), Some(true));
+    assert_eq!(rt; are_segments(rt.alloc(), CUBE_AND_PAIR, all), Some(true));
+    Ok(())
+}
 
 // The facets of a loop, and the ray through it from a centre in its plane.
 type Told<'a> = (&'a [u32], i32);
@@ -51,7 +91,9 @@ const NEAR_LOOP: &[u32] = &[4, 11, 10, 7, 6, 9, 8, 5];
 
 const FAR_LOOP: &[u32] = &[16, 23, 22, 19, 18, 21, 20, 17];
 
-static PLANES: [Plane; 5] = [
+static PLANES: [Plane; 7] = [
+    (CUBE, [1, 1, 1], &[(NEAR_LOOP, 1)]),
+    (CUBE, [1, 1, 3], &[(NEAR_LOOP, 1)]),
     (CUBE_AND_PAIR, [1, 1, 1], &[(NEAR_LOOP, 1), (&[12, 13], 0)]),
     (OCTAHEDRON, [0, 0, 0], &[(&[0, 1, 2, 3], 1)]),
     (OCTAHEDRON, [0, 0, 4], &[]),
@@ -148,46 +190,68 @@ fn plane_through_two_cubes(rt: HostRuntime) -> Result<(), Fail> {
     Ok(())
 }
 
-// How many loops a solid has at the height of half a micrometre.
+// How many loops a mesh has at a height.
 fn count_loops<A: Allocator + Copy + Send + Sync>(
     alloc: A,
-    solid: &Solid<A>,
-) -> Result<usize, AllocError> {
-    let list = segments(alloc, solid, 1)?;
-    let found = loops(alloc, solid, 1, list)?;
-    Ok(found.count())
+    parts: &[Part<'_>],
+    z2: u8,
+) -> Option<usize> {
+    let solid = solid_of(alloc, parts).ok()?;
+    let list = segments(alloc, &solid, i64::from(z2)).ok()?;
+    let found = loops(alloc, &solid, i64::from(z2), list).ok()?;
+    Some(found.count())
 }
 
-// The loops of a box at its middle.
+// The loops of a box and a pair of facets.
 struct BoxLoops;
 
 impl Count for BoxLoops {
     fn count(memory: &ShortMemory<Global>) -> Option<usize> {
-        let solid = solid_of(memory, CUBE_AND_PAIR).ok()?;
-        count_loops(memory, &solid).ok()
+        count_loops(memory, CUBE_AND_PAIR, 1)
+    }
+}
+
+// The loops of two cubes in the plane that cuts both.
+struct TwoCubesLoops;
+
+impl Count for TwoCubesLoops {
+    fn count(memory: &ShortMemory<Global>) -> Option<usize> {
+        count_loops(memory, TWO_CUBES, 6)
     }
 }
 
 #[test]
 fn each_growth_of_loops_refused(rt: HostRuntime) -> Result<(), Fail> {
     assert!(rt; first_free_turn::<BoxLoops>(rt.alloc(), 200, 2) > Some(8));
+    assert!(rt; first_free_turn::<TwoCubesLoops>(rt.alloc(), 200, 2) > Some(8));
     Ok(())
 }
 
-// Where a sweep stands after a rise, and how many segments it has there; if only the rise was refused memory, it
-// stands as before.
+// The height of a sweep, how many facets it has passed there, how many it cuts, and how many segments that makes.
+type Counts = (i64, u32, usize, usize);
+
+const LOW: Counts = (2, 10, 8, 8);
+
+const HIGH: Counts = (6, 20, 16, 16);
+
+// Where a sweep stands after a rise; if only the rise was refused memory, it stands as before.
 fn after_rise<A: Allocator + Copy + Send + Sync>(
     alloc: A,
     solid: &Solid<A>,
-) -> Result<(i64, usize), AllocError> {
+) -> Result<Counts, AllocError> {
     let mut sweep = Sweep::start(alloc, solid, 2)?;
     let _refused = sweep.advance(6).is_err();
     let list = sweep.segments()?;
-    Ok((sweep.height(), list.len()))
+    Ok((
+        sweep.height(),
+        sweep.passed(),
+        sweep.active().len(),
+        list.len(),
+    ))
 }
 
 // The same for two cubes.
-fn rise(memory: &ShortMemory<Global>) -> Option<(i64, usize)> {
+fn rise(memory: &ShortMemory<Global>) -> Option<Counts> {
     let solid = solid_of(memory, TWO_CUBES).ok()?;
     after_rise(memory, &solid).ok()
 }
@@ -200,10 +264,10 @@ fn refused_rises(alloc: Global) -> Option<u32> {
         let memory = ShortMemory::new(alloc, turn);
         let risen = rise(&memory);
         if !memory.has_refused() {
-            return (risen == Some((6, 16))).then_some(alone);
+            return (risen == Some(HIGH)).then_some(alone);
         }
         match risen {
-            Some((2, 8)) => alone = alone.saturating_add(1),
+            Some(counts) if counts == LOW => alone = alone.saturating_add(1),
             Some(_) => return None,
             None => {}
         }
