@@ -19,7 +19,10 @@ fn counts(found: Result<Grid, GridFault>) -> Counts {
 // A corner, a pitch and a layer height, how many columns, rows and layers are asked for, and those of the grid.
 type Given = ([i32; 3], [u8; 2], [u32; 3], Counts);
 
-static GIVEN: [Given; 4] = [
+// The greatest coordinate of a point.
+const FAR: i32 = 128_000_000;
+
+static GIVEN: [Given; 14] = [
     ([-1; 3], [1, 2], [4, 4, 1], Ok([4, 4, 1])),
     ([-1; 3], [1, 1], [0, 1, 1], Err(GridFault::NoCells)),
     (
@@ -33,10 +36,64 @@ static GIVEN: [Given; 4] = [
         }),
     ),
     (
-        [128_000_000, 0, 0],
+        [-1; 3],
+        [1, 1],
+        [1, 16385, 1],
+        Err(GridFault::TooLarge {
+            columns: 1,
+            rows: 16385,
+            layers: 1,
+        }),
+    ),
+    ([-1; 3], [1, 1], [1, 1, 65535], Ok([1, 1, 65535])),
+    (
+        [-1; 3],
+        [1, 1],
+        [1, 1, 65536],
+        Err(GridFault::TooLarge {
+            columns: 1,
+            rows: 1,
+            layers: 65536,
+        }),
+    ),
+    (
+        [FAR, 0, 0],
         [100, 1],
         [16384, 1, 1],
         Err(GridFault::FarCentre),
+    ),
+    // along each axis the farthest centre that a grid may have, and one cell more
+    ([FAR, 0, 0], [64, 1], [1563, 1, 1], Ok([1563, 1, 1])),
+    (
+        [FAR, 0, 0],
+        [64, 1],
+        [1564, 1, 1],
+        Err(GridFault::FarCentre),
+    ),
+    ([0, FAR, 0], [64, 1], [1, 1563, 1], Ok([1, 1563, 1])),
+    (
+        [0, FAR, 0],
+        [64, 1],
+        [1, 1564, 1],
+        Err(GridFault::FarCentre),
+    ),
+    ([0, 0, FAR], [1, 64], [1, 1, 1563], Ok([1, 1, 1563])),
+    (
+        [0, 0, FAR],
+        [1, 64],
+        [1, 1, 1564],
+        Err(GridFault::FarCentre),
+    ),
+    // too large as well as too far
+    (
+        [FAR, 0, 0],
+        [64, 1],
+        [16385, 1, 1],
+        Err(GridFault::TooLarge {
+            columns: 16385,
+            rows: 1,
+            layers: 1,
+        }),
     ),
 ];
 
@@ -111,6 +168,41 @@ fn first_other_fitted(alloc: Global, rows: &[Fitted<'_>]) -> Option<usize> {
 #[test]
 fn fitted_grids(rt: HostRuntime) -> Result<(), Fail> {
     assert_eq!(rt; first_other_fitted(rt.alloc(), &FITTED), None);
+    Ok(())
+}
+
+// Voxels of a cube of 3 in voxels of 2, by column, row and layer, and their centres, doubled.
+static CENTRES: [([u32; 3], [i64; 3]); 5] = [
+    ([0, 0, 0], [2, 2, 2]),
+    ([1, 0, 0], [6, 2, 2]),
+    ([0, 1, 0], [2, 6, 2]),
+    ([0, 0, 1], [2, 2, 6]),
+    ([1, 1, 1], [6, 6, 6]),
+];
+
+fn centre(g: &Grid, [column, row, layer]: [u32; 3]) -> Option<[i64; 3]> {
+    if column >= g.columns() || row >= g.rows() || layer >= g.layers() {
+        return None;
+    }
+    let centre = g.centre(column, row, layer);
+    Some([centre.x2(), centre.y2(), centre.z2()])
+}
+
+// The number of the first voxel with another centre.
+fn first_other_centre(g: &Grid, rows: &[([u32; 3], [i64; 3])]) -> Option<usize> {
+    for (n, (voxel, told)) in rows.iter().enumerate() {
+        if centre(g, *voxel) != Some(*told) {
+            return Some(n);
+        }
+    }
+    None
+}
+
+#[test]
+fn centres_of_voxels(rt: HostRuntime) -> Result<(), Fail> {
+    let solid = solid_of(rt.alloc(), CUBE_OF_THREE).ok().ok_or("open")?;
+    let g = Grid::fit(&solid, 2, 2).ok().ok_or("no grid")?;
+    assert_eq!(rt; first_other_centre(&g, &CENTRES), None);
     Ok(())
 }
 
