@@ -1,11 +1,14 @@
-//! Two boxes that overlap, filled, and memory that is refused.
-ghost use Rattle.std.specs.Prelude.{◌<◌};
+//! Small meshes, filled, and memory that is refused.
+ghost use Rattle.std.specs.Prelude.{◌<◌, IfOk};
+ghost use Rattle.raster.specs.Fill.{AreSpans};
 
 use crate::growth::{Count, first_free_turn};
-use crate::meshes::{ONE_INWARD, Part, TWO_CUBES, solid_of};
+use crate::meshes::{
+    CUBE, INWARD_CUBE, OCTAHEDRON, ONE_INWARD, Part, TOUCHING, TWO_CUBES, solid_of,
+};
 use contour::segments;
 use mesh_weld::Solid;
-use raster::{Filler, Grid, Rule, Span, fill};
+use raster::{Counted, Filler, Grid, Rule, Span, fill, write_layer};
 use short_memory::ShortMemory;
 use std::alloc::{AllocError, Allocator, Global};
 use std::test::Fail;
@@ -19,6 +22,7 @@ fn layer<A: Allocator + Copy + Send + Sync>(
     k: u32,
 ) -> Result<Vec<Span, A>, AllocError>
     requires { k < g.now.layers }
+    ensures { IfOk result (λ spans. AreSpans g.now.columns g.now.rows spans.items) }
 {
     let cut = segments(alloc, s, g.plane(k))?;
     fill(alloc, s, g, rule, k, cut.as_slice())
@@ -82,6 +86,108 @@ static LAYERS: [Row; 5] = [
 #[test]
 fn layers_of_two_cubes(rt: HostRuntime) -> Result<(), Fail> {
     assert_eq!(rt; first_other(rt.alloc(), &LAYERS), None);
+    Ok(())
+}
+
+// Writes the image of a layer behind others.
+fn push_image(
+    w: &mut Counted<Vec<u8>>,
+    alloc: Global,
+    s: &Solid<Global>,
+    g: &Grid,
+    rule: Rule,
+    k: u32,
+) -> Option<()>
+    requires { k < g.now.layers }
+{
+    let spans = layer(alloc, s, g, rule, k).ok()?;
+    write_layer(g, spans.as_slice(), w).ok()
+}
+
+// A mesh, a rule, the size of voxels, and the images of all layers, one after the other, each from its last row down.
+type Images<'a> = (&'a [Part<'a>], Rule, u8, &'a [u8]);
+
+// Whether the layers of a mesh have these images.
+fn are_images(alloc: Global, (parts, rule, size, told): Images<'_>) -> Option<bool> {
+    if size == 0 {
+        return None;
+    }
+    let solid = solid_of(alloc, parts).ok()?;
+    let g = Grid::fit(&solid, u32::from(size), u32::from(size)).ok()?;
+    let mut w = Counted::new(Vec::new(alloc));
+    for k in 0..g.layers() {
+        push_image(&mut w, alloc, &solid, &g, rule, k)?;
+    }
+    Some(w.inner().as_slice() == told)
+}
+
+// The number of the first mesh with other images.
+fn first_other_images(alloc: Global, rows: &[Images<'_>]) -> Option<usize> {
+    for (n, row) in rows.iter().enumerate() {
+        if are_images(alloc, *row) != Some(true) {
+            return Some(n);
+        }
+    }
+    None
+}
+
+static IMAGES: [Images; 10] = [
+    (
+        CUBE,
+        Rule::EvenOdd,
+        1,
+        b"P4\n2 2\n\xc0\xc0P4\n2 2\n\xc0\xc0",
+    ),
+    (INWARD_CUBE, Rule::NonZero, 2, b"P4\n1 1\n\x80"),
+    (INWARD_CUBE, Rule::Positive, 2, b"P4\n1 1\n\x00"),
+    // its tips are too thin to have a voxel's centre in them
+    (
+        OCTAHEDRON,
+        Rule::Positive,
+        1,
+        b"P4\n4 4\n\x00\x00\x00\x00P4\n4 4\n\x00\x60\x60\x00P4\n4 4\n\x00\x60\x60\x00P4\n4 4\n\x00\x00\x00\x00",
+    ),
+    (
+        TOUCHING,
+        Rule::EvenOdd,
+        1,
+        b"P4\n3 3\n\x00\x00\x80P4\n3 3\n\x60\x60\x00P4\n3 3\n\x60\x60\x00",
+    ),
+    (
+        TWO_CUBES,
+        Rule::EvenOdd,
+        2,
+        b"P4\n3 3\n\x00\xc0\xc0P4\n3 3\n\x60\xa0\xc0P4\n3 3\n\x60\x60\x00",
+    ),
+    (
+        TWO_CUBES,
+        Rule::NonZero,
+        2,
+        b"P4\n3 3\n\x00\xc0\xc0P4\n3 3\n\x60\xe0\xc0P4\n3 3\n\x60\x60\x00",
+    ),
+    (
+        TWO_CUBES,
+        Rule::Positive,
+        2,
+        b"P4\n3 3\n\x00\xc0\xc0P4\n3 3\n\x60\xe0\xc0P4\n3 3\n\x60\x60\x00",
+    ),
+    (
+        ONE_INWARD,
+        Rule::NonZero,
+        2,
+        b"P4\n3 3\n\x00\xc0\xc0P4\n3 3\n\x60\xa0\xc0P4\n3 3\n\x60\x60\x00",
+    ),
+    (
+        ONE_INWARD,
+        Rule::Positive,
+        2,
+        b"P4\n3 3\n\x00\xc0\xc0P4\n3 3\n\x00\x80\xc0P4\n3 3\n\x00\x00\x00",
+    ),
+];
+
+#[test]
+fn images_of_all_layers(rt: HostRuntime) -> Result<(), Fail> {
+    assert_eq!(rt; first_other_images(rt.alloc(), &IMAGES), None);
     Ok(())
 }
 
