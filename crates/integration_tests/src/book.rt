@@ -318,8 +318,64 @@ impl Count for Late {
     }
 }
 
+// How many layers of a job a book has with its first stripe, which is all of them; 0 where the book refused the
+// stripe, where a layer is late, or where the area of all is another.
+fn filed_of_one_stripe<A: Allocator + Copy + Send + Sync>(
+    alloc: A,
+    job: &Job<A>,
+) -> Result<u32, AllocError> {
+    let mut book = Book::open(alloc, job)?;
+    if book.file(piece_of(alloc, job, 0)?).is_err() {
+        return Ok(0);
+    }
+    let filed = book.filed();
+    let build = book.finish(job)?;
+    Ok(if build.late() == 0 && build.total_area() == 14 {
+        filed
+    } else {
+        0
+    })
+}
+
+// The layers of two cubes, filed.
+struct Filed;
+
+impl Count for Filed {
+    fn count(memory: &ShortMemory<Global>) -> Option<usize> {
+        let job = job_of(memory, TWO_CUBES, 2, Rule::EvenOdd).ok()?;
+        let filed = filed_of_one_stripe(memory, &job).ok()?;
+        Some(filed as usize)
+    }
+}
+
+// How many layers of a job are late with an empty book; 0 where the area of all is another.
+fn late_of_none<A: Allocator + Copy + Send + Sync>(
+    alloc: A,
+    job: &Job<A>,
+) -> Result<u32, AllocError> {
+    let build = Book::open(alloc, job)?.finish(job)?;
+    Ok(if build.total_area() == 14 {
+        build.late()
+    } else {
+        0
+    })
+}
+
+// The layers of two cubes, all of them late.
+struct AllLate;
+
+impl Count for AllLate {
+    fn count(memory: &ShortMemory<Global>) -> Option<usize> {
+        let job = job_of(memory, TWO_CUBES, 2, Rule::EvenOdd).ok()?;
+        let late = late_of_none(memory, &job).ok()?;
+        Some(late as usize)
+    }
+}
+
 #[test]
 fn each_growth_refused_in_turn(rt: HostRuntime) -> Result<(), Fail> {
     assert!(rt; first_free_turn::<Late>(rt.alloc(), 10_000, 9) > Some(17));
+    assert!(rt; first_free_turn::<Filed>(rt.alloc(), 10_000, 3) > Some(17));
+    assert!(rt; first_free_turn::<AllLate>(rt.alloc(), 10_000, 3) > Some(17));
     Ok(())
 }
