@@ -1,5 +1,5 @@
 -- How a run ends.
-use Rattle.std.proofs.Common.{◌≡◌, ◌⊎◌, ℕ, List, Option, Some, None, ap, inl, inr, refl, subst}
+use Rattle.std.proofs.Common.{◌≡◌, ◌≤◌, ◌⊎◌, ℕ, List, Option, Some, None, ap, inl, inr, length, refl, subst}
 use Rattle.std.specs.Prelude.{Bool, Ok}
 use Rattle.std.specs.Io.KnownBytes.{Keeps}
 use Rattle.micro_num.specs.declared.units.Unit.{Unit as LengthUnit}
@@ -42,13 +42,15 @@ ended t input turn text f outcome (inl h) = inl (no_memory t input f h.0, h.1)
 ended t input turn text f outcome (inr h) = inr (text, outcome, h)
 
 written_first : (turn : Turn) (text : List ℕ) (written : ℕ) → IsUnwritten turn text (fault.Write written)
-    → AppendsFirst turn.old turn.new written text
+    → (written ≤ length text) × AppendsFirst turn.old turn.new written text
 written_first turn text written h =
     let is : fault.Write written ≡ fault.Write h.0 = h.1 in
     let same : h.0 ≡ written = cc in
-    subst (λ (w : ℕ). AppendsFirst turn.old turn.new w text) same h.3
+    subst (λ (w : ℕ). (w ≤ length text) × AppendsFirst turn.old turn.new w text) same (h.2, h.3)
 
 pub first_end : (t : Task) (input : List ℕ) (turn : Turn) (written : ℕ) → IsEnd t input turn (fault.Write written)
-    → (text : List ℕ) × IsOutcome t input (Ok text) × AppendsFirst turn.old turn.new written text
+    → (text : List ℕ) × IsOutcome t input (Ok text) × (written ≤ length text) × AppendsFirst turn.old turn.new written text
 first_end t input turn written (inl h) = absurd (h.0.2 written refl)
-first_end t input turn written (inr h) = (h.0, h.1, written_first turn h.0 written h.2)
+first_end t input turn written (inr h) =
+    let first = written_first turn h.0 written h.2 in
+    (h.0, h.1, first.0, first.1)

@@ -1,4 +1,4 @@
-ghost use Rattle.std.specs.Prelude.{◌≡◌, ◌≢◌, ◌≤◌, ◌⊎◌, Err, IfErr, IfOk, IfSome, List, Ok, OnOk, string_bytes, true, vec_len, ℕ};
+ghost use Rattle.std.specs.Prelude.{◌≡◌, ◌≢◌, ◌≤◌, ◌⊎◌, Err, IfErr, IfOk, IfSome, List, Ok, OnOk, length, string_bytes, true, vec_len, ℕ};
 ghost use Rattle.std.specs.Io.KnownBytes.{Appends, IsAtEnd, Keeps};
 ghost use Rattle.raster.specs.Devices.{AppendsFirst, HasFailed};
 ghost use Rattle.stlslice.specs.Program.{IsOutcome};
@@ -53,9 +53,9 @@ pub fn run<R: Threads + Wait + Sync, A: Allocator + Copy + Send + Sync, I: Sourc
         → HasFailed (I.Failures.failure_count source.old) (I.Failures.failure_count source.new) }
     ensures unwritten { (written : ℕ) → result ≡ Err (Write written)
         → HasFailed (O.Failures.failure_count sink.old) (O.Failures.failure_count sink.new) }
-    // What was written.
+    // What was written: after a fault of the output just so many bytes of the outcome, and else nothing.
     ensures first { (written : ℕ) → result ≡ Err (Write written) → IfSome (I.remaining source.old) (λ input.
-        (text : List ℕ) × IsOutcome task.now input (Ok text)
+        (text : List ℕ) × IsOutcome task.now input (Ok text) × (written ≤ length text)
         × AppendsFirst (O.contents sink.old) (O.contents sink.new) written text) }
     ensures nothing { IfErr result (λ fault. ((written : ℕ) → fault ≢ Write written)
         → Keeps (O.contents sink.old) (O.contents sink.new)) }

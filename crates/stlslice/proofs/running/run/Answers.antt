@@ -1,4 +1,4 @@
-use Rattle.std.proofs.Common.{ℕ, List}
+use Rattle.std.proofs.Common.{ℕ, ◌≤◌, List, length}
 use Rattle.std.specs.Prelude.{Ok}
 use Rattle.std.specs.Io.KnownBytes.{Appends}
 use Rattle.std.proofs.lemmas.Result.{IfErr-at_err, on_ok_weaker}
@@ -20,6 +20,6 @@ returns-clause-ok g c =
 pub returns-clause-first : goal.returns-clause-first
 returns-clause-first g c = λ written is.
     of_input _ c.in_ok-input.input.items
-    (λ (input : List ℕ). (text : List ℕ) × IsOutcome c.args.task.now input (Ok text)
+    (λ (input : List ℕ). (text : List ℕ) × IsOutcome c.args.task.now input (Ok text) × (written ≤ length text)
     × AppendsFirst (g.O.Sink.contents c.args.sink.now) (g.O.Sink.contents c.respond.new.sink) written text)
     c.in_ok-input.ensures.bytes (first_end _ _ _ written (IfErr-at_err _ is c.respond.ensures.err))
