@@ -1,6 +1,6 @@
 -- How a run ends.
 use Rattle.std.proofs.Common.{◌≡◌, ◌≤◌, ◌⊎◌, ℕ, List, Option, Some, None, ap, inl, inr, length, refl, subst}
-use Rattle.std.specs.Prelude.{Bool, Ok}
+use Rattle.std.specs.Prelude.{Bool, Err, IfErr, IsErrAnd, Ok, Result}
 use Rattle.std.specs.Io.KnownBytes.{Keeps}
 use Rattle.micro_num.specs.declared.units.Unit.{Unit as LengthUnit}
 use Rattle.mesh_weld.specs.Mesh.{Mesh}
@@ -14,9 +14,9 @@ use Rattle.task_words.specs.declared.task.Task.TheVariants as task
 use Rattle.stlslice.specs.declared.run_faults.RunFault.{RunFault}
 use Rattle.stlslice.specs.declared.run_faults.RunFault.TheVariants as fault
 use Rattle.stlslice.specs.Program.{IsOutcome, grid_for}
-use Rattle.stlslice.specs.Running.{IsEnd, IsUnwritten, IsWorkFault, Turn}
+use Rattle.stlslice.specs.Running.{IsEnd, IsSolidOf, IsUnwritten, IsWorkFault, Turn}
 use Rattle.stlslice.specs.Stream.{sliced_text}
-use Rattle.stlslice.proofs.Faults.{IsSolidOf, made_there}
+use Rattle.stlslice.proofs.Faults.{made_there}
 
 pub keeps_self : (a : Option (List ℕ)) → Keeps a a
 keeps_self None = tt
@@ -24,6 +24,12 @@ keeps_self (Some xs) = refl
 
 pub no_memory : (t : Task) (input : List ℕ) (f : RunFault) → f ≡ fault.Memory → IsWorkFault t input f
 no_memory t input f is = rw is (tt, (λ e. cc), (λ w e. cc))
+
+-- a fault that is passed on before the first byte is the end
+pub stopped : {T : Type 0} (r : Result T RunFault) (t : Task) (input : List ℕ) (turn : Turn) (f : RunFault) → Keeps turn.old turn.new
+    → IsWorkFault t input f → IsErrAnd r (λ x. x ≡ f) → IfErr r (IsEnd t input turn)
+stopped (Ok x) t input turn f kept known is = tt
+stopped (Err x) t input turn f kept known is = inl (rw is known, kept)
 
 -- the images or the report of the job are the outcome
 pub sliced_there : (unit : LengthUnit) (pitch layer : ℕ) (rule : Rule) (workers : ℕ) (report : Bool) (given : Option Given) (input : List ℕ)

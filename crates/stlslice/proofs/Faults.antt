@@ -6,11 +6,10 @@ use Rattle.stl_text.specs.declared.faults.StlFault.{StlFault}
 use Rattle.stl_text.specs.declared.faults.StlFault.TheVariants as stl
 use Rattle.stl_text.specs.Text.{IsFaultOf, Reads, facet_limit}
 use Rattle.stl_text.specs.Triangle.{Triangle}
-use Rattle.mesh_weld.specs.Balance.{IsBalanced}
 use Rattle.mesh_weld.specs.Welding.{IsWeldFault}
 use Rattle.mesh_weld.specs.declared.faults.WeldFault.{WeldFault}
 use Rattle.mesh_weld.specs.declared.faults.WeldFault.TheVariants as weld
-use Rattle.mesh_weld.specs.Mesh.{Mesh, mesh_of}
+use Rattle.mesh_weld.specs.Mesh.{Mesh}
 use Rattle.raster.specs.declared.grid_faults.GridFault.{GridFault}
 use Rattle.raster.specs.Lattice.{Lattice}
 use Rattle.task_words.specs.declared.task.Given.{Given}
@@ -20,7 +19,7 @@ use Rattle.stlslice.specs.declared.run_faults.RunFault.{RunFault}
 use Rattle.stlslice.specs.declared.run_faults.RunFault.TheVariants as fault
 use Rattle.stlslice.specs.Program.{IsMade, IsOutcome, closed, grid_for, is_box, misread, open_mesh, outside, probed_text, unit_of}
 use Rattle.stlslice.specs.Statuses.{of_weld}
-use Rattle.stlslice.specs.Running.{IsLoadFault, IsWorkFault}
+use Rattle.stlslice.specs.Running.{IsLoadFault, IsPlacingFault, IsSolidOf, IsWorkFault}
 
 abbrev pub IsTextFault : LengthUnit → List ℕ → RunFault → Type 0
 IsTextFault unit input f = (f ≡ fault.Memory) ⊎ ((cause : StlFault) × (f ≡ fault.Stl cause) × IsFaultOf facet_limit unit input cause)
@@ -55,9 +54,6 @@ pub passed_on : {T : Type 0} (r : Result T RunFault) (P Q : RunFault → Type 0)
 passed_on (Ok x) P Q more h = tt
 passed_on (Err f) P Q more h = more f h
 
-abbrev pub IsSolidOf : LengthUnit → List ℕ → Mesh → Type 0
-IsSolidOf unit input mesh = (facets : List Triangle) × Reads facet_limit unit input facets × IsBalanced facets × (mesh ≡ mesh_of facets)
-
 -- a text that is no closed mesh is the outcome of what needs one
 pub unloaded : (t : Task) (input : List ℕ) (f : RunFault) → is_box t ≡ false → IsLoadFault (unit_of t) input f → IsWorkFault t input f
 unloaded t input fault.Read other h = absurd h
@@ -68,21 +64,18 @@ unloaded t input fault.Memory other h = (tt, (λ e. cc), (λ w e. cc))
 unloaded t input (fault.Write written) other h = absurd h
 unloaded t input (fault.Outside columns rows layers) other h = absurd h
 
-abbrev pub IsGridFault : Option Given → ℕ → ℕ → List Triangle → RunFault → Type 0
-IsGridFault given pitch layer facets f =
-    (cause : GridFault) × (f ≡ fault.Grid cause) × (grid_for given pitch layer facets ≡ Err cause)
-
 -- what is made of the mesh is the outcome
 pub made_there : (t : Task) (input : List ℕ) (mesh : Mesh) (answer : Result (List ℕ) RunFault) → is_box t ≡ false
     → IsSolidOf (unit_of t) input mesh → IsMade t mesh answer → IsOutcome t input answer
 made_there t input mesh answer other s made = closed s.0 s.1 other s.2 (subst (λ (m : Mesh). IsMade t m answer) s.3 made)
 
--- where there is no grid, that is the outcome of a probe, and of slicing
-pub unplaced : (t : Task) (pitch layer : ℕ) (given : Option Given) (input : List ℕ) (mesh : Mesh) (f : RunFault) → is_box t ≡ false
-    → ((cause : GridFault) → grid_for given pitch layer mesh.facets ≡ Err cause → IsMade t mesh (Err (fault.Grid cause)))
-    → IsSolidOf (unit_of t) input mesh → IsGridFault given pitch layer mesh.facets f → IsWorkFault t input f
-unplaced t pitch layer given input mesh f other made s h =
-    rw h.1 (made_there t input mesh (Err (fault.Grid h.0)) other s (made h.0 h.2), (λ e. cc), (λ w e. cc))
+-- where there is no closed mesh or no grid, that is the outcome of a probe, and of slicing
+pub unplaced : (t : Task) (pitch layer : ℕ) (given : Option Given) (input : List ℕ) (f : RunFault) → is_box t ≡ false
+    → ((mesh : Mesh) (cause : GridFault) → grid_for given pitch layer mesh.facets ≡ Err cause → IsMade t mesh (Err (fault.Grid cause)))
+    → IsPlacingFault (unit_of t) given pitch layer input f → IsWorkFault t input f
+unplaced t pitch layer given input f other made (inl h) = unloaded t input f other h
+unplaced t pitch layer given input f other made (inr h) =
+    rw h.3 (made_there t input h.0 (Err (fault.Grid h.2)) other h.1 (made h.0 h.2 h.4), (λ e. cc), (λ w e. cc))
 
 -- what a probe answers in its grid is its outcome
 pub probed_there : (unit : LengthUnit) (pitch layer : ℕ) (given : Option Given) (i j k : ℕ) (input : List ℕ) (mesh : Mesh) (g : Lattice)

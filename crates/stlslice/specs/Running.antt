@@ -8,8 +8,11 @@ use Rattle.stlslice.specs.declared.run_faults.RunFault.TheVariants as fault
 use Rattle.micro_num.specs.declared.units.Unit.{Unit as LengthUnit}
 use Rattle.stl_text.specs.Text.{facet_limit, IsFaultOf, Reads}
 use Rattle.stl_text.specs.Triangle.{Triangle}
-use Rattle.mesh_weld.specs.Balance.{IsLeastOpen}
-use Rattle.stlslice.specs.Program.{IsOutcome}
+use Rattle.mesh_weld.specs.Balance.{IsBalanced, IsLeastOpen}
+use Rattle.mesh_weld.specs.Mesh.{Mesh, mesh_of}
+use Rattle.raster.specs.declared.grid_faults.GridFault.{GridFault}
+use Rattle.task_words.specs.declared.task.Given.{Given}
+use Rattle.stlslice.specs.Program.{IsOutcome, grid_for}
 
 -- a fault of the input is its outcome; the others are of a device or of memory
 abbrev pub IsRunFault : Task → List ℕ → RunFault → Type 0
@@ -31,6 +34,17 @@ IsLoadFault unit bytes (fault.Grid cause) = ⊥
 IsLoadFault unit bytes fault.Memory = Unit {0}
 IsLoadFault unit bytes (fault.Write written) = ⊥
 IsLoadFault unit bytes (fault.Outside columns rows layers) = ⊥
+
+-- the closed mesh that a text is
+abbrev pub IsSolidOf : LengthUnit → List ℕ → Mesh → Type 0
+IsSolidOf unit bytes mesh =
+    (facets : List Triangle) × Reads facet_limit unit bytes facets × IsBalanced facets × (mesh ≡ mesh_of facets)
+
+-- a text that is no closed mesh, or a closed mesh that has no grid
+abbrev pub IsPlacingFault : LengthUnit → Option Given → ℕ → ℕ → List ℕ → RunFault → Type 0
+IsPlacingFault unit given pitch layer bytes f =
+    IsLoadFault unit bytes f ⊎ ((mesh : Mesh) × IsSolidOf unit bytes mesh
+    × (cause : GridFault) × (f ≡ fault.Grid cause) × (grid_for given pitch layer mesh.facets ≡ Err cause))
 
 -- a device before and after
 pub record Turn : Type 0 where

@@ -1,14 +1,11 @@
-ghost use Rattle.std.specs.Prelude.{◌≡◌, ◌≢◌, ◌≤◌, ◌⊎◌, Err, IfErr, IfOk, IfSome, List, Ok, OnOk, length, string_bytes, true, vec_len, ℕ};
+ghost use Rattle.std.specs.Prelude.{◌≡◌, ◌≢◌, ◌≤◌, ◌⊎◌, Err, IfErr, IfOk, IfSome, List, Ok, OnOk, length, true, vec_len, ℕ};
 ghost use Rattle.std.specs.Io.KnownBytes.{Appends, IsAtEnd, Keeps};
 ghost use Rattle.raster.specs.Devices.{AppendsFirst, HasFailed};
-ghost use Rattle.stlslice.specs.Program.{IsOutcome};
-ghost use Rattle.stlslice.specs.Running.{IsEnd, IsLoadFault, IsRunFault};
+ghost use Rattle.stlslice.specs.Program.{IsOutcome, grid_for};
+ghost use Rattle.stlslice.specs.Running.{IsEnd, IsLoadFault, IsPlacingFault, IsRunFault, IsSolidOf};
 ghost use Rattle.stlslice.specs.declared.run_faults.RunFault.TheVariants.{Memory, Read, Stl, Write};
 ghost use Rattle.task_words.specs.Tasks.{IsInRange};
-ghost use Rattle.mesh_weld.specs.Balance.{IsBalanced};
-ghost use Rattle.mesh_weld.specs.Mesh.{mesh_of};
 ghost use Rattle.stl_text.specs.Text.{IsFaultOf, Reads, facet_limit};
-ghost use Rattle.stl_text.specs.Triangle.{Triangle};
 ghost use Rattle.stl_text.specs.declared.faults.StlFault.{StlFault as InputFault};
 
 use crate::box_line::box_line;
@@ -22,12 +19,12 @@ use build_book::Job;
 use layer_pool::{OpenGate, build};
 use mesh_weld::{Solid, weld};
 use micro_num::Unit;
-use raster::{Sink, Source};
+use raster::{Grid, Sink, Source};
 use std::alloc::Allocator;
 use std::sync::Wait;
 use std::thread::Threads;
 use stl_text::{Facet, read_stl};
-use task_words::Task;
+use task_words::{Given, Task};
 
 /// Reads the whole input, does the task, and writes and flushes what it answers.
 ///
@@ -84,43 +81,10 @@ fn respond<R: Threads + Wait + Sync, A: Allocator + Copy + Send + Sync, O: Sink>
     })) }
 {
     match task {
-        Task::Box { .. } | Task::Probe { .. } => {
-            let text = outcome(alloc, task, input)?;
-            write_all(sink, text.as_bytes())
-        }
-        Task::Slice {
-            unit,
-            pitch,
-            layer,
-            rule,
-            workers,
-            report,
-            grid,
-        } => {
-            let solid = read_solid(alloc, input, *unit)?;
-            let grid = grid_for(&solid, *grid, *pitch, *layer)?;
-            let job = Job::new(solid, grid, *rule);
-            let build = build(rt, alloc, &job, *workers, &OpenGate)?;
-            write_build(alloc, &build, *report, sink)
-        }
-    }
-}
-
-/// The text that a task other than slicing has for an input.
-fn outcome<A: Allocator + Copy + Send + Sync>(
-    alloc: A,
-    task: &Task,
-    input: Vec<u8, A>,
-) -> Result<String<A>, RunFault>
-    requires { IsInRange task.now }
-    ensures ok { IfOk result (λ text. IsOutcome task.now input.items (Ok (string_bytes text))) }
-    ensures err { IfErr result (λ fault. IsRunFault task.now input.items fault × (fault ≢ Read)
-        × ((written : ℕ) → fault ≢ Write written)) }
-{
-    match task {
         Task::Box { unit } => {
             let facets = read_facets(alloc, input, *unit)?;
-            Ok(box_line(alloc, &facets)?)
+            let line = box_line(alloc, &facets)?;
+            write_all(sink, line.as_bytes())
         }
         Task::Probe {
             unit,
@@ -131,11 +95,24 @@ fn outcome<A: Allocator + Copy + Send + Sync>(
             j,
             k,
         } => {
-            let solid = read_solid(alloc, input, *unit)?;
-            let grid = grid_for(&solid, *grid, *pitch, *layer)?;
-            probe_voxel(alloc, &solid, &grid, *i, *j, *k)
+            let (solid, grid) = read_placed(alloc, input, *unit, *grid, *pitch, *layer)?;
+            let line = probe_voxel(alloc, &solid, &grid, *i, *j, *k)?;
+            write_all(sink, line.as_bytes())
         }
-        Task::Slice { .. } => Err(RunFault::Memory),
+        Task::Slice {
+            unit,
+            pitch,
+            layer,
+            rule,
+            workers,
+            report,
+            grid,
+        } => {
+            let (solid, grid) = read_placed(alloc, input, *unit, *grid, *pitch, *layer)?;
+            let job = Job::new(solid, grid, *rule);
+            let build = build(rt, alloc, &job, *workers, &OpenGate)?;
+            write_build(alloc, &build, *report, sink)
+        }
     }
 }
 
@@ -153,14 +130,35 @@ fn read_facets<A: Allocator + Copy + Send + Sync>(
     Ok(read_stl(alloc, &input, unit)?)
 }
 
+/// The closed mesh of an input, and the grid that was handed in, or else the one that the mesh fits in.
+fn read_placed<A: Allocator + Copy + Send + Sync>(
+    alloc: A,
+    input: Vec<u8, A>,
+    unit: Unit,
+    given: Option<Given>,
+    pitch: u32,
+    layer: u32,
+) -> Result<(Solid<A>, Grid), RunFault>
+    requires pitch { 1 ≤ pitch }
+    requires pitch_high { pitch ≤ 100000 }
+    requires layer { 1 ≤ layer }
+    requires layer_high { layer ≤ 100000 }
+    ensures solid { IfOk result (λ placed. IsSolidOf unit input.items placed.0) }
+    ensures grid { IfOk result (λ placed. grid_for given pitch layer placed.0.facets ≡ Ok placed.1) }
+    ensures err { IfErr result (IsPlacingFault unit given pitch layer input.items) }
+{
+    let solid = read_solid(alloc, input, unit)?;
+    let grid = grid_for(&solid, given, pitch, layer)?;
+    Ok((solid, grid))
+}
+
 /// The closed mesh of an input, whose bytes are given up once its facets are read.
 fn read_solid<A: Allocator + Copy + Send + Sync>(
     alloc: A,
     input: Vec<u8, A>,
     unit: Unit,
 ) -> Result<Solid<A>, RunFault>
-    ensures ok { IfOk result (λ solid. (facets : List Triangle) × Reads facet_limit unit input.items facets
-        × IsBalanced facets × (solid ≡ mesh_of facets)) }
+    ensures ok { IfOk result (IsSolidOf unit input.items) }
     ensures err { IfErr result (IsLoadFault unit input.items) }
 {
     let facets = read_facets(alloc, input, unit)?;

@@ -1,39 +1,88 @@
-use Rattle.std.proofs.Common.{◌∙◌, inl, inr, refl}
+use Rattle.std.proofs.Common.{◌≡◌, ◌∙◌, ℕ, List, inr, refl}
 use Rattle.std.specs.Prelude.{Ok, string_bytes}
 use Rattle.std.proofs.lemmas.Result.{IfErr-weaker, on_ok_weaker}
 use Rattle.build_book.specs.Layers.{Work}
-use Rattle.stlslice.specs.Program.{IsOutcome}
-use Rattle.stlslice.specs.Running.{IsWorkFault}
+use Rattle.stlslice.specs.Program.{IsOutcome, box_text, boxed}
 use Rattle.stlslice.specs.Stream.{sliced_text}
 use Rattle.task_words.specs.declared.task.Task.TheVariants as task
-use Rattle.stlslice.proofs.Ends.{ended, keeps_self, no_memory, sliced_there}
-use Rattle.stlslice.proofs.Faults.{passed_on, unloaded, unplaced}
+use Rattle.stlslice.specs.declared.run_faults.RunFault.TheVariants as fault
+use Rattle.stlslice.proofs.Ends.{ended, keeps_self, no_memory, sliced_there, stopped}
+use Rattle.stlslice.proofs.Faults.{misread_box, probed_fault, probed_there, unplaced}
 use Rattle.stlslice.proofs.running.respond.Goals as goal
+
+pub returns-in_err-facets-in-Box-clause-err : goal.returns-in_err-facets-in-Box-clause-err
+returns-in_err-facets-in-Box-clause-err g c =
+    stopped c.from_residual.result c.args.task.now c.args.input.items _ c.in_err-facets-in-Box.field-0.0 (keeps_self _)
+    (rw c.in-Box.is (misread_box c.in-Box.unit c.args.input.items c.in_err-facets-in-Box.field-0.0 c.in_err-facets-in-Box.ensures.err))
+    c.from_residual.ensures.1
+
+pub returns-in_ok-line-in-Box-clause-ok : goal.returns-in_ok-line-in-Box-clause-ok
+returns-in_ok-line-in-Box-clause-ok g c =
+    let line : List ℕ = string_bytes c.in_ok-line-in-Box.line in
+    let told : line ≡ box_text c.in_ok-facets-in-Box.facets.items = rw (← c.deref.ensures.value) c.in_ok-line-in-Box.ensures in
+    let known : IsOutcome c.args.task.now c.args.input.items (Ok line) =
+    rw c.in-Box.is (boxed c.in_ok-facets-in-Box.facets.items c.in_ok-facets-in-Box.ensures.ok refl (rw told refl)) in
+    on_ok_weaker c.write_all.result (λ out. (line, known, rw (← c.as_bytes.ensures.value) out)) c.write_all.ensures.ok
+
+pub returns-in_ok-line-in-Box-clause-err : goal.returns-in_ok-line-in-Box-clause-err
+returns-in_ok-line-in-Box-clause-err g c =
+    let line : List ℕ = string_bytes c.in_ok-line-in-Box.line in
+    let told : line ≡ box_text c.in_ok-facets-in-Box.facets.items = rw (← c.deref.ensures.value) c.in_ok-line-in-Box.ensures in
+    let known : IsOutcome c.args.task.now c.args.input.items (Ok line) =
+    rw c.in-Box.is (boxed c.in_ok-facets-in-Box.facets.items c.in_ok-facets-in-Box.ensures.ok refl (rw told refl)) in
+    IfErr-weaker c.write_all.result _ _ (λ f h. inr (line, known, rw (← c.as_bytes.ensures.value) h)) c.write_all.ensures.err
+
+pub returns-in_err-solid-in-Probe-clause-err : goal.returns-in_err-solid-in-Probe-clause-err
+returns-in_err-solid-in-Probe-clause-err g c =
+    stopped c.from_residual-in_err-solid-in-Probe.result c.args.task.now c.args.input.items _ c.in_err-solid-in-Probe.field-0.0 (keeps_self _)
+    (rw c.in-Probe.is
+    (unplaced (task.Probe c.in-Probe.unit c.in-Probe.pitch c.in-Probe.layer c.in-Probe.grid c.in-Probe.i c.in-Probe.j c.in-Probe.k)
+    c.in-Probe.pitch c.in-Probe.layer c.in-Probe.grid c.args.input.items c.in_err-solid-in-Probe.field-0.0 refl
+    (λ mesh cause none. rw none refl) c.in_err-solid-in-Probe.ensures.err))
+    c.from_residual-in_err-solid-in-Probe.ensures.1
+
+pub returns-in_err-line-in-Probe-clause-err : goal.returns-in_err-line-in-Probe-clause-err
+returns-in_err-line-in-Probe-clause-err g c =
+    stopped c.from_residual-in_err-line-in-Probe.result c.args.task.now c.args.input.items _ c.in_err-line-in-Probe.field-0.0 (keeps_self _)
+    (rw c.in-Probe.is
+    (probed_fault c.in-Probe.unit c.in-Probe.pitch c.in-Probe.layer c.in-Probe.grid c.in-Probe.i c.in-Probe.j c.in-Probe.k
+    c.args.input.items c.in_ok-solid-in-Probe.solid c.in_ok-solid-in-Probe.grid c.in_err-line-in-Probe.field-0.0
+    c.in_ok-solid-in-Probe.ensures.solid c.in_ok-solid-in-Probe.ensures.grid c.in_err-line-in-Probe.ensures.err))
+    c.from_residual-in_err-line-in-Probe.ensures.1
+
+pub returns-in_ok-line-in-Probe-clause-ok : goal.returns-in_ok-line-in-Probe-clause-ok
+returns-in_ok-line-in-Probe-clause-ok g c =
+    let line : List ℕ = string_bytes c.in_ok-line-in-Probe.line in
+    let known : IsOutcome c.args.task.now c.args.input.items (Ok line) =
+    rw c.in-Probe.is
+    (probed_there c.in-Probe.unit c.in-Probe.pitch c.in-Probe.layer c.in-Probe.grid c.in-Probe.i c.in-Probe.j c.in-Probe.k
+    c.args.input.items c.in_ok-solid-in-Probe.solid c.in_ok-solid-in-Probe.grid (Ok line)
+    c.in_ok-solid-in-Probe.ensures.solid c.in_ok-solid-in-Probe.ensures.grid c.in_ok-line-in-Probe.ensures.ok) in
+    on_ok_weaker c.write_all-in-Probe.result (λ out. (line, known, rw (← c.as_bytes-in-Probe.ensures.value) out)) c.write_all-in-Probe.ensures.ok
+
+pub returns-in_ok-line-in-Probe-clause-err : goal.returns-in_ok-line-in-Probe-clause-err
+returns-in_ok-line-in-Probe-clause-err g c =
+    let line : List ℕ = string_bytes c.in_ok-line-in-Probe.line in
+    let known : IsOutcome c.args.task.now c.args.input.items (Ok line) =
+    rw c.in-Probe.is
+    (probed_there c.in-Probe.unit c.in-Probe.pitch c.in-Probe.layer c.in-Probe.grid c.in-Probe.i c.in-Probe.j c.in-Probe.k
+    c.args.input.items c.in_ok-solid-in-Probe.solid c.in_ok-solid-in-Probe.grid (Ok line)
+    c.in_ok-solid-in-Probe.ensures.solid c.in_ok-solid-in-Probe.ensures.grid c.in_ok-line-in-Probe.ensures.ok) in
+    IfErr-weaker c.write_all-in-Probe.result _ _ (λ f h. inr (line, known, rw (← c.as_bytes-in-Probe.ensures.value) h)) c.write_all-in-Probe.ensures.err
 
 pub returns-in_err-solid-in-Slice-clause-err : goal.returns-in_err-solid-in-Slice-clause-err
 returns-in_err-solid-in-Slice-clause-err g c =
-    let known : IsWorkFault c.args.task.now c.args.input.items c.in_err-solid-in-Slice.field-0.0 =
-    rw c.in-Slice.is
-    (unloaded
-    (task.Slice c.in-Slice.unit c.in-Slice.pitch c.in-Slice.layer c.in-Slice.rule c.in-Slice.workers c.in-Slice.report c.in-Slice.grid)
-    c.args.input.items c.in_err-solid-in-Slice.field-0.0 refl c.in_err-solid-in-Slice.ensures.err) in
-    passed_on c.from_residual.result _ _ (λ f is. inl (rw is known, keeps_self _)) c.from_residual.ensures.1
-
-pub returns-in_err-grid-in-Slice-clause-err : goal.returns-in_err-grid-in-Slice-clause-err
-returns-in_err-grid-in-Slice-clause-err g c =
-    let known : IsWorkFault c.args.task.now c.args.input.items c.in_err-grid-in-Slice.field-0.0 =
-    rw c.in-Slice.is
-    (unplaced
-    (task.Slice c.in-Slice.unit c.in-Slice.pitch c.in-Slice.layer c.in-Slice.rule c.in-Slice.workers c.in-Slice.report c.in-Slice.grid)
-    c.in-Slice.pitch c.in-Slice.layer c.in-Slice.grid c.args.input.items c.in_ok-solid-in-Slice.solid c.in_err-grid-in-Slice.field-0.0 refl
-    (λ cause none. rw none refl) c.in_ok-solid-in-Slice.ensures.ok c.in_err-grid-in-Slice.ensures.err) in
-    passed_on c.from_residual-in_err-grid-in-Slice.result _ _ (λ f is. inl (rw is known, keeps_self _))
-    c.from_residual-in_err-grid-in-Slice.ensures.1
+    stopped c.from_residual-in_err-solid-in-Slice.result c.args.task.now c.args.input.items _ c.in_err-solid-in-Slice.field-0.0 (keeps_self _)
+    (rw c.in-Slice.is
+    (unplaced (task.Slice c.in-Slice.unit c.in-Slice.pitch c.in-Slice.layer c.in-Slice.rule c.in-Slice.workers c.in-Slice.report c.in-Slice.grid)
+    c.in-Slice.pitch c.in-Slice.layer c.in-Slice.grid c.args.input.items c.in_err-solid-in-Slice.field-0.0 refl
+    (λ mesh cause none. rw none refl) c.in_err-solid-in-Slice.ensures.err))
+    c.from_residual-in_err-solid-in-Slice.ensures.1
 
 pub returns-in_err-build-in-Slice-clause-err : goal.returns-in_err-build-in-Slice-clause-err
 returns-in_err-build-in-Slice-clause-err g c =
-    passed_on c.from_residual-in_err-build-in-Slice.result _ _ (λ f is. inl (no_memory c.args.task.now c.args.input.items f is, keeps_self _))
-    c.from_residual-in_err-build-in-Slice.ensures.1
+    stopped c.from_residual-in_err-build-in-Slice.result c.args.task.now c.args.input.items _ fault.Memory (keeps_self _)
+    (no_memory c.args.task.now c.args.input.items fault.Memory refl) c.from_residual-in_err-build-in-Slice.ensures.1
 
 pub returns-in_ok-build-in-Slice-clause-ok : goal.returns-in_ok-build-in-Slice-clause-ok
 returns-in_ok-build-in-Slice-clause-ok g c =
@@ -41,8 +90,8 @@ returns-in_ok-build-in-Slice-clause-ok g c =
     let known : IsOutcome c.args.task.now c.args.input.items (Ok (sliced_text c.in-Slice.report work.grid work.rule work.mesh.facets)) =
     rw c.in-Slice.is
     (sliced_there c.in-Slice.unit c.in-Slice.pitch c.in-Slice.layer c.in-Slice.rule c.in-Slice.workers c.in-Slice.report c.in-Slice.grid
-    c.args.input.items c.in_ok-solid-in-Slice.solid c.in_ok-grid-in-Slice.grid work
-    c.in_ok-solid-in-Slice.ensures.ok c.in_ok-grid-in-Slice.ensures.ok (c.in_ok-build-in-Slice.ensures.work ∙ c.new-job.ensures)) in
+    c.args.input.items c.in_ok-solid-in-Slice.solid c.in_ok-solid-in-Slice.grid work
+    c.in_ok-solid-in-Slice.ensures.solid c.in_ok-solid-in-Slice.ensures.grid (c.in_ok-build-in-Slice.ensures.work ∙ c.new-job.ensures)) in
     on_ok_weaker c.write_build.result (λ out. (_, known, out)) c.write_build.ensures.ok
 
 pub returns-in_ok-build-in-Slice-clause-err : goal.returns-in_ok-build-in-Slice-clause-err
@@ -51,18 +100,6 @@ returns-in_ok-build-in-Slice-clause-err g c =
     let known : IsOutcome c.args.task.now c.args.input.items (Ok (sliced_text c.in-Slice.report work.grid work.rule work.mesh.facets)) =
     rw c.in-Slice.is
     (sliced_there c.in-Slice.unit c.in-Slice.pitch c.in-Slice.layer c.in-Slice.rule c.in-Slice.workers c.in-Slice.report c.in-Slice.grid
-    c.args.input.items c.in_ok-solid-in-Slice.solid c.in_ok-grid-in-Slice.grid work
-    c.in_ok-solid-in-Slice.ensures.ok c.in_ok-grid-in-Slice.ensures.ok (c.in_ok-build-in-Slice.ensures.work ∙ c.new-job.ensures)) in
+    c.args.input.items c.in_ok-solid-in-Slice.solid c.in_ok-solid-in-Slice.grid work
+    c.in_ok-solid-in-Slice.ensures.solid c.in_ok-solid-in-Slice.ensures.grid (c.in_ok-build-in-Slice.ensures.work ∙ c.new-job.ensures)) in
     IfErr-weaker c.write_build.result _ _ (λ f h. ended c.args.task.now c.args.input.items _ _ f known h) c.write_build.ensures.err
-
-pub returns-in_ok-text-in-Box-clause-ok : goal.returns-in_ok-text-in-Box-clause-ok
-returns-in_ok-text-in-Box-clause-ok g c =
-    on_ok_weaker c.write_all.result
-    (λ out. (string_bytes c.in_ok-text-in-Box.text, c.in_ok-text-in-Box.ensures.ok, rw (← c.as_bytes.ensures.value) out))
-    c.write_all.ensures.ok
-
-pub returns-in_ok-text-in-Box-clause-err : goal.returns-in_ok-text-in-Box-clause-err
-returns-in_ok-text-in-Box-clause-err g c =
-    IfErr-weaker c.write_all.result _ _
-    (λ f h. inr (string_bytes c.in_ok-text-in-Box.text, c.in_ok-text-in-Box.ensures.ok, rw (← c.as_bytes.ensures.value) h))
-    c.write_all.ensures.err
