@@ -160,8 +160,11 @@ impl Chunk {
     }
 }
 
-/// Writes a piece out, in as many calls as it takes. A call that fails isn't tried again.
-fn put_all<W: Sink>(w: &mut W, piece: &[u8]) -> Result<(), WriteFault>
+/// Writes a whole piece out, in as many calls as it takes.
+///
+/// A call of the sink that fails isn't tried again; then just the first `written` bytes of the piece went out, and not
+/// all of them. The sink isn't flushed, and no memory is taken.
+pub fn put_all<W: Sink>(w: &mut W, piece: &[u8]) -> Result<(), WriteFault>
     ensures ok { OnOk result (Appends (W.contents w.old) (W.contents w.new) piece.now) }
     ensures same { OnOk result (W.Failures.failure_count w.new ≡ W.Failures.failure_count w.old) }
     ensures written { IfErr result (λ fault. AppendsFirst (W.contents w.old) (W.contents w.new) fault.written piece.now) }

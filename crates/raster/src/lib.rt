@@ -17,6 +17,7 @@ mod rules;
 mod spans;
 mod write_fault;
 
+pub use chunk::put_all;
 pub use devices::{Counted, Failed, Failures, Sink, Source};
 pub use filled::{Filler, fill};
 pub use grid::Grid;

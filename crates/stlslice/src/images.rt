@@ -7,6 +7,7 @@ ghost use Rattle.stlslice.specs.Stream.{image};
 ghost use Rattle.stlslice.specs.declared.run_faults.RunFault.TheVariants.{Write};
 
 use crate::run_faults::RunFault;
+use crate::writing::settle;
 use build_book::Build;
 use raster::{Grid, Sink, Span, write_layer};
 use std::alloc::Allocator;
@@ -33,10 +34,7 @@ pub(crate) fn write_images<A: Allocator, O: Sink>(
     for layer in build.layers() {
         written = write_image(grid, layer.spans(), sink, written)?;
     }
-    match sink.settle() {
-        Ok(()) => Ok(()),
-        Err(_) => Err(RunFault::Write { written }),
-    }
+    settle(sink, written)
 }
 
 /// Writes the image of a layer, after `before` bytes of a run's output; answers how many are out then.

@@ -1,10 +1,10 @@
 ghost use Rattle.std.specs.Prelude.{◌≡◌, ◌≤◌, IfErr, OnOk, length, true, ℕ};
-ghost use Rattle.std.specs.Io.KnownBytes.{Appends};
+ghost use Rattle.std.specs.Io.KnownBytes.{Appends, Keeps};
 ghost use Rattle.raster.specs.Devices.{AppendsFirst, HasFailed};
 ghost use Rattle.stlslice.specs.declared.run_faults.RunFault.TheVariants.{Write};
 
 use crate::run_faults::RunFault;
-use raster::Sink;
+use raster::{Sink, put_all};
 
 /// Writes a whole text, and flushes it. On a fault its first `written` bytes went out; all of them where it was the
 /// flush that failed.
@@ -15,23 +15,23 @@ pub(crate) fn write_all<O: Sink>(sink: &mut O, text: &[u8]) -> Result<(), RunFau
         × AppendsFirst (O.contents sink.old) (O.contents sink.new) written text.now
         × HasFailed (O.Failures.failure_count sink.old) (O.Failures.failure_count sink.new)) }
 {
-    let mut written = 0;
-    while written < text.len() {
-        match sink.put(&text[written..]) {
-            Ok(count) => written += count,
-            Err(_) => return Err(failed_after(written)),
-        }
-    }
-    match sink.settle() {
-        Ok(()) => Ok(()),
-        Err(_) => Err(failed_after(written)),
+    match put_all(sink, text) {
+        Ok(()) => settle(sink, text.len() as u64),
+        Err(fault) => Err(RunFault::Write {
+            written: fault.written,
+        }),
     }
 }
 
-fn failed_after(written: usize) -> RunFault
-    ensures { result ≡ Write written }
+/// Flushes a sink, after `written` bytes of a run's output.
+pub(crate) fn settle<O: Sink>(sink: &mut O, written: u64) -> Result<(), RunFault>
+    ensures flushed { OnOk result (O.is_settled sink.new ≡ true) }
+    ensures kept { Keeps (O.contents sink.old) (O.contents sink.new) }
+    ensures err { IfErr result (λ fault. (fault ≡ Write written)
+        × HasFailed (O.Failures.failure_count sink.old) (O.Failures.failure_count sink.new)) }
 {
-    RunFault::Write {
-        written: written as u64,
+    match sink.settle() {
+        Ok(()) => Ok(()),
+        Err(_) => Err(RunFault::Write { written }),
     }
 }
