@@ -1,5 +1,5 @@
 #!/usr/bin/env python3
-"""Makes the parts of this folder: each is a profile with round holes, extruded. No argument, no packages.
+"""Makes the parts of this folder, of profiles with round holes, extruded. No argument, no packages.
 
 Every corner is computed once and written with the same digits wherever it is used, so each mesh is closed to the
 last digit.
@@ -89,6 +89,28 @@ def extruded(outer, holes, low, high, place):
     return facets
 
 
+def twisted(outer, bore, steps, height, degrees):
+    """The facets of a profile with a bore, from height 0 up, turned by so many degrees on its way in so many steps."""
+    def ring(step):
+        t = math.radians(degrees * step / steps)
+        return [(x * math.cos(t) - y * math.sin(t), x * math.sin(t) + y * math.cos(t)) for x, y in outer]
+
+    facets = []
+    for step in range(steps):
+        low, high = ring(step), ring(step + 1)
+        z, top = height * step / steps, height * (step + 1) / steps
+        for k in range(len(outer)):
+            p, q, r, s = low[k], low[(k + 1) % len(low)], high[(k + 1) % len(high)], high[k]
+            facets += [((*p, z), (*q, z), (*r, top)), ((*p, z), (*r, top), (*s, top))]
+    for p, q in zip(bore, bore[1:] + bore[:1]):
+        facets += [((*p, 0), (*q, 0), (*q, height)), ((*p, 0), (*q, height), (*p, height))]
+    for a, b, c in triangles(bridged(ring(steps), bore)):
+        facets.append(((*a, height), (*b, height), (*c, height)))
+    for a, b, c in triangles(bridged(ring(0), bore)):
+        facets.append(((*a, 0), (*c, 0), (*b, 0)))
+    return facets
+
+
 def normal(a, b, c):
     u = [b[k] - a[k] for k in range(3)]
     v = [c[k] - a[k] for k in range(3)]
@@ -129,9 +151,39 @@ def bracket():
     return extruded(outer, [bore], 0, 12, lambda p, y: (p[0], 12 - y, p[1]))
 
 
+def supported():
+    """The bracket raised by 5 mm on six pillars and a raft, each a closed shell of its own: the pillars reach 1 mm
+    into the bracket and into the raft, as supports do."""
+    facets = [tuple((x, y, z + 5) for x, y, z in facet) for facet in bracket()]
+    facets += pillar_of([(-3, -3), (31, -3), (31, 15), (-3, 15)], 0, 1.5)
+    for x in (4, 14, 24):
+        for y in (3, 9):
+            facets += pillar_of(circle((x, y), 1, 6), 0.5, 6)
+    return facets
+
+
+def pillar_of(ring, low, high):
+    return extruded(ring, [], low, high, lambda p, z: (p[0], p[1], z))
+
+
+def helical_gear():
+    """A gear of 12 teeth and 30 mm, 12 mm tall, that turns by 30 degrees on its way, with a bore of 8 mm."""
+    outer = []
+    for tooth in range(12):
+        for degrees, radius in ((-8.5, 12.0), (-3.5, 15.0), (3.5, 15.0), (8.5, 12.0)):
+            t = math.radians(30 * tooth + degrees)
+            outer.append((radius * math.cos(t), radius * math.sin(t)))
+    bore = list(reversed(circle((0, 0), 4, 32)))
+    return twisted(outer, bore, 10, 12, 30)
+
+
+PARTS = (("calibration_block", calibration_block()), ("bracket", bracket()), ("helical_gear", helical_gear()),
+         ("supported", supported()))
+
+
 def main():
     here = os.path.dirname(os.path.abspath(__file__))
-    for name, facets in (("calibration_block", calibration_block()), ("bracket", bracket())):
+    for name, facets in PARTS:
         with open(os.path.join(here, name + ".stl"), "w", newline="\n") as file:
             file.write(text(name, facets))
 

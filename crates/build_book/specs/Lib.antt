@@ -1,3 +1,6 @@
-pub mod Layers
-pub mod Views
-pub mod Filing
+pub mod Job
+pub mod Layer
+pub mod Piece
+pub mod Places
+pub mod Book
+pub mod Build

@@ -1,3 +1,5 @@
-pub mod Contour
-pub mod Linking
-pub mod Sweeping
+pub mod Active
+pub mod Link
+pub mod Loops
+pub mod Segment
+pub mod Sweep

@@ -1,18 +1,35 @@
-//! Where planes cut a closed mesh: segments, the loops that they make, and a sweep of rising planes.
+//! Where horizontal planes cut a closed mesh: the segments of a plane, the closed loops that they make, and a sweep
+//! that finds the segments of rising planes without a look at every facet.
+//!
+//! ```ignore
+//! let mut sweep = Sweep::start(alloc, &solid, heights[0])?;
+//! let mut linker = Linker::new(alloc, &solid)?;
+//! for z2 in heights {
+//!     sweep.advance(*z2)?;
+//!     let list = sweep.segments()?;
+//!     let found = linker.loops(&solid, list.as_slice())?;
+//! }
+//! ```
+//!
+//! - [`Segment`]: where a plane cuts one facet, from one [`Node`] to another. A node is an edge of the mesh, by the
+//!   numbers of its vertices; no coordinate of a cut is computed.
+//! - [`segment_at`], [`segments`]: the segment of one facet, and those of all facets, at one height.
+//! - [`Sweep`]: a rising plane with its list of active facets, those that it cuts.
+//! - [`Loops`], [`Linker`], [`loops`]: the loops of a plane's segments. A linker keeps its memory from plane to plane.
+//! - [`loop_ray`]: the signed ray crossings of one loop's facets.
+//!
+//! Heights are half-micrometres, in names that end in `2`; coordinates of a mesh are micrometres. A corner that lies
+//! in the plane counts as below it (the tie rule of `geometry`).
 #![tactic(auto)]
 
-mod cut_facets;
-mod heights;
-mod linking;
-mod nodes;
-mod planes;
-mod rays;
-mod rings;
-mod sweeping;
+mod active;
+mod link;
+mod loop_list;
+mod segment;
+mod sweep;
 
-pub use linking::{Linker, loops};
-pub use nodes::{Node, Segment};
-pub use planes::{segment_at, segments};
-pub use rays::loop_ray;
-pub use rings::Loops;
-pub use sweeping::Sweep;
+pub use link::{Linker, loops};
+// The module is not called `loops`, since a module and a function of one name are refused.
+pub use loop_list::{Loops, loop_ray};
+pub use segment::{Node, Segment, segment_at, segments};
+pub use sweep::Sweep;

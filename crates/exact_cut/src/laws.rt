@@ -1,13 +1,15 @@
-ghost use Rattle.exact_cut.specs.Lattices.{CoursesTellHits, UncrossedRowsHaveNoHits};
-ghost use Rattle.exact_cut.specs.WindLaws.{AheadIsAbove, CornerTurnsAreOpposite, CrossingsSplitRows, RaysDifferByEdges, StepsAlongXKeepHits, StepsAlongYKeepHits, TurnsAreOpposite, WindsAreUnits};
+//! The laws that the crate's functions stand on. No code runs them: a clause of a public function is what is proved.
+ghost use Rattle.exact_cut.specs.Laws.{AheadIsAbove, CornerTurnsAreOpposite, CrossingsSplitRows, RaysDifferByEdges, StepsAlongXKeepHits, StepsAlongYKeepHits, TurnsAreOpposite, UncrossedRowsHaveNoHits, WalksTellHits, WindsAreUnits};
 
-/// What holds of every facet's winds and hits.
+/// What holds of every facet's winding and of every ray: an edge and its opposite turn oppositely, a winding is 1, -1
+/// or 0, a crossing splits a row of centres in two, a walk tells the hits of all rays from a lattice's pixels, and a
+/// step that passes no point of a facet keeps its hit.
 pub fn hold_laws()
     ensures turns { TurnsAreOpposite }
     ensures winds { WindsAreUnits }
     ensures ahead { AheadIsAbove }
     ensures columns { CrossingsSplitRows }
-    ensures courses { CoursesTellHits }
+    ensures walks { WalksTellHits }
     ensures uncrossed { UncrossedRowsHaveNoHits }
     ensures rays { RaysDifferByEdges }
     ensures corners { CornerTurnsAreOpposite }

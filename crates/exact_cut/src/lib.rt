@@ -1,31 +1,36 @@
-//! Where facets are cut by heights and crossed by scanlines and rays, exactly. Doubled coordinates,
-//! half micrometres, make the centres between whole micrometres whole.
+//! Where heights cut facets, and where scanlines and rays cross them: exactly, in whole numbers.
+//!
+//! ```text
+//! let f = Facet::of(Point::new(0, 0, 0)?, Point::new(10, 10, 0)?, Point::new(0, 0, 10)?);
+//! cuts(&f, 10)                            // at the height 5 µm: Some(Cut { down: 2, up: 1 })
+//! let c = crossing(&f, 10, 4)?;           // there, on the scanline y = 2 µm: num / den is 4, so x = 2 µm
+//! column(&c, 1, 1, 8)                     // 2: of the pixel centres 0.5, 1.5, 2.5 .. µm, the first not left of it
+//! ray_hit(&f, &Centre::new(1, 4, 10)?)    // 1: the ray from (0.5, 2, 5) µm along x crosses the facet
+//! ray_hit(&f, &Centre::new(5, 4, 10)?)    // 0: the facet lies behind
+//! ```
+//!
+//! The types: [`Centre`], a point that a ray starts from; [`Cut`], the two edges that pass a height; [`Crossing`], where
+//! a scanline crosses a facet, as a fraction, and [`column`], the first pixel that is not left of it; [`Lattice`], the
+//! pixel centres of a layer, and [`Walk`], a facet's crossings with all of their rows, by a digital differential
+//! analyser (DDA) in place of a division a row. [`hold_laws`] states what holds of all facets.
+//!
+//! Coordinates are half-micrometres, so that the centres between whole micrometres are whole; names of such numbers end
+//! in `2`. Facets and steps between pixels are in micrometres.
 #![tactic(auto)]
 
-mod centres;
-mod columns;
-mod corners;
-mod crossings;
-mod cutting;
-mod doubled;
-mod edges;
-mod fractions;
-mod hits;
-mod lattice;
+mod centre;
+mod cut;
+mod dda;
+mod hit;
 mod laws;
-mod offsets;
-mod rows;
-mod slides;
-mod units;
-mod walks;
+mod scanline;
 
-pub use centres::Centre;
-pub use columns::column;
-pub use crossings::crossing;
-pub use cutting::cuts;
-pub use edges::Cut;
-pub use fractions::Crossing;
-pub use hits::{ray_hit, ray_hit_y};
-pub use lattice::Lattice;
+pub use centre::Centre;
+pub use cut::{Cut, cuts};
+pub use dda::lattice::Lattice;
+pub use dda::walk::Walk;
+pub use hit::{ray_hit, ray_hit_y};
 pub use laws::hold_laws;
-pub use walks::Walk;
+pub use scanline::column;
+pub use scanline::crossing::Crossing;
+pub use scanline::section::crossing;

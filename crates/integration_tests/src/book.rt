@@ -1,16 +1,17 @@
-//! What no clause says: that there are loops and layers with ample memory, worked areas, and memory that is refused.
+//! What no clause of a book says: that there are loops and layers with ample memory, worked areas, and what happens
+//! where an allocation fails.
 ghost use Rattle.std.specs.Prelude.{◌≡◌, IfOk};
 
 use crate::growth::{Count, first_free_turn};
 use crate::jobs::job_of;
 use crate::meshes::{COLUMN, CUBE, Part, TWO_CUBES};
-use build_book::{Book, Build, FileFault, Job, Piece, Sheaf, Slicer, slice_stripe};
+use build_book::{Book, Build, FileFault, Job, Piece, Slicer, slice_stripe};
 use raster::Rule;
 use short_memory::ShortMemory;
 use std::alloc::{AllocError, Allocator, Global};
 use std::test::Fail;
 
-// Whether a layer has so many loops and this area.
+// Whether a layer has this number of loops and this area.
 fn is_layer(build: &Build<'_, Global>, k: u32, (loops, area): (usize, u64)) -> bool {
     match build.layer(k) {
         Some(layer) => layer.loops().count() == loops && layer.area() == area,
@@ -59,7 +60,7 @@ fn piece_of<'m, A: Allocator + Copy + Send + Sync>(
     job: &'m Job<A>,
     stripe: u64,
 ) -> Result<Piece<'m, A>, AllocError>
-    ensures { IfOk result (λ piece. piece.work ≡ job.now) }
+    ensures { IfOk result (λ piece. piece.job ≡ job.now) }
 {
     if stripe < job.stripes() {
         slice_stripe(alloc, job, stripe)
@@ -229,43 +230,34 @@ fn one_slicer_in_any_order(rt: HostRuntime) -> Result<(), Fail> {
     Ok(())
 }
 
-// A sheaf of a job with these stripes.
-fn sheaf_of<'m, A: Allocator + Copy + Send + Sync>(
-    alloc: A,
-    job: &'m Job<A>,
-    stripes: &[u64],
-) -> Result<Sheaf<'m, A>, AllocError> {
-    let mut sheaf = Sheaf::new(alloc, job, 2)?;
-    for stripe in stripes {
-        sheaf.push(piece_of(alloc, job, *stripe)?)?;
-    }
-    Ok(sheaf)
-}
-
-// Why a book doesn't take all of a sheaf, with the first stripe of those that come back.
-fn sheaf_refusal<'m, A: Allocator + Copy + Send + Sync>(
+// Why a book of this job doesn't take a piece of it where it compares no jobs.
+fn own_refusal<'m, A: Allocator + Copy + Send + Sync>(
     book: &mut Book<'m, A>,
-    sheaf: Sheaf<'m, A>,
-) -> Refusal {
-    let (fault, rest) = book.file_all(sheaf).err()?;
-    Some((fault, rest.first()?.stripe()))
+    piece: Piece<'m, A>,
+) -> Refusal
+    requires { piece.job ≡ book.old.job }
+    ensures { book.new.job ≡ book.old.job }
+{
+    let (fault, back) = book.file_own(piece).err()?;
+    Some((fault, back.stripe()))
 }
 
-// Sheaves of stripes of the column, filed in turn: what comes of each, and how many layers the book has then.
-static SHEAVES: [(&[u64], Refusal, u32); 2] = [
-    (&[2, 0], None, 9),
-    (&[1, 0, 2], Some((FileFault::Double { layer: 0 }, 0)), 17),
+// Stripes of the column, filed in turn without a comparison of jobs: what comes of each, and how many layers the book
+// has then.
+static OWN_FILINGS: [(u64, Refusal, u32); 5] = [
+    (2, None, 1),
+    (0, None, 9),
+    (0, Some((FileFault::Double { layer: 0 }, 0)), 9),
+    (1, None, 17),
+    (2, Some((FileFault::Double { layer: 16 }, 2)), 17),
 ];
 
-// The number of the first sheaf of a job that goes otherwise.
-fn first_other_sheaf<'m>(
-    alloc: Global,
-    book: &mut Book<'m, Global>,
-    job: &'m Job<Global>,
-) -> Result<Option<usize>, AllocError> {
-    for (n, (stripes, refused, filed)) in SHEAVES.iter().enumerate() {
-        let sheaf = sheaf_of(alloc, job, stripes)?;
-        if sheaf_refusal(book, sheaf) != *refused
+// The number of the first stripe of a job that goes otherwise.
+fn first_other_own(alloc: Global, job: &Job<Global>) -> Result<Option<usize>, AllocError> {
+    let mut book = Book::open(alloc, job)?;
+    for (n, (stripe, refused, filed)) in OWN_FILINGS.iter().enumerate() {
+        let piece = piece_of(alloc, job, *stripe)?;
+        if own_refusal(&mut book, piece) != *refused
             || book.filed() != *filed
             || book.total_area() != u64::from(*filed)
         {
@@ -276,27 +268,26 @@ fn first_other_sheaf<'m>(
 }
 
 // The same for the column.
-fn first_other_of_sheaves(alloc: Global) -> Result<Option<usize>, AllocError> {
+fn first_other_own_of_column(alloc: Global) -> Result<Option<usize>, AllocError> {
     let job = job_of(alloc, COLUMN, 1, Rule::EvenOdd)?;
-    let mut book = Book::open(alloc, &job)?;
-    first_other_sheaf(alloc, &mut book, &job)
+    first_other_own(alloc, &job)
 }
 
 #[test]
-fn sheaves_of_a_column(rt: HostRuntime) -> Result<(), Fail> {
-    assert!(rt; first_other_of_sheaves(rt.alloc()) == Ok(None));
+fn own_stripes_of_a_column(rt: HostRuntime) -> Result<(), Fail> {
+    assert!(rt; first_other_own_of_column(rt.alloc()) == Ok(None));
     Ok(())
 }
 
-// How many layers of a job are late where a book of it has a sheaf of stripe 1; 0 where the book refused the sheaf, or
-// where the area of all is another.
-fn late_after_a_sheaf<A: Allocator + Copy + Send + Sync>(
+// How many layers of a job are late where a book of it has the piece of stripe 1; 0 where the book refused it, or where
+// the area of all is another.
+fn late_after_a_piece<A: Allocator + Copy + Send + Sync>(
     alloc: A,
     job: &Job<A>,
 ) -> Result<u32, AllocError> {
     let mut book = Book::open(alloc, job)?;
-    let sheaf = sheaf_of(alloc, job, &[1])?;
-    if sheaf_refusal(&mut book, sheaf).is_some() {
+    let piece = piece_of(alloc, job, 1)?;
+    if own_refusal(&mut book, piece).is_some() {
         return Ok(0);
     }
     let build = book.finish(job)?;
@@ -307,13 +298,13 @@ fn late_after_a_sheaf<A: Allocator + Copy + Send + Sync>(
     })
 }
 
-// The layers of the column that are late after a sheaf.
+// The layers of the column that are late after a piece.
 struct Late;
 
 impl Count for Late {
     fn count(memory: &ShortMemory<Global>) -> Option<usize> {
         let job = job_of(memory, COLUMN, 1, Rule::EvenOdd).ok()?;
-        let late = late_after_a_sheaf(memory, &job).ok()?;
+        let late = late_after_a_piece(memory, &job).ok()?;
         Some(late as usize)
     }
 }
@@ -372,10 +363,13 @@ impl Count for AllLate {
     }
 }
 
+// More allocations than any of these counts asks for.
+const TURNS: u64 = 10_000;
+
 #[test]
 fn each_growth_refused_in_turn(rt: HostRuntime) -> Result<(), Fail> {
-    assert!(rt; first_free_turn::<Late>(rt.alloc(), 10_000, 9) > Some(17));
-    assert!(rt; first_free_turn::<Filed>(rt.alloc(), 10_000, 3) > Some(17));
-    assert!(rt; first_free_turn::<AllLate>(rt.alloc(), 10_000, 3) > Some(17));
+    assert!(rt; first_free_turn::<Late>(rt.alloc(), TURNS, 9) > Some(17));
+    assert!(rt; first_free_turn::<Filed>(rt.alloc(), TURNS, 3) > Some(17));
+    assert!(rt; first_free_turn::<AllLate>(rt.alloc(), TURNS, 3) > Some(17));
     Ok(())
 }

@@ -1,6 +1,7 @@
-//! What no clause says: the order of the draws, threads that really run, and memory that is refused.
+//! What no clause of the claims says: the order of the draws, threads that really run, and what happens where an
+//! allocation fails.
 ghost use Rattle.std.specs.Prelude.{◌≤◌, All, IfOk};
-ghost use Rattle.stripe_claims.specs.Passes.{IsOwned};
+ghost use Rattle.stripe_claims.specs.Claims.{IsOwned};
 
 use crate::growth::{Count, first_free_turn};
 use short_memory::ShortMemory;
@@ -38,7 +39,7 @@ fn first_other_draw(
     None
 }
 
-// The same for two passes of claims to so many stripes, with the word of the claims at the end.
+// The same for two passes of claims to this number of stripes, with the word of the claims at the end.
 fn drawn_by_two(
     alloc: Global,
     stripes: u64,

@@ -1,6 +1,7 @@
 //! What no clause says: worked meshes with ample memory, and memory that is refused.
 ghost use Rattle.std.specs.Prelude.{◌≡◌};
-ghost use Rattle.contour.specs.Contour.{loops as all_loops, segments as all_segments};
+ghost use Rattle.contour.specs.Loops.{loops as all_loops};
+ghost use Rattle.contour.specs.Segment.{segments as all_segments};
 
 use crate::growth::{Count, first_free_turn};
 use crate::meshes::{CUBE, CUBE_AND_PAIR, OCTAHEDRON, Part, TWO_CUBES, solid_of};
@@ -125,11 +126,11 @@ fn count_by_linker(
     z2: u8,
 ) -> Option<usize> {
     let list = segments(alloc, solid, i64::from(z2)).ok()?;
-    let found = linker.loops(alloc, solid, list.as_slice()).ok()?;
+    let found = linker.loops(solid, list.as_slice()).ok()?;
     Some(found.count())
 }
 
-// Whether planes of two cubes have so many loops, by one linker for all.
+// Whether planes of two cubes have these counts of loops, by one linker for all.
 fn are_counts(alloc: Global, planes: &[(u8, usize)]) -> Option<bool> {
     let solid = solid_of(alloc, TWO_CUBES).ok()?;
     let mut linker = Linker::new(alloc, &solid).ok()?;

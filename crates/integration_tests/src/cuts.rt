@@ -1,5 +1,6 @@
 //! Facets whose cuts and crossings are known.
-use exact_cut::{Centre, Cut, Lattice, Walk, column, crossing, cuts, ray_hit, ray_hit_y};
+use crate::published::FARTHEST_CENTRE;
+use exact_cut::{Centre, Crossing, Cut, Lattice, Walk, column, crossing, cuts, ray_hit, ray_hit_y};
 use stl_text::{Facet, Point};
 
 fn facet(a: [i32; 3], b: [i32; 3], c: [i32; 3]) -> Option<Facet> {
@@ -30,13 +31,14 @@ fn cuts_the_octant(rt: HostRuntime) {
     assert!(rt; cuts(&f, -1).is_none());
 }
 
+// Where the line along x through the origin crosses a facet.
+fn crossed(f: Option<Facet>) -> Option<Crossing> {
+    crossing(&f?, 0, 0)
+}
+
 #[test]
 fn crosses_the_octant(rt: HostRuntime) {
-    let Some(f) = octant() else {
-        assert!(rt; false);
-        return;
-    };
-    let Some(c) = crossing(&f, 0, 0) else {
+    let Some(c) = crossed(octant()) else {
         assert!(rt; false);
         return;
     };
@@ -57,11 +59,7 @@ fn western() -> Option<Facet> {
 // A line along x goes into the octahedron here, where it goes out of it at the octant.
 #[test]
 fn crosses_a_facet_that_looks_west(rt: HostRuntime) {
-    let Some(f) = western() else {
-        assert!(rt; false);
-        return;
-    };
-    let Some(c) = crossing(&f, 0, 0) else {
+    let Some(c) = crossed(western()) else {
         assert!(rt; false);
         return;
     };
@@ -118,9 +116,9 @@ fn hits_ahead_alone(rt: HostRuntime) {
 
 #[test]
 fn looks_from_inside_the_range_alone(rt: HostRuntime) {
-    assert!(rt; Centre::new(256_200_000, -256_200_000, 0).is_some());
-    assert!(rt; Centre::new(0, 256_200_001, 0).is_none());
-    assert!(rt; Centre::new(0, 0, -256_200_001).is_none());
+    assert!(rt; Centre::new(FARTHEST_CENTRE, -FARTHEST_CENTRE, 0).is_some());
+    assert!(rt; Centre::new(0, FARTHEST_CENTRE + 1, 0).is_none());
+    assert!(rt; Centre::new(0, 0, -FARTHEST_CENTRE - 1).is_none());
 }
 
 #[test]

@@ -1,6 +1,6 @@
 //! Small meshes, filled, and memory that is refused.
 ghost use Rattle.std.specs.Prelude.{◌<◌, IfOk};
-ghost use Rattle.raster.specs.Fill.{AreSpans};
+ghost use Rattle.raster.specs.Span.{AreSpans};
 
 use crate::growth::{Count, first_free_turn};
 use crate::meshes::{
@@ -203,7 +203,7 @@ fn is_filled(
     requires { k < g.now.layers }
 {
     let cut = segments(alloc, s, g.plane(k))?;
-    let spans = filler.fill(alloc, s, g, Rule::EvenOdd, k, cut.as_slice())?;
+    let spans = filler.fill(s, g, Rule::EvenOdd, k, cut.as_slice())?;
     Ok(spans.as_slice() == told)
 }
 

@@ -1,4 +1,4 @@
-//! Memory that is refused.
+//! Allocations that fail, one after the other.
 use short_memory::ShortMemory;
 use std::alloc::Global;
 
@@ -8,8 +8,8 @@ pub(crate) trait Count {
     fn count(memory: &ShortMemory<Global>) -> Option<usize>;
 }
 
-/// Refuses each growth in turn until none is left to refuse, and answers which turn that was. `None` where a turn
-/// before it counted anything, where it didn't come to the usual count, or where there are so many turns.
+/// Fails each allocation in turn until none is left to fail, and answers which turn that was. `None` where an earlier
+/// turn counted anything, where the last one didn't reach the usual count, or where `turns` turns don't suffice.
 pub(crate) fn first_free_turn<C: Count>(alloc: Global, turns: u64, usual: usize) -> Option<u64> {
     for turn in 1..turns {
         let memory = ShortMemory::new(alloc, turn);

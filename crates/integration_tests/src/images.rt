@@ -1,7 +1,8 @@
 //! Worked grids and images, and a writer that fails.
-ghost use Rattle.raster.specs.Fill.{AreSpans};
+ghost use Rattle.raster.specs.Span.{AreSpans};
 
 use crate::meshes::{BEAM, CUBE_OF_THREE, LONG_BEAM, Part, solid_of};
+use crate::published::{FARTHEST, MOST_COLUMNS, MOST_LAYERS};
 use raster::{Counted, Failures, Grid, GridFault, Span, write_layer};
 use std::alloc::Global;
 use std::io::{Error, ErrorKind, Result as Written, Write};
@@ -19,81 +20,77 @@ fn counts(found: Result<Grid, GridFault>) -> Counts {
 // A corner, a pitch and a layer height, how many columns, rows and layers are asked for, and those of the grid.
 type Given = ([i32; 3], [u8; 2], [u32; 3], Counts);
 
-// The greatest coordinate of a point.
-const FAR: i32 = 128_000_000;
+// One column more than a grid may have.
+const TOO_WIDE: Counts = Err(GridFault::TooLarge {
+    columns: MOST_COLUMNS + 1,
+    rows: 1,
+    layers: 1,
+});
 
 static GIVEN: [Given; 14] = [
     ([-1; 3], [1, 2], [4, 4, 1], Ok([4, 4, 1])),
     ([-1; 3], [1, 1], [0, 1, 1], Err(GridFault::NoCells)),
+    ([-1; 3], [1, 1], [MOST_COLUMNS + 1, 1, 1], TOO_WIDE),
     (
         [-1; 3],
         [1, 1],
-        [16385, 1, 1],
+        [1, MOST_COLUMNS + 1, 1],
         Err(GridFault::TooLarge {
-            columns: 16385,
-            rows: 1,
+            columns: 1,
+            rows: MOST_COLUMNS + 1,
             layers: 1,
         }),
     ),
     (
         [-1; 3],
         [1, 1],
-        [1, 16385, 1],
-        Err(GridFault::TooLarge {
-            columns: 1,
-            rows: 16385,
-            layers: 1,
-        }),
+        [1, 1, MOST_LAYERS],
+        Ok([1, 1, MOST_LAYERS]),
     ),
-    ([-1; 3], [1, 1], [1, 1, 65535], Ok([1, 1, 65535])),
     (
         [-1; 3],
         [1, 1],
-        [1, 1, 65536],
+        [1, 1, MOST_LAYERS + 1],
         Err(GridFault::TooLarge {
             columns: 1,
             rows: 1,
-            layers: 65536,
+            layers: MOST_LAYERS + 1,
         }),
     ),
     (
-        [FAR, 0, 0],
+        [FARTHEST, 0, 0],
         [100, 1],
-        [16384, 1, 1],
+        [MOST_COLUMNS, 1, 1],
         Err(GridFault::FarCentre),
     ),
     // along each axis the farthest centre that a grid may have, and one cell more
-    ([FAR, 0, 0], [64, 1], [1563, 1, 1], Ok([1563, 1, 1])),
+    ([FARTHEST, 0, 0], [64, 1], [1563, 1, 1], Ok([1563, 1, 1])),
     (
-        [FAR, 0, 0],
+        [FARTHEST, 0, 0],
         [64, 1],
         [1564, 1, 1],
         Err(GridFault::FarCentre),
     ),
-    ([0, FAR, 0], [64, 1], [1, 1563, 1], Ok([1, 1563, 1])),
+    ([0, FARTHEST, 0], [64, 1], [1, 1563, 1], Ok([1, 1563, 1])),
     (
-        [0, FAR, 0],
+        [0, FARTHEST, 0],
         [64, 1],
         [1, 1564, 1],
         Err(GridFault::FarCentre),
     ),
-    ([0, 0, FAR], [1, 64], [1, 1, 1563], Ok([1, 1, 1563])),
+    ([0, 0, FARTHEST], [1, 64], [1, 1, 1563], Ok([1, 1, 1563])),
     (
-        [0, 0, FAR],
+        [0, 0, FARTHEST],
         [1, 64],
         [1, 1, 1564],
         Err(GridFault::FarCentre),
     ),
     // too large as well as too far
     (
-        [FAR, 0, 0],
+        [FARTHEST, 0, 0],
         [64, 1],
-        [16385, 1, 1],
-        Err(GridFault::TooLarge {
-            columns: 16385,
-            rows: 1,
-            layers: 1,
-        }),
+        [MOST_COLUMNS + 1, 1, 1],
+        TOO_WIDE,
     ),
 ];
 
@@ -135,16 +132,8 @@ type Fitted<'a> = (&'a [Part<'a>], u8, Counts);
 static FITTED: [Fitted; 4] = [
     (CUBE_OF_THREE, 2, Ok([2, 2, 2])),
     (&[], 1, Err(GridFault::EmptyMesh)),
-    (
-        LONG_BEAM,
-        1,
-        Err(GridFault::TooLarge {
-            columns: 16385,
-            rows: 1,
-            layers: 1,
-        }),
-    ),
-    (BEAM, 1, Ok([16384, 1, 1])),
+    (LONG_BEAM, 1, TOO_WIDE),
+    (BEAM, 1, Ok([MOST_COLUMNS, 1, 1])),
 ];
 
 fn fitted(alloc: Global, parts: &[Part<'_>], size: u8) -> Option<Counts> {
@@ -213,7 +202,7 @@ macro_rules! spans {
     };
 }
 
-// Whether the image of these spans, in a grid of so many columns and rows, has these bytes.
+// Whether the image of these spans, in a grid of these counts of columns and rows, has these bytes.
 fn is_image(alloc: Global, columns: u32, rows: u32, spans: &[Span], bytes: &[u8]) -> Option<bool>
     requires { AreSpans columns rows spans.now }
 {
@@ -280,7 +269,7 @@ fn written(calls: u64) -> Option<(u64, u64, u64)> {
     Some((fault.written, w.inner().taken, w.failures()))
 }
 
-// The least number of calls that goes otherwise than that so many bytes are written, or all 9 of the image.
+// The least number of calls after which other than the stated count of bytes is written, or than all 9 of the image.
 fn first_other_written() -> Option<u64> {
     for calls in 0..10 {
         let told = (calls < 9).then_some((calls, calls, 1));

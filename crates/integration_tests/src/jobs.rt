@@ -1,4 +1,4 @@
-//! Jobs of small meshes.
+//! Jobs of small meshes, for the tests that need one.
 ghost use Rattle.std.specs.Prelude.{◌≤◌};
 
 use crate::meshes::{Part, solid_of};
@@ -6,7 +6,7 @@ use build_book::Job;
 use raster::{Grid, Rule};
 use std::alloc::{AllocError, Allocator};
 
-/// The job of a mesh, with voxels of one size in micrometres. Only want of memory refuses it.
+/// The job of a mesh, with voxels of one size in micrometres. `Err` comes only where an allocation failed.
 pub(crate) fn job_of<A: Allocator + Copy + Send + Sync>(
     alloc: A,
     parts: &[Part<'_>],

@@ -25,6 +25,8 @@ mod number_texts;
 #[cfg(test)]
 mod pool;
 #[cfg(test)]
+mod published;
+#[cfg(test)]
 mod rays;
 #[cfg(test)]
 mod stl_texts;

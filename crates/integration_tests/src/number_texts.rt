@@ -1,4 +1,5 @@
 //! Decimal texts with known values.
+use crate::published::{FARTHEST, INCH, MILLIMETRE};
 use micro_num::{NumFault, Unit, ceil_div, one_spelling, read_front, read_micro};
 use std::alloc::{AllocError, Global};
 use std::test::Fail;
@@ -13,10 +14,10 @@ fn spellings(rt: HostRuntime) {
         (b"0e99999999999", Ok(0)),
         (b"1.", Ok(1000)),
         (b"+.5", Ok(500)),
-        (b"8000.0004", Ok(8_000_000)),
-        (b"8000.0005", Ok(8_000_001)),
-        (b"128000.0004", Ok(128_000_000)),
-        (b"-128000.0004", Ok(-128_000_000)),
+        (b"8000.0004", Ok(8000 * MILLIMETRE)),
+        (b"8000.0005", Ok(8000 * MILLIMETRE + 1)),
+        (b"128000.0004", Ok(FARTHEST)),
+        (b"-128000.0004", Ok(-FARTHEST)),
         (b"128000.0005", Err(NumFault::OutOfRange)),
         (b"-128000.0005", Err(NumFault::OutOfRange)),
         (b"1e99999999999", Err(NumFault::OutOfRange)),
@@ -36,9 +37,15 @@ fn spellings(rt: HostRuntime) {
 #[test]
 fn numbers_at_the_front(rt: HostRuntime) {
     let rows: [(&[u8], Option<(i32, usize)>); 6] = [
-        (b"1.422800e+01 5.552000e+01", Some((14_228, 12))),
+        (
+            b"1.422800e+01 5.552000e+01",
+            Some((14 * MILLIMETRE + 228, 12)),
+        ),
         (b"-0.0533 0", Some((-53, 7))),
-        (b"123456789012.25e-8 and more", Some((1_234_568, 18))),
+        (
+            b"123456789012.25e-8 and more",
+            Some((1234 * MILLIMETRE + 568, 18)),
+        ),
         (b"1.5.5", Some((1500, 3))),
         (b"1e9 2 3 4 5 6 7", None),
         (b"x", None),
@@ -51,12 +58,12 @@ fn numbers_at_the_front(rt: HostRuntime) {
 #[test]
 fn inches(rt: HostRuntime) {
     let rows: [(&[u8], Result<i32, NumFault>); 8] = [
-        (b"1", Ok(25_400)),
+        (b"1", Ok(INCH)),
         (b"0.0001", Ok(3)),
         (b"0.0025", Ok(64)),
         (b"-0.0025", Ok(-64)),
-        (b"5039.37", Ok(127_999_998)),
-        (b"5039.37008", Ok(128_000_000)),
+        (b"5039.37", Ok(FARTHEST - 2)),
+        (b"5039.37008", Ok(FARTHEST)),
         (b"5039.3701", Err(NumFault::OutOfRange)),
         (b"nan", Err(NumFault::NotNumber)),
     ];

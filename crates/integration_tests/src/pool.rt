@@ -1,4 +1,5 @@
-//! What no clause says: that workers run at the same time, that none is late, and memory that is refused.
+//! What no clause of the pool says: that workers run at the same time, that no layer is late, and what happens where an
+//! allocation fails.
 ghost use Rattle.std.specs.Prelude.{◌≤◌};
 
 use crate::book::{FILINGS, is_filed};
@@ -36,7 +37,7 @@ fn is_column<A: Allocator>(build: &Build<'_, A>) -> bool {
     build.layers().len() == 17 && build.total_area() == 17
 }
 
-// Whether what so many workers build of a job is the column, and how many layers are late.
+// Whether what this number of workers builds of a job is the column, and how many layers are late.
 fn built<A: Allocator + Copy + Send + Sync, R: Threads + Wait + Sync, G: Gate<A> + Sync>(
     rt: &R,
     alloc: A,
@@ -62,12 +63,12 @@ fn any_number_of_workers(rt: HostRuntime) -> Result<(), Fail> {
     Ok(())
 }
 
-// Holds the worker that arrives first until the other has made two pieces, for at most so many turns.
+// Holds the worker that arrives first until the other has made two pieces, for at most `TURNS` turns.
 #[derive(Drop)]
 struct HoldsTheFirst {
     // Workers by their numbers plus 1, or 0 for nobody.
     held: AtomicU64,
-    // Such a worker in each of three bytes, for the stripe that it came to or made.
+    // Such a worker in each of three bytes, for the stripe that it came to or made: byte s is that of stripe s.
     arrived: AtomicU64,
     made: AtomicU64,
     made_by_others: AtomicU64,
@@ -76,6 +77,9 @@ struct HoldsTheFirst {
 }
 
 const TURNS: u32 = 10_000_000;
+
+// The values of a byte.
+const BYTE: u64 = 256;
 
 impl HoldsTheFirst {
     fn new() -> HoldsTheFirst {
@@ -93,12 +97,12 @@ impl HoldsTheFirst {
     fn note(&self, places: &AtomicU64, worker: u64, stripe: u64) {
         let unit: u64 = match stripe {
             0 => 1,
-            1 => 256,
-            2 => 65536,
+            1 => BYTE,
+            2 => BYTE * BYTE,
             _ => 0,
         };
         let before = places.fetch_add(worker.wrapping_mul(unit), SeqCst);
-        if unit == 0 || before / unit % 256 != 0 {
+        if unit == 0 || before / unit % BYTE != 0 {
             self.twice.fetch_add(1, SeqCst);
         }
     }
@@ -116,9 +120,9 @@ impl HoldsTheFirst {
     // Whether each stripe was made once, by the worker that came to it, and the one held was let go.
     fn is_served(&self) -> bool {
         let made = self.made.load(SeqCst);
-        made % 256 != 0
-            && made / 256 % 256 != 0
-            && made / 65536 % 256 != 0
+        made % BYTE != 0
+            && made / BYTE % BYTE != 0
+            && made / (BYTE * BYTE) % BYTE != 0
             && made == self.arrived.load(SeqCst)
             && self.twice.load(SeqCst) == 0
             && self.let_go.load(SeqCst) == 1
@@ -166,11 +170,11 @@ fn column_in<R: Threads + Wait + Sync>(
     built(rt, memory, &job, workers, &OpenGate)
 }
 
-// More growths than the job and the build of the column ask for.
+// More allocations than the job and the build of the column ask for.
 const GROWTHS: u64 = 2000;
 
-// Refuses each growth in turn until none is left to refuse: how many of the builds had late layers. `None` where an
-// answer was neither the column nor want of memory, or where a build without a refusal fails, or has such layers.
+// Refuses each allocation in turn until none is left to refuse: how many of the builds had late layers. `None` where an
+// answer was neither the column nor a failed allocation, or where a build without a refusal fails, or has such layers.
 fn refuse_each<R: Threads + Wait + Sync>(rt: &R, alloc: Global, workers: u32) -> Option<u32>
     requires some { 1 ≤ workers }
     requires few { workers ≤ 64 }

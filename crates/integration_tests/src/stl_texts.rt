@@ -1,4 +1,5 @@
 //! Texts of meshes with known facets or a known fault.
+use crate::published::{FARTHEST, INCH};
 use micro_num::{NumFault, Unit};
 use short_memory::ShortMemory;
 use std::alloc::{AllocError, Allocator, Global};
@@ -281,7 +282,7 @@ fn a_cube_in_inches(rt: HostRuntime) -> Result<(), Fail> {
     let mut text = Vec::new(rt.alloc());
     put_cube(&mut text, &PLAIN, b"-1", b"0.002")?;
     let facets = read_stl(rt.alloc(), text.as_slice(), Unit::Inch).map_err(|_| "refused")?;
-    assert!(rt; are_cube(&facets, -25_400, 51));
+    assert!(rt; are_cube(&facets, -INCH, 51));
     Ok(())
 }
 
@@ -355,12 +356,12 @@ fn placed([x, y, z]: [i32; 3]) -> Option<[i32; 3]> {
 
 #[test]
 fn farthest_points(rt: HostRuntime) {
-    for far in [128_000_000, -128_000_000] {
+    for far in [FARTHEST, -FARTHEST] {
         for place in [[far, 0, 0], [0, far, 0], [0, 0, far]] {
             assert_eq!(rt; placed(place), Some(place));
         }
     }
-    for beyond in [128_000_001, -128_000_001] {
+    for beyond in [FARTHEST + 1, -FARTHEST - 1] {
         for place in [[beyond, 0, 0], [0, beyond, 0], [0, 0, beyond]] {
             assert_eq!(rt; placed(place), None);
         }

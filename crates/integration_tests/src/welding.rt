@@ -88,7 +88,7 @@ fn is_cube(solid: &Solid<Global>) -> bool {
         && solid.same(solid)
 }
 
-// Whether a solid is the same as that of the cube and a flat facet.
+// Whether a solid is the same as that of the cube and a degenerate facet.
 fn is_same(alloc: Global, solid: &Solid<Global>) -> Option<bool> {
     let other = solid_of(alloc, CUBE_AND_FLAT).ok()?;
     Some(solid.same(&other))
@@ -151,7 +151,7 @@ fn push_ring_facet<A: Allocator>(list: &mut Vec<Facet, A>, number: u32) -> Resul
     Ok(())
 }
 
-// The solid of so many facets of the rings, which are closed with all 4608: so many that they are welded by names.
+// The solid of the rings' first facets, this many. With all 4608 they are closed, and enough to be welded by hashes.
 fn welded_rings<A: Allocator + Copy + Send + Sync>(
     alloc: A,
     count: u32,

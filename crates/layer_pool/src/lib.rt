@@ -1,9 +1,18 @@
-//! Workers that make the stripes of a job, each claimed without a lock.
+//! Workers that slice the stripes of a job at the same time. Each claims its stripes without a lock.
+//!
+//! ```text
+//! let build = build(rt, alloc, &job, workers, &OpenGate)?;
+//! build.total_area()
+//! ```
+//!
+//! [`build`] answers the complete build of a job, the same for 1 to 64 workers. A [`Gate`] observes what the workers
+//! do; [`OpenGate`] is the one that ignores it. `Claims`, `Pass` and `claims_laws` are handed on from `stripe_claims`.
 #![tactic(auto)]
 
-mod gates;
+mod gate;
+mod own_book;
 mod pool;
 
-pub use crate::gates::{Gate, OpenGate};
+pub use crate::gate::{Gate, OpenGate};
 pub use crate::pool::build;
 pub use stripe_claims::{Claims, Pass, claims_laws};

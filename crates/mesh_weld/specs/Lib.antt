@@ -1,7 +1,13 @@
 pub mod Balance
-pub mod Mesh
+pub mod Solid
 pub mod EdgeNumbers
-pub mod Entries
+pub mod Corner
+pub mod HalfEdge
+pub mod Run
+pub mod PointOrder
+pub mod CornerIds
+pub mod HeightOrder
+pub mod Numbering
 pub mod Welding
 pub mod Probing
 pub mod MeshLaws

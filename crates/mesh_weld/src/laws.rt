@@ -1,12 +1,13 @@
-ghost use Rattle.mesh_weld.specs.MeshLaws.{AmountsCancel, FlatFacetsAreMissed, KeptAreClosed, KeptRaysAreAll, RayFromTheLeft, RaysAgree, SideWindsCancel, StepsKeepRays, WindsCancel};
+//! The laws of closed meshes, stated once for the crates above.
+ghost use Rattle.mesh_weld.specs.MeshLaws.{AmountsCancel, DegenerateFacetsAreMissed, KeptAreClosed, KeptRaysAreAll, RayFromTheLeft, RaysAgree, StepsKeepRays, WindsAlongYCancel, WindsCancel};
 
-/// What holds of every closed mesh, as a promise that other crates can call on. It does nothing.
+/// States what holds of every closed mesh. A crate that calls it can use its clauses; it does nothing at run time.
 pub fn hold_mesh_laws()
     ensures amounts { AmountsCancel }
     ensures winds { WindsCancel }
-    ensures side_winds { SideWindsCancel }
+    ensures winds_along_y { WindsAlongYCancel }
     ensures from_the_left { RayFromTheLeft }
-    ensures flat { FlatFacetsAreMissed }
+    ensures degenerate { DegenerateFacetsAreMissed }
     ensures kept { KeptRaysAreAll }
     ensures closed { KeptAreClosed }
     ensures agree { RaysAgree }

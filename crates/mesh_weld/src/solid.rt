@@ -1,20 +1,22 @@
+//! The closed mesh that the crates above slice.
 ghost use Rattle.std.specs.Prelude.{◌≡◌, ◌<◌, ◌≤◌, ◌↔◌, ℕ, IsTrue, List, Some, length, option_map, slice_get};
-ghost use Rattle.stl_text.specs.Extent.{bounds};
+ghost use Rattle.geometry.specs.BoundingBox.{bounds};
 ghost use Rattle.mesh_weld.specs.Balance.{IsBalanced};
 ghost use Rattle.mesh_weld.specs.EdgeNumbers.{AreEdgeNumbers};
-ghost use Rattle.mesh_weld.specs.Mesh.{IsByHeight, triples, vertices};
+ghost use Rattle.mesh_weld.specs.Solid.{IsByHeight, triples, vertices};
+ghost use Rattle.geometry.specs.declared.limits.TheConstants.{FACET_LIMIT};
 
+use geometry::{Facet, Point, extent};
 use std::alloc::Allocator;
 use std::marker::Model;
-use stl_text::{Facet, Point, extent};
 
-/// The kept facets of a closed mesh: those with three distinct corners.
+/// The kept facets of a closed mesh, which are those with three distinct corners, and their numbering.
 #[derive(Drop)]
 pub struct Solid<A: Allocator> {
     pub(crate) facets: Vec<Facet, A>,
     pub(crate) points: Vec<Point, A>,
     pub(crate) numbers: Vec<[u32; 3], A>,
-    /// Of each facet three numbers, one after the other.
+    /// Three numbers for each facet, one facet after the other.
     pub(crate) edges: Vec<u32, A>,
     pub(crate) edge_count: u32,
     pub(crate) order: Vec<u32, A>,
@@ -22,26 +24,21 @@ pub struct Solid<A: Allocator> {
 }
 
 impl<A: Allocator> Model for Solid<A> {
-    ghost use Rattle.std.specs.Prelude.{◌≡◌, ◌≤◌, length};
-    ghost use Rattle.mesh_weld.specs.Balance.{IsBalanced};
-    ghost use Rattle.mesh_weld.specs.EdgeNumbers.{AreEdgeNumbers};
-    ghost use Rattle.mesh_weld.specs.Entries.{threes};
-    ghost use Rattle.mesh_weld.specs.Mesh.{Mesh, IsByHeight, triples, vertices};
+    ghost use Rattle.geometry.specs.declared.limits.TheConstants.{FACET_LIMIT};
+    ghost use Rattle.std.specs.Prelude.{◌≤◌, length};
+    ghost use Rattle.mesh_weld.specs.Numbering.{IsNumberingOf};
+    ghost use Rattle.mesh_weld.specs.Solid.{Solid};
 
-    ghost Value = { Mesh };
+    ghost Value = { Solid };
 
     ghost view = { λ s. record { facets = s.facets.items; dropped = s.dropped } };
 
-    ghost invariant = { λ s. IsBalanced s.facets.items
-        × (s.points.items ≡ vertices s.facets.items)
-        × (s.numbers.items ≡ triples s.facets.items)
-        × AreEdgeNumbers s.facets.items (threes s.edges.items) s.edge_count
-        × IsByHeight s.facets.items s.order.items
-        × (length s.facets.items ≤ 1048576) };
+    ghost invariant = { λ s. IsNumberingOf s.facets.items s.points.items s.numbers.items s.edges.items s.edge_count s.order.items
+        × (length s.facets.items ≤ FACET_LIMIT) };
 }
 
 impl<A: Allocator> Solid<A> {
-    /// How many facets were dropped, since two of their corners are equal.
+    /// The number of degenerate facets, which were dropped: two of their corners are equal.
     pub fn dropped(&self) -> u32
         ensures { result ≡ self.now.dropped }
     {
@@ -70,7 +67,7 @@ impl<A: Allocator> Solid<A> {
         self.edges.as_slice().as_chunks::<3>().0
     }
 
-    /// How many numbers of edges there are: each is below this.
+    /// The number of edges: each edge's number is below this.
     pub fn edge_count(&self) -> u32
         ensures { (numbers : List (List ℕ)) (count : ℕ) → AreEdgeNumbers self.now.facets numbers count → result ≡ count }
     {
@@ -84,24 +81,24 @@ impl<A: Allocator> Solid<A> {
         extent(self.facets.as_slice())
     }
 
-    /// Whether both have the same facets, in the same order, and dropped as many.
+    /// Whether both have the same facets, in the same order, and the same number of dropped ones.
     pub fn same(&self, other: &Solid<A>) -> bool
         ensures { IsTrue result ↔ (self.now ≡ other.now) }
     {
         self.dropped == other.dropped && self.facets.as_slice() == other.facets.as_slice()
     }
 
-    /// The numbers of the kept facets by ascending least height, of two as low by number.
+    /// The numbers of the kept facets by ascending least height, and by number where least heights are equal.
     pub fn by_height(&self) -> &[u32]
         ensures { IsByHeight self.now.facets result.now }
     {
         self.order.as_slice()
     }
 
-    /// How many facets are kept. Each solid is closed.
+    /// The number of kept facets. Each solid is closed.
     pub fn count(&self) -> usize
         ensures count { result ≡ length self.now.facets }
-        ensures few { length self.now.facets ≤ 1048576 }
+        ensures few { length self.now.facets ≤ FACET_LIMIT }
         ensures closed { IsBalanced self.now.facets }
     {
         self.facets.len()

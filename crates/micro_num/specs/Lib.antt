@@ -1,4 +1,3 @@
 pub mod Numeral
 pub mod Micrometres
-pub mod Bounds
 pub mod Scan

@@ -1,13 +1,15 @@
--- What a number is worth, in whole micrometres.
---     magnitude unit n s         the nearest whole number to a worth, halves away from zero
---     micro unit n               what a number is worth in a unit
---     coordinate_of unit word    the coordinate that a word stands for, or why it stands for none
+-- The value of a number, in whole micrometres.
+--     magnitude m s              m times ten to the power s, as the nearest whole number, halves upward
+--     micro unit n               the value of a number in a unit, in micrometres
+--     coordinate_of unit word    the coordinate that a word stands for, or its fault
 use Rattle.std.specs.Prelude.{ℕ, ◌+◌, ◌*◌, ◌/◌, ◌^◌, Bool, List, length, Option, Some, None, Result, Ok, Err, ℤ, pos, negsuc, ◌+ℤ◌, ◌-ℤ◌, neg_ℤ, nat_abs, nat_lt, nat_le, if◌then◌else◌, fold, ◌-◌, suc}
-use Rattle.micro_num.specs.declared.units.Unit.{Unit as LengthUnit}
-use Rattle.micro_num.specs.declared.units.Unit.TheVariants.{Millimetre, Inch}
-use Rattle.micro_num.specs.declared.faults.NumFault.{NumFault}
-use Rattle.micro_num.specs.declared.faults.NumFault.TheVariants.{NotNumber, TooLong, OutOfRange}
+use Rattle.micro_num.specs.declared.unit.Unit.{Unit as LengthUnit}
+use Rattle.micro_num.specs.declared.unit.Unit.TheVariants.{Millimetre, Inch}
+use Rattle.micro_num.specs.declared.num_fault.NumFault.{NumFault}
+use Rattle.micro_num.specs.declared.num_fault.NumFault.TheVariants.{NotNumber, TooLong, OutOfRange}
 use Rattle.micro_num.specs.Numeral.{Sign, unsigned, plus, minus, Exponent, Numeral, fraction_digits, mantissa_digits, numeral_of}
+use Rattle.geometry.specs.declared.limits.TheConstants.{COORDINATE_LIMIT}
+use Rattle.micro_num.specs.declared.limits.TheConstants.{WORD_LIMIT}
 
 -- the number that a row of decimal digits writes
 abbrev pub digits_value : List ℕ → ℕ
@@ -18,12 +20,12 @@ with_sign unsigned n = pos n
 with_sign plus n = pos n
 with_sign minus n = neg_ℤ (pos n)
 
--- 0 where there is none
+-- the value of an exponent, 0 where there is none
 abbrev pub exponent_value : Option Exponent → ℤ
 exponent_value None = pos 0
 exponent_value (Some e) = with_sign e.sign (digits_value e.digits)
 
--- m tenths to the power k, as the nearest whole number, halves upward
+-- m divided by ten to the power k, as the nearest whole number, halves upward
 abbrev pub rounded_quotient : ℕ → ℕ → ℕ
 rounded_quotient m k = (2 * m + 10 ^ k) / (2 * 10 ^ k)
 
@@ -41,17 +43,17 @@ abbrev pub unit_power : LengthUnit → ℕ
 unit_power Millimetre = 3
 unit_power Inch = 2
 
--- how many powers of ten the worth is above its mantissa's digits
+-- the power of ten that takes the digits of the mantissa, times the unit's factor, to micrometres
 abbrev pub power_of : LengthUnit → Numeral → ℤ
 power_of unit n = (exponent_value n.exponent -ℤ pos (length (fraction_digits n.fraction))) +ℤ pos (unit_power unit)
 
--- what a number is worth in micrometres, to the nearest whole one, halves away from zero
+-- the value of a number in micrometres, to the nearest whole one, halves away from zero
 abbrev pub micro : LengthUnit → Numeral → ℤ
 micro unit n = with_sign n.sign (magnitude (unit_factor unit * digits_value (mantissa_digits n)) (power_of unit n))
 
--- at most 128,000,000 micrometres from 0
+-- at most COORDINATE_LIMIT micrometres from 0
 abbrev pub is_coordinate : ℤ → Bool
-is_coordinate z = nat_le (nat_abs z) 128000000
+is_coordinate z = nat_le (nat_abs z) COORDINATE_LIMIT
 
 abbrev pub coordinate_or_fault : ℤ → Result ℤ NumFault
 coordinate_or_fault z = if is_coordinate z then Ok z else Err OutOfRange
@@ -60,6 +62,6 @@ abbrev pub numeral_coordinate : LengthUnit → Option Numeral → Result ℤ Num
 numeral_coordinate unit None = Err NotNumber
 numeral_coordinate unit (Some n) = coordinate_or_fault (micro unit n)
 
--- the coordinate that a word stands for, or why it stands for none
+-- the coordinate that a word stands for, or its fault
 abbrev pub coordinate_of : LengthUnit → List ℕ → Result ℤ NumFault
-coordinate_of unit word = if nat_lt 255 (length word) then Err TooLong else numeral_coordinate unit (numeral_of word)
+coordinate_of unit word = if nat_lt WORD_LIMIT (length word) then Err TooLong else numeral_coordinate unit (numeral_of word)

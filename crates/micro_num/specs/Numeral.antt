@@ -6,6 +6,7 @@
 use Rattle.std.specs.Prelude.{◌≡◌, ℕ, ◌≤◌, Bool, true, ◌&&◌, ◌||◌, List, [], ◌∷◌, ◌++◌, length, drop, Option, Some, None, ◌==◌, nat_lt, if◌then◌else◌}
 use Rattle.std.specs.Char.{is_ascii_digit}
 use Rattle.std.specs.List.{list_all, before_first, position_or_len}
+use Rattle.micro_num.specs.declared.limits.TheConstants.{WORD_LIMIT}
 
 pub data Sign : Type 0 where
   unsigned : Sign
@@ -70,12 +71,11 @@ is_exponent (Some e) = is_exponent_mark e.mark && are_digits e.digits
 abbrev pub IsNumeral : Numeral → Type 0
 IsNumeral n = (are_digits (mantissa_digits n) ≡ true) × (is_exponent n.exponent ≡ true)
 
--- a word that is a number, of at most 255 bytes
+-- a word that is a number and no longer than the limit
 abbrev pub IsSpelled : List ℕ → Type 0
-IsSpelled word = (length word ≤ 255) × (n : Numeral) × IsNumeral n × (word ≡ numeral_text n)
+IsSpelled word = (length word ≤ WORD_LIMIT) × (n : Numeral) × IsNumeral n × (word ≡ numeral_text n)
 
--- Below, the parts of a word: what stands before the first `e` or `E` and what stands after it; in the first of
--- these, what stands before the first point and what stands after it.
+-- Below, the parts of a word: it is cut at its first `e` or `E`, and the text before that at its first point.
 
 abbrev pub sign_of : List ℕ → Sign
 sign_of [] = unsigned
@@ -85,7 +85,7 @@ abbrev pub after_sign : List ℕ → List ℕ
 after_sign [] = []
 after_sign (byte ∷ rest) = if byte == 43 || byte == 45 then rest else byte ∷ rest
 
--- from the first byte that passes on
+-- the bytes from the first one on that passes the test
 abbrev pub from_first : (ℕ → Bool) → List ℕ → List ℕ
 from_first test bytes = drop (position_or_len test bytes) bytes
 

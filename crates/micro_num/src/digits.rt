@@ -1,33 +1,35 @@
+//! Digits at the front of a text: their number and their value, cut where 64 bits end.
 ghost use Rattle.std.specs.Prelude.{◌≡◌, ◌≤◌, ◌<◌, ◌+◌, ◌*◌, ◌-◌, IfSome, ℕ, length, take, true};
 ghost use Rattle.std.specs.List.{position_or_len};
 ghost use Rattle.std.specs.Char.{is_ascii_digit};
 ghost use Rattle.micro_num.specs.Scan.{IsLeading, digits_after, is_other};
+ghost use Rattle.micro_num.specs.declared.limits.TheConstants.{LEADING_ROOM, TEN_DIGITS_ROOM, WORD_LIMIT};
 
-/// While the leading digits are below this, one more of them still fits.
-const ROOM: u64 = 1_000_000_000_000_000;
+use crate::limits::{LEADING_ROOM, TEN_DIGITS_ROOM};
 
-/// The number that the first digits write: behind the zeros in front, 16 of them at most.
+/// The number that the leading digits write: zeros in front, then 16 digits at most.
 ///
-/// These and how many stand behind them decide how a number is rounded, whatever stands there: where one of the first
-/// digits is behind the point, it decides the half, and where none is, the number is far out of range.
+/// These and the number of digits behind them decide how a number is rounded. Where one of the leading digits is behind
+/// the point, it decides the half; where none is, the number is far out of range.
 #[derive(Clone, Copy)]
-pub struct Leading {
-    pub value: u64,
-    /// How many digits stand behind those.
-    pub dropped: u64,
+pub(crate) struct Leading {
+    pub(crate) value: u64,
+    /// The number of digits behind those.
+    pub(crate) dropped: u64,
 }
 
 impl Leading {
-    pub const NONE: Self = Self {
+    /// No digits.
+    pub(crate) const NONE: Self = Self {
         value: 0,
         dropped: 0,
     };
 
-    /// With one more digit behind, which still fits.
+    /// These digits and one more behind them, which still fits.
     #[inline(always)]
     fn extended(self, digit: u8) -> Self
         requires digit { is_ascii_digit digit ≡ true }
-        requires room { self.value < 1000000000000000 }
+        requires room { self.value < LEADING_ROOM }
         ensures leads { (n : ℕ) → IsLeading self.value self.dropped n
             → IsLeading result.value result.dropped (10 * n + (digit - 48)) }
         ensures value { result.value ≡ 10 * self.value + (digit - 48) }
@@ -39,15 +41,15 @@ impl Leading {
         }
     }
 
-    /// With one more digit behind.
+    /// These digits and one more behind them.
     fn followed_by(self, digit: u8) -> Self
         requires digit { is_ascii_digit digit ≡ true }
-        requires few { self.dropped < 1000000 }
+        requires few { self.dropped < WORD_LIMIT }
         ensures leads { (n : ℕ) → IsLeading self.value self.dropped n
             → IsLeading result.value result.dropped (10 * n + (digit - 48)) }
         ensures few { result.dropped ≤ self.dropped + 1 }
     {
-        if self.value < ROOM {
+        if self.value < LEADING_ROOM {
             self.extended(digit)
         } else {
             Self {
@@ -58,18 +60,18 @@ impl Leading {
     }
 }
 
-/// What digits at the front of a text add to those that were read before.
+/// The digits at the front of a text, behind those that were read before.
 #[derive(Clone, Copy)]
-pub struct Digits {
-    pub leading: Leading,
-    /// How many they are.
-    pub count: usize,
+pub(crate) struct Digits {
+    pub(crate) leading: Leading,
+    /// The number of these digits.
+    pub(crate) count: usize,
 }
 
 /// Reads the digits at the front of a text, behind those in `before`.
 #[inline(always)]
-pub fn read_digits(bytes: &[u8], before: Leading) -> Digits
-    requires { before.dropped + length bytes.now < 1000000 }
+pub(crate) fn read_digits(bytes: &[u8], before: Leading) -> Digits
+    requires { before.dropped + length bytes.now ≤ WORD_LIMIT }
     ensures count { result.count ≡ position_or_len is_other bytes.now }
     ensures leads { (n : ℕ) → IsLeading before.value before.dropped n
         → IsLeading result.leading.value result.leading.dropped (digits_after n (take result.count bytes.now)) }
@@ -81,10 +83,10 @@ pub fn read_digits(bytes: &[u8], before: Leading) -> Digits
     }
 }
 
-/// Fewer digits than this at a time are read with no look at the room that is left.
+/// Fewer digits than this are read without a test of the room that is left.
 const FEW: usize = 10;
 
-/// Reads the digits at the front of a text, behind those in `before`, where these and those are few.
+/// Reads the digits at the front of a text, behind those in `before`, where there are fewer than `FEW` of them and room for these. Else `None`.
 #[inline(always)]
 fn few_digits(bytes: &[u8], before: Leading) -> Option<Digits>
     ensures count { IfSome result (λ digits. digits.count ≡ position_or_len is_other bytes.now) }
@@ -92,7 +94,7 @@ fn few_digits(bytes: &[u8], before: Leading) -> Option<Digits>
         → IsLeading digits.leading.value digits.leading.dropped (digits_after n (take digits.count bytes.now))) }
     ensures few { IfSome result (λ digits. digits.leading.dropped ≡ before.dropped) }
 {
-    if bytes.len() < FEW || before.value >= 1_000_000 {
+    if bytes.len() < FEW || before.value >= TEN_DIGITS_ROOM {
         return None;
     }
     let mut leading = before;
@@ -109,11 +111,11 @@ fn few_digits(bytes: &[u8], before: Leading) -> Option<Digits>
     None
 }
 
-/// Reads the digits at the front of a text, behind those in `before`, however many they are.
+/// Reads the digits at the front of a text, behind those in `before`, whatever their number.
 #[cold]
 #[inline(never)]
 fn many_digits(bytes: &[u8], before: Leading) -> Digits
-    requires { before.dropped + length bytes.now < 1000000 }
+    requires { before.dropped + length bytes.now ≤ WORD_LIMIT }
     ensures count { result.count ≡ position_or_len is_other bytes.now }
     ensures leads { (n : ℕ) → IsLeading before.value before.dropped n
         → IsLeading result.leading.value result.leading.dropped (digits_after n (take result.count bytes.now)) }

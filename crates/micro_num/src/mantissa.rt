@@ -1,14 +1,16 @@
+//! The parts of a number at the front of a text: a sign, the digits with their point, an exponent.
 ghost use Rattle.std.specs.Prelude.{◌≡◌, ◌≤◌, ◌<◌, ◌+◌, ◌++◌, ◌↔◌, ℕ, Option, List, length, true, IfSome, MatchOption, unsigned_abs};
 ghost use Rattle.std.specs.List.{before_first};
 ghost use Rattle.micro_num.specs.Numeral.{Exponent, minus, after_sign, sign_of, exponent_text, is_exponent, from_first, fraction_digits};
 ghost use Rattle.micro_num.specs.Micrometres.{digits_value};
 ghost use Rattle.micro_num.specs.Scan.{IsEnded, IsExponentFront, IsLeading, is_other, digits_behind, rest_behind};
+ghost use Rattle.micro_num.specs.declared.limits.TheConstants.{LEADING_LIMIT, WORD_LIMIT};
 
 use crate::digits::{Leading, read_digits};
 
-/// A sign or none at the front of a text: whether it is a minus, and what stands behind it.
+/// Whether the sign at the front of a text is a minus, and the text behind the sign. A text may have no sign.
 #[inline(always)]
-pub fn split_sign(bytes: &[u8]) -> (bool, &[u8])
+pub(crate) fn split_sign(bytes: &[u8]) -> (bool, &[u8])
     ensures minus { (result.0 ≡ true) ↔ (sign_of bytes.now ≡ minus) }
     ensures behind { result.1.now ≡ after_sign bytes.now }
 {
@@ -16,25 +18,25 @@ pub fn split_sign(bytes: &[u8]) -> (bool, &[u8])
         return (false, bytes);
     };
     let negative = *first == b'-';
-    // signs come in no order, so a jump would be guessed wrong half of the time
+    // without a branch: signs come in no order, so the processor would mispredict it half of the time
     let signed = negative | (*first == b'+');
     let (_, behind) = bytes.split_at(usize::from(signed));
     (negative, behind)
 }
 
-/// The digits of a number, and what stands behind them.
+/// The digits of a number, before and behind its point, and the text behind them.
 #[derive(Clone, Copy)]
-pub struct Mantissa<'a> {
-    pub leading: Leading,
-    pub whole: &'a [u8],
-    pub fraction: &'a [u8],
-    pub behind: &'a [u8],
+pub(crate) struct Mantissa<'a> {
+    pub(crate) leading: Leading,
+    pub(crate) whole: &'a [u8],
+    pub(crate) fraction: &'a [u8],
+    pub(crate) behind: &'a [u8],
 }
 
-/// Reads digits, with a point among them or none, at the front of a text.
+/// Reads the digits at the front of a text, and the point among them where there is one.
 #[inline(always)]
-pub fn read_mantissa(bytes: &[u8]) -> Mantissa<'_>
-    requires { length bytes.now ≤ 255 }
+pub(crate) fn read_mantissa(bytes: &[u8]) -> Mantissa<'_>
+    requires { length bytes.now ≤ WORD_LIMIT }
     ensures whole { result.whole.now ≡ before_first is_other bytes.now }
     ensures fraction { result.fraction.now ≡ fraction_digits (digits_behind (from_first is_other bytes.now)) }
     ensures behind { result.behind.now ≡ rest_behind (from_first is_other bytes.now) }
@@ -63,13 +65,13 @@ pub fn read_mantissa(bytes: &[u8]) -> Mantissa<'_>
     }
 }
 
-/// Reads the exponent at the front of a text, or 0 where none stands there, and gives what stands behind it. One far
-/// out is another far out.
+/// Reads the exponent at the front of a text, 0 where there is none, and gives the text behind it. An exponent of more
+/// than 16 digits is read as one of 16. `None` where a mark stands there without a digit behind it.
 #[inline(always)]
-pub fn exponent_front(bytes: &[u8]) -> Option<(i64, &[u8])>
-    requires { length bytes.now ≤ 255 }
+pub(crate) fn exponent_front(bytes: &[u8]) -> Option<(i64, &[u8])>
+    requires { length bytes.now ≤ WORD_LIMIT }
     ensures front { IfSome result (λ found. IsExponentFront bytes.now found.1.now found.0) }
-    ensures small { IfSome result (λ found. unsigned_abs found.0 < 10000000000000000) }
+    ensures small { IfSome result (λ found. unsigned_abs found.0 < LEADING_LIMIT) }
     ensures reads { (x : Option Exponent) (rest : List ℕ) → is_exponent x ≡ true → bytes.now ≡ exponent_text x ++ rest → IsEnded rest
         → MatchOption result ⊥ (λ found. found.1.now ≡ rest) }
 {

@@ -1,40 +1,46 @@
+//! The two readers of numbers: of a whole word, and of the number at the front of a text.
 ghost use Rattle.std.specs.Prelude.{◌≡◌, ◌≤◌, ◌<◌, ◌↔◌, ◌≤ℤ◌, ◌++◌, Err, IfOk, IfSome, List, MatchOption, Ok, Some, length, ℕ, ℤ, pos, take, unsigned_abs};
 ghost use Rattle.micro_num.specs.Scan.{IsEnded, IsNumberFront, size_of};
 ghost use Rattle.micro_num.specs.Numeral.{Numeral, IsNumeral, IsSpelled, numeral_text, unsigned};
 ghost use Rattle.micro_num.specs.Micrometres.{coordinate_of, coordinate_or_fault, micro};
-ghost use Rattle.micro_num.specs.declared.faults.NumFault.TheVariants.{NotNumber, OutOfRange, TooLong};
+ghost use Rattle.micro_num.specs.declared.num_fault.NumFault.TheVariants.{NotNumber, OutOfRange, TooLong};
+ghost use Rattle.geometry.specs.declared.limits.TheConstants.{COORDINATE_LIMIT};
+ghost use Rattle.micro_num.specs.declared.limits.TheConstants.{WORD_LIMIT};
 
-use crate::faults::NumFault;
-use crate::lengths::size_in;
+use crate::limits::WORD_LIMIT;
 use crate::mantissa::{exponent_front, read_mantissa, split_sign};
-use crate::scaling::LIMIT;
-use crate::units::Unit;
+use crate::num_fault::NumFault;
+use crate::scaling::size_in;
+use crate::unit::Unit;
+use geometry::COORDINATE_LIMIT;
 
-/// The whole micrometres that a word stands for, rounded to the nearest, halves away from zero.
+/// The coordinate that a word stands for: whole micrometres, rounded to the nearest, halves away from zero.
 ///
 /// A word is a number where it is a sign or none, then digits with at most one point before, among or behind them and
-/// at least one digit, then nothing, or `e` or `E`, a sign or none and at least one digit.
+/// at least one digit, then nothing, or `e` or `E`, a sign or none and at least one digit: the decimal form that C's
+/// `strtod` reads. A number in inches is multiplied by 25,400, one in millimetres by 1,000, before it is rounded.
 ///
 /// # Errors
-/// `TooLong` where the word has more than 255 bytes, else `NotNumber` where it is no number, else `OutOfRange` where
-/// the rounded value is more than 128,000,000 micrometres from 0.
+/// - `TooLong` where the word has more than [`WORD_LIMIT`] bytes, which is 255,
+/// - else `NotNumber` where it is no number,
+/// - else `OutOfRange` where the rounded value is more than `COORDINATE_LIMIT`, 128,000,000 micrometres, from 0.
 pub fn read_micro(word: &[u8], unit: Unit) -> Result<i32, NumFault>
     ensures exact { result ≡ coordinate_of unit word.now }
-    ensures spelled { (n : Numeral) → IsNumeral n → word.now ≡ numeral_text n → length word.now ≤ 255
+    ensures spelled { (n : Numeral) → IsNumeral n → word.now ≡ numeral_text n → length word.now ≤ WORD_LIMIT
         → result ≡ coordinate_or_fault (micro unit n) }
-    ensures not_number { (result ≡ Err NotNumber) ↔ ((length word.now ≤ 255) × (IsSpelled word.now → ⊥)) }
-    ensures too_long { (result ≡ Err TooLong) ↔ (255 < length word.now) }
+    ensures not_number { (result ≡ Err NotNumber) ↔ ((length word.now ≤ WORD_LIMIT) × (IsSpelled word.now → ⊥)) }
+    ensures too_long { (result ≡ Err TooLong) ↔ (WORD_LIMIT < length word.now) }
     ensures out_of_range { (result ≡ Err OutOfRange) ↔ ((n : Numeral) × IsNumeral n × (word.now ≡ numeral_text n)
-        × (length word.now ≤ 255) × (128000000 < unsigned_abs (micro unit n))) }
+        × (length word.now ≤ WORD_LIMIT) × (COORDINATE_LIMIT < unsigned_abs (micro unit n))) }
 {
     read_word(word, unit)
 }
 
-/// The coordinate of a word, from its sign and the text behind that.
+/// What `read_micro` answers, from the word's sign and the text behind that.
 fn read_word(word: &[u8], unit: Unit) -> Result<i32, NumFault>
     ensures { result ≡ coordinate_of unit word.now }
 {
-    if word.len() > 255 {
+    if word.len() > WORD_LIMIT {
         return Err(NumFault::TooLong);
     }
     let (negative, text) = split_sign(word);
@@ -42,15 +48,15 @@ fn read_word(word: &[u8], unit: Unit) -> Result<i32, NumFault>
     Ok(if negative { -size } else { size })
 }
 
-/// How far from 0 the text behind a sign is.
+/// The coordinate of a text without a sign.
 fn read_unsigned(text: &[u8], unit: Unit) -> Result<i32, NumFault>
-    requires { length text.now ≤ 255 }
+    requires { length text.now ≤ WORD_LIMIT }
     ensures exact { result ≡ size_of unit text.now }
-    ensures small { IfOk result (λ z. (pos 0 ≤ℤ z) × (z ≤ℤ pos 128000000)) }
+    ensures small { IfOk result (λ z. (pos 0 ≤ℤ z) × (z ≤ℤ pos COORDINATE_LIMIT)) }
 {
     match size_front(text, unit) {
         Some((size, behind)) if behind.is_empty() => {
-            if size > LIMIT {
+            if size > COORDINATE_LIMIT {
                 Err(NumFault::OutOfRange)
             } else {
                 Ok(size as i32)
@@ -60,11 +66,10 @@ fn read_unsigned(text: &[u8], unit: Unit) -> Result<i32, NumFault>
     }
 }
 
-/// The number at the front of a text in whole micrometres, as `read_micro` reads it, and how many bytes it takes.
+/// A word at the front of a text, as its coordinate by [`read_micro`] and its number of bytes.
 ///
-/// It goes on as far as its bytes may belong to it. It is read where it is in range, of at most 255 bytes, and the text
-/// ends behind it or goes on with a byte that is no digit, no point and neither `e` nor `E`. Otherwise `None` says only
-/// that it was not read here.
+/// A word is found where `read_micro` reads it, and the text ends behind it or goes on with a byte that is no digit, no
+/// point and neither `e` nor `E`. `None` says that no such word stands there, but not why.
 #[inline(always)]
 pub fn read_front(bytes: &[u8], unit: Unit) -> Option<(i32, usize)>
     ensures exact { IfSome result (λ found. coordinate_of unit (take found.1 bytes.now) ≡ Ok found.0) }
@@ -72,10 +77,10 @@ pub fn read_front(bytes: &[u8], unit: Unit) -> Option<(i32, usize)>
     ensures reads { (word rest : List ℕ) (z : ℤ) → bytes.now ≡ word ++ rest → IsEnded rest → coordinate_of unit word ≡ Ok z
         → result ≡ Some (z, length word) }
 {
-    let (text, _) = bytes.split_at(bytes.len().min(255));
+    let (text, _) = bytes.split_at(bytes.len().min(WORD_LIMIT));
     let (negative, digits) = split_sign(text);
     let (size, behind) = size_front(digits, unit)?;
-    if LIMIT < size {
+    if COORDINATE_LIMIT < size {
         return None;
     }
     let size = size as i32;
@@ -83,11 +88,11 @@ pub fn read_front(bytes: &[u8], unit: Unit) -> Option<(i32, usize)>
     Some((if negative { -size } else { size }, count))
 }
 
-/// How far from 0 the number at the front of a text behind a sign is, or more than the greatest coordinate where it is
-/// more, and what stands behind it.
+/// The value of the number without a sign at the front of a text, in micrometres, or more than `COORDINATE_LIMIT` where
+/// that is more, and the text behind the number.
 #[inline(always)]
 fn size_front(text: &[u8], unit: Unit) -> Option<(u64, &[u8])>
-    requires { length text.now ≤ 255 }
+    requires { length text.now ≤ WORD_LIMIT }
     ensures front { IfSome result (λ found. IsNumberFront unit text.now found.1.now found.0) }
     ensures reads { (n : Numeral) (rest : List ℕ) → IsNumeral n → n.sign ≡ unsigned → text.now ≡ numeral_text n ++ rest → IsEnded rest
         → MatchOption result ⊥ (λ found. found.1.now ≡ rest) }

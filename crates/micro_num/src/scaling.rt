@@ -1,34 +1,51 @@
-ghost use Rattle.std.specs.Prelude.{◌≡◌, ◌<◌, ◌+◌, ◌*◌, ◌^◌, ℕ, length};
-ghost use Rattle.micro_num.specs.Scan.{IsCapped, IsCarry, digits_after};
-ghost use Rattle.micro_num.specs.Micrometres.{magnitude, rounded_quotient};
+//! Digits and an exponent as micrometres: the unit's factor, then a power of ten, with the rounding that this needs.
+ghost use Rattle.std.specs.Prelude.{◌≡◌, ◌≤◌, ◌<◌, ◌+◌, ◌*◌, ◌^◌, ◌++◌, ◌+ℤ◌, ◌-ℤ◌, length, ℕ, ℤ, pos, unsigned_abs};
+ghost use Rattle.micro_num.specs.Micrometres.{digits_value, magnitude, rounded_quotient, unit_factor, unit_power};
+ghost use Rattle.micro_num.specs.Scan.{IsCapped, IsCarry, IsCut, IsMantissa, IsNear, digits_after};
+ghost use Rattle.micro_num.specs.declared.limits.TheConstants.{CARRY_LIMIT, LEADING_LIMIT, SCALE_LIMIT};
 
-/// The greatest coordinate, in micrometres.
-pub const LIMIT: u64 = 128_000_000;
+use crate::digits::Leading;
+use crate::mantissa::Mantissa;
+use crate::unit::Unit;
+use geometry::COORDINATE_LIMIT;
+
+const THOUSAND: u64 = 1_000;
+
+const MILLION: u64 = 1_000_000;
+
+const BILLION: u64 = 1_000_000_000;
+
+const TRILLION: u64 = 1_000_000_000_000;
+
+const QUADRILLION: u64 = 1_000_000_000_000_000;
+
+const QUINTILLION: u64 = 1_000_000_000_000_000_000;
 
 /// The powers of ten that 64 bits hold.
 static POWERS: [u64; 20] = [
     1,
     10,
     100,
-    1_000,
-    10_000,
-    100_000,
-    1_000_000,
-    10_000_000,
-    100_000_000,
-    1_000_000_000,
-    10_000_000_000,
-    100_000_000_000,
-    1_000_000_000_000,
-    10_000_000_000_000,
-    100_000_000_000_000,
-    1_000_000_000_000_000,
-    10_000_000_000_000_000,
-    100_000_000_000_000_000,
-    1_000_000_000_000_000_000,
-    10_000_000_000_000_000_000,
+    THOUSAND,
+    10 * THOUSAND,
+    100 * THOUSAND,
+    MILLION,
+    10 * MILLION,
+    100 * MILLION,
+    BILLION,
+    10 * BILLION,
+    100 * BILLION,
+    TRILLION,
+    10 * TRILLION,
+    100 * TRILLION,
+    QUADRILLION,
+    10 * QUADRILLION,
+    100 * QUADRILLION,
+    QUINTILLION,
+    10 * QUINTILLION,
 ];
 
+/// Ten to the power `power`.
 #[inline(always)]
 fn power_of_ten(power: u64) -> u64
     requires { power < 20 }
@@ -41,7 +58,7 @@ fn power_of_ten(power: u64) -> u64
 #[inline(always)]
 fn shrunk(value: u64, power: u64) -> u64
     requires some { 0 < power }
-    requires small { value < 3000000000000000000 }
+    requires small { value < SCALE_LIMIT }
     ensures { result ≡ rounded_quotient value power }
 {
     // no value here is half of ten to the power 20
@@ -52,25 +69,25 @@ fn shrunk(value: u64, power: u64) -> u64
     (value + unit / 2) / unit
 }
 
-/// `value` times ten to the power `power`, or more than `LIMIT` where that is more.
+/// `value` times ten to the power `power`, or more than `COORDINATE_LIMIT` where that is more.
 #[inline(always)]
 fn grown(value: u64, power: u64) -> u64
     ensures { IsCapped (value * 10 ^ power) result }
 {
     if value == 0 {
         0
-    } else if power > 9 || value > LIMIT {
-        LIMIT + 1
+    } else if power > 9 || value > COORDINATE_LIMIT {
+        COORDINATE_LIMIT + 1
     } else {
         value * power_of_ten(power)
     }
 }
 
-/// `value` times ten to the power `power`, to the nearest whole number, halves upward, or more than `LIMIT` where
-/// that is more.
+/// `value` times ten to the power `power`, to the nearest whole number, halves upward, or more than `COORDINATE_LIMIT`
+/// where that is more.
 #[inline(always)]
-pub fn scaled(value: u64, power: i64) -> u64
-    requires { value < 3000000000000000000 }
+fn scaled(value: u64, power: i64) -> u64
+    requires { value < SCALE_LIMIT }
     ensures { IsCapped (magnitude value power) result }
 {
     if power < 0 {
@@ -80,12 +97,12 @@ pub fn scaled(value: u64, power: i64) -> u64
     }
 }
 
-/// What 254 times the digits, as a fraction, has before its point, with `behind` from the digits behind them.
-pub fn carried(digits: &[u8], behind: u64) -> u64
-    requires { behind < 10000 }
+/// The whole part of 254 times the fraction that the digits write, where the digits behind them add `behind` to it.
+fn carried(digits: &[u8], behind: u64) -> u64
+    requires { behind < CARRY_LIMIT }
     ensures carry { (count n : ℕ) → IsCarry behind count n
         → IsCarry result (length digits.now + count) (digits_after 0 digits.now * 10 ^ count + n) }
-    ensures small { result < 10000 }
+    ensures small { result < CARRY_LIMIT }
 {
     let mut carry = behind;
     for index in 0..digits.len() {
@@ -93,4 +110,63 @@ pub fn carried(digits: &[u8], behind: u64) -> u64
         carry = (254 * u64::from(digit) + carry) / 10;
     }
     carry
+}
+
+/// 254 times the leading digits, with what the digits behind them carry into that.
+#[cold]
+#[inline(never)]
+fn in_inches(leading: Leading, whole: &[u8], fraction: &[u8]) -> u64
+    requires { IsMantissa leading.value leading.dropped whole.now fraction.now }
+    ensures times { IsCarry result leading.dropped (digits_value (whole.now ++ fraction.now)) }
+    ensures small { result < SCALE_LIMIT }
+    ensures long { 254 * leading.value ≤ result }
+{
+    let dropped = leading.dropped as usize;
+    let behind = dropped.min(fraction.len());
+    let (_, last) = fraction.split_at(fraction.len() - behind);
+    let (_, before) = whole.split_at(whole.len() - (dropped - behind));
+    254 * leading.value + carried(before, carried(last, 0))
+}
+
+/// The leading digits times the unit's factor, with what the digits behind them carry into that.
+#[inline(always)]
+fn in_unit(mantissa: &Mantissa<'_>, unit: Unit) -> u64
+    requires { IsMantissa mantissa.now.leading.value mantissa.now.leading.dropped
+        mantissa.now.whole.now mantissa.now.fraction.now }
+    ensures { IsCut result mantissa.now.leading.dropped
+        (unit_factor unit * digits_value (mantissa.now.whole.now ++ mantissa.now.fraction.now)) }
+{
+    match unit {
+        Unit::Millimetre => mantissa.leading.value,
+        Unit::Inch if mantissa.leading.dropped == 0 => 254 * mantissa.leading.value,
+        Unit::Inch => in_inches(mantissa.leading, mantissa.whole, mantissa.fraction),
+    }
+}
+
+/// The power of ten by which the unit's factor falls short of micrometres.
+#[inline(always)]
+fn power_in(unit: Unit) -> i64
+    ensures { result ≡ pos (unit_power unit) }
+{
+    match unit {
+        Unit::Millimetre => 3,
+        Unit::Inch => 2,
+    }
+}
+
+/// The value of a number in micrometres without its sign, or more than `COORDINATE_LIMIT` where that is more.
+#[inline(always)]
+pub(crate) fn size_in(mantissa: &Mantissa<'_>, exponent: i64, unit: Unit) -> u64
+    requires mantissa { IsMantissa mantissa.now.leading.value mantissa.now.leading.dropped
+        mantissa.now.whole.now mantissa.now.fraction.now }
+    requires small { unsigned_abs exponent < LEADING_LIMIT }
+    ensures { (z : ℤ) → IsNear exponent z → IsCapped
+        (magnitude (unit_factor unit * digits_value (mantissa.now.whole.now ++ mantissa.now.fraction.now))
+        ((z -ℤ pos (length mantissa.now.fraction.now)) +ℤ pos (unit_power unit)))
+        result }
+{
+    let power = exponent - mantissa.fraction.len() as i64
+        + mantissa.leading.dropped as i64
+        + power_in(unit);
+    scaled(in_unit(mantissa, unit), power)
 }

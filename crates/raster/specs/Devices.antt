@@ -14,12 +14,12 @@ Fails old new = new ≡ min (old + 1) greatest_count
 abbrev pub HasFailed : ℕ → ℕ → Type 0
 HasFailed old new = (old < new) ⊎ (new ≡ greatest_count)
 
--- the first so many bytes of a text went out
+-- the first `written` bytes of a text went out
 abbrev pub AppendsFirst : Option (List ℕ) → Option (List ℕ) → ℕ → List ℕ → Type 0
 AppendsFirst old new written text = Appends old new (take written text)
 
 -- a device, how many of its calls have failed, and whether all that it took has been flushed
-pub record Tallied (T : Type 0) : Type 0 where
+pub record Counted (T : Type 0) : Type 0 where
   pub device : T
   pub count : ℕ
   pub is_settled : Bool

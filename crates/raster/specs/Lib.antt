@@ -1,8 +1,10 @@
 pub mod Devices
-pub mod Lattice
+pub mod Grid
+pub mod Rule
+pub mod Span
 pub mod Fill
 pub mod Picture
 pub mod Bits
 pub mod Rows
-pub mod Marks
 pub mod Crossings
+pub mod RowSpans

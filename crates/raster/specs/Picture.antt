@@ -1,17 +1,17 @@
--- Images in raw PBM: a header in plain decimal, then the rows from the greatest to the least, eight pixels a byte,
+-- Images in raw PBM ("P4", pbm(5)): a header in plain decimal, then the rows from the greatest to the least, eight pixels a byte,
 -- the leftmost in the highest bit, each row filled up with 0 bits.
 use Rattle.std.specs.Prelude.{ℕ, ◌+◌, ◌*◌, ◌-◌, ◌^◌, Bool, ◌&&◌, List, ◌++◌, nat_lt, if◌then◌else◌, codes, decimal, flat_map, map, reverse, sum_by}
 use Rattle.std.specs.Int.{div_ceil}
-use Rattle.raster.specs.declared.rules.Rule.{Rule}
-use Rattle.stl_text.specs.Triangle.{Triangle}
-use Rattle.raster.specs.Lattice.{Lattice, centre}
+use Rattle.raster.specs.declared.rule.Rule.{Rule}
+use Rattle.geometry.specs.Facet.{Facet}
+use Rattle.raster.specs.Grid.{Grid, centre}
 use Rattle.raster.specs.Fill.{below, is_filled}
 
 -- the byte of eight pixels, from the m-th byte of a row on
 abbrev pub packed_byte : (ℕ → Bool) → ℕ → ℕ
 packed_byte pixel m = sum_by (λ b. if pixel (8 * m + b) then 2 ^ (7 - b) else 0) (below 8)
 
--- a row of so many pixels, in whole bytes
+-- a row of this width, in whole bytes
 abbrev pub row_bytes : ℕ → (ℕ → Bool) → List ℕ
 row_bytes width pixel = map (packed_byte (λ i. nat_lt i width && pixel i)) (below (div_ceil width 8))
 
@@ -24,9 +24,9 @@ picture width height pixel =
     header width height ++ flat_map (λ j. row_bytes width (λ i. pixel i j)) (reverse (below height))
 
 -- the image of a layer: its filled voxels
-abbrev pub layer_picture : Lattice → Rule → List Triangle → ℕ → List ℕ
+abbrev pub layer_picture : Grid → Rule → List Facet → ℕ → List ℕ
 layer_picture g rule facets k = picture g.columns g.rows (λ i j. is_filled rule facets (centre g i j k))
 
 -- the images of all layers, from 0 up
-abbrev pub pictures : Lattice → Rule → List Triangle → List ℕ
+abbrev pub pictures : Grid → Rule → List Facet → List ℕ
 pictures g rule facets = flat_map (layer_picture g rule facets) (below g.layers)

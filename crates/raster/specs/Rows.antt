@@ -1,7 +1,7 @@
 -- The spans of one row among those of a layer.
 use Rattle.std.specs.Prelude.{◌<◌, ◌≤◌, ℕ, Bool, ◌&&◌, List, length, slice_index_or, nat_lt, nat_le}
 use Rattle.std.specs.List.{list_any, list_all}
-use Rattle.raster.specs.declared.spans.Span.{Span}
+use Rattle.raster.specs.declared.span.Span.{Span}
 
 abbrev pub span_at : List Span → ℕ → Span
 span_at spans k = slice_index_or spans k (record { row = 0; from = 0; to = 0 })
@@ -16,6 +16,6 @@ pub record IsSplit (spans : List Span) (n row : ℕ) : Type 0 where
 abbrev pub crosses : List Span → ℕ → Bool
 crosses spans i = list_any (λ s. nat_le s.from i && nat_lt i s.to) spans
 
--- neither empty nor past so many columns
+-- neither empty nor past this number of columns
 abbrev pub are_within : ℕ → List Span → Bool
 are_within columns spans = list_all (λ s. nat_lt s.from s.to && nat_le s.to columns) spans

@@ -1,6 +1,8 @@
-ghost use Rattle.std.specs.Prelude.{◌≡◌, Bool, true, ◌≤◌, ◌<◌, IfOk, List, OnErr, OnOk, Ok, Option, length, take, ℕ};
+//! The devices that a program reads and writes: traits of sources and sinks that count their failed calls, an adapter
+//! over std's readers and writers, and `put_all`, which repeats a sink's short writes.
+ghost use Rattle.std.specs.Prelude.{◌≡◌, Bool, true, ◌≤◌, ◌<◌, IfErr, IfOk, List, OnErr, OnOk, Ok, Option, length, take, ℕ};
 ghost use Rattle.std.specs.Io.KnownBytes.{Appends, Consumes, IsAtEnd, Keeps};
-ghost use Rattle.raster.specs.Devices.{Fails};
+ghost use Rattle.raster.specs.Devices.{AppendsFirst, Fails, HasFailed};
 
 use std::io::{Read, Write};
 use std::marker::Model;
@@ -11,21 +13,29 @@ use thiserror::Error;
 #[error("a device failed")]
 pub struct Failed;
 
-/// What counts its own failed calls.
+/// A writer failed.
+#[derive(Clone, Copy, Debug, PartialEq, Eq, Error)]
+#[error("write failed after {written} bytes")]
+pub struct WriteFault {
+    /// The number of bytes that went out before that.
+    pub written: u64,
+}
+
+/// A device that counts its own failed calls.
 pub trait Failures {
     ghost failure_count: { Self → ℕ };
 
-    /// How many calls of this device have answered an error. A count at 2^64 - 1 stays.
+    /// The number of calls of this device that answered an error. A count of 2^64 - 1 stays.
     fn failures(&self) -> u64
         ensures { result ≡ failure_count self.now };
 }
 
-/// Where bytes come from. Each call is tried once: an interruption is an error too.
+/// A device that bytes come from. Each call is tried once: an interruption is an error too.
 pub trait Source: Failures {
-    /// The bytes to come, where they are known.
+    /// The bytes that are still to come, where they are known.
     ghost remaining: { Self → Option (List ℕ) };
 
-    /// Puts bytes into the front of `buf` and answers how many; 0 only at the end, or where `buf` is empty.
+    /// Reads bytes into the front of `buf` and answers their number: 0 only at the end, or where `buf` is empty.
     fn pull(&mut self, buf: &mut [u8]) -> Result<usize, Failed>
         ensures length { length buf.new ≡ length buf.old }
         ensures within { IfOk result (λ n. n ≤ length buf.old) }
@@ -35,7 +45,7 @@ pub trait Source: Failures {
         ensures err { OnErr result (Fails (Self.Failures.failure_count self.old) (Self.Failures.failure_count self.new)) };
 }
 
-/// Where bytes go. Each call is tried once: an interruption is an error too.
+/// A device that bytes go to. Each call is tried once: an interruption is an error too.
 pub trait Sink: Failures {
     /// The bytes that went out, where they are known.
     ghost contents: { Self → Option (List ℕ) };
@@ -43,17 +53,17 @@ pub trait Sink: Failures {
     /// Whether all that was taken has been flushed.
     ghost is_settled: { Self → Bool };
 
-    /// Takes bytes from the front of `piece` and answers how many: at least one, unless `piece` is empty. An error
-    /// took none.
-    fn put(&mut self, piece: &[u8]) -> Result<usize, Failed>
-        ensures within { IfOk result (λ n. n ≤ length piece.now) }
-        ensures some { IfOk result (λ n. 0 < length piece.now → 0 < n) }
-        ensures out { IfOk result (λ n. Appends (contents self.old) (contents self.new) (take n piece.now)) }
+    /// Takes bytes from the front of `chunk` and answers their number: at least 1, unless `chunk` is empty. Where it answers
+    /// an error, it took none.
+    fn put(&mut self, chunk: &[u8]) -> Result<usize, Failed>
+        ensures within { IfOk result (λ n. n ≤ length chunk.now) }
+        ensures some { IfOk result (λ n. 0 < length chunk.now → 0 < n) }
+        ensures out { IfOk result (λ n. Appends (contents self.old) (contents self.new) (take n chunk.now)) }
         ensures none { OnErr result (Keeps (contents self.old) (contents self.new)) }
         ensures ok { OnOk result (Self.Failures.failure_count self.new ≡ Self.Failures.failure_count self.old) }
         ensures err { OnErr result (Fails (Self.Failures.failure_count self.old) (Self.Failures.failure_count self.new)) };
 
-    /// Flushes what was taken. It takes no byte itself.
+    /// Flushes the bytes that were taken, as `std::io::Write::flush` does. It takes no byte itself.
     fn settle(&mut self) -> Result<(), Failed>
         ensures settled { OnOk result (is_settled self.new ≡ true) }
         ensures none { Keeps (contents self.old) (contents self.new) }
@@ -61,8 +71,8 @@ pub trait Sink: Failures {
         ensures err { OnErr result (Fails (Self.Failures.failure_count self.old) (Self.Failures.failure_count self.new)) };
 }
 
-/// A source over any reader, and a sink over any writer, which counts the calls that answered an error. That a
-/// writer takes 0 bytes of a piece that isn't empty is an error.
+/// A source over any reader, and a sink over any writer, which counts the calls that answered an error. A writer that
+/// takes 0 bytes of a chunk that isn't empty has failed.
 #[derive(Drop)]
 pub struct Counted<T> {
     inner: T,
@@ -71,15 +81,15 @@ pub struct Counted<T> {
 }
 
 impl<T> Model for Counted<T> {
-    ghost use Rattle.raster.specs.Devices.{Tallied};
+    ghost use Rattle.raster.specs.Devices.{Counted};
 
-    ghost Value = { Tallied T };
+    ghost Value = { Counted T };
 
     ghost view = { λ counted. record { device = counted.inner; count = counted.failures; is_settled = counted.is_settled } };
 }
 
 impl<T> Counted<T> {
-    /// Over a reader or a writer, with no failure yet.
+    /// A device over a reader or a writer, with no failure yet.
     pub fn new(inner: T) -> Counted<T>
         ensures { result ≡ record { device = inner; count = 0; is_settled = true } }
     {
@@ -97,7 +107,7 @@ impl<T> Counted<T> {
         &self.inner
     }
 
-    /// Gives the reader or writer back.
+    /// The reader or writer, given back.
     pub fn into_inner(self) -> T
         ensures { result ≡ self.device }
     {
@@ -143,10 +153,10 @@ impl<T: Write> Sink for Counted<T> {
 
     ghost is_settled = { λ counted. counted.is_settled };
 
-    fn put(&mut self, piece: &[u8]) -> Result<usize, Failed> {
+    fn put(&mut self, chunk: &[u8]) -> Result<usize, Failed> {
         self.is_settled = false;
-        match self.inner.write(piece) {
-            Ok(0) if !piece.is_empty() => Err(self.fail()),
+        match self.inner.write(chunk) {
+            Ok(0) if !chunk.is_empty() => Err(self.fail()),
             Ok(count) => Ok(count),
             Err(_) => Err(self.fail()),
         }
@@ -161,4 +171,29 @@ impl<T: Write> Sink for Counted<T> {
             Err(_) => Err(self.fail()),
         }
     }
+}
+
+/// Writes a whole chunk of bytes out, in as many calls of the sink as it takes.
+///
+/// A call of the sink that fails isn't tried again: the first `written` bytes of the chunk went out, and no more; they are
+/// fewer than all. The sink isn't flushed, and no memory is allocated.
+pub fn put_all<W: Sink>(w: &mut W, chunk: &[u8]) -> Result<(), WriteFault>
+    ensures ok { OnOk result (Appends (W.contents w.old) (W.contents w.new) chunk.now) }
+    ensures same { OnOk result (W.Failures.failure_count w.new ≡ W.Failures.failure_count w.old) }
+    ensures written { IfErr result (λ fault. AppendsFirst (W.contents w.old) (W.contents w.new) fault.written chunk.now) }
+    ensures within { IfErr result (λ fault. fault.written < length chunk.now) }
+    ensures failed { OnErr result (HasFailed (W.Failures.failure_count w.old) (W.Failures.failure_count w.new)) }
+{
+    let mut written = 0;
+    while written < chunk.len() {
+        match w.put(&chunk[written..]) {
+            Ok(taken) => written += taken,
+            Err(Failed) => {
+                return Err(WriteFault {
+                    written: written as u64,
+                });
+            }
+        }
+    }
+    Ok(())
 }

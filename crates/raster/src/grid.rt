@@ -1,34 +1,57 @@
+//! The voxels that a mesh is looked at in: how many there are, and where their centres lie.
 ghost use Rattle.std.specs.Prelude.{◌≡◌, ◌<◌, ◌≤◌, ◌≤ℤ◌, IfSome, Some, option_map, ◌-◌, int_lt, pos};
-ghost use Rattle.micro_num.specs.Bounds.{IsAtMost};
-ghost use Rattle.raster.specs.Lattice.{IsBox, cell_count, centre, exceeds, fitted_grid, given_grid, grid_within, lattice, middle, plane, reaches_too_far, within_limits};
+ghost use Rattle.exact_int.specs.Bounds.{IsAtMost};
+ghost use Rattle.raster.specs.Grid.{IsBox, cell_count, centre, exceeds, fitted_grid, given_grid, grid_of_box, grid_with, middle, plane, reaches_too_far};
+ghost use Rattle.geometry.specs.declared.limits.TheConstants.{CENTRE_LIMIT, COLUMN_LIMIT, COORDINATE_LIMIT, LAYER_LIMIT, STEP_LIMIT};
 
-use crate::grid_faults::GridFault;
 use exact_cut::{Centre, Lattice as Pixels};
+use geometry::{CENTRE_LIMIT, COLUMN_LIMIT, LAYER_LIMIT, Point};
 use mesh_weld::Solid;
 use std::alloc::Allocator;
 use std::marker::Model;
-use stl_text::Point;
+use thiserror::Error;
 
-/// The voxels that a mesh is looked at in: so many columns along x, rows along y and layers along z, from an origin
-/// on. Lengths are in micrometres. Each voxel's centre lies within 128,100,000 micrometres of 0.
+/// Why there is no grid, of [`Grid::fit`] or [`Grid::given`].
+#[derive(Clone, Copy, Debug, PartialEq, Eq, Error)]
+pub enum GridFault {
+    /// The mesh that the grid is to fit has no facet with three distinct corners.
+    #[error("no facet is left")]
+    EmptyMesh,
+    /// More than 16,384 columns, 16,384 rows or 65,535 layers; all three counts are those that were asked for.
+    #[error("grid too large: {columns} columns, {rows} rows, {layers} layers")]
+    TooLarge {
+        columns: u32,
+        rows: u32,
+        layers: u32,
+    },
+    /// A count of a given grid is 0.
+    #[error("grid has no cells")]
+    NoCells,
+    /// The centre of the last column, row or layer of a given grid lies more than 128,100,000 micrometres from 0.
+    #[error("grid reaches too far")]
+    FarCentre,
+}
+
+/// The voxels that a mesh is looked at in: columns along x, rows along y and layers along z, from an origin on. Lengths are
+/// in micrometres. Each coordinate of a voxel's centre lies within 128,100,000 micrometres of 0.
 #[derive(Clone, Copy, Debug, PartialEq, Eq)]
 pub struct Grid {
-    origin: Point,
     pitch: u32,
     layer_height: u32,
     columns: u32,
     rows: u32,
     layers: u32,
+    origin: Point,
 }
 
 impl Model for Grid {
-    ghost use Rattle.raster.specs.Lattice.{IsLattice, Lattice, lattice};
+    ghost use Rattle.raster.specs.Grid.{IsGrid, Grid, grid_with};
 
-    ghost Value = { Lattice };
+    ghost Value = { Grid };
 
-    ghost view = { λ g. lattice g.origin g.pitch g.layer_height g.columns g.rows g.layers };
+    ghost view = { λ g. grid_with g.origin g.pitch g.layer_height g.columns g.rows g.layers };
 
-    ghost invariant = { λ g. IsLattice (lattice g.origin g.pitch g.layer_height g.columns g.rows g.layers) };
+    ghost invariant = { λ g. IsGrid (grid_with g.origin g.pitch g.layer_height g.columns g.rows g.layers) };
 
     ghost inverse = { λ g. record {
       origin = g.origin;
@@ -40,26 +63,17 @@ impl Model for Grid {
     } };
 }
 
-/// The greatest number of columns, and of rows.
-const MOST_COLUMNS: u32 = 16384;
-
-/// The greatest number of layers.
-const MOST_LAYERS: u32 = 65535;
-
-/// The greatest coordinate of a centre, in half micrometres.
-const FARTHEST_CENTRE: i64 = 256_200_000;
-
 impl Grid {
-    /// The grid of this pitch and layer height (micrometres, 1 to 100,000) that begins at the mesh's least x, y and z
-    /// and has as few columns, rows and layers as cover it, at least one of each.
+    /// The grid of this pitch and layer height (micrometres, 1 to 100,000) that begins at the mesh's least x, y and z and
+    /// has the fewest columns, rows and layers that cover it, at least one of each.
     ///
-    /// `EmptyMesh` where no facet is kept; `TooLarge` where that takes more than 16,384 columns or rows or 65,535
+    /// `EmptyMesh` where the mesh has no facet; `TooLarge` where that takes more than 16,384 columns or rows or 65,535
     /// layers.
     pub fn fit<A: Allocator>(s: &Solid<A>, pitch: u32, layer_height: u32) -> Result<Grid, GridFault>
         requires pitch { 1 ≤ pitch }
-        requires pitch_high { pitch ≤ 100000 }
+        requires pitch_high { pitch ≤ STEP_LIMIT }
         requires height { 1 ≤ layer_height }
-        requires height_high { layer_height ≤ 100000 }
+        requires height_high { layer_height ≤ STEP_LIMIT }
         ensures { result ≡ fitted_grid s.now.facets pitch layer_height }
     {
         fit_corners(s.corners(), pitch, layer_height)
@@ -78,10 +92,10 @@ impl Grid {
         layers: u32,
     ) -> Result<Grid, GridFault>
         requires pitch { 1 ≤ pitch }
-        requires pitch_high { pitch ≤ 100000 }
+        requires pitch_high { pitch ≤ STEP_LIMIT }
         requires height { 1 ≤ layer_height }
-        requires height_high { layer_height ≤ 100000 }
-        ensures { result ≡ given_grid (lattice origin pitch layer_height columns rows layers) }
+        requires height_high { layer_height ≤ STEP_LIMIT }
+        ensures { result ≡ given_grid (grid_with origin pitch layer_height columns rows layers) }
     {
         if columns == 0 || rows == 0 || layers == 0 {
             return Err(GridFault::NoCells);
@@ -93,7 +107,7 @@ impl Grid {
                 layers,
             });
         }
-        if reaches_too_far(origin, pitch, layer_height, columns, rows, layers) {
+        if reaches_too_far(origin, columns, rows, layers, pitch, layer_height) {
             return Err(GridFault::FarCentre);
         }
         Ok(Grid {
@@ -106,7 +120,7 @@ impl Grid {
         })
     }
 
-    /// The point that the voxels begin at, in micrometres.
+    /// The corner of the least voxel that has the least coordinates, in micrometres.
     pub fn origin(&self) -> Point
         ensures { result ≡ self.now.origin }
     {
@@ -117,7 +131,7 @@ impl Grid {
     pub fn pitch(&self) -> u32
         ensures value { result ≡ self.now.pitch }
         ensures low { 1 ≤ result }
-        ensures high { result ≤ 100000 }
+        ensures high { result ≤ STEP_LIMIT }
     {
         self.pitch
     }
@@ -126,7 +140,7 @@ impl Grid {
     pub fn layer_height(&self) -> u32
         ensures value { result ≡ self.now.layer_height }
         ensures low { 1 ≤ result }
-        ensures high { result ≤ 100000 }
+        ensures high { result ≤ STEP_LIMIT }
     {
         self.layer_height
     }
@@ -135,7 +149,7 @@ impl Grid {
     pub fn columns(&self) -> u32
         ensures value { result ≡ self.now.columns }
         ensures low { 1 ≤ result }
-        ensures high { result ≤ 16384 }
+        ensures high { result ≤ COLUMN_LIMIT }
     {
         self.columns
     }
@@ -144,7 +158,7 @@ impl Grid {
     pub fn rows(&self) -> u32
         ensures value { result ≡ self.now.rows }
         ensures low { 1 ≤ result }
-        ensures high { result ≤ 16384 }
+        ensures high { result ≤ COLUMN_LIMIT }
     {
         self.rows
     }
@@ -153,7 +167,7 @@ impl Grid {
     pub fn layers(&self) -> u32
         ensures value { result ≡ self.now.layers }
         ensures low { 1 ≤ result }
-        ensures high { result ≤ 65535 }
+        ensures high { result ≤ LAYER_LIMIT }
     {
         self.layers
     }
@@ -192,28 +206,28 @@ impl Grid {
         }
     }
 
-    /// The height of the plane of layer k, below `layers`, in half micrometres: that of the centres of its voxels.
+    /// The height of the plane of layer k, below `layers`, in half-micrometres: that of the centres of its voxels.
     pub fn plane(&self, k: u32) -> i64
         requires { k < self.now.layers }
         ensures value { result ≡ plane self.now k }
-        ensures within { IsAtMost 256200000 result }
+        ensures within { IsAtMost CENTRE_LIMIT result }
     {
         middle(self.origin.z(), self.layer_height, k)
     }
 }
 
-/// The grid of this pitch and layer height that a mesh with these least and greatest coordinates fits in.
-pub(crate) fn fit_corners(
+/// The grid of this pitch and layer height that fits a mesh with these least and greatest coordinates.
+fn fit_corners(
     corners: Option<(Point, Point)>,
     pitch: u32,
     layer_height: u32,
 ) -> Result<Grid, GridFault>
     requires pitch { 1 ≤ pitch }
-    requires pitch_high { pitch ≤ 100000 }
+    requires pitch_high { pitch ≤ STEP_LIMIT }
     requires height { 1 ≤ layer_height }
-    requires height_high { layer_height ≤ 100000 }
+    requires height_high { layer_height ≤ STEP_LIMIT }
     requires order { IfSome corners (λ c. IsBox c.0 c.1) }
-    ensures { result ≡ grid_within (option_map (λ c. record { low = c.0; high = c.1 }) corners) pitch layer_height }
+    ensures { result ≡ grid_of_box (option_map (λ c. record { low = c.0; high = c.1 }) corners) pitch layer_height }
 {
     match corners {
         None => Err(GridFault::EmptyMesh),
@@ -221,73 +235,31 @@ pub(crate) fn fit_corners(
     }
 }
 
-/// The grid that a box fits in.
+/// The grid of this pitch and layer height that fits a box.
 fn fit_box(low: Point, high: Point, pitch: u32, layer_height: u32) -> Result<Grid, GridFault>
     requires pitch { 1 ≤ pitch }
-    requires pitch_high { pitch ≤ 100000 }
+    requires pitch_high { pitch ≤ STEP_LIMIT }
     requires height { 1 ≤ layer_height }
-    requires height_high { layer_height ≤ 100000 }
+    requires height_high { layer_height ≤ STEP_LIMIT }
     requires order { IsBox low high }
-    ensures { result ≡ grid_within (Some (record { low = low; high = high })) pitch layer_height }
+    ensures { result ≡ grid_of_box (Some (record { low = low; high = high })) pitch layer_height }
 {
     let columns = cell_count(low.x(), high.x(), pitch);
     let rows = cell_count(low.y(), high.y(), pitch);
     let layers = cell_count(low.z(), high.z(), layer_height);
-    within_limits(low, pitch, layer_height, columns, rows, layers)
+    Grid::given(low, pitch, layer_height, columns, rows, layers)
 }
 
-/// The grid with these counts, where none passes its limit.
-fn within_limits(
-    origin: Point,
-    pitch: u32,
-    layer_height: u32,
-    columns: u32,
-    rows: u32,
-    layers: u32,
-) -> Result<Grid, GridFault>
-    requires pitch { 1 ≤ pitch }
-    requires pitch_high { pitch ≤ 100000 }
-    requires height { 1 ≤ layer_height }
-    requires height_high { layer_height ≤ 100000 }
-    requires columns { 1 ≤ columns }
-    requires rows { 1 ≤ rows }
-    requires layers { 1 ≤ layers }
-    requires last_x { middle origin.x pitch (columns - 1) ≤ℤ pos 256200000 }
-    requires last_y { middle origin.y pitch (rows - 1) ≤ℤ pos 256200000 }
-    requires last_z { middle origin.z layer_height (layers - 1) ≤ℤ pos 256200000 }
-    ensures { result ≡ within_limits (lattice origin pitch layer_height columns rows layers) }
-{
-    if is_too_large(columns, rows, layers) {
-        return Err(GridFault::TooLarge {
-            columns,
-            rows,
-            layers,
-        });
-    }
-    // (a point's coordinates are in range)
-    let _x = origin.x();
-    let _y = origin.y();
-    let _z = origin.z();
-    Ok(Grid {
-        origin,
-        pitch,
-        layer_height,
-        columns,
-        rows,
-        layers,
-    })
-}
-
-/// How many steps a stretch takes, at least one.
+/// The number of steps that cover a stretch, at least one.
 fn cell_count(low: i32, high: i32, step: u32) -> u32
-    requires low { IsAtMost 128000000 low }
-    requires high { IsAtMost 128000000 high }
+    requires low { IsAtMost COORDINATE_LIMIT low }
+    requires high { IsAtMost COORDINATE_LIMIT high }
     requires order { low ≤ℤ high }
     requires step { 1 ≤ step }
-    requires step_high { step ≤ 100000 }
+    requires step_high { step ≤ STEP_LIMIT }
     ensures value { result ≡ cell_count low high step }
     ensures low { 1 ≤ result }
-    ensures last { middle low step (result - 1) ≤ℤ pos 256200000 }
+    ensures last { middle low step (result - 1) ≤ℤ pos CENTRE_LIMIT }
 {
     high.abs_diff(low).div_ceil(step).max(1)
 }
@@ -296,64 +268,64 @@ fn cell_count(low: i32, high: i32, step: u32) -> u32
 fn is_too_large(columns: u32, rows: u32, layers: u32) -> bool
     ensures { result ≡ exceeds columns rows layers }
 {
-    columns > MOST_COLUMNS || rows > MOST_COLUMNS || layers > MOST_LAYERS
+    columns > COLUMN_LIMIT || rows > COLUMN_LIMIT || layers > LAYER_LIMIT
 }
 
-/// Whether the centre of the last column, row or layer lies too far out.
+/// Whether the centre of the last column, row or layer lies beyond the limit of centres.
 fn reaches_too_far(
     origin: Point,
-    pitch: u32,
-    layer_height: u32,
     columns: u32,
     rows: u32,
     layers: u32,
+    pitch: u32,
+    layer_height: u32,
 ) -> bool
-    requires pitch { pitch ≤ 100000 }
-    requires height { layer_height ≤ 100000 }
+    requires pitch { pitch ≤ STEP_LIMIT }
+    requires height { layer_height ≤ STEP_LIMIT }
     requires columns { 1 ≤ columns }
-    requires columns_high { columns ≤ 16384 }
+    requires columns_high { columns ≤ COLUMN_LIMIT }
     requires rows { 1 ≤ rows }
-    requires rows_high { rows ≤ 16384 }
+    requires rows_high { rows ≤ COLUMN_LIMIT }
     requires layers { 1 ≤ layers }
-    requires layers_high { layers ≤ 65535 }
-    ensures { result ≡ reaches_too_far (lattice origin pitch layer_height columns rows layers) }
+    requires layers_high { layers ≤ LAYER_LIMIT }
+    ensures { result ≡ reaches_too_far (grid_with origin pitch layer_height columns rows layers) }
 {
     is_beyond(origin.x(), pitch, columns)
         || is_beyond(origin.y(), pitch, rows)
         || is_beyond(origin.z(), layer_height, layers)
 }
 
-/// Whether the middle of the last of so many cells lies too far out for a centre.
+/// Whether the middle of the last of `count` cells lies beyond the limit of centres.
 fn is_beyond(start: i32, step: u32, count: u32) -> bool
-    requires start { IsAtMost 128000000 start }
-    requires step { step ≤ 100000 }
+    requires start { IsAtMost COORDINATE_LIMIT start }
+    requires step { step ≤ STEP_LIMIT }
     requires count { 1 ≤ count }
-    requires count_high { count ≤ 65535 }
-    ensures { result ≡ int_lt (pos 256200000) (middle start step (count - 1)) }
+    requires count_high { count ≤ LAYER_LIMIT }
+    ensures { result ≡ int_lt (pos CENTRE_LIMIT) (middle start step (count - 1)) }
 {
-    middle(start, step, count - 1) > FARTHEST_CENTRE
+    middle(start, step, count - 1) > CENTRE_LIMIT as i64
 }
 
-/// The middle of the cell with this number, from a start on, in half micrometres.
+/// The middle of the cell with this number, from a start on, in half-micrometres.
 fn middle(start: i32, step: u32, number: u32) -> i64
-    requires start { IsAtMost 128000000 start }
-    requires step { step ≤ 100000 }
-    requires number { number ≤ 65535 }
+    requires start { IsAtMost COORDINATE_LIMIT start }
+    requires step { step ≤ STEP_LIMIT }
+    requires number { number ≤ LAYER_LIMIT }
     ensures { result ≡ middle start step number }
 {
     let reach = u64::from(step) * (2 * u64::from(number) + 1);
     2 * i64::from(start) + reach as i64
 }
 
-/// The middle of one of so many cells, of which the last one's is in the range of centres, in half micrometres.
+/// The middle of one of `count` cells, the last of which has its middle within the limit of centres, in half-micrometres.
 fn middle_before(start: i32, step: u32, number: u32, count: u32) -> i64
-    requires start { IsAtMost 128000000 start }
-    requires step { step ≤ 100000 }
+    requires start { IsAtMost COORDINATE_LIMIT start }
+    requires step { step ≤ STEP_LIMIT }
     requires number { number < count }
-    requires count { count ≤ 65535 }
-    requires last { middle start step (count - 1) ≤ℤ pos 256200000 }
+    requires count { count ≤ LAYER_LIMIT }
+    requires last { middle start step (count - 1) ≤ℤ pos CENTRE_LIMIT }
     ensures value { result ≡ middle start step number }
-    ensures within { IsAtMost 256200000 result }
+    ensures within { IsAtMost CENTRE_LIMIT result }
 {
     middle(start, step, number)
 }

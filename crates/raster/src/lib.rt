@@ -1,28 +1,34 @@
-//! Images of layers, and the devices that they are written to.
+//! From meshes to images: grids of voxels, fill rules, the filled pixels of a layer, and images of layers in raw PBM.
+//!
+//! For a welded solid `s`, a layer number `k`, and the segments `list` in which the plane of that layer cuts the solid:
+//!
+//! ```ignore
+//! let g = Grid::fit(&s, 50, 100)?;                              // pitch 50, layer height 100 micrometres
+//! let spans = fill(alloc, &s, &g, Rule::NonZero, k, list)?;     // the filled pixels of layer k
+//! let pixels = area(spans.as_slice());                          // their number
+//! write_layer(&g, spans.as_slice(), &mut sink)?;                // their image, in raw PBM
+//! ```
+//!
+//! The types: [`Grid`], the voxels that a mesh is looked at in, and [`GridFault`], why there is none; [`Rule`], which sums
+//! of signed crossings are inside; [`Span`], a run of filled pixels in a row; [`Filler`], which fills layer after layer in
+//! memory that is kept. [`Source`] and [`Sink`] are the devices that are read and written, [`Counted`] makes one of any
+//! reader or writer, and [`put_all`] writes a whole chunk of bytes.
+//!
+//! Lengths are in micrometres, and coordinates of centres and planes in half-micrometres, so that they are whole; names of
+//! such numbers end in `2`. Columns, rows and layers count from 0 along x, y and z.
 #![tactic(auto)]
 
-mod bits;
-mod chunk;
-mod crossed;
+mod crossings;
 mod devices;
-mod filled;
-mod filling;
+mod filler;
 mod grid;
-mod grid_faults;
-mod image;
-mod layer;
-mod row_marks;
-mod rows;
-mod rules;
-mod spans;
-mod write_fault;
+mod pbm;
+mod rule;
+mod span;
 
-pub use chunk::put_all;
-pub use devices::{Counted, Failed, Failures, Sink, Source};
-pub use filled::{Filler, fill};
-pub use grid::Grid;
-pub use grid_faults::GridFault;
-pub use image::write_layer;
-pub use rules::Rule;
-pub use spans::{Span, area};
-pub use write_fault::WriteFault;
+pub use devices::{Counted, Failed, Failures, Sink, Source, WriteFault, put_all};
+pub use filler::{Filler, fill};
+pub use grid::{Grid, GridFault};
+pub use pbm::write_layer;
+pub use rule::Rule;
+pub use span::{Span, area};

@@ -1,34 +1,26 @@
+//! Laws of the format: they tie the definitions that the reader's contract cites to each other.
 ghost use Rattle.std.specs.Prelude.{◌≡◌, ◌≤◌, ◌⊎◌, List, length, ℕ};
-ghost use Rattle.std.specs.Ordering.{is_lt};
-ghost use Rattle.micro_num.specs.declared.units.Unit.{Unit as LengthUnit};
-ghost use Rattle.stl_text.specs.declared.faults.StlFault.{StlFault};
-ghost use Rattle.stl_text.specs.Position.{Position, is_before};
+ghost use Rattle.micro_num.specs.declared.unit.Unit.{Unit as LengthUnit};
+ghost use Rattle.stl_text.specs.declared.stl_fault.StlFault.{StlFault};
 ghost use Rattle.stl_text.specs.Text.{IsFaultOf, Reads};
-ghost use Rattle.stl_text.specs.Triangle.{Triangle};
+ghost use Rattle.geometry.specs.Facet.{Facet};
 ghost use Rattle.stl_text.specs.Written.{Written};
 
-use crate::points::Point;
-
-/// A text reads as facets in one way, or has one fault.
+/// A text has exactly one outcome under a limit and in a unit: one list of facets, or one fault.
 pub fn one_outcome()
-    ensures reading { (limit : ℕ) (unit : LengthUnit) (bytes : List ℕ) (facets others : List Triangle)
+    ensures reading { (limit : ℕ) (unit : LengthUnit) (bytes : List ℕ) (facets others : List Facet)
         → Reads limit unit bytes facets → Reads limit unit bytes others → facets ≡ others }
     ensures fault { (limit : ℕ) (unit : LengthUnit) (bytes : List ℕ) (fault other : StlFault)
         → IsFaultOf limit unit bytes fault → IsFaultOf limit unit bytes other → fault ≡ other }
-    ensures not_both { (limit : ℕ) (unit : LengthUnit) (bytes : List ℕ) (facets : List Triangle) (fault : StlFault)
+    ensures not_both { (limit : ℕ) (unit : LengthUnit) (bytes : List ℕ) (facets : List Facet) (fault : StlFault)
         → Reads limit unit bytes facets → IsFaultOf limit unit bytes fault → ⊥ }
     ensures either { (limit : ℕ) (unit : LengthUnit) (bytes : List ℕ)
-        → ((facets : List Triangle) × Reads limit unit bytes facets) ⊎ ((fault : StlFault) × IsFaultOf limit unit bytes fault) }
+        → ((facets : List Facet) × Reads limit unit bytes facets) ⊎ ((fault : StlFault) × IsFaultOf limit unit bytes fault) }
 {}
 
-/// A text that is written of facets, with any white space between words, any case of keywords, any
-/// words for normals and any names, reads as these facets.
+/// Facets that are written as STL read back as themselves, whatever the white space between words, the case of
+/// keywords, the words of normals and the names of solids.
 pub fn written_reads_back()
-    ensures { (limit : ℕ) (unit : LengthUnit) (facets : List Triangle) (bytes : List ℕ)
+    ensures { (limit : ℕ) (unit : LengthUnit) (facets : List Facet) (bytes : List ℕ)
         → length facets ≤ limit → Written unit facets bytes → Reads limit unit bytes facets }
-{}
-
-/// Points are ordered by x, then y, then z.
-pub fn points_in_order()
-    ensures { (p q : Position) → is_lt (⟦<Point as Ord>⟧.cmp p q) ≡ is_before p q }
 {}

@@ -1,17 +1,33 @@
-//! Triangle meshes from ASCII STL: points, facets, and the reader of texts.
+//! Triangle meshes read from ASCII STL.
+//!
+//! - [`read_stl`], [`read_stl_at_most`]: the facets of a text in file order, or its one fault.
+//! - [`StlFault`]: why a text is no mesh, with the byte offset where it stops being one; [`Word`]: what is wanted there.
+//! - [`one_outcome`], [`written_reads_back`]: laws. Each text has one outcome, and facets that are written as STL read back.
+//! - [`Point`], [`Facet`], [`extent`], [`points_in_order`] and [`FACET_LIMIT`], handed on from `geometry`.
+//!
+//! ```
+//! let text = b"solid part\nfacet normal 0 0 1 outer loop\n\
+//!     vertex 0 0 0 vertex 1 0 0 vertex 0 1 0 endloop endfacet\nendsolid\n";
+//! let facets = read_stl(alloc, text, Unit::Millimetre)?;
+//! assert!(rt; facets.len() == 1 && facets[0].corner(1).x() == 1000);
+//! let fault = read_stl(alloc, b"solid\nendloop", Unit::Millimetre);
+//! assert!(rt; fault == Err(StlFault::Expected { word: Word::FacetOrEnd, at: 6 }));
+//! ```
+//!
+//! Units: a text's numbers are in millimetres or inches, as its caller says; points are in whole micrometres. Offsets are
+//! in bytes, from 0.
 #![tactic(auto)]
 
-mod boxes;
-mod faults;
+mod grammar;
 mod laws;
-mod points;
 mod reader;
+mod reading;
 mod scanning;
-mod words;
+mod stl_fault;
+mod word;
 
-pub use boxes::extent;
-pub use faults::StlFault;
-pub use laws::{one_outcome, points_in_order, written_reads_back};
-pub use points::{Facet, Point};
-pub use reader::{FACET_LIMIT, read_stl, read_stl_at_most};
-pub use words::Word;
+pub use geometry::{FACET_LIMIT, Facet, Point, extent, points_in_order};
+pub use laws::{one_outcome, written_reads_back};
+pub use reading::{read_stl, read_stl_at_most};
+pub use stl_fault::StlFault;
+pub use word::Word;

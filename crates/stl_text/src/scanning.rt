@@ -1,4 +1,4 @@
-//! Words, white space and lines at the front of a text.
+//! What stands at the front of a text: white space, words, keywords, coordinates and lines.
 
 ghost use Rattle.std.specs.Prelude.{◌≡◌, ◌+◌, ◌≤◌, IfSome, Ok, length, not, true};
 ghost use Rattle.std.specs.Str.{str_to_ascii_lowercase};
@@ -19,7 +19,7 @@ fn is_white(byte: u8) -> bool
     byte == b' ' || (9 <= byte && byte <= 13)
 }
 
-/// How many white bytes stand at the front.
+/// The number of bytes of white space at the front.
 #[inline(always)]
 fn space_len(bytes: &[u8]) -> usize
     ensures len { result ≡ prefix_len Text.is_white bytes.now }
@@ -28,7 +28,7 @@ fn space_len(bytes: &[u8]) -> usize
     bytes.iter().take_while(|b| is_white(**b)).count()
 }
 
-/// How many bytes stand in front of the first white one.
+/// The number of bytes before the first white space.
 fn word_len(bytes: &[u8]) -> usize
     ensures len { result ≡ position_or_len Text.is_white bytes.now }
     ensures within { result ≤ length bytes.now }
@@ -36,20 +36,20 @@ fn word_len(bytes: &[u8]) -> usize
     bytes.iter().take_while(|b| !is_white(**b)).count()
 }
 
-/// What is left behind the white space at the front.
+/// The text behind the white space at the front.
 #[inline(always)]
-pub fn skip_space(bytes: &[u8]) -> &[u8]
+pub(crate) fn skip_space(bytes: &[u8]) -> &[u8]
     ensures { result.now ≡ after_space bytes.now }
 {
     let n = space_len(bytes);
     bytes.split_at(n).1
 }
 
-/// The first word, empty at the end of the text, and what is left behind it.
-pub fn split_word(bytes: &[u8]) -> (&[u8], &[u8])
+/// The first word, which is empty at the end of the text, and the text behind it.
+pub(crate) fn split_word(bytes: &[u8]) -> (&[u8], &[u8])
     ensures word { result.0.now ≡ first_word bytes.now }
     ensures rest { result.1.now ≡ after_word bytes.now }
-    ensures place { length result.0.now + length result.1.now ≡ length (after_space bytes.now) }
+    ensures offset { length result.0.now + length result.1.now ≡ length (after_space bytes.now) }
     ensures within { length (after_space bytes.now) ≤ length bytes.now }
 {
     let front = skip_space(bytes);
@@ -57,7 +57,7 @@ pub fn split_word(bytes: &[u8]) -> (&[u8], &[u8])
     front.split_at(n)
 }
 
-/// How many bytes stand in front of the first LF or CR.
+/// The number of bytes before the first LF or CR.
 fn line_len(bytes: &[u8]) -> usize
     ensures len { result ≡ position_or_len is_line_end bytes.now }
     ensures within { result ≤ length bytes.now }
@@ -68,8 +68,8 @@ fn line_len(bytes: &[u8]) -> usize
     }
 }
 
-/// What is left from the first LF or CR on.
-pub fn skip_line(bytes: &[u8]) -> &[u8]
+/// The text from the first LF or CR on.
+pub(crate) fn skip_line(bytes: &[u8]) -> &[u8]
     ensures line { result.now ≡ after_line bytes.now }
     ensures within { length result.now ≤ length bytes.now }
 {
@@ -79,15 +79,15 @@ pub fn skip_line(bytes: &[u8]) -> &[u8]
 
 /// Whether a word is this keyword, in any case.
 #[inline(always)]
-pub fn is_keyword(word: &[u8], text: &[u8]) -> bool
+pub(crate) fn is_keyword(word: &[u8], text: &[u8]) -> bool
     requires { str_to_ascii_lowercase text.now ≡ text.now }
     ensures { result ≡ Text.is_keyword text.now word.now }
 {
-    // most texts have them in lower case, and this is the quicker look
+    // most texts have keywords in lower case, and this comparison is the faster one
     word == text || word.eq_ignore_ascii_case(text)
 }
 
-/// Whether no word goes on at the front of a text.
+/// Whether a word ends in front of a text: the text is empty, or begins with white space.
 #[inline(always)]
 fn ends_word(bytes: &[u8]) -> bool
     ensures { result ≡ true → IsApart bytes.now }
@@ -98,9 +98,9 @@ fn ends_word(bytes: &[u8]) -> bool
     }
 }
 
-/// What is left behind the first word, where that is this keyword. `None` says only that it was not seen here.
+/// The text behind the first word, where that is this keyword. `None` says nothing of the text.
 #[inline(always)]
-pub fn behind_keyword<'t>(bytes: &'t [u8], text: &[u8]) -> Option<&'t [u8]>
+pub(crate) fn behind_keyword<'t>(bytes: &'t [u8], text: &[u8]) -> Option<&'t [u8]>
     requires lower { str_to_ascii_lowercase text.now ≡ text.now }
     requires word { list_all (λ byte. not (Text.is_white byte)) text.now ≡ true }
     ensures keyword { IfSome result (λ rest. Text.is_keyword text.now (first_word bytes.now) ≡ true) }
@@ -119,10 +119,9 @@ pub fn behind_keyword<'t>(bytes: &'t [u8], text: &[u8]) -> Option<&'t [u8]>
     }
 }
 
-/// The coordinate that the first word stands for, and what is left behind it. `None` says only that it was not read
-/// here.
+/// The coordinate that the first word stands for, and the text behind it. `None` says nothing of the text.
 #[inline(always)]
-pub fn behind_coordinate(bytes: &[u8], unit: Unit) -> Option<(i32, &[u8])>
+pub(crate) fn behind_coordinate(bytes: &[u8], unit: Unit) -> Option<(i32, &[u8])>
     ensures read { IfSome result (λ found. coordinate_of unit (first_word bytes.now) ≡ Ok found.0) }
     ensures rest { IfSome result (λ found. found.1.now ≡ after_word bytes.now) }
     ensures within { IfSome result (λ found. length found.1.now ≤ length bytes.now) }

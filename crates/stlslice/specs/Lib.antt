@@ -1,4 +1,4 @@
-pub mod Statuses
-pub mod Stream
-pub mod Program
-pub mod Running
+pub mod Status
+pub mod SlicedText
+pub mod Outcome
+pub mod Ending

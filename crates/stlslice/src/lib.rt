@@ -1,20 +1,25 @@
-//! The program `stlslice`, but for its `main`: what a run reads and writes. What its words mean is handed on.
+//! The program `stlslice`, but for its `main`: a run of one task, over any source of bytes and any sink.
+//!
+//! [`read_words`] turns the command's words into a [`Task`], and [`run`] does it: it reads ASCII STL to its end, and
+//! writes the images of all layers, a report, the box of the mesh, or the two rays of a voxel. A [`RunFault`] says why a
+//! run wrote nothing, or not all; its `Display` is the line on standard error, and its `status` the exit status.
+//!
+//! ```text
+//! let task = read_words(words)?;                    // --pitch 50 --layer 100
+//! run(&rt, alloc, &task, &mut source, &mut sink)?;  // a P4 image a layer
+//! ```
+//!
+//! Pitch, layer height and the box are in micrometres.
 #![tactic(auto)]
 
-mod box_line;
-mod images;
+mod fault;
 mod loading;
 mod placing;
-mod probing;
-mod reading;
-mod report;
-mod run_faults;
 mod running;
-mod slicing;
-mod writing;
+mod write;
 
+pub use fault::RunFault;
 pub use loading::load;
 pub use raster::{Counted, Failed, Failures, Sink, Source};
-pub use run_faults::RunFault;
 pub use running::run;
 pub use task_words::{Given, Task, Wanted, WordFault, read_words};

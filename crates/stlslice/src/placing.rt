@@ -1,9 +1,11 @@
+//! The grid of a run: the one that was handed in, or the one that the mesh fits in.
 ghost use Rattle.std.specs.Prelude.{◌≡◌, ◌≤◌, Err, IfErr, IfOk, Ok};
-ghost use Rattle.raster.specs.declared.grid_faults.GridFault.{GridFault as NoGrid};
-ghost use Rattle.stlslice.specs.Program.{grid_for};
-ghost use Rattle.stlslice.specs.declared.run_faults.RunFault.TheVariants.{Grid as NoGridOf};
+ghost use Rattle.raster.specs.declared.grid.GridFault.{GridFault as NoGrid};
+ghost use Rattle.stlslice.specs.Outcome.{grid_for};
+ghost use Rattle.stlslice.specs.declared.fault.RunFault.TheVariants.{Grid as NoGridOf};
+ghost use Rattle.geometry.specs.declared.limits.TheConstants.{STEP_LIMIT};
 
-use crate::run_faults::RunFault;
+use crate::fault::RunFault;
 use mesh_weld::Solid;
 use raster::Grid;
 use std::alloc::Allocator;
@@ -17,9 +19,9 @@ pub(crate) fn grid_for<A: Allocator>(
     layer: u32,
 ) -> Result<Grid, RunFault>
     requires pitch { 1 ≤ pitch }
-    requires pitch_high { pitch ≤ 100000 }
+    requires pitch_high { pitch ≤ STEP_LIMIT }
     requires layer { 1 ≤ layer }
-    requires layer_high { layer ≤ 100000 }
+    requires layer_high { layer ≤ STEP_LIMIT }
     ensures ok { IfOk result (λ grid. grid_for given pitch layer solid.now.facets ≡ Ok grid) }
     ensures err { IfErr result (λ fault. (cause : NoGrid) × (fault ≡ NoGridOf cause)
         × (grid_for given pitch layer solid.now.facets ≡ Err cause)) }

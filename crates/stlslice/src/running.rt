@@ -1,21 +1,23 @@
+//! A run: reads the whole input, does the task, writes its outcome.
 ghost use Rattle.std.specs.Prelude.{◌≡◌, ◌≢◌, ◌≤◌, ◌⊎◌, Err, IfErr, IfOk, IfSome, List, Ok, OnOk, length, true, vec_len, ℕ};
 ghost use Rattle.std.specs.Io.KnownBytes.{Appends, IsAtEnd, Keeps};
 ghost use Rattle.raster.specs.Devices.{AppendsFirst, HasFailed};
-ghost use Rattle.stlslice.specs.Program.{IsOutcome, grid_for};
-ghost use Rattle.stlslice.specs.Running.{IsEnd, IsLoadFault, IsPlacingFault, IsRunFault, IsSolidOf};
-ghost use Rattle.stlslice.specs.declared.run_faults.RunFault.TheVariants.{Memory, Read, Stl, Write};
-ghost use Rattle.task_words.specs.Tasks.{IsInRange};
-ghost use Rattle.stl_text.specs.Text.{IsFaultOf, Reads, facet_limit};
-ghost use Rattle.stl_text.specs.declared.faults.StlFault.{StlFault as InputFault};
+ghost use Rattle.stlslice.specs.Outcome.{IsOutcome, grid_for};
+ghost use Rattle.stlslice.specs.Ending.{IsEnd, IsLoadFault, IsPlacingFault, IsRunFault, IsSolidOf};
+ghost use Rattle.stlslice.specs.declared.fault.RunFault.TheVariants.{Memory, Read, Stl, Write};
+ghost use Rattle.task_words.specs.Task.{IsInRange};
+ghost use Rattle.stl_text.specs.Text.{IsFaultOf, Reads};
+ghost use Rattle.stl_text.specs.declared.stl_fault.StlFault.{StlFault as InputFault};
+ghost use Rattle.geometry.specs.declared.limits.TheConstants.{FACET_LIMIT, STEP_LIMIT};
 
-use crate::box_line::box_line;
+use crate::fault::RunFault;
+use crate::loading::read_all;
 use crate::placing::grid_for;
-use crate::probing::probe_voxel;
-use crate::reading::read_all;
-use crate::run_faults::RunFault;
-use crate::slicing::write_build;
-use crate::writing::write_all;
+use crate::write::box_line::box_line;
+use crate::write::probe_line::probe_voxel;
+use crate::write::{write_all, write_build};
 use build_book::Job;
+use geometry::Facet;
 use layer_pool::{OpenGate, build};
 use mesh_weld::{Solid, weld};
 use micro_num::Unit;
@@ -23,13 +25,13 @@ use raster::{Grid, Sink, Source};
 use std::alloc::Allocator;
 use std::sync::Wait;
 use std::thread::Threads;
-use stl_text::{Facet, read_stl};
+use stl_text::read_stl;
 use task_words::{Given, Task};
 
 /// Reads the whole input, does the task, and writes and flushes what it answers.
 ///
 /// After each fault but `Write` nothing was written. Each call of a device is tried once, so an interruption is a
-/// fault too. A growth may be refused at each step before the first byte is written.
+/// fault too. An allocation can fail at each step before the first byte is written.
 pub fn run<R: Threads + Wait + Sync, A: Allocator + Copy + Send + Sync, I: Source, O: Sink>(
     rt: &R,
     alloc: A,
@@ -50,7 +52,7 @@ pub fn run<R: Threads + Wait + Sync, A: Allocator + Copy + Send + Sync, I: Sourc
         → HasFailed (I.Failures.failure_count source.old) (I.Failures.failure_count source.new) }
     ensures unwritten { (written : ℕ) → result ≡ Err (Write written)
         → HasFailed (O.Failures.failure_count sink.old) (O.Failures.failure_count sink.new) }
-    // What was written: after a fault of the output just so many bytes of the outcome, and else nothing.
+    // After a fault of the output its first `written` bytes went out; after any other fault nothing did.
     ensures first { (written : ℕ) → result ≡ Err (Write written) → IfSome (I.remaining source.old) (λ input.
         (text : List ℕ) × IsOutcome task.now input (Ok text) × (written ≤ length text)
         × AppendsFirst (O.contents sink.old) (O.contents sink.new) written text) }
@@ -116,16 +118,16 @@ fn respond<R: Threads + Wait + Sync, A: Allocator + Copy + Send + Sync, O: Sink>
     }
 }
 
-/// The facets of an input, whose bytes are given up.
+/// The facets of an input, whose bytes are freed.
 fn read_facets<A: Allocator + Copy + Send + Sync>(
     alloc: A,
     input: Vec<u8, A>,
     unit: Unit,
 ) -> Result<Vec<Facet, A>, RunFault>
-    ensures ok { IfOk result (λ facets. Reads facet_limit unit input.items facets.items) }
-    ensures few { IfOk result (λ facets. vec_len facets ≤ 1048576) }
+    ensures ok { IfOk result (λ facets. Reads FACET_LIMIT unit input.items facets.items) }
+    ensures few { IfOk result (λ facets. vec_len facets ≤ FACET_LIMIT) }
     ensures err { IfErr result (λ fault. (fault ≡ Memory) ⊎ ((cause : InputFault) × (fault ≡ Stl cause)
-        × IsFaultOf facet_limit unit input.items cause)) }
+        × IsFaultOf FACET_LIMIT unit input.items cause)) }
 {
     Ok(read_stl(alloc, &input, unit)?)
 }
@@ -140,9 +142,9 @@ fn read_placed<A: Allocator + Copy + Send + Sync>(
     layer: u32,
 ) -> Result<(Solid<A>, Grid), RunFault>
     requires pitch { 1 ≤ pitch }
-    requires pitch_high { pitch ≤ 100000 }
+    requires pitch_high { pitch ≤ STEP_LIMIT }
     requires layer { 1 ≤ layer }
-    requires layer_high { layer ≤ 100000 }
+    requires layer_high { layer ≤ STEP_LIMIT }
     ensures solid { IfOk result (λ placed. IsSolidOf unit input.items placed.0) }
     ensures grid { IfOk result (λ placed. grid_for given pitch layer placed.0.facets ≡ Ok placed.1) }
     ensures err { IfErr result (IsPlacingFault unit given pitch layer input.items) }

@@ -4,7 +4,7 @@
 #[cfg(test)]
 mod tests;
 
-use std::env::{self, Env};
+use std::env::{self, Env, FillError};
 use std::fmt::Display;
 use std::io::{self, ErrorKind};
 use std::process::ExitCode;
@@ -34,10 +34,29 @@ fn main(rt: HostRuntime) -> ExitCode {
     }
 }
 
+/// The arguments behind the program's name, which alone may be no text.
+struct AfterName<'r, R>(&'r R);
+
+impl<'r, R: Env> Env for AfterName<'r, R> {
+    fn arg(&self, i: usize, buf: &mut [u8]) -> Result<usize, FillError> {
+        self.0.arg(i.saturating_add(1), buf)
+    }
+
+    fn var(&self, name: &str, buf: &mut [u8]) -> Result<usize, FillError> {
+        self.0.var(name, buf)
+    }
+
+    fn var_at(&self, i: usize, buf: &mut [u8]) -> Result<usize, FillError> {
+        self.0.var_at(i, buf)
+    }
+}
+
 /// The words after the program's name.
 fn words<R: Env + AllocGlobal>(rt: &R) -> io::Result<Vec<String>> {
-    let words = env::args(rt)?.skip(1).collect(rt.alloc())?;
-    Ok(words)
+    let env = (AfterName(rt), rt.alloc());
+    let words = env::args(&env);
+    let (AfterName(_), _) = env;
+    Ok(words?.collect(rt.alloc())?)
 }
 
 /// Ends a program whose words could not be had.

@@ -1,5 +1,6 @@
--- The claims machine: numbers that several passes draw from one word. A pass has the list of the numbers that it found
--- there. A hand is one pass, or several: `open` cuts a hand that stands for all passes, and `close` joins hands again.
+-- The claims machine: several passes draw numbers from one word. A pass has the list of the numbers that it found there.
+-- A hand stands for one pass or for several: `open` cuts the first hand, which stands for all passes, into passes, and
+-- `close` joins hands again.
 --     IsDraw      one pass draws: it finds the word, which grows by one
 --     IsSplit     a hand that has found nothing is cut in two
 --     IsJoin      one hand takes over all of another
@@ -29,8 +30,8 @@ abbrev pub IsEachOnce : ℕ → List ℕ → Type 0
 IsEachOnce n xs = (x : ℕ) → times x xs ≡ once_below x n
 
 -- how many numbers of the list are n or more
-abbrev pub late : ℕ → List ℕ → ℕ
-late n xs = sum_by (λ y. one_if (nat_le n y)) xs
+abbrev pub beyond : ℕ → List ℕ → ℕ
+beyond n xs = sum_by (λ y. one_if (nat_le n y)) xs
 
 -- the numbers of the list that are below n: those that were given out
 abbrev pub given : ℕ → List ℕ → List ℕ
@@ -58,7 +59,7 @@ start plan = moment 0 (hand plan.passes [] ∷ [])
 pub record IsDraw (plan : Plan) (before : Moment) (id : ℕ) (mine : Hand) (after : Moment) : Type 0 where
   pub there : get_elem? before.hands id ≡ some mine
   pub stands : 0 < mine.stands_for
-  pub goes_on : late plan.stripes mine.found ≡ 0
+  pub goes_on : beyond plan.stripes mine.found ≡ 0
   pub becomes : after ≡ moment (before.word + 1) (slice_set before.hands id (hand mine.stands_for (mine.found ++ before.word ∷ [])))
 
 -- A hand that has found nothing gives some of the passes that it stands for to a new hand.
@@ -114,12 +115,12 @@ pub record IsFair (plan : Plan) (m : Moment) : Type 0 where
   pub each_once : IsEachOnce m.word (all_found m.hands)
   pub as_long : length (all_found m.hands) ≡ m.word
   -- a hand that stands for some passes holds at most as many numbers that are `stripes` or more; one that stands for none has found nothing
-  pub few_late : (id : ℕ) (h : Hand) → get_elem? m.hands id ≡ some h → late plan.stripes h.found ≤ h.stands_for
+  pub few_beyond : (id : ℕ) (h : Hand) → get_elem? m.hands id ≡ some h → beyond plan.stripes h.found ≤ h.stands_for
   pub spent : (id : ℕ) (h : Hand) → get_elem? m.hands id ≡ some h → h.stands_for ≡ 0 → h.found ≡ []
   -- all hands together stand for the passes that were opened
   pub together : sum_by (λ (h : Hand). h.stands_for) m.hands ≡ plan.passes
   -- the word has gone past `stripes` by no more than there are such numbers
-  pub past : m.word ≤ plan.stripes + late plan.stripes (all_found m.hands)
+  pub past : m.word ≤ plan.stripes + beyond plan.stripes (all_found m.hands)
 
 -- no number is found twice, by one hand or by two
 abbrev pub NeverTwice : Moment → Type 0
@@ -129,4 +130,4 @@ NeverTwice m =
 
 -- once a hand has found a number at `stripes` or above, each number below `stripes` has been found
 abbrev pub EndsLast : Plan → Moment → Type 0
-EndsLast plan m = (i : ℕ) (h : Hand) → get_elem? m.hands i ≡ some h → 0 < late plan.stripes h.found → (x : ℕ) → x < plan.stripes → times x (all_found m.hands) ≡ 1
+EndsLast plan m = (i : ℕ) (h : Hand) → get_elem? m.hands i ≡ some h → 0 < beyond plan.stripes h.found → (x : ℕ) → x < plan.stripes → times x (all_found m.hands) ≡ 1

@@ -1,14 +1,15 @@
-//! Stripes that threads claim without a lock. One claim is one `fetch_add` on the one word of a table.
+//! Claims and their passes. A draw is one `fetch_add` on the one word of a table.
 ghost use Rattle.std.specs.Prelude.{◌≡◌, ◌+◌, ◌<◌, ◌≤◌, ℕ, [], ◌∷◌, ◌++◌, length, All, Any, IfOk, IfSome, IfNone, None, Some, true, false, if◌then◌else◌, is_none, nat_lt};
 ghost use Rattle.stripe_claims.specs.Machine.{times, once_below, IsEachOnce, given, hand, one_less};
-ghost use Rattle.stripe_claims.specs.Passes.{found_by_all, IsOwned, IsFresh, IsEnd, HasReached};
+ghost use Rattle.stripe_claims.specs.Claims.{found_by_all, IsOwned, IsFresh, IsEnd, HasReached};
+ghost use Rattle.stripe_claims.specs.declared.limits.TheConstants.{PASS_LIMIT, STRIPE_LIMIT};
 
 use crate::machine::{Cuts, Draws, Hand, Joins, Machine, Plan};
 use atomic_table::{Seat, Table};
 use std::alloc::{AllocError, Allocator};
 use std::marker::Model;
 
-/// The numbers below `stripes`, each of which is given out once. Threads share it by reference.
+/// The numbers below `stripes`, each of which is given out once. Threads share them by reference.
 #[derive(Drop)]
 pub struct Claims<A: Allocator> {
     table: Table<(), Hand, Plan, Machine, A>,
@@ -16,9 +17,9 @@ pub struct Claims<A: Allocator> {
 }
 
 impl<A: Allocator> Model for Claims<A> {
-    ghost use Rattle.stripe_claims.specs.Passes.{ClaimsView, claims_code, IsSound};
+    ghost use Rattle.stripe_claims.specs.Claims.{Claims, claims_code, IsSound};
 
-    ghost Value = { ClaimsView };
+    ghost Value = { Claims };
 
     ghost coded = { claims_code };
 
@@ -27,7 +28,7 @@ impl<A: Allocator> Model for Claims<A> {
     ghost invariant = { λ c. IsSound c.table.shared.key c.table.shared.table_id c.stripes };
 }
 
-/// What one thread draws with. It is of no use with the claims of another `open`.
+/// What one thread draws with. It belongs to the claims that it was opened with.
 #[derive(Drop)]
 pub struct Pass {
     seat: Seat<(), Hand>,
@@ -36,9 +37,9 @@ pub struct Pass {
 
 impl Model for Pass {
     ghost use Rattle.std.specs.Prelude.{◌≡◌, []};
-    ghost use Rattle.stripe_claims.specs.Passes.{PassView, pass_code};
+    ghost use Rattle.stripe_claims.specs.Claims.{Pass, pass_code};
 
-    ghost Value = { PassView };
+    ghost Value = { Pass };
 
     ghost coded = { pass_code };
 
@@ -48,15 +49,15 @@ impl Model for Pass {
 }
 
 impl<A: Allocator + Copy> Claims<A> {
-    /// Claims to the numbers below `stripes`, and as many passes as asked for, of which none has drawn. Stripes are at
-    /// most 8,192, and passes 1 to 64. The error is a refusal of memory; it leaves nothing behind.
+    /// Claims to the numbers below `stripes`, of which there are at most 8,192, and 1 to 64 passes, none of which has
+    /// drawn. `Err` comes only where an allocation failed; nothing is left behind then.
     pub fn open(
         alloc: A,
         stripes: u64,
         passes: u32,
     ) -> Result<(Claims<A>, Vec<Pass, A>), AllocError>
-        requires stripes { stripes ≤ 8192 }
-        requires passes { (1 ≤ passes) × (passes ≤ 64) }
+        requires stripes { stripes ≤ STRIPE_LIMIT }
+        requires passes { (1 ≤ passes) × (passes ≤ PASS_LIMIT) }
         ensures plan { IfOk result (λ r. (r.0.stripes ≡ stripes) × (r.0.passes ≡ passes)) }
         ensures count { IfOk result (λ r. length r.1.items ≡ passes) }
         ensures owned { IfOk result (λ r. All (IsOwned r.0) r.1.items) }
@@ -67,9 +68,9 @@ impl<A: Allocator + Copy> Claims<A> {
         Ok((claims, dealt))
     }
 
-    // The claims, and a seat that stands for all passes.
+    /// The claims, and the first hand: a seat that stands for all passes.
     fn start(alloc: A, stripes: u64, passes: u64) -> Result<(Claims<A>, Seat<(), Hand>), AllocError>
-        requires { (stripes ≤ 8192) × (1 ≤ passes) × (passes ≤ 64) }
+        requires { (stripes ≤ STRIPE_LIMIT) × (1 ≤ passes) × (passes ≤ PASS_LIMIT) }
         ensures plan { IfOk result (λ r. (r.0.stripes ≡ stripes) × (r.0.passes ≡ passes)) }
         ensures seat { IfOk result (λ r. (r.1.table_id ≡ r.0.name) × (r.1.me ≡ (hand passes [], []))) }
     {
@@ -78,7 +79,7 @@ impl<A: Allocator + Copy> Claims<A> {
         Ok((Claims { table, stripes }, rest))
     }
 
-    // The passes for which a seat stands that has found nothing.
+    /// Deals out the passes for which a seat stands that has found nothing.
     fn deal(
         &self,
         alloc: A,
@@ -102,7 +103,7 @@ impl<A: Allocator + Copy> Claims<A> {
         Ok(dealt)
     }
 
-    // One pass of those for which a seat stands that has found nothing.
+    /// Cuts one pass off the seat, which stands for several and has found nothing.
     fn cut(&self, rest: &mut Seat<(), Hand>) -> Pass
         requires seat { (rest.old.table_id ≡ self.now.name) × (1 < rest.old.me.0.stands_for) × (rest.old.me.0.found ≡ []) }
         ensures rest { (rest.new.table_id ≡ rest.old.table_id) × (rest.new.me ≡ (one_less rest.old.me.0, rest.old.me.1)) }
@@ -115,9 +116,9 @@ impl<A: Allocator + Copy> Claims<A> {
         }
     }
 
-    /// A number below `stripes` that no other draw gives, or `None` where every one of them has been drawn. After a
-    /// `None` the pass has ended, and later draws with it answer `None` without an atomic step. The pass must be of
-    /// these claims. A draw waits for nobody and takes no memory.
+    /// A number below `stripes` that no other draw gives, or `None` where all of them have been drawn. After a `None`
+    /// the pass has ended, and further draws with it answer `None` without an atomic step. The pass must be of these
+    /// claims. A draw waits for nobody and allocates nothing.
     pub fn draw(&self, pass: &mut Pass) -> Option<u64>
         requires { IsOwned self.now pass.old }
         ensures owned { IsOwned self.now pass.new }
@@ -138,9 +139,9 @@ impl<A: Allocator + Copy> Claims<A> {
         }
     }
 
-    /// The word: how many draws made an atomic step. The passes must be of these claims. Where they are as many as were
-    /// opened, they have found the numbers below the word, each once; where all of these have ended, they were given
-    /// all numbers below `stripes`, each once.
+    /// The last word, which is the number of draws that made an atomic step. The passes must be of these claims. Where
+    /// all that were opened are handed in, they have found the numbers below the word, each once; where all of these
+    /// have ended, they were given all numbers below `stripes`, each once.
     pub fn close(self, passes: Vec<Pass, A>) -> u64
         requires { All (IsOwned self) passes.items }
         ensures machine { IsEnd self passes.items result }
@@ -158,7 +159,7 @@ impl<A: Allocator + Copy> Claims<A> {
         }
     }
 
-    // One seat that stands for all these passes.
+    /// Joins the passes: one seat that stands for all of them, or `None` where there is none.
     fn gather(&self, mut passes: Vec<Pass, A>) -> Option<Seat<(), Hand>>
         requires { All (IsOwned self.now) passes.items }
         ensures none { IfNone result (passes.items ≡ []) }
@@ -177,7 +178,7 @@ impl<A: Allocator + Copy> Claims<A> {
         Some(all)
     }
 
-    // The last word, where the seat has the last say.
+    /// The last word, and what a seat of the table has found of the numbers below it.
     fn word_with(self, seat: Seat<(), Hand>) -> u64
         requires { seat.table_id ≡ self.name }
         ensures machine { HasReached self seat.me.0 result }
@@ -194,7 +195,7 @@ impl<A: Allocator + Copy> Claims<A> {
         word
     }
 
-    // The last word, where no pass was handed in.
+    /// The last word, where no pass was handed in.
     fn word(self) -> u64
         ensures machine { IsEnd self [] result }
         ensures most { result ≤ self.stripes + self.passes }
@@ -209,6 +210,7 @@ impl<A: Allocator + Copy> Claims<A> {
 }
 
 impl Pass {
+    /// Its seat.
     fn into_seat(self) -> Seat<(), Hand>
         ensures seat { (result.table_id ≡ self.owner) × (result.me.1 ≡ []) }
         ensures hand { (result.me.0.stands_for ≡ 1) × (result.me.0.found ≡ self.found) }

@@ -1,8 +1,25 @@
-//! Stripes that threads claim without a lock, each once.
+//! Stripes that several threads share out among themselves without a lock, each once.
+//!
+//! ```text
+//! let (claims, passes) = Claims::open(alloc, stripes, workers)?;
+//! // in each worker, with a pass of its own:
+//! while let Some(stripe) = claims.draw(&mut pass) {
+//!     slice(stripe);
+//! }
+//! ```
+//!
+//! - [`Claims`]: the numbers of the stripes that nobody has yet. It is one word in memory, the next number.
+//! - [`Pass`]: what one thread draws with. A **draw** takes the next number by one `fetch_add` on the word. A pass has
+//!   **ended** once it has found a number for which there is no stripe.
+//! - [`claims_laws`]: what follows for any number of passes in any order.
+//!
+//! The definitions in `specs/Machine` speak of **hands**. A hand stands for one pass or for several: opening claims
+//! cuts the first hand, which stands for all passes, into passes (they are **dealt**), and closing joins them again.
 #![tactic(auto)]
 
 mod claims;
 mod laws;
+mod limits;
 mod machine;
 
 pub use crate::claims::{Claims, Pass};

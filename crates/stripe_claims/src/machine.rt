@@ -1,21 +1,24 @@
-//! The rule of the claims table, and its three kinds of step.
+//! The rule of the claims table, and its three kinds of step: a draw, a cut, a join. They tie the table to the
+//! definitions in `specs/Machine`.
 use atomic_table::{Join, Play, Split, TableRule};
 use std::collections::LinkedList;
 
-/// How many stripes are claimed, and how many passes were asked for.
+/// The number of stripes that are claimed, and the number of passes that were opened.
 #[derive(Drop)]
-pub struct Plan {
+pub(crate) struct Plan {
     pub stripes: u64,
     pub passes: u64,
 }
 
-/// The view of a seat: for how many passes it stands, and the numbers that they found. No value of it is ever made.
-pub struct Hand {
+/// A hand, which is the view of a seat: the number of passes for which it stands, and the numbers that they found. No
+/// value of this type is ever made.
+pub(crate) struct Hand {
     pub stands_for: u64,
     pub found: LinkedList<u64>,
 }
 
-pub struct Machine;
+/// The rule: word and hands are a moment to which steps of the machine lead.
+pub(crate) struct Machine;
 
 impl TableRule<(), Hand, Plan> for Machine {
     ghost use Rattle.std.specs.Prelude.{[]};
@@ -26,7 +29,8 @@ impl TableRule<(), Hand, Plan> for Machine {
     ghost first = { λ plan. hand plan.passes [] };
 }
 
-pub struct Draws;
+/// One pass draws: it finds the word, which grows by 1.
+pub(crate) struct Draws;
 
 impl Play<(), Hand> for Draws {
     ghost use Rattle.stripe_claims.specs.Machine.{Appends};
@@ -34,7 +38,8 @@ impl Play<(), Hand> for Draws {
     ghost then = { Appends };
 }
 
-pub struct Cuts;
+/// One pass is cut off a hand that has found nothing.
+pub(crate) struct Cuts;
 
 impl Split<Hand> for Cuts {
     ghost use Rattle.stripe_claims.specs.Machine.{one_less, new_pass};
@@ -44,7 +49,8 @@ impl Split<Hand> for Cuts {
     ghost right = { new_pass };
 }
 
-pub struct Joins;
+/// One hand takes over all of another.
+pub(crate) struct Joins;
 
 impl Join<Hand> for Joins {
     ghost use Rattle.stripe_claims.specs.Machine.{both_hands, nobody};

@@ -1,2 +1,2 @@
-pub mod Statuses
-pub mod Tasks
+pub mod WordFault
+pub mod Task

@@ -1,4 +1,6 @@
+//! The command as `--help` shows it: its options, their values and defaults.
 use clap::{Arg, ArgAction, Command, value_parser};
+use geometry::STEP_LIMIT;
 use std::alloc::{AllocError, Global};
 
 /// The ids of the options, which are also their long names.
@@ -20,17 +22,27 @@ pub(crate) const GRID: &str = "grid";
 
 pub(crate) const PROBE: &str = "probe";
 
+/// The greatest count of workers.
+pub(crate) const WORKER_LIMIT: u32 = 64;
+
+/// What `--version` prints behind the program's name: the version, and the toolchain that proved it.
+const VERSION: &str = "1.0.0 (proved with rattle-kit-13b logic dac8208d650f15bf)";
+
 const ABOUT: &str = "Slices a closed triangle mesh into one image a layer.
 
 Reads ASCII STL on standard input and writes P4 images (raw PBM) on standard
 output, from the lowest layer up, with nothing between them. A pixel is 1 where
-its centre is inside the mesh.";
+its centre is inside the mesh. The first row of an image is that of the greatest
+y, the first pixel of a row that of the least x. Lengths in options and output
+are whole micrometres.";
 
 const EXAMPLES: &str = "Examples:
   stlslice --pitch 50 --layer 100 < part.stl > layers.pbm
           images with pixels of 0.05 mm, every 0.1 mm
   stlslice --pitch 50 --layer 100 --report < part.stl
           loops and area of each layer
+  stlslice --pitch 50 --layer 50 --grid=400,300,120,-9500,-7500,0 < part.stl
+          a printer's canvas; --grid= with an equals sign takes negative values
   stlslice --box < part.stl
           how many facets there are, and their box in micrometres
   stlslice --pitch 50 --layer 100 --probe 3,4,0 < part.stl
@@ -48,6 +60,7 @@ Exit status:
 /// The command, of the words after the program's name. None of its options is required and none excludes another.
 pub(crate) fn command<'a>(alloc: Global) -> Result<Command<'a>, AllocError> {
     Command::new(alloc, "stlslice")
+        .version(VERSION)
         .no_binary_name(true)
         .about(ABOUT)
         .after_help(EXAMPLES)
@@ -74,7 +87,7 @@ fn pitch<'a>(alloc: Global) -> Arg<'a> {
     Arg::new(alloc, PITCH)
         .long(PITCH)
         .value_name("N")
-        .value_parser(value_parser!(u32).range(1..=100_000))
+        .value_parser(value_parser!(u32).range(1..=i64::from(STEP_LIMIT)))
         .help(
             "Width and depth of a pixel in micrometres, 1 to 100000,\nas in --pitch 50; needed unless --box is there",
         )
@@ -84,7 +97,7 @@ fn layer<'a>(alloc: Global) -> Arg<'a> {
     Arg::new(alloc, LAYER)
         .long(LAYER)
         .value_name("N")
-        .value_parser(value_parser!(u32).range(1..=100_000))
+        .value_parser(value_parser!(u32).range(1..=i64::from(STEP_LIMIT)))
         .help(
             "Height of a layer in micrometres, 1 to 100000,\nas in --layer 100; needed unless --box is there",
         )
@@ -96,7 +109,7 @@ fn rule<'a>(alloc: Global) -> Arg<'a> {
         .value_name("R")
         .default_value("evenodd")
         .help(
-            "Which pixels are filled, by the sum of the signed crossings\nof a ray from their centre: evenodd (an odd sum),\nnonzero (a sum other than 0) or positive (a sum above 0)",
+            "Which pixels are filled, by the sum of the signed crossings\nof a ray from their centre: evenodd (an odd sum; hollows where\nshells overlap), nonzero (a sum other than 0; shells may be\ninside out) or positive (a sum above 0; several shells, as a\npart with supports)",
         )
 }
 
@@ -124,7 +137,7 @@ fn workers<'a>(alloc: Global) -> Arg<'a> {
         .long(WORKERS)
         .value_name("N")
         .default_value("1")
-        .value_parser(value_parser!(u32).range(1..=64))
+        .value_parser(value_parser!(u32).range(1..=i64::from(WORKER_LIMIT)))
         .help("Number of threads, 1 to 64, as in --workers 4;\nthe output is the same for each")
 }
 

@@ -1,12 +1,18 @@
 //! The words of the command, and the task that they stand for.
+//!
+//! [`read_words`] takes the words after the program's name, as `--pitch 50 --layer 100 --rule positive`, and answers a
+//! [`Task`], or a [`WordFault`] whose `Display` is the line on standard error and whose `status` the exit status.
+//! `--help` and `--version` come as the fault `Refused` with status 0.
+//!
+//! Pitch, layer height and the origin of a [`Given`] grid are in micrometres.
 #![tactic(auto)]
 
 mod command;
 mod task;
 mod texts;
-mod word_faults;
+mod word_fault;
 mod words;
 
 pub use task::{Given, Task};
-pub use word_faults::{Wanted, WordFault};
+pub use word_fault::{Wanted, WordFault};
 pub use words::read_words;

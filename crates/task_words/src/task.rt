@@ -1,6 +1,7 @@
+//! What the program is asked to do.
+use geometry::Point;
 use micro_num::Unit;
 use raster::Rule;
-use stl_text::Point;
 
 /// A grid that was handed in, in place of one that fits the mesh.
 #[derive(Clone, Copy, Debug, PartialEq, Eq)]

@@ -1,8 +1,9 @@
+//! The texts of option values: rules, units, grids and voxels.
 use crate::task::Given;
+use geometry::Point;
 use micro_num::Unit;
 use raster::Rule;
 use std::str::Split;
-use stl_text::Point;
 
 /// The rule of that name.
 pub(crate) fn read_rule(text: &str) -> Option<Rule> {

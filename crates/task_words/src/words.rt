@@ -1,19 +1,24 @@
+//! From words to a task: each option's value is judged in a fixed order.
 ghost use Rattle.std.specs.Prelude.{◌≤◌, IfOk, IfSome};
-ghost use Rattle.task_words.specs.Tasks.{IsInRange};
+ghost use Rattle.task_words.specs.Task.{IsInRange};
+ghost use Rattle.geometry.specs.declared.limits.TheConstants.{STEP_LIMIT};
 
-use crate::command::{BOX, GRID, LAYER, PITCH, PROBE, REPORT, RULE, UNIT, WORKERS, command};
+use crate::command::{
+    BOX, GRID, LAYER, PITCH, PROBE, REPORT, RULE, UNIT, WORKER_LIMIT, WORKERS, command,
+};
 use crate::task::{Given, Task};
 use crate::texts::{Voxel, read_grid, read_rule, read_unit, read_voxel};
-use crate::word_faults::{Wanted, WordFault};
+use crate::word_fault::{Wanted, WordFault};
 use clap::ArgMatches;
+use geometry::STEP_LIMIT;
 use micro_num::Unit;
 use raster::Rule;
 use std::alloc::Global;
 
 /// The task that the words after the program's name stand for.
 ///
-/// Faults are looked for in this order: words that are not of the command's form, or ask for help; the rule, the
-/// unit, the grid, the voxel; and, unless the task is the box, a missing pitch, then a missing layer height.
+/// Faults are looked for in this order: words that are not of the command's form, or ask for help or the version; the
+/// rule, the unit, the grid, the voxel; and, unless the task is the box, a missing pitch, then a missing layer height.
 pub fn read_words(alloc: Global, words: &[String]) -> Result<Task, WordFault>
     ensures { IfOk result IsInRange }
 {
@@ -49,7 +54,7 @@ fn task_of(matches: &ArgMatches<'_>) -> Result<Task, WordFault>
             pitch,
             layer,
             rule,
-            workers: number_of(matches, WORKERS, 64).unwrap_or(1),
+            workers: number_of(matches, WORKERS, WORKER_LIMIT).unwrap_or(1),
             report: matches.get_flag(REPORT),
             grid,
         },
@@ -86,9 +91,9 @@ fn voxel_of(matches: &ArgMatches<'_>) -> Result<Option<Voxel>, WordFault> {
 
 /// The micrometres of an option that the task needs.
 fn wanted(matches: &ArgMatches<'_>, name: &str, option: Wanted) -> Result<u32, WordFault>
-    ensures { IfOk result (λ n. (1 ≤ n) × (n ≤ 100000)) }
+    ensures { IfOk result (λ n. (1 ≤ n) × (n ≤ STEP_LIMIT)) }
 {
-    number_of(matches, name, 100_000).ok_or(WordFault::Missing { option })
+    number_of(matches, name, STEP_LIMIT).ok_or(WordFault::Missing { option })
 }
 
 /// The number of an option, 1 to `most`. The command's own reader has that range, so nothing is left out here.

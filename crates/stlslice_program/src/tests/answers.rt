@@ -1,5 +1,5 @@
 ghost use Rattle.std.specs.Prelude.{IfOk};
-ghost use Rattle.task_words.specs.Tasks.{IsInRange};
+ghost use Rattle.task_words.specs.Task.{IsInRange};
 
 use super::meshes::{Mesh, mesh_text};
 use std::alloc::{AllocError, Allocator, Global};

@@ -1,8 +1,8 @@
-use Rattle.exact_cut.proofs.Turns.{turn-opposite}
-use Rattle.exact_cut.proofs.Ahead.{wind_values, ahead}
-use Rattle.exact_cut.proofs.Courses.{splits, courses-hits, uncrossed-hits}
-use Rattle.exact_cut.proofs.Touching.{ray-difference, corner_turn-opposite}
-use Rattle.exact_cut.proofs.Steps.{step-x, step-y}
+use Rattle.exact_cut.proofs.lemmas.Turns.{turn-opposite}
+use Rattle.exact_cut.proofs.lemmas.Ahead.{wind_values, ahead}
+use Rattle.exact_cut.proofs.lemmas.Walks.{splits, walks-hits, uncrossed-hits}
+use Rattle.exact_cut.proofs.lemmas.Touching.{ray-difference, corner_turn-opposite}
+use Rattle.exact_cut.proofs.lemmas.Steps.{step-x, step-y}
 use Rattle.exact_cut.proofs.laws.hold_laws.Goals as goal
 
 pub returns : goal.returns
@@ -11,7 +11,7 @@ returns c = record {
   winds = wind_values;
   ahead = ahead;
   columns = splits;
-  courses = courses-hits;
+  walks = walks-hits;
   uncrossed = uncrossed-hits;
   rays = ray-difference;
   corners = corner_turn-opposite;

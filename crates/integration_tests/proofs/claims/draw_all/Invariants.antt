@@ -1,4 +1,4 @@
-use Rattle.stripe_claims.specs.Passes.{IsOwned}
+use Rattle.stripe_claims.specs.Claims.{IsOwned}
 use Rattle.integration_tests.proofs.claims.draw_all.Given as goal
 
 abbrev pub invariant-loop : goal.invariant-loop

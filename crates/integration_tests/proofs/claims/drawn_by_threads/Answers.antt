@@ -1,13 +1,13 @@
 use Rattle.std.proofs.Common.{ℕ, Vec, Global}
-use Rattle.stripe_claims.specs.Passes.{PassView}
-use Rattle.stripe_claims.specs.Passes.{IsOwned}
-use Rattle.stripe_claims.proofs.Gathers.{all_last, all_front, all_push}
+use Rattle.stripe_claims.specs.Claims.{Pass}
+use Rattle.stripe_claims.specs.Claims.{IsOwned}
+use Rattle.stripe_claims.proofs.lemmas.Gathers.{all_last, all_front, all_push}
 use Rattle.integration_tests.proofs.claims.drawn_by_threads.Goals as goal
 
 pub loop-pass-preserved : goal.loop-pass-preserved
 loop-pass-preserved g c =
     let was = c.loop-pass.invariant in
-    let Owned : PassView × Vec ℕ Global → Type 0 = λ r. IsOwned c.args.claims.now r.0 in
+    let Owned : Pass × Vec ℕ Global → Type 0 = λ r. IsOwned c.args.claims.now r.0 in
     let is = c.in-Some.ensures.items in
     record {
       left = all_front Owned _ _ _ is was.left;

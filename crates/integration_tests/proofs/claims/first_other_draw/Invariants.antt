@@ -1,5 +1,5 @@
 use Rattle.std.proofs.Common.{All}
-use Rattle.stripe_claims.specs.Passes.{IsOwned}
+use Rattle.stripe_claims.specs.Claims.{IsOwned}
 use Rattle.integration_tests.proofs.claims.first_other_draw.Given as goal
 
 abbrev pub invariant-loop-n : goal.invariant-loop-n

@@ -3,10 +3,11 @@ use Rattle.std.proofs.lemmas.Int.{ints}
 use Rattle.micro_num.specs.Micrometres.{with_sign, digits_value}
 use Rattle.micro_num.specs.Scan.{IsExponentFront, IsLeading, IsNear, digits_after}
 use Rattle.micro_num.specs.Numeral.{sign_of, is_exponent_mark}
-use Rattle.micro_num.proofs.Leading.{IsLeading-none}
-use Rattle.micro_num.proofs.Exponents.{marked_rest, front_exponent, IsNear-minus, IsNear-plus, mark_69, mark_101}
+use Rattle.micro_num.proofs.lemmas.Leading.{IsLeading-none}
+use Rattle.micro_num.proofs.lemmas.Exponents.{marked_rest, front_exponent, IsNear-minus, IsNear-plus, mark_69, mark_101}
 use Rattle.micro_num.proofs.mantissa.exponent_front.Goals.{else-mark-ne101-via-then-mark-ne101+else-mark-ne69, else-mark-ne101-via-else-mark-ne101, then-negative, else-negative}
 use Rattle.micro_num.proofs.mantissa.exponent_front.Goals as goal
+use Rattle.micro_num.specs.declared.limits.TheConstants.{LEADING_LIMIT}
 
 is_mark : (c : goal.Joined-negative) → is_exponent_mark c.in-Some.mark.now ≡ true
 is_mark c =
@@ -19,7 +20,7 @@ returns-clause-front c =
     let v : ℕ = c.read_digits-digits.result.leading.value in
     let e : ℤ = to_z w64 c.if-negative.result-bits in
     let leads : IsLeading v c.read_digits-digits.result.leading.dropped (digits_after 0 (take n ds)) = c.read_digits-digits.ensures.leads 0 IsLeading-none in
-    let size : v < 10000000000000000 = leads.short in
+    let size : v < LEADING_LIMIT = leads.short in
     let low : to_z w64 (of_z w64 (pos 0 -ℤ to_z w64 v)) ≡ neg_ℤ (pos v) = omega (arith, ints) in
     let high : to_z w64 v ≡ pos v = omega (arith, ints) in
     let is_near : IsNear e (with_sign (sign_of c.in-Some.text.now) (digits_value (take n ds))) =

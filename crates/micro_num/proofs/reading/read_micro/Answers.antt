@@ -1,5 +1,5 @@
 use Rattle.std.proofs.Common.{◌∙◌}
-use Rattle.micro_num.proofs.Coordinates.{spelled_coordinate, not_number, too_long, out_of_range}
+use Rattle.micro_num.proofs.lemmas.Coordinates.{spelled_coordinate, not_number, too_long, out_of_range}
 use Rattle.micro_num.proofs.reading.read_micro.Goals as goal
 
 pub returns-clause-spelled : goal.returns-clause-spelled

@@ -3,8 +3,8 @@ use Rattle.std.proofs.lemmas.Int.{to_z-of_z}
 use Rattle.micro_num.specs.Numeral.{unsigned}
 use Rattle.micro_num.specs.Micrometres.{exponent_value}
 use Rattle.micro_num.specs.Scan.{IsExponentFront, IsNear}
-use Rattle.micro_num.proofs.Scanning.{scanned_digits, some_met, behind_met}
-use Rattle.micro_num.proofs.Coordinates.{met_front}
+use Rattle.micro_num.proofs.lemmas.Scanning.{scanned_digits, some_met, behind_met}
+use Rattle.micro_num.proofs.lemmas.Coordinates.{met_front}
 use Rattle.micro_num.proofs.reading.size_front.Goals as goal
 
 pub size_in-requires-clause-mantissa : goal.size_in-requires-clause-mantissa

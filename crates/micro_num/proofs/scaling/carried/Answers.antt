@@ -1,5 +1,5 @@
 use Rattle.std.proofs.Common.{ℕ, ◌≡◌, ◌-◌, List, length, get_or, arith, ◌∙◌}
-use Rattle.micro_num.proofs.DigitRows.{IsCarry_step}
+use Rattle.micro_num.proofs.lemmas.DigitRows.{IsCarry_step}
 use Rattle.micro_num.proofs.scaling.carried.Goals as goal
 
 pub loop-index-preserved : goal.loop-index-preserved

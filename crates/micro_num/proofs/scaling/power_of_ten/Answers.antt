@@ -1,4 +1,4 @@
-use Rattle.micro_num.proofs.Powers.{table_is}
+use Rattle.micro_num.proofs.lemmas.Powers.{table_is}
 use Rattle.micro_num.proofs.scaling.power_of_ten.Goals as goal
 
 pub returns : goal.returns

@@ -1,7 +1,7 @@
 use Rattle.std.proofs.Common.{arith, ap, ◌∙◌, w64}
 use Rattle.std.specs.Prelude.{unsigned_abs}
 use Rattle.std.proofs.lemmas.Int.{ints, to_z-of_z}
-use Rattle.micro_num.proofs.Capped.{IsCapped-down, IsCapped-up}
+use Rattle.micro_num.proofs.lemmas.Capped.{IsCapped-down, IsCapped-up}
 use Rattle.micro_num.proofs.scaling.scaled.Goals as goal
 
 pub returns-then-power-lt0 : goal.returns-then-power-lt0

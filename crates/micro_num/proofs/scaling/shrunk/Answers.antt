@@ -1,7 +1,7 @@
 use Rattle.std.proofs.Common.{arith, sym, lit≤, ◌^◌, ◌≤◌, ◌/◌, ◌∙◌, ap, ◌+◌}
 use Rattle.std.proofs.Math.Nat.{pow-le-pow_right}
-use Rattle.micro_num.proofs.Powers.{power_above, rounded_quotient-is}
-use Rattle.micro_num.proofs.Magnitude.{rounded_quotient-small}
+use Rattle.micro_num.proofs.lemmas.Powers.{power_above, rounded_quotient-is}
+use Rattle.micro_num.proofs.lemmas.Magnitude.{rounded_quotient-small}
 use Rattle.micro_num.proofs.scaling.shrunk.Goals as goal
 
 pub returns-then-power-gt19 : goal.returns-then-power-gt19

@@ -1,6 +1,6 @@
 use Rattle.std.proofs.Common.{◌∙◌, to_z, of_z, w32}
-use Rattle.raster.specs.Lattice.{cell_count}
-use Rattle.raster.proofs.Middles.{coordinate, coordinate-in, coordinates-up, count-from, last-from, limits-from}
+use Rattle.raster.specs.Grid.{cell_count}
+use Rattle.raster.proofs.lemmas.Middles.{coordinate, coordinate-in, coordinates-up, count-from, given-limits, last-from, limits-from}
 use Rattle.raster.proofs.grid.fit_box.Goals as goal
 
 pub cell_count-columns-requires-clause-low : goal.cell_count-columns-requires-clause-low
@@ -36,18 +36,14 @@ cell_count-layers-requires-clause-order c =
     coordinates-up (to_z w32 (of_z w32 c.z.result)) (to_z w32 (of_z w32 c.z-2.result)) c.args.low.z c.args.high.z
     (coordinate c.z.result c.z.ensures.within ∙ c.z.ensures.value) (coordinate c.z-2.result c.z-2.ensures.within ∙ c.z-2.ensures.value) c.requires.order.z
 
-pub within_limits-requires-clause-last_x : goal.within_limits-requires-clause-last_x
-within_limits-requires-clause-last_x c = last-from (to_z w32 (of_z w32 c.x.result)) c.args.low.x c.args.pitch c.cell_count-columns.result (coordinate c.x.result c.x.ensures.within ∙ c.x.ensures.value) c.cell_count-columns.ensures.last
-
-pub within_limits-requires-clause-last_y : goal.within_limits-requires-clause-last_y
-within_limits-requires-clause-last_y c = last-from (to_z w32 (of_z w32 c.y.result)) c.args.low.y c.args.pitch c.cell_count-rows.result (coordinate c.y.result c.y.ensures.within ∙ c.y.ensures.value) c.cell_count-rows.ensures.last
-
-pub within_limits-requires-clause-last_z : goal.within_limits-requires-clause-last_z
-within_limits-requires-clause-last_z c = last-from (to_z w32 (of_z w32 c.z.result)) c.args.low.z c.args.layer_height c.cell_count-layers.result (coordinate c.z.result c.z.ensures.within ∙ c.z.ensures.value) c.cell_count-layers.ensures.last
-
 pub returns : goal.returns
 returns c =
-    c.within_limits.ensures
+    c.given.ensures
+    ∙ given-limits c.args.low c.args.pitch c.args.layer_height c.cell_count-columns.result c.cell_count-rows.result c.cell_count-layers.result
+    c.cell_count-columns.ensures.low c.cell_count-rows.ensures.low c.cell_count-layers.ensures.low
+    (last-from (to_z w32 (of_z w32 c.x.result)) c.args.low.x c.args.pitch c.cell_count-columns.result (coordinate c.x.result c.x.ensures.within ∙ c.x.ensures.value) c.cell_count-columns.ensures.last)
+    (last-from (to_z w32 (of_z w32 c.y.result)) c.args.low.y c.args.pitch c.cell_count-rows.result (coordinate c.y.result c.y.ensures.within ∙ c.y.ensures.value) c.cell_count-rows.ensures.last)
+    (last-from (to_z w32 (of_z w32 c.z.result)) c.args.low.z c.args.layer_height c.cell_count-layers.result (coordinate c.z.result c.z.ensures.within ∙ c.z.ensures.value) c.cell_count-layers.ensures.last)
     ∙ limits-from c.args.low c.args.pitch c.args.layer_height c.cell_count-columns.result c.cell_count-rows.result c.cell_count-layers.result
     (cell_count c.args.low.x c.args.high.x c.args.pitch) (cell_count c.args.low.y c.args.high.y c.args.pitch) (cell_count c.args.low.z c.args.high.z c.args.layer_height)
     (count-from c.cell_count-columns.result (to_z w32 (of_z w32 c.x.result)) (to_z w32 (of_z w32 c.x-2.result)) c.args.low.x c.args.high.x c.args.pitch c.cell_count-columns.ensures.value (coordinate c.x.result c.x.ensures.within ∙ c.x.ensures.value) (coordinate c.x-2.result c.x-2.ensures.within ∙ c.x-2.ensures.value))

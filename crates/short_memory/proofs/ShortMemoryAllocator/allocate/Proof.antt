@@ -36,7 +36,7 @@ use denote.Builtin.{usize, RefOf}
 use denote.Triple.Call.{calls_at}
 use Rattle.std.proofs.VecSteps.Shapes.{after}
 use Rattle.std.proofs.alloc.Calls.{Al, α, seen, Answer, answer_val, Answer-typed, Answer-Ok, Answer-err, takes_key, Takes, at_takes, Answered, Takes-goes, Takes-gives, answers}
-use Rattle.short_memory.proofs.Turns.{Turn, at_turn, Turn-goes, Turn-gives}
+use Rattle.short_memory.proofs.lemmas.Turns.{Turn, at_turn, Turn-goes, Turn-gives}
 use Rattle.short_memory.proofs.is_turn.Symbol as c_sym
 use Rattle.short_memory.proofs.is_turn.Met as c_met
 use Rattle.short_memory.specs.contracts.ShortMemory as wrapper

@@ -1,6 +1,6 @@
-use Rattle.stl_text.proofs.OneReading.{one_reading}
-use Rattle.stl_text.proofs.OneFault.{one_fault, not_both}
-use Rattle.stl_text.proofs.Either.{outcome}
+use Rattle.stl_text.proofs.lemmas.OneReading.{one_reading}
+use Rattle.stl_text.proofs.lemmas.OneFault.{one_fault, not_both}
+use Rattle.stl_text.proofs.lemmas.Either.{outcome}
 use Rattle.stl_text.proofs.laws.one_outcome.Goals as goal
 
 pub returns-clause-reading : goal.returns-clause-reading

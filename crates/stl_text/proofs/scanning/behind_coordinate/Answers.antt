@@ -6,7 +6,7 @@ use Rattle.micro_num.specs.Micrometres.{coordinate_of}
 use Rattle.micro_num.specs.Numeral.{from_first}
 use Rattle.stl_text.specs.Text.{is_white}
 use Rattle.stl_text.specs.Written.{IsApart}
-use Rattle.stl_text.proofs.Fronts.{coordinate_black, word_is, rest_is}
+use Rattle.stl_text.proofs.lemmas.Fronts.{coordinate_black, word_is, rest_is}
 use Rattle.stl_text.proofs.scanning.behind_coordinate.Goals as goal
 
 pub returns-then-ends_word-clause-read : goal.returns-then-ends_word-clause-read

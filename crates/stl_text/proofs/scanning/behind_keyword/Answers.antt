@@ -4,7 +4,7 @@ use Rattle.std.specs.List.{list_all, before_first}
 use Rattle.micro_num.specs.Numeral.{from_first}
 use Rattle.stl_text.specs.Text.{is_keyword, is_white}
 use Rattle.stl_text.specs.Written.{IsApart}
-use Rattle.stl_text.proofs.Fronts.{keyword_black, word_is, rest_is}
+use Rattle.stl_text.proofs.lemmas.Fronts.{keyword_black, word_is, rest_is}
 use Rattle.stl_text.proofs.scanning.behind_keyword.Goals as goal
 
 pub returns-then-is_keyword-clause-keyword : goal.returns-then-is_keyword-clause-keyword

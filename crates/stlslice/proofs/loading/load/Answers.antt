@@ -1,6 +1,6 @@
 use Rattle.std.proofs.Common.{◌≡◌}
-use Rattle.mesh_weld.specs.declared.faults.WeldFault.TheVariants as weld
-use Rattle.stlslice.proofs.Faults.{passed_on, told, unclosed, unread}
+use Rattle.mesh_weld.specs.declared.weld_fault.WeldFault.TheVariants as weld
+use Rattle.stlslice.proofs.lemmas.Faults.{passed_on, told, unclosed, unread}
 use Rattle.stlslice.proofs.loading.load.Goals as goal
 
 pub returns-in_err-facets-clause-only : goal.returns-in_err-facets-clause-only

@@ -1,4 +1,4 @@
-use Rattle.stlslice.proofs.Faults.{passed_on, told}
+use Rattle.stlslice.proofs.lemmas.Faults.{passed_on, told}
 use Rattle.stlslice.proofs.running.read_facets.Goals as goal
 
 pub returns-in_err-read_stl-clause-err : goal.returns-in_err-read_stl-clause-err

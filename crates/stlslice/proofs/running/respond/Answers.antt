@@ -1,13 +1,13 @@
 use Rattle.std.proofs.Common.{◌≡◌, ◌∙◌, ℕ, List, inr, refl}
 use Rattle.std.specs.Prelude.{Ok, string_bytes}
 use Rattle.std.proofs.lemmas.Result.{IfErr-weaker, on_ok_weaker}
-use Rattle.build_book.specs.Layers.{Work}
-use Rattle.stlslice.specs.Program.{IsOutcome, box_text, boxed}
-use Rattle.stlslice.specs.Stream.{sliced_text}
+use Rattle.build_book.specs.Job.{Job}
+use Rattle.stlslice.specs.Outcome.{IsOutcome, box_text, boxed}
+use Rattle.stlslice.specs.SlicedText.{sliced_text}
 use Rattle.task_words.specs.declared.task.Task.TheVariants as task
-use Rattle.stlslice.specs.declared.run_faults.RunFault.TheVariants as fault
-use Rattle.stlslice.proofs.Ends.{ended, keeps_self, no_memory, sliced_there, stopped}
-use Rattle.stlslice.proofs.Faults.{misread_box, probed_fault, probed_there, unplaced}
+use Rattle.stlslice.specs.declared.fault.RunFault.TheVariants as fault
+use Rattle.stlslice.proofs.lemmas.Ends.{ended, keeps_self, no_memory, sliced_there, stopped}
+use Rattle.stlslice.proofs.lemmas.Faults.{misread_box, probed_fault, probed_there, unplaced}
 use Rattle.stlslice.proofs.running.respond.Goals as goal
 
 pub returns-in_err-facets-in-Box-clause-err : goal.returns-in_err-facets-in-Box-clause-err
@@ -38,7 +38,7 @@ returns-in_err-solid-in-Probe-clause-err g c =
     (rw c.in-Probe.is
     (unplaced (task.Probe c.in-Probe.unit c.in-Probe.pitch c.in-Probe.layer c.in-Probe.grid c.in-Probe.i c.in-Probe.j c.in-Probe.k)
     c.in-Probe.pitch c.in-Probe.layer c.in-Probe.grid c.args.input.items c.in_err-solid-in-Probe.field-0.0 refl
-    (λ mesh cause none. rw none refl) c.in_err-solid-in-Probe.ensures.err))
+    (λ solid cause none. rw none refl) c.in_err-solid-in-Probe.ensures.err))
     c.from_residual-in_err-solid-in-Probe.ensures.1
 
 pub returns-in_err-line-in-Probe-clause-err : goal.returns-in_err-line-in-Probe-clause-err
@@ -76,7 +76,7 @@ returns-in_err-solid-in-Slice-clause-err g c =
     (rw c.in-Slice.is
     (unplaced (task.Slice c.in-Slice.unit c.in-Slice.pitch c.in-Slice.layer c.in-Slice.rule c.in-Slice.workers c.in-Slice.report c.in-Slice.grid)
     c.in-Slice.pitch c.in-Slice.layer c.in-Slice.grid c.args.input.items c.in_err-solid-in-Slice.field-0.0 refl
-    (λ mesh cause none. rw none refl) c.in_err-solid-in-Slice.ensures.err))
+    (λ solid cause none. rw none refl) c.in_err-solid-in-Slice.ensures.err))
     c.from_residual-in_err-solid-in-Slice.ensures.1
 
 pub returns-in_err-build-in-Slice-clause-err : goal.returns-in_err-build-in-Slice-clause-err
@@ -86,20 +86,20 @@ returns-in_err-build-in-Slice-clause-err g c =
 
 pub returns-in_ok-build-in-Slice-clause-ok : goal.returns-in_ok-build-in-Slice-clause-ok
 returns-in_ok-build-in-Slice-clause-ok g c =
-    let work : Work = c.in_ok-build-in-Slice.build.work in
-    let known : IsOutcome c.args.task.now c.args.input.items (Ok (sliced_text c.in-Slice.report work.grid work.rule work.mesh.facets)) =
+    let job : Job = c.in_ok-build-in-Slice.build.job in
+    let known : IsOutcome c.args.task.now c.args.input.items (Ok (sliced_text c.in-Slice.report job.grid job.rule job.solid.facets)) =
     rw c.in-Slice.is
     (sliced_there c.in-Slice.unit c.in-Slice.pitch c.in-Slice.layer c.in-Slice.rule c.in-Slice.workers c.in-Slice.report c.in-Slice.grid
-    c.args.input.items c.in_ok-solid-in-Slice.solid c.in_ok-solid-in-Slice.grid work
-    c.in_ok-solid-in-Slice.ensures.solid c.in_ok-solid-in-Slice.ensures.grid (c.in_ok-build-in-Slice.ensures.work ∙ c.new-job.ensures)) in
+    c.args.input.items c.in_ok-solid-in-Slice.solid c.in_ok-solid-in-Slice.grid job
+    c.in_ok-solid-in-Slice.ensures.solid c.in_ok-solid-in-Slice.ensures.grid (c.in_ok-build-in-Slice.ensures.job ∙ c.new-job.ensures)) in
     on_ok_weaker c.write_build.result (λ out. (_, known, out)) c.write_build.ensures.ok
 
 pub returns-in_ok-build-in-Slice-clause-err : goal.returns-in_ok-build-in-Slice-clause-err
 returns-in_ok-build-in-Slice-clause-err g c =
-    let work : Work = c.in_ok-build-in-Slice.build.work in
-    let known : IsOutcome c.args.task.now c.args.input.items (Ok (sliced_text c.in-Slice.report work.grid work.rule work.mesh.facets)) =
+    let job : Job = c.in_ok-build-in-Slice.build.job in
+    let known : IsOutcome c.args.task.now c.args.input.items (Ok (sliced_text c.in-Slice.report job.grid job.rule job.solid.facets)) =
     rw c.in-Slice.is
     (sliced_there c.in-Slice.unit c.in-Slice.pitch c.in-Slice.layer c.in-Slice.rule c.in-Slice.workers c.in-Slice.report c.in-Slice.grid
-    c.args.input.items c.in_ok-solid-in-Slice.solid c.in_ok-solid-in-Slice.grid work
-    c.in_ok-solid-in-Slice.ensures.solid c.in_ok-solid-in-Slice.ensures.grid (c.in_ok-build-in-Slice.ensures.work ∙ c.new-job.ensures)) in
+    c.args.input.items c.in_ok-solid-in-Slice.solid c.in_ok-solid-in-Slice.grid job
+    c.in_ok-solid-in-Slice.ensures.solid c.in_ok-solid-in-Slice.ensures.grid (c.in_ok-build-in-Slice.ensures.job ∙ c.new-job.ensures)) in
     IfErr-weaker c.write_build.result _ _ (λ f h. ended c.args.task.now c.args.input.items _ _ f known h) c.write_build.ensures.err

@@ -3,9 +3,9 @@ use Rattle.std.specs.Prelude.{Ok}
 use Rattle.std.specs.Io.KnownBytes.{Appends}
 use Rattle.std.proofs.lemmas.Result.{IfErr-at_err, on_ok_weaker}
 use Rattle.raster.specs.Devices.{AppendsFirst}
-use Rattle.stlslice.specs.Program.{IsOutcome}
-use Rattle.stlslice.proofs.Bytes.{of_input}
-use Rattle.stlslice.proofs.Ends.{first_end}
+use Rattle.stlslice.specs.Outcome.{IsOutcome}
+use Rattle.stlslice.proofs.lemmas.Bytes.{of_input}
+use Rattle.stlslice.proofs.lemmas.Ends.{first_end}
 use Rattle.stlslice.proofs.running.run.Goals as goal
 
 pub returns-clause-ok : goal.returns-clause-ok

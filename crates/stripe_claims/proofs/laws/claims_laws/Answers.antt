@@ -1,4 +1,4 @@
-use Rattle.stripe_claims.proofs.Fair.{always_fair, most_drawn, never_twice, ends_last}
+use Rattle.stripe_claims.proofs.lemmas.Fair.{always_fair, most_drawn, never_twice, ends_last}
 use Rattle.stripe_claims.proofs.laws.claims_laws.Goals as goal
 
 pub returns : goal.returns

@@ -2,17 +2,18 @@ use Rattle.std.proofs.Common.{rules}
 use Rattle.std.specs.Prelude.{FitsSigned}
 use Rattle.std.proofs.lemmas.Int.{to_z-of_z}
 use Rattle.std.proofs.lemmas.Bool.{false≢true}
-use Rattle.micro_num.specs.Bounds.{IsAtMost}
+use Rattle.exact_int.specs.Bounds.{IsAtMost}
 use mir.Syntax.{w64}
 use mir.Val.{to_z, of_z}
 use Rattle.raster.proofs.grid.Grid.centre.Goals as goal
+use Rattle.geometry.specs.declared.limits.TheConstants.{CENTRE_LIMIT}
 
 pub unreachable-requires : goal.unreachable-requires
 unreachable-requires c =
     let fits-x : FitsSigned w64 c.middle_before-x2.result = search rules in
     let fits-y : FitsSigned w64 c.middle_before-y2.result = search rules in
     let fits-z : FitsSigned w64 c.middle_before-z2.result = search rules in
-    let x : IsAtMost 256200000 (to_z w64 (of_z w64 c.middle_before-x2.result)) = rw (to_z-of_z w64 c.middle_before-x2.result fits-x) c.middle_before-x2.ensures.within in
-    let y : IsAtMost 256200000 (to_z w64 (of_z w64 c.middle_before-y2.result)) = rw (to_z-of_z w64 c.middle_before-y2.result fits-y) c.middle_before-y2.ensures.within in
-    let z : IsAtMost 256200000 (to_z w64 (of_z w64 c.middle_before-z2.result)) = rw (to_z-of_z w64 c.middle_before-z2.result fits-z) c.middle_before-z2.ensures.within in
+    let x : IsAtMost CENTRE_LIMIT (to_z w64 (of_z w64 c.middle_before-x2.result)) = rw (to_z-of_z w64 c.middle_before-x2.result fits-x) c.middle_before-x2.ensures.within in
+    let y : IsAtMost CENTRE_LIMIT (to_z w64 (of_z w64 c.middle_before-y2.result)) = rw (to_z-of_z w64 c.middle_before-y2.result fits-y) c.middle_before-y2.ensures.within in
+    let z : IsAtMost CENTRE_LIMIT (to_z w64 (of_z w64 c.middle_before-z2.result)) = rw (to_z-of_z w64 c.middle_before-z2.result fits-z) c.middle_before-z2.ensures.within in
     false≢true (c.in-None.ensures.some.1 (x, y, z))

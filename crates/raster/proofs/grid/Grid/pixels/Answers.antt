@@ -3,9 +3,10 @@ use Rattle.std.specs.Prelude.{FitsSigned, ℤ, pos, ◌+ℤ◌, ◌≤ℤ◌}
 use Rattle.std.proofs.lemmas.Int.{to_z-of_z}
 use mir.Syntax.{w32, w64}
 use mir.Val.{to_z, of_z}
-use Rattle.raster.specs.Lattice.{middle}
-use Rattle.raster.proofs.Pixels.{last-row}
+use Rattle.raster.specs.Grid.{middle}
+use Rattle.raster.proofs.lemmas.Pixels.{last-row}
 use Rattle.raster.proofs.grid.Grid.pixels.Goals as goal
+use Rattle.geometry.specs.declared.limits.TheConstants.{CENTRE_LIMIT}
 
 pub invariant_of-result : goal.invariant_of-result
 invariant_of-result c =
@@ -22,6 +23,6 @@ invariant_of-result c =
       step_in = c.self.invariant.pitch_high;
       columns_in = c.self.invariant.columns_high;
       rows_in = c.self.invariant.rows_high;
-      last_in = subst (λ (m : ℤ). (m +ℤ pos (2 * c.self.inside.pitch * c.self.inside.rows)) ≤ℤ pos (256200000 + 2 * c.self.inside.pitch)) (sym y2)
+      last_in = subst (λ (m : ℤ). (m +ℤ pos (2 * c.self.inside.pitch * c.self.inside.rows)) ≤ℤ pos (CENTRE_LIMIT + 2 * c.self.inside.pitch)) (sym y2)
           (last-row c.self.inside.origin.y c.self.inside.pitch c.self.inside.rows c.self.invariant.rows_low c.self.invariant.last_y);
     }

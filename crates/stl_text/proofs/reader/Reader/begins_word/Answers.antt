@@ -1,8 +1,8 @@
 use Rattle.std.proofs.Common.{refl, sym, ◌∙◌, ap, []}
 use Rattle.std.specs.Prelude.{codes}
-use Rattle.stl_text.specs.declared.words.Word.TheVariants.{FacetOrEnd}
+use Rattle.stl_text.specs.declared.word.Word.TheVariants.{FacetOrEnd}
 use Rattle.stl_text.specs.Text.{facet_word, is_keyword}
-use Rattle.stl_text.proofs.Steps.{stops_at, taken_place, unfit}
+use Rattle.stl_text.proofs.lemmas.Steps.{stops_at, taken_offset, unfit}
 use Rattle.stl_text.proofs.reader.Reader.begins_word.Goals as goal
 
 pub returns-then-room-eq0-clause-fault : goal.returns-then-room-eq0-clause-fault
@@ -12,8 +12,8 @@ returns-then-room-eq0-clause-fault c =
       refl,
       sym c.if-room-eq0.true,
       ap (is_keyword (codes "facet")) (sym passed.word) ∙ sym c.is_keyword.ensures ∙ c.if-is_keyword.true,
-      taken_place c.args.self.now c.next_word-word.new.self c.next_word-word.result.now _ passed.rest passed.place passed.within
-          c.place_of.ensures,
+      taken_offset c.args.self.now c.next_word-word.new.self c.next_word-word.result.now _ passed.rest passed.offset passed.within
+          c.offset_of.ensures,
     )
 
 pub returns-clause-fault : goal.returns-clause-fault
@@ -24,4 +24,4 @@ returns-clause-fault c =
     (let no_facet = sym c.is_keyword.ensures ∙ c.if-is_keyword.false in
     let no_end = sym c.is_keyword-2.ensures ∙ c.if-is_keyword-2.false in
     rw (no_facet, no_end) refl)
-    passed.rest passed.place passed.within c.fault_at.ensures
+    passed.rest passed.offset passed.within c.fault_at.ensures

@@ -1,5 +1,5 @@
 use Rattle.std.proofs.Common.{◌≡◌, pos, sym, ◌∙◌, ap}
-use Rattle.stl_text.proofs.Steps.{coordinate_breaks, coordinate-within-bits}
+use Rattle.stl_text.proofs.lemmas.Steps.{coordinate_breaks, coordinate-within-bits}
 use Rattle.stl_text.proofs.reader.Reader.coordinate_word.Goals as goal
 
 pub returns-in-Ok-clause-within : goal.returns-in-Ok-clause-within
@@ -13,5 +13,5 @@ returns-in-Err-clause-fault c =
     let refused = sym c.read_micro.ensures.exact ∙ c.in-Err.is in (
       pos 0,
       coordinate_breaks c.args.self.now c.next_word-word.new.self c.next_word-word.result.now c.in-Err.cause c.number_fault.result
-          passed.word (rw unit at refused) passed.rest passed.place passed.within c.number_fault.ensures,
+          passed.word (rw unit at refused) passed.rest passed.offset passed.within c.number_fault.ensures,
     )

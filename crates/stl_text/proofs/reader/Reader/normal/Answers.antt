@@ -1,9 +1,9 @@
 use Rattle.std.proofs.Common.{[], ◌∷◌, refl}
 use Rattle.std.specs.Prelude.{codes}
 use Rattle.std.proofs.lemmas.Result.{IfErr-weaker, err_from_is_err_and}
-use Rattle.stl_text.specs.declared.words.Word.TheVariants.{Normal}
+use Rattle.stl_text.specs.declared.word.Word.TheVariants.{Normal}
 use Rattle.stl_text.specs.Text.{keyword, normal_part}
-use Rattle.stl_text.proofs.Steps.{breaks_first, breaks_within, spells_then}
+use Rattle.stl_text.proofs.lemmas.Steps.{breaks_first, breaks_within, spells_then}
 use Rattle.stl_text.proofs.reader.Reader.normal.Goals as goal
 
 pub returns-in_err-keyword-clause-fault : goal.returns-in_err-keyword-clause-fault

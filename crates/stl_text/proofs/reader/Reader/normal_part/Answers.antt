@@ -1,5 +1,5 @@
 use Rattle.std.proofs.Common.{sym, ◌∙◌}
-use Rattle.stl_text.proofs.Steps.{empty-list, normal_part_breaks}
+use Rattle.stl_text.proofs.lemmas.Steps.{empty-list, normal_part_breaks}
 use Rattle.stl_text.proofs.reader.Reader.normal_part.Goals as goal
 
 pub returns-then-is_empty-clause-fault : goal.returns-then-is_empty-clause-fault

@@ -1,9 +1,9 @@
 use Rattle.std.proofs.Common.{◌≡◌, ◌∷◌, [], length, ◌∙◌, arith}
 use Rattle.std.proofs.lemmas.Bool.Decides.{when_true, when_false}
 use Rattle.std.proofs.lemmas.Result.{err_from_is_err_and}
-use Rattle.stl_text.specs.Reading.{Spells}
+use Rattle.stl_text.specs.Reader.{Spells}
 use Rattle.stl_text.specs.Text.{facet_word, end_word}
-use Rattle.stl_text.proofs.Solids.{closed, facet_shorter, no_facet, no_facet_begins, no_solid_begins, one_more}
+use Rattle.stl_text.proofs.lemmas.Solids.{closed, facet_shorter, no_facet, no_facet_begins, no_solid_begins, one_more}
 use Rattle.stl_text.proofs.reader.Reader.solid.Goals as goal
 
 pub returns-in_err-keyword-clause-fault : goal.returns-in_err-keyword-clause-fault

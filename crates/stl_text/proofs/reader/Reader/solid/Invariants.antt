@@ -1,5 +1,5 @@
 use Rattle.std.proofs.Common.{◌≤◌, length, vec_len}
-use Rattle.stl_text.proofs.Solids.{IsOpen}
+use Rattle.stl_text.proofs.lemmas.Solids.{IsOpen}
 use Rattle.stl_text.proofs.reader.Reader.solid.Given as goal
 
 abbrev pub invariant-facets : goal.invariant-facets

@@ -1,7 +1,7 @@
 use Rattle.std.proofs.Common.{◌≡◌, length, vec_len, sym, ◌∙◌, ap, arith}
 use Rattle.std.proofs.lemmas.Bool.{false≢true}
 use Rattle.std.proofs.lemmas.Result.{err_from_is_err_and}
-use Rattle.stl_text.proofs.Solids.{ended_solid, first_breaks, first_whole, later_breaks, one_more_whole, solid_shorter}
+use Rattle.stl_text.proofs.lemmas.Solids.{ended_solid, first_breaks, first_whole, later_breaks, one_more_whole, solid_shorter}
 use Rattle.stl_text.proofs.reader.Reader.solids.Goals as goal
 
 pub returns-in_err-solid-clause-fault : goal.returns-in_err-solid-clause-fault

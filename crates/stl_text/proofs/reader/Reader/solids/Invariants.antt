@@ -1,5 +1,5 @@
 use Rattle.std.proofs.Common.{◌≤◌, length, vec_len}
-use Rattle.stl_text.proofs.Solids.{AreWhole}
+use Rattle.stl_text.proofs.lemmas.Solids.{AreWhole}
 use Rattle.stl_text.proofs.reader.Reader.solids.Given as goal
 
 abbrev pub invariant-solids : goal.invariant-solids

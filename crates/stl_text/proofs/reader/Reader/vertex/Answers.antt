@@ -3,10 +3,10 @@ use Rattle.std.proofs.Common.{rules, w32}
 use Rattle.std.specs.Prelude.{codes, FitsSigned}
 use Rattle.std.proofs.lemmas.Int.{to_z-of_z}
 use Rattle.std.proofs.lemmas.Result.{err_from_is_err_and}
-use Rattle.stl_text.specs.declared.words.Word.TheVariants.{Vertex}
-use Rattle.stl_text.specs.Position.{origin}
+use Rattle.stl_text.specs.declared.word.Word.TheVariants.{Vertex}
+use Rattle.geometry.specs.Point.{origin}
 use Rattle.stl_text.specs.Text.{coordinate, keyword}
-use Rattle.stl_text.proofs.Steps.{breaks_first, breaks_within, spells_then}
+use Rattle.stl_text.proofs.lemmas.Steps.{breaks_first, breaks_within, spells_then}
 use Rattle.stl_text.proofs.reader.Reader.vertex.Goals as goal
 
 pub returns-in_err-keyword-clause-fault : goal.returns-in_err-keyword-clause-fault

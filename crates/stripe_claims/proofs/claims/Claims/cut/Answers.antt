@@ -1,5 +1,5 @@
 use Rattle.std.proofs.Common.{rules}
-use Rattle.stripe_claims.proofs.Moves.{cuts}
+use Rattle.stripe_claims.proofs.lemmas.Moves.{cuts}
 use Rattle.stripe_claims.proofs.claims.Claims.cut.Goals as goal
 
 pub split_seat-requires : goal.split_seat-requires

@@ -1,5 +1,5 @@
 use Rattle.std.proofs.Common.{◌≡◌, ◌+◌, [], length, All}
-use Rattle.stripe_claims.specs.Passes.{IsOwned, IsFresh}
+use Rattle.stripe_claims.specs.Claims.{IsOwned, IsFresh}
 use Rattle.stripe_claims.proofs.claims.Claims.deal.Given as goal
 
 abbrev pub invariant-loop : goal.invariant-loop

@@ -1,6 +1,6 @@
 use Rattle.std.proofs.Common.{◌≡◌, ◌+◌, ℕ, length, All}
 use Rattle.stripe_claims.specs.Machine.{times}
-use Rattle.stripe_claims.specs.Passes.{IsOwned, found_by_all}
+use Rattle.stripe_claims.specs.Claims.{IsOwned, found_by_all}
 use Rattle.stripe_claims.proofs.claims.Claims.gather.Given as goal
 
 abbrev pub invariant-loop-pass : goal.invariant-loop-pass

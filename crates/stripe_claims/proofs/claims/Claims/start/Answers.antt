@@ -1,4 +1,4 @@
-use Rattle.stripe_claims.proofs.Moves.{begins}
+use Rattle.stripe_claims.proofs.lemmas.Moves.{begins}
 use Rattle.stripe_claims.proofs.claims.Claims.start.Goals as goal
 
 pub of_words-requires : goal.of_words-requires

@@ -1,5 +1,0 @@
-use Rattle.build_book.specs.Filing.{AreFree}
-use Rattle.build_book.proofs.gaps.first_taken.Given as goal
-
-abbrev pub invariant-loop-k : goal.invariant-loop-k
-invariant-loop-k g l = AreFree l.places l.first l.k

@@ -1,6 +1,0 @@
-use Rattle.std.proofs.Common.{ℕ, ◌<◌, ◌≤◌}
-use Rattle.build_book.specs.Filing.{IsTaken}
-use Rattle.build_book.proofs.gaps.is_full.Given as goal
-
-abbrev pub invariant-loop-k : goal.invariant-loop-k
-invariant-loop-k g l = (n : ℕ) → l.first ≤ n → n < l.k → IsTaken l.places n

@@ -1,0 +1,6 @@
+pub mod OneLayer
+pub mod Areas
+pub mod Stripes
+pub mod Places
+pub mod Alike
+pub mod Totals

@@ -1,0 +1,35 @@
+-- Layers that are what the solid, the grid and the rule make of them.
+use Rattle.std.specs.Prelude.{◌≡◌, ℕ, ◌+◌, ◌<◌, List, [], ◌∷◌, sum_by}
+use Rattle.raster.specs.declared.span.Span.{Span}
+use Rattle.contour.specs.declared.segment.Segment.{Segment}
+use Rattle.raster.specs.Grid.{centre, plane}
+use Rattle.contour.specs.Loops.{AreLoops, loops}
+use Rattle.contour.specs.Segment.{segments}
+use Rattle.raster.specs.Span.{AreSpans, covers}
+use Rattle.raster.specs.Fill.{is_filled, area_of}
+use Rattle.build_book.specs.Job.{Job}
+
+pub record Layer : Type 0 where
+  pub number : ℕ
+  pub loops : List (List Segment)
+  pub spans : List Span
+  pub area : ℕ
+
+-- The layer is what the job makes at place k: its loops are those of the plane, closed, with each segment in exactly
+-- one, and a pixel lies in a span exactly where its voxel is filled.
+pub record IsLawful (job : Job) (k : ℕ) (layer : Layer) : Type 0 where
+  pub number : layer.number ≡ k
+  pub loops_are : layer.loops ≡ loops (segments job.solid.facets (plane job.grid k))
+  pub closed : AreLoops (segments job.solid.facets (plane job.grid k)) layer.loops
+  pub spans : AreSpans job.grid.columns job.grid.rows layer.spans
+  pub filled : (i j : ℕ) → i < job.grid.columns → j < job.grid.rows
+      → covers layer.spans i j ≡ is_filled job.rule job.solid.facets (centre job.grid i j k)
+  pub area : layer.area ≡ area_of job.grid job.rule job.solid.facets k
+
+-- the layers of a list are those from k on
+abbrev pub AreLawfulFrom : Job → ℕ → List Layer → Type 0
+AreLawfulFrom job k [] = Unit {0}
+AreLawfulFrom job k (layer ∷ layers) = IsLawful job k layer × AreLawfulFrom job (k + 1) layers
+
+abbrev pub layers_area : List Layer → ℕ
+layers_area layers = sum_by (λ layer. layer.area) layers

@@ -1,0 +1,177 @@
+//! Books: where the pieces of a job are filed, in any order.
+ghost use Rattle.std.specs.Prelude.{◌≡◌, ◌≢◌, ◌+◌, ℕ, IfErr, IfNone, IfOk, IfSome, None, OnErr, OnOk, Some, replicate, slice_get};
+ghost use Rattle.build_book.specs.Layer.{Layer as LayerModel};
+ghost use Rattle.build_book.specs.Piece.{IsPlaceOf};
+ghost use Rattle.build_book.specs.Places.{filed_count, total_area};
+ghost use Rattle.build_book.specs.Book.{Files, IsFileFault, IsLawfulBook};
+ghost use Rattle.build_book.specs.Build.{IsComplete};
+
+use crate::build::Build;
+use crate::file_fault::FileFault;
+use crate::job::Job;
+use crate::layer::Layer;
+use crate::piece::Piece;
+use crate::places::{
+    all_layers, empty_places, filed_count, fill_gaps, first_taken, make_missing, total_area,
+};
+use std::alloc::{AllocError, Allocator};
+use std::marker::Model;
+
+/// A place for each layer of a job. A place is empty, or has the layer that belongs there.
+#[derive(Drop)]
+pub struct Book<'m, A: Allocator> {
+    alloc: A,
+    job: &'m Job<A>,
+    places: Vec<Option<Layer<A>>, A>,
+}
+
+impl<'m, A: Allocator> Model for Book<'m, A> {
+    ghost use Rattle.build_book.specs.Book.{Book, IsLawfulBook};
+
+    ghost Value = { Book };
+
+    ghost view = { λ b. record { job = b.job.now; places = b.places.items } };
+
+    ghost invariant = { λ b. IsLawfulBook (record { job = b.job.now; places = b.places.items }) };
+}
+
+impl<'m, A: Allocator + Copy + Send + Sync> Book<'m, A> {
+    /// A book of the job with every place empty. `Err` comes only where an allocation failed.
+    pub fn open(alloc: A, job: &'m Job<A>) -> Result<Book<'m, A>, AllocError>
+        ensures { IfOk result (λ book. book ≡ record { job = job.now; places = replicate job.now.grid.layers None }) }
+    {
+        let places = empty_places(alloc, job.grid().layers())?;
+        Ok(Book { alloc, job, places })
+    }
+
+    /// The job.
+    pub fn job(&self) -> &'m Job<A>
+        ensures { result.now ≡ self.now.job }
+    {
+        self.job
+    }
+
+    /// Files a piece: its layers go into their places.
+    ///
+    /// `Stranger` where the content of the piece's job isn't that of the book's. `Double` where it is and a place of
+    /// the piece is taken; its `layer` is the least such. On an error the book is unchanged, and the piece comes back.
+    /// Comparing the jobs takes a pass over their facets; `file_own` does without.
+    pub fn file(&mut self, piece: Piece<'m, A>) -> Result<(), (FileFault, Piece<'m, A>)>
+        ensures ok { OnOk result (Files self.old piece.entry self.new) }
+        ensures fault { IfErr result (λ refusal. IsFileFault self.old piece.entry refusal.0) }
+        ensures back { IfErr result (λ refusal. refusal.1 ≡ piece.entry) }
+        ensures err { OnErr result (self.new ≡ self.old) }
+    {
+        if !self.job.same(piece.job()) {
+            return Err((FileFault::Stranger, piece));
+        }
+        self.file_own(piece)
+    }
+
+    /// Files a piece of the book's own job as `file` does, but compares no jobs. So the only error is `Double`.
+    pub fn file_own(&mut self, piece: Piece<'m, A>) -> Result<(), (FileFault, Piece<'m, A>)>
+        requires own { piece.job ≡ self.old.job }
+        ensures ok { OnOk result (Files self.old piece.entry self.new) }
+        ensures fault { IfErr result (λ refusal. IsFileFault self.old piece.entry refusal.0) }
+        ensures back { IfErr result (λ refusal. refusal.1 ≡ piece.entry) }
+        ensures err { OnErr result (self.new ≡ self.old) }
+        ensures job { self.new.job ≡ self.old.job }
+    {
+        if let Some(fault) = self.fault_of(&piece) {
+            return Err((fault, piece));
+        }
+        self.put(piece);
+        Ok(())
+    }
+
+    /// Why a piece of the book's own job isn't filed: a place of the piece is taken. `None` where all are free.
+    fn fault_of(&self, piece: &Piece<'m, A>) -> Option<FileFault>
+        requires { piece.now.job ≡ self.now.job }
+        ensures fault { IfSome result (λ fault. IsFileFault self.now piece.now fault) }
+        ensures free { IfNone result ((k : ℕ) → IsPlaceOf piece.now k → slice_get self.now.places k ≡ Some None) }
+    {
+        // wakes the invariant: a piece has just the layers of its stripe
+        let _layers = piece.layers();
+        let (first, end) = self.job.bounds(piece.stripe());
+        let places = self.places.as_slice();
+        let taken = first_taken(places, first as usize, end as usize)?;
+        let layer = taken as u32;
+        Some(FileFault::Double { layer })
+    }
+
+    /// Puts the layers of a piece of the book's own job into their places, which are free.
+    fn put(&mut self, piece: Piece<'m, A>)
+        requires job { piece.job ≡ self.old.job }
+        requires free { (k : ℕ) → IsPlaceOf piece k → slice_get self.old.places k ≡ Some None }
+        ensures { Files self.old piece.entry self.new }
+    {
+        // wakes the invariant: a piece has just the layers of its stripe
+        let _layers = piece.layers();
+        let (first, _) = self.job.bounds(piece.stripe());
+        let places = self.places.as_mut_slice();
+        fill_gaps(places, first as usize, piece.into_layers());
+    }
+
+    /// The layer in place k, or `None` where the place is empty or isn't in the grid.
+    pub fn layer(&self, k: u32) -> Option<&Layer<A>>
+        ensures some { IfSome result (λ layer. slice_get self.now.places k ≡ Some (Some layer.now)) }
+        ensures none { result ≡ None → (layer : LayerModel) → slice_get self.now.places k ≢ Some (Some layer) }
+    {
+        self.places.get(k as usize)?.as_ref()
+    }
+
+    /// The number of places that are taken. Each book is lawful.
+    pub fn filed(&self) -> u32
+        ensures count { result ≡ filed_count self.now.places }
+        ensures lawful { IsLawfulBook self.now }
+    {
+        // wakes the invariant: there are as many places as layers
+        let _layers = self.job.grid().layers();
+        filed_count(self.places.as_slice())
+    }
+
+    /// The sum of the areas of the layers in taken places, in pixels.
+    pub fn total_area(&self) -> u64
+        ensures { result ≡ total_area self.now.places }
+    {
+        // wakes the invariant: the counts of layers, columns and rows bound the sum
+        let _layers = self.job.grid().layers();
+        let _columns = self.job.grid().columns();
+        let _rows = self.job.grid().rows();
+        total_area(self.places.as_slice())
+    }
+
+    /// The complete build of a job. It takes over the layers of the book where the book's job is the same in content,
+    /// and makes those that are missing; `late` is the number of layers so made. `Err` comes only where an allocation
+    /// failed; the book is then lost.
+    pub fn finish(self, job: &'m Job<A>) -> Result<Build<'m, A>, AllocError>
+        ensures job { IfOk result (λ build. build.job ≡ job.now) }
+        ensures complete { IfOk result (λ build. IsComplete build.job build.layers) }
+        ensures late { IfOk result (λ build. self.entry.job ≡ job.now → build.late + filed_count self.entry.places ≡ job.now.grid.layers) }
+        ensures all_late { IfOk result (λ build. self.entry.job ≢ job.now → build.late ≡ job.now.grid.layers) }
+    {
+        let alloc = self.alloc;
+        let mut places = self.places_for(job)?;
+        let late = make_missing(alloc, job, places.as_mut_slice())?;
+        let layers = all_layers(alloc, places)?;
+        Ok(Build::of(job, layers, late))
+    }
+
+    /// The book's places where its job is the same as this one in content, else empty places.
+    fn places_for(self, job: &Job<A>) -> Result<Vec<Option<Layer<A>>, A>, AllocError>
+        ensures lawful { IfOk result (λ found. IsLawfulBook (record { job = job.now; places = found.items })) }
+        ensures same { IfOk result (λ found. self.entry.job ≡ job.now → found.items ≡ self.entry.places) }
+        ensures other { IfOk result (λ found. self.entry.job ≢ job.now → filed_count found.items ≡ 0) }
+    {
+        let Book {
+            alloc,
+            job: mine,
+            places,
+        } = self;
+        if mine.same(job) {
+            Ok(places)
+        } else {
+            empty_places(alloc, job.grid().layers())
+        }
+    }
+}

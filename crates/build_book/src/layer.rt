@@ -1,0 +1,79 @@
+//! Layers: what is made at one plane of a job.
+ghost use Rattle.std.specs.Prelude.{◌≡◌, ◌<◌, ◌^◌};
+ghost use Rattle.build_book.specs.Layer.{layers_area};
+
+use contour::Loops;
+use raster::Span;
+use std::alloc::Allocator;
+use std::marker::Model;
+
+/// One layer: its number, its loops, its spans of filled pixels, and its area, which is their number.
+#[derive(Drop)]
+pub struct Layer<A: Allocator> {
+    number: u32,
+    loops: Loops<A>,
+    spans: Vec<Span, A>,
+    area: u64,
+}
+
+impl<A: Allocator> Model for Layer<A> {
+    ghost use Rattle.build_book.specs.Layer.{Layer as LayerModel};
+
+    ghost Value = { LayerModel };
+
+    ghost view = { λ l. record { number = l.number; loops = l.loops; spans = l.spans.items; area = l.area } };
+}
+
+impl<A: Allocator> Layer<A> {
+    /// The layer with these parts.
+    pub(crate) fn of(number: u32, loops: Loops<A>, spans: Vec<Span, A>, area: u64) -> Layer<A>
+        ensures { result ≡ record { number = number; loops = loops; spans = spans.items; area = area } }
+    {
+        Layer {
+            number,
+            loops,
+            spans,
+            area,
+        }
+    }
+
+    /// Its number in the grid, from 0 up.
+    pub fn number(&self) -> u32
+        ensures { result ≡ self.now.number }
+    {
+        self.number
+    }
+
+    /// Its loops.
+    pub fn loops(&self) -> &Loops<A>
+        ensures { result.now ≡ self.now.loops }
+    {
+        &self.loops
+    }
+
+    /// Its spans of filled pixels, in the order of rows, then columns.
+    pub fn spans(&self) -> &[Span]
+        ensures { result.now ≡ self.now.spans }
+    {
+        self.spans.as_slice()
+    }
+
+    /// The number of its filled pixels.
+    pub fn area(&self) -> u64
+        ensures { result ≡ self.now.area }
+    {
+        self.area
+    }
+}
+
+/// The sum of the layers' areas.
+pub(crate) fn layers_area<A: Allocator>(layers: &[Layer<A>]) -> u64
+    requires { layers_area layers.now < 2 ^ 64 }
+    ensures { result ≡ layers_area layers.now }
+{
+    let mut sum = 0;
+    for layer in layers {
+        sum += layer.area();
+    }
+    sum
+}

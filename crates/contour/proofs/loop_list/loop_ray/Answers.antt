@@ -1,0 +1,43 @@
+use Rattle.std.proofs.Common.{◌≡◌, ◌∙◌, ap, arith, sym, to_z, w32}
+use Rattle.std.proofs.lemmas.List.{take_all}
+use Rattle.geometry.specs.Winding.{ray}
+use Rattle.contour.specs.Loops.{loop_facets}
+use Rattle.contour.proofs.lemmas.LoopRays.{IsLoopOf, is_loop, sum_more}
+use Rattle.contour.proofs.lemmas.LoopWinds.{ray_from_back}
+use Rattle.contour.proofs.loop_list.loop_ray.Goals as goal
+
+pub prove-unreachable-requires : goal.prove-unreachable-requires
+prove-unreachable-requires g c =
+    let is : IsLoopOf c.args.s.now.facets c.args.list.now =
+    is_loop c.args.s.now.facets c.args.c.now.z c.args.list.now c.requires.0 c.requires.1 in
+    let few = is.few in
+    omega arith
+
+pub facet-requires : goal.facet-requires
+facet-requires g c =
+    let is : IsLoopOf c.args.s.now.facets c.args.list.now =
+    is_loop c.args.s.now.facets c.args.c.now.z c.args.list.now c.requires.0 c.requires.1 in
+    let below = c.loop-segment-test.true in
+    is.within c.loop-segment.segment-index _ (omega arith)
+
+pub loop-segment-preserved : goal.loop-segment-preserved
+loop-segment-preserved g c =
+    let is : IsLoopOf c.args.s.now.facets c.args.list.now =
+    is_loop c.args.s.now.facets c.args.c.now.z c.args.list.now c.requires.0 c.requires.1 in
+    let few = is.few in
+    let many = c.count-facets.ensures.few in
+    let below = c.loop-segment-test.true in
+    sum_more c.args.s.now.facets c.args.c.now c.args.list.now c.loop-segment.segment-index _ c.facet.result _ c.ray_hit-sum.result
+    (omega arith) (omega arith) c.facet.ensures
+    (record { sum_is = c.loop-segment.invariant.sum_is; small = c.loop-segment.invariant.small })
+    c.ray_hit-sum.ensures.value c.ray_hit-sum.ensures.unit
+
+pub returns-clause-back : goal.returns-clause-back
+returns-clause-back g c =
+    let all = take_all c.loop-segment.segment-index c.args.list.now (omega (arith, c.loop-segment-test.false)) in
+    let ahead : to_z w32 c.loop-segment.sum-bits ≡ ray (loop_facets c.args.s.now.facets c.args.list.now) c.args.c.now =
+    c.loop-segment.invariant.sum_is ∙ ap (λ segments. ray (loop_facets c.args.s.now.facets segments) c.args.c.now) all in
+    let numbered = c.edge_numbers-numbers.ensures in
+    ahead
+    ∙ sym (ray_from_back c.args.s.now.facets c.edge_numbers-numbers.result.now numbered.0 numbered.1 c.count-facets.ensures.closed
+    c.args.c.now c.args.list.now c.requires.0 c.requires.1)

@@ -1,0 +1,5 @@
+use Rattle.contour.proofs.lemmas.LoopRays.{Summed}
+use Rattle.contour.proofs.loop_list.loop_ray.Given as goal
+
+abbrev pub invariant-loop-segment : goal.invariant-loop-segment
+invariant-loop-segment g l = Summed l.s.facets l.c l.list l.segment-index l.sum

@@ -1,5 +1,0 @@
-use Rattle.contour.proofs.LoopRays.{Summed}
-use Rattle.contour.proofs.rays.loop_ray.Given as goal
-
-abbrev pub invariant-loop-segment : goal.invariant-loop-segment
-invariant-loop-segment g l = Summed l.s.facets l.c l.list l.segment-index l.sum

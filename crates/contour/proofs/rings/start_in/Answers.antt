@@ -1,6 +1,0 @@
-use Rattle.std.proofs.Common.{arith}
-use Rattle.contour.proofs.Parts.{start_of-before}
-use Rattle.contour.proofs.rings.start_in.Goals as goal
-
-pub returns-else-number-eq0 : goal.returns-else-number-eq0
-returns-else-number-eq0 c = grind (arith, start_of-before)

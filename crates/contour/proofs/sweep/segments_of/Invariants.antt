@@ -1,0 +1,7 @@
+use Rattle.std.proofs.Common.{◌≡◌, take}
+use Rattle.std.specs.Prelude.{filter_map}
+use Rattle.contour.specs.Segment.{numbered_segment}
+use Rattle.contour.proofs.sweep.segments_of.Given as goal
+
+abbrev pub invariant-loop-n : goal.invariant-loop-n
+invariant-loop-n g l = l.list.items ≡ filter_map (numbered_segment l.s.facets l.z2) (take l.n-index l.numbers)

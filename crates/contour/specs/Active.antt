@@ -1,0 +1,46 @@
+-- The facets that a plane cuts, and how those at one height follow from those at a lower one. Heights z are in
+-- half-micrometres; a corner in the plane counts as below it (TieRule).
+--     active_facets facets z   the numbers of the facets that are cut at the height z, in ascending order
+--     passed_count facets z    the number of facets that the plane has reached
+use Rattle.std.specs.Prelude.{ℕ, Bool, ◌&&◌, List, [], ◌∷◌, ◌++◌, map, filter, take, drop, count_by, ℤ, pos, ◌*ℤ◌, nat_lt}
+use Rattle.std.specs.Int.{int_max}
+use Rattle.std.specs.List.{enumerate_from, list_any, prefix_len}
+use Rattle.geometry.specs.TieRule.{is_below, is_above}
+use Rattle.geometry.specs.Facet.{Facet, corners}
+use Rattle.mesh_weld.specs.Solid.{facet_at, least_z}
+use Rattle.contour.specs.Segment.{height}
+
+-- some corner is at most at the height z
+abbrev pub is_reached : ℤ → Facet → Bool
+is_reached z t = list_any (λ p. is_below (height p) z) (corners t)
+
+-- some corner is at most at the height z, and some corner is above it
+abbrev pub is_cut : ℤ → Facet → Bool
+is_cut z t = is_reached z t && list_any (λ p. is_above (height p) z) (corners t)
+
+abbrev pub active_facets : List Facet → ℤ → List ℕ
+active_facets facets z = map (λ e. e.0) (filter (λ e. is_cut z e.1) (enumerate_from 0 facets))
+
+abbrev pub passed_count : List Facet → ℤ → ℕ
+passed_count facets z = count_by (is_reached z) facets
+
+-- the greatest height of a facet's corners, in micrometres
+abbrev pub greatest_z : Facet → ℤ
+greatest_z t = int_max (int_max t.a.z t.b.z) t.c.z
+
+-- the same of the facet with a number
+abbrev pub top_of : List Facet → ℕ → ℤ
+top_of facets n = greatest_z (facet_at facets n)
+
+-- the facet with a number has its least corner at most at the height z, and its greatest above
+abbrev pub starts_by : List Facet → ℤ → ℕ → Bool
+starts_by facets z n = is_below (pos 2 *ℤ least_z (facet_at facets n)) z
+
+abbrev pub ends_above : List Facet → ℤ → ℕ → Bool
+ends_above facets z n = is_above (pos 2 *ℤ top_of facets n) z
+
+-- two ascending lists as one
+abbrev pub merge : List ℕ → List ℕ → List ℕ
+merge [] ms = ms
+merge (n ∷ ns) ms =
+    take (prefix_len (λ m. nat_lt m n) ms) ms ++ n ∷ merge ns (drop (prefix_len (λ m. nat_lt m n) ms) ms)

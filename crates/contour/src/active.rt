@@ -1,0 +1,208 @@
+//! The active list of a sweep: the facets that its plane cuts, in ascending order, each with the height of its top.
+//! The facets that start at a step are merged into those that stay.
+ghost use Rattle.std.specs.Prelude.{◌≡◌, ◌<◌, ◌≤◌, ◌++◌, ◌∷◌, ◌*ℤ◌, [], All, IfOk, List, OnOk, drop, filter, if◌then◌else◌, length, map, nat_lt, pos, take, ℕ};
+ghost use Rattle.std.specs.List.{prefix_len};
+ghost use Rattle.geometry.specs.TieRule as TieRule;
+ghost use Rattle.mesh_weld.specs.Solid.{least_z};
+ghost use Rattle.contour.specs.Active.{ends_above, greatest_z, merge, starts_by, top_of};
+
+use geometry::{Facet, is_below};
+use mesh_weld::{Solid, lowest};
+use std::alloc::{AllocError, Allocator};
+
+/// The numbers of the facets that a plane cuts, each with its greatest height in micrometres.
+#[derive(Drop)]
+pub(crate) struct ActiveFacets<A: Allocator> {
+    pub(crate) numbers: Vec<u32, A>,
+    pub(crate) tops: Vec<i32, A>,
+}
+
+impl<A: Allocator + Copy + Send + Sync> ActiveFacets<A> {
+    /// No facets.
+    pub(crate) fn none(alloc: A) -> ActiveFacets<A>
+        ensures numbers { result.numbers.items ≡ [] }
+        ensures tops { result.tops.items ≡ [] }
+    {
+        ActiveFacets {
+            numbers: Vec::new(alloc),
+            tops: Vec::new(alloc),
+        }
+    }
+
+    /// The facets with these numbers.
+    pub(crate) fn of(alloc: A, s: &Solid<A>, numbers: &[u32]) -> Result<ActiveFacets<A>, AllocError>
+        requires { All (λ n. n < length s.now.facets) numbers.now }
+        ensures numbers { IfOk result (λ active. active.numbers.items ≡ numbers.now) }
+        ensures tops { IfOk result (λ active. active.tops.items ≡ map (top_of s.now.facets) numbers.now) }
+    {
+        let mut active = ActiveFacets::none(alloc);
+        active.push_all(s, numbers)?;
+        Ok(active)
+    }
+
+    fn clear(&mut self)
+        ensures numbers { self.new.numbers.items ≡ [] }
+        ensures tops { self.new.tops.items ≡ [] }
+    {
+        self.numbers.clear();
+        self.tops.clear();
+    }
+
+    fn push(&mut self, number: u32, top: i32) -> Result<(), AllocError>
+        ensures numbers { OnOk result (self.new.numbers.items ≡ self.old.numbers.items ++ number ∷ []) }
+        ensures tops { OnOk result (self.new.tops.items ≡ self.old.tops.items ++ top ∷ []) }
+    {
+        self.numbers.push(number)?;
+        self.tops.push(top)?;
+        Ok(())
+    }
+
+    fn push_all(&mut self, s: &Solid<A>, numbers: &[u32]) -> Result<(), AllocError>
+        requires { All (λ n. n < length s.now.facets) numbers.now }
+        ensures numbers { OnOk result (self.new.numbers.items ≡ self.old.numbers.items ++ numbers.now) }
+        ensures tops { OnOk result (self.new.tops.items ≡ self.old.tops.items ++ map (top_of s.now.facets) numbers.now) }
+    {
+        for n in numbers {
+            self.push(*n, highest(&s.facet(*n)))?;
+        }
+        Ok(())
+    }
+
+    /// One step of the merge: pushes the numbers of `rest` that come before `number`, and then it; answers those that
+    /// are left of `rest`.
+    fn push_in_order<'r>(
+        &mut self,
+        s: &Solid<A>,
+        rest: &'r [u32],
+        number: u32,
+        top: i32,
+    ) -> Result<&'r [u32], AllocError>
+        requires rest { All (λ n. n < length s.now.facets) rest.now }
+        requires top { top ≡ top_of s.now.facets number }
+        ensures numbers { OnOk result (self.new.numbers.items ≡ self.old.numbers.items
+            ++ (take (prefix_len (λ m. nat_lt m number) rest.now) rest.now ++ number ∷ [])) }
+        ensures tops { OnOk result (self.old.tops.items ≡ map (top_of s.now.facets) self.old.numbers.items
+            → self.new.tops.items ≡ map (top_of s.now.facets) self.new.numbers.items) }
+        ensures left { IfOk result (λ left. left.now ≡ drop (prefix_len (λ m. nat_lt m number) rest.now) rest.now) }
+    {
+        let (first, left) = rest.split_at(count_before(rest, number));
+        self.push_all(s, first)?;
+        self.push(number, top)?;
+        Ok(left)
+    }
+
+    /// One step of the merge where the facet's top is above the height `z2`; where it isn't, the facet has ended and
+    /// nothing is pushed.
+    fn push_if_above<'r>(
+        &mut self,
+        s: &Solid<A>,
+        rest: &'r [u32],
+        number: u32,
+        top: i32,
+        z2: i64,
+    ) -> Result<&'r [u32], AllocError>
+        requires rest { All (λ n. n < length s.now.facets) rest.now }
+        requires top { top ≡ top_of s.now.facets number }
+        ensures numbers { IfOk result (λ left. (later : List ℕ) → self.new.numbers.items ++ merge later left.now
+            ≡ self.old.numbers.items ++ merge (if ends_above s.now.facets z2 number then number ∷ later else later) rest.now) }
+        ensures tops { OnOk result (self.old.tops.items ≡ map (top_of s.now.facets) self.old.numbers.items
+            → self.new.tops.items ≡ map (top_of s.now.facets) self.new.numbers.items) }
+        ensures left { IfOk result (λ left. All (λ n. n < length s.now.facets) left.now) }
+    {
+        if !is_above(top, z2) {
+            return Ok(rest);
+        }
+        let left = self.push_in_order(s, rest, number, top)?;
+        Ok(left)
+    }
+
+    /// Replaces this list by the facets of `before` whose tops are above the height `z2` in half-micrometres, merged
+    /// with the fresh ones. The result is in ascending order where both lists are.
+    pub(crate) fn advance(
+        &mut self,
+        s: &Solid<A>,
+        before: &ActiveFacets<A>,
+        fresh: &[u32],
+        z2: i64,
+    ) -> Result<(), AllocError>
+        requires fresh { All (λ n. n < length s.now.facets) fresh.now }
+        requires tops { before.now.tops.items ≡ map (top_of s.now.facets) before.now.numbers.items }
+        ensures numbers { OnOk result (self.new.numbers.items
+            ≡ merge (filter (ends_above s.now.facets z2) before.now.numbers.items) fresh.now) }
+        ensures tops { OnOk result (self.new.tops.items ≡ map (top_of s.now.facets) self.new.numbers.items) }
+    {
+        self.clear();
+        let mut rest = fresh;
+        for (i, n) in before.numbers.iter().enumerate() {
+            rest = self.push_if_above(s, rest, *n, before.tops[i], z2)?;
+        }
+        self.push_all(s, rest)?;
+        Ok(())
+    }
+}
+
+/// What a plane reaches on its way up to a height: of facets in order of their least heights, the number of those
+/// that start at most at the height, and which of these also end above it.
+#[derive(Drop)]
+pub(crate) struct Arrivals<A: Allocator> {
+    pub(crate) count: usize,
+    pub(crate) active: Vec<u32, A>,
+}
+
+impl<A: Allocator + Copy + Send + Sync> Arrivals<A> {
+    /// Looks at facets up to the first that starts above `z2`, in half-micrometres.
+    pub(crate) fn find(
+        alloc: A,
+        s: &Solid<A>,
+        order: &[u32],
+        z2: i64,
+    ) -> Result<Arrivals<A>, AllocError>
+        requires { All (λ n. n < length s.now.facets) order.now }
+        ensures count { IfOk result (λ a. a.count ≡ prefix_len (starts_by s.now.facets z2) order.now) }
+        ensures active { IfOk result (λ a. a.active.items ≡ filter (ends_above s.now.facets z2) (take a.count order.now)) }
+    {
+        let mut active = Vec::new(alloc);
+        for (i, n) in order.iter().enumerate() {
+            let f = s.facet(*n);
+            if !starts_by(&f, z2) {
+                return Ok(Arrivals { count: i, active });
+            }
+            if is_above(highest(&f), z2) {
+                active.push(*n)?;
+            }
+        }
+        Ok(Arrivals {
+            count: order.len(),
+            active,
+        })
+    }
+}
+
+/// The number of a list's first elements that are below `number`.
+fn count_before(list: &[u32], number: u32) -> usize
+    ensures value { result ≡ prefix_len (λ m. nat_lt m number) list.now }
+    ensures within { result ≤ length list.now }
+{
+    list.iter().take_while(|m| **m < number).count()
+}
+
+/// The greatest height of a facet's corners, in micrometres.
+fn highest(f: &Facet) -> i32
+    ensures { result ≡ greatest_z f.now }
+{
+    f.corner(0).z().max(f.corner(1).z()).max(f.corner(2).z())
+}
+
+/// Whether a facet starts at most at the height `z2`: it has a corner that counts as below, by the tie rule.
+fn starts_by(f: &Facet, z2: i64) -> bool
+    ensures { result ≡ TieRule.is_below (pos 2 *ℤ least_z f.now) z2 }
+{
+    is_below(2 * i64::from(lowest(f)), z2)
+}
+
+/// Whether a top in micrometres is above the height `z2` in half-micrometres, by the tie rule.
+fn is_above(top: i32, z2: i64) -> bool
+    ensures { result ≡ TieRule.is_above (pos 2 *ℤ top) z2 }
+{
+    !is_below(2 * i64::from(top), z2)
+}

@@ -1,0 +1,131 @@
+//! A sweep raises a plane through a mesh. It keeps the list of active facets, as a scanline's polygon fill keeps
+//! active edges, so that a step up looks only at the facets that start or are active on the way.
+ghost use Rattle.std.specs.Prelude.{◌≡◌, ◌<◌, ◌≤ℤ◌, All, IfOk, OnErr, OnOk, filter_map, length};
+ghost use Rattle.exact_int.specs.Bounds.{IsAtMost};
+ghost use Rattle.contour.specs.Active.{active_facets, passed_count};
+ghost use Rattle.contour.specs.Segment.{numbered_segment, segments};
+ghost use Rattle.geometry.specs.declared.limits.TheConstants.{CENTRE_LIMIT};
+
+use crate::active::{ActiveFacets, Arrivals};
+use crate::segment::{Segment, segment_at};
+use mesh_weld::Solid;
+use std::alloc::{AllocError, Allocator};
+use std::marker::Model;
+use std::mem::swap;
+
+/// A plane that rises through a mesh, with its active facets: those that it cuts. A step up fills `spare` with the
+/// next active facets and exchanges the two lists, whose memory stays from step to step.
+#[derive(Drop)]
+pub struct Sweep<'m, A: Allocator> {
+    alloc: A,
+    solid: &'m Solid<A>,
+    height: i64,
+    passed: usize,
+    active: ActiveFacets<A>,
+    spare: ActiveFacets<A>,
+}
+
+impl<'m, A: Allocator> Model for Sweep<'m, A> {
+    ghost use Rattle.contour.specs.Sweep.{IsSwept, Sweep};
+
+    ghost Value = { Sweep };
+
+    ghost view = { λ s. record { facets = s.solid.now.facets; height = s.height } };
+
+    ghost invariant = { λ s. IsSwept s.solid.now.facets s.height s.passed s.active.numbers.items s.active.tops.items };
+}
+
+impl<'m, A: Allocator + Copy + Send + Sync> Sweep<'m, A> {
+    /// A sweep that stands at the height `z2` in half-micrometres, at most `geometry::CENTRE_LIMIT` from 0. `Err`
+    /// comes only where an allocation failed.
+    pub fn start(alloc: A, s: &'m Solid<A>, z2: i64) -> Result<Sweep<'m, A>, AllocError>
+        requires { IsAtMost CENTRE_LIMIT z2 }
+        ensures mesh { IfOk result (λ sweep. sweep.facets ≡ s.now.facets) }
+        ensures at { IfOk result (λ sweep. sweep.height ≡ z2) }
+    {
+        let mut arrivals = Arrivals::find(alloc, s, s.by_height(), z2)?;
+        arrivals.active.sort_unstable();
+        let active = ActiveFacets::of(alloc, s, arrivals.active.as_slice())?;
+        Ok(Sweep {
+            alloc,
+            solid: s,
+            height: z2,
+            passed: arrivals.count,
+            active,
+            spare: ActiveFacets::none(alloc),
+        })
+    }
+
+    /// Raises the plane to the height `z2` in half-micrometres, which isn't below its own and is at most
+    /// `geometry::CENTRE_LIMIT` from 0. `Err` comes only where an allocation failed, and the sweep is then as before.
+    pub fn advance(&mut self, z2: i64) -> Result<(), AllocError>
+        requires height { IsAtMost CENTRE_LIMIT z2 }
+        requires up { self.old.height ≤ℤ z2 }
+        ensures mesh { self.new.facets ≡ self.old.facets }
+        ensures at { OnOk result (self.new.height ≡ z2) }
+        ensures err { OnErr result (self.new ≡ self.old) }
+    {
+        let (_, rest) = self.solid.by_height().split_at(self.passed);
+        let mut arrivals = Arrivals::find(self.alloc, self.solid, rest, z2)?;
+        arrivals.active.sort_unstable();
+        let fresh = arrivals.active.as_slice();
+        self.spare.advance(self.solid, &self.active, fresh, z2)?;
+        swap(&mut self.active, &mut self.spare);
+        self.passed += arrivals.count;
+        self.height = z2;
+        Ok(())
+    }
+
+    /// The height of the plane, in half-micrometres.
+    pub fn height(&self) -> i64
+        ensures { result ≡ self.now.height }
+    {
+        self.height
+    }
+
+    /// The number of kept facets that the plane has reached: those with a corner at most at its height.
+    pub fn passed(&self) -> u32
+        ensures { result ≡ passed_count self.now.facets self.now.height }
+    {
+        let facets = self.solid.count();
+        prove!(self.passed <= facets);
+        self.passed as u32
+    }
+
+    /// The numbers of the active facets, in ascending order: the kept facets with a corner at most at the height and
+    /// a corner above it.
+    pub fn active(&self) -> &[u32]
+        ensures { result.now ≡ active_facets self.now.facets self.now.height }
+    {
+        self.active.numbers.as_slice()
+    }
+
+    /// The segments at the height, in order of facets. `Err` comes only where an allocation failed.
+    pub fn segments(&self) -> Result<Vec<Segment, A>, AllocError>
+        ensures { IfOk result (λ list. list.items ≡ segments self.now.facets self.now.height) }
+    {
+        let numbers = self.active.numbers.as_slice();
+        let list = segments_of(self.alloc, self.solid, numbers, self.height)?;
+        Ok(list)
+    }
+}
+
+/// The segments of the facets with these numbers at the height `z2`, without those that the plane doesn't cut.
+fn segments_of<A: Allocator + Copy + Send + Sync>(
+    alloc: A,
+    s: &Solid<A>,
+    numbers: &[u32],
+    z2: i64,
+) -> Result<Vec<Segment, A>, AllocError>
+    requires numbers { All (λ n. n < length s.now.facets) numbers.now }
+    requires height { IsAtMost CENTRE_LIMIT z2 }
+    ensures { IfOk result (λ list. list.items ≡ filter_map (numbered_segment s.now.facets z2) numbers.now) }
+{
+    let mut list = Vec::with_capacity(alloc, numbers.len())?;
+    for n in numbers {
+        if let Some(segment) = segment_at(s, *n, z2) {
+            list.push(segment)?;
+        }
+    }
+    Ok(list)
+}

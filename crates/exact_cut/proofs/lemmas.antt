@@ -1,0 +1,17 @@
+pub mod Turns
+pub mod Winds
+pub mod Ahead
+pub mod Passing
+pub mod Blends
+pub mod Sections
+pub mod Least
+pub mod DdaSteps
+pub mod Scanlines
+pub mod Walks
+pub mod Divisions
+pub mod Hitting
+pub mod Shifts
+pub mod Quadrants
+pub mod Rays
+pub mod Touching
+pub mod Steps

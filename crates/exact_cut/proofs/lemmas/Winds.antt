@@ -1,0 +1,153 @@
+-- A facet's wind, its normal's x part and the crossing.
+use Rattle.std.proofs.Common.{◌≡◌, ℕ, zero, suc, [], ◌∷◌, ℤ, pos, ◌+ℤ◌, ◌-ℤ◌, ◌*ℤ◌, neg_ℤ, ◌≤ℤ◌, ◌<ℤ◌, refl, ◌∙◌, arith}
+use Rattle.std.proofs.lemmas.Int.{ints}
+use Rattle.exact_int.proofs.lemmas.Identity.{reads, identity}
+use Rattle.geometry.specs.Point.{Point}
+use Rattle.geometry.specs.Facet.{Facet}
+use Rattle.geometry.specs.Winding.{left, turn, wind, volume, normal_x, normal_y}
+use Rattle.exact_cut.specs.Cut.{start, finish, Rises}
+use Rattle.exact_cut.specs.CutPoint.{cut_y, cut_x, cut_d}
+use Rattle.exact_cut.proofs.lemmas.Turns.{turn_of-below, turn_of-above}
+
+-- the crossing of the line through the cut points of s down to r and of p up to q with the scanline y, before its sign is chosen
+abbrev pub den_of : Point → Point → Point → Point → ℤ → ℤ
+den_of r s p q z = cut_y p q z *ℤ cut_d r s -ℤ cut_y r s z *ℤ cut_d p q
+
+abbrev pub num_of : Point → Point → Point → Point → ℤ → ℤ → ℤ
+num_of r s p q y z =
+    cut_x r s z *ℤ cut_y p q z -ℤ cut_y r s z *ℤ cut_x p q z +ℤ y *ℤ (cut_x p q z *ℤ cut_d r s -ℤ cut_x r s z *ℤ cut_d p q)
+
+-- an amount of edges that is 0 at an edge whose ends lie on one side of z
+pub record Quiet (f : Point → Point → ℤ) (z : ℤ) : Type 0 where
+  pub below : (u v : Point) → u.z ≤ℤ z → v.z ≤ℤ z → f u v ≡ pos 0
+  pub above : (u v : Point) → z <ℤ u.z → z <ℤ v.z → f u v ≡ pos 0
+
+-- the facet's one edge down, from s to r, and its one edge up, from p to q, at the height z.
+-- `height` is how far the corner that is alone on its side lies from z; it may be 0 where that corner is the lower one
+pub record Passes (t : Facet) (r s p q : Point) (z : ℤ) : Type 0 where
+  pub up : Rises p q z
+  pub down : Rises r s z
+  pub height : ℤ
+  pub not_negative : pos 0 ≤ℤ height
+  pub sums : (f : Point → Point → ℤ) → Quiet f z → f t.a t.b +ℤ f t.b t.c +ℤ f t.c t.a ≡ f p q +ℤ f s r
+  pub winds : (y : ℤ) → wind t y z ≡ turn p q y z +ℤ turn s r y z
+  pub den_is : den_of r s p q z ≡ height *ℤ normal_x t
+  pub den_x_is : cut_x p q z *ℤ cut_d r s -ℤ cut_x r s z *ℤ cut_d p q ≡ neg_ℤ (height *ℤ normal_y t)
+  pub num_is : (x y : ℤ) → num_of r s p q y z -ℤ x *ℤ den_of r s p q z ≡ height *ℤ volume t (record { x = x; y = y; z = z })
+
+add_zero_mid : (a b c : ℤ) → b ≡ pos 0 → a +ℤ b +ℤ c ≡ a +ℤ c
+add_zero_mid a b c e = omega (arith, ints)
+
+add_zero_first : (a b c : ℤ) → a ≡ pos 0 → a +ℤ b +ℤ c ≡ b +ℤ c
+add_zero_first a b c e = omega (arith, ints)
+
+swap_two : (a b : ℤ) → a +ℤ b ≡ b +ℤ a
+swap_two a b = omega (arith, ints)
+
+add_zero_last : (a b c : ℤ) → c ≡ pos 0 → a +ℤ b +ℤ c ≡ a +ℤ b
+add_zero_last a b c e = omega (arith, ints)
+
+-- a up to b, b down to c: b alone is above
+passes-ab-bc : (t : Facet) (z : ℤ) → Rises t.a t.b z → Rises t.c t.b z → Passes t t.c t.b t.a t.b z
+unfolding wind
+passes-ab-bc t z u d = record {
+  up = u;
+  down = d;
+  height = t.b.z -ℤ z;
+  not_negative = omega (arith, ints);
+  sums = λ f k. add_zero_last (f t.a t.b) (f t.b t.c) (f t.c t.a) (k.below t.c t.a d.low u.low);
+  winds = λ y. add_zero_last (turn t.a t.b y z) (turn t.b t.c y z) (turn t.c t.a y z) (turn_of-below t.c.z t.a.z z (left t.c t.a y z) d.low u.low);
+  den_is = identity (t.a.y ∷ t.a.z ∷ t.b.y ∷ t.b.z ∷ t.c.y ∷ t.c.z ∷ z ∷ []) (search reads depth 40 fits 5000) refl;
+  den_x_is = identity (t.a.x ∷ t.a.z ∷ t.b.x ∷ t.b.z ∷ t.c.x ∷ t.c.z ∷ z ∷ []) (search reads depth 40 fits 5000) refl;
+  num_is = λ x y. identity (t.a.x ∷ t.a.y ∷ t.a.z ∷ t.b.x ∷ t.b.y ∷ t.b.z ∷ t.c.x ∷ t.c.y ∷ t.c.z ∷ x ∷ y ∷ z ∷ []) (search reads depth 40 fits 5000) refl;
+}
+
+-- a up to b, c down to a: a alone is below
+passes-ab-ca : (t : Facet) (z : ℤ) → Rises t.a t.b z → Rises t.a t.c z → Passes t t.a t.c t.a t.b z
+unfolding wind
+passes-ab-ca t z u d = record {
+  up = u;
+  down = d;
+  height = z -ℤ t.a.z;
+  not_negative = omega (arith, ints);
+  sums = λ f k. add_zero_mid (f t.a t.b) (f t.b t.c) (f t.c t.a) (k.above t.b t.c u.high d.high);
+  winds = λ y. add_zero_mid (turn t.a t.b y z) (turn t.b t.c y z) (turn t.c t.a y z) (turn_of-above t.b.z t.c.z z (left t.b t.c y z) u.high d.high);
+  den_is = identity (t.a.y ∷ t.a.z ∷ t.b.y ∷ t.b.z ∷ t.c.y ∷ t.c.z ∷ z ∷ []) (search reads depth 40 fits 5000) refl;
+  den_x_is = identity (t.a.x ∷ t.a.z ∷ t.b.x ∷ t.b.z ∷ t.c.x ∷ t.c.z ∷ z ∷ []) (search reads depth 40 fits 5000) refl;
+  num_is = λ x y. identity (t.a.x ∷ t.a.y ∷ t.a.z ∷ t.b.x ∷ t.b.y ∷ t.b.z ∷ t.c.x ∷ t.c.y ∷ t.c.z ∷ x ∷ y ∷ z ∷ []) (search reads depth 40 fits 5000) refl;
+}
+
+-- b up to c, a down to b: b alone is below
+passes-bc-ab : (t : Facet) (z : ℤ) → Rises t.b t.c z → Rises t.b t.a z → Passes t t.b t.a t.b t.c z
+unfolding wind
+passes-bc-ab t z u d = record {
+  up = u;
+  down = d;
+  height = z -ℤ t.b.z;
+  not_negative = omega (arith, ints);
+  sums = λ f k. add_zero_last (f t.a t.b) (f t.b t.c) (f t.c t.a) (k.above t.c t.a u.high d.high) ∙ swap_two (f t.a t.b) (f t.b t.c);
+  winds = λ y. add_zero_last (turn t.a t.b y z) (turn t.b t.c y z) (turn t.c t.a y z) (turn_of-above t.c.z t.a.z z (left t.c t.a y z) u.high d.high) ∙ swap_two (turn t.a t.b y z) (turn t.b t.c y z);
+  den_is = identity (t.a.y ∷ t.a.z ∷ t.b.y ∷ t.b.z ∷ t.c.y ∷ t.c.z ∷ z ∷ []) (search reads depth 40 fits 5000) refl;
+  den_x_is = identity (t.a.x ∷ t.a.z ∷ t.b.x ∷ t.b.z ∷ t.c.x ∷ t.c.z ∷ z ∷ []) (search reads depth 40 fits 5000) refl;
+  num_is = λ x y. identity (t.a.x ∷ t.a.y ∷ t.a.z ∷ t.b.x ∷ t.b.y ∷ t.b.z ∷ t.c.x ∷ t.c.y ∷ t.c.z ∷ x ∷ y ∷ z ∷ []) (search reads depth 40 fits 5000) refl;
+}
+
+-- b up to c, c down to a: c alone is above
+passes-bc-ca : (t : Facet) (z : ℤ) → Rises t.b t.c z → Rises t.a t.c z → Passes t t.a t.c t.b t.c z
+unfolding wind
+passes-bc-ca t z u d = record {
+  up = u;
+  down = d;
+  height = t.c.z -ℤ z;
+  not_negative = omega (arith, ints);
+  sums = λ f k. add_zero_first (f t.a t.b) (f t.b t.c) (f t.c t.a) (k.below t.a t.b d.low u.low);
+  winds = λ y. add_zero_first (turn t.a t.b y z) (turn t.b t.c y z) (turn t.c t.a y z) (turn_of-below t.a.z t.b.z z (left t.a t.b y z) d.low u.low);
+  den_is = identity (t.a.y ∷ t.a.z ∷ t.b.y ∷ t.b.z ∷ t.c.y ∷ t.c.z ∷ z ∷ []) (search reads depth 40 fits 5000) refl;
+  den_x_is = identity (t.a.x ∷ t.a.z ∷ t.b.x ∷ t.b.z ∷ t.c.x ∷ t.c.z ∷ z ∷ []) (search reads depth 40 fits 5000) refl;
+  num_is = λ x y. identity (t.a.x ∷ t.a.y ∷ t.a.z ∷ t.b.x ∷ t.b.y ∷ t.b.z ∷ t.c.x ∷ t.c.y ∷ t.c.z ∷ x ∷ y ∷ z ∷ []) (search reads depth 40 fits 5000) refl;
+}
+
+-- c up to a, a down to b: a alone is above
+passes-ca-ab : (t : Facet) (z : ℤ) → Rises t.c t.a z → Rises t.b t.a z → Passes t t.b t.a t.c t.a z
+unfolding wind
+passes-ca-ab t z u d = record {
+  up = u;
+  down = d;
+  height = t.a.z -ℤ z;
+  not_negative = omega (arith, ints);
+  sums = λ f k. add_zero_mid (f t.a t.b) (f t.b t.c) (f t.c t.a) (k.below t.b t.c d.low u.low) ∙ swap_two (f t.a t.b) (f t.c t.a);
+  winds = λ y. add_zero_mid (turn t.a t.b y z) (turn t.b t.c y z) (turn t.c t.a y z) (turn_of-below t.b.z t.c.z z (left t.b t.c y z) d.low u.low) ∙ swap_two (turn t.a t.b y z) (turn t.c t.a y z);
+  den_is = identity (t.a.y ∷ t.a.z ∷ t.b.y ∷ t.b.z ∷ t.c.y ∷ t.c.z ∷ z ∷ []) (search reads depth 40 fits 5000) refl;
+  den_x_is = identity (t.a.x ∷ t.a.z ∷ t.b.x ∷ t.b.z ∷ t.c.x ∷ t.c.z ∷ z ∷ []) (search reads depth 40 fits 5000) refl;
+  num_is = λ x y. identity (t.a.x ∷ t.a.y ∷ t.a.z ∷ t.b.x ∷ t.b.y ∷ t.b.z ∷ t.c.x ∷ t.c.y ∷ t.c.z ∷ x ∷ y ∷ z ∷ []) (search reads depth 40 fits 5000) refl;
+}
+
+-- c up to a, b down to c: c alone is below
+passes-ca-bc : (t : Facet) (z : ℤ) → Rises t.c t.a z → Rises t.c t.b z → Passes t t.c t.b t.c t.a z
+unfolding wind
+passes-ca-bc t z u d = record {
+  up = u;
+  down = d;
+  height = z -ℤ t.c.z;
+  not_negative = omega (arith, ints);
+  sums = λ f k. add_zero_first (f t.a t.b) (f t.b t.c) (f t.c t.a) (k.above t.a t.b u.high d.high) ∙ swap_two (f t.b t.c) (f t.c t.a);
+  winds = λ y. add_zero_first (turn t.a t.b y z) (turn t.b t.c y z) (turn t.c t.a y z) (turn_of-above t.a.z t.b.z z (left t.a t.b y z) u.high d.high) ∙ swap_two (turn t.b t.c y z) (turn t.c t.a y z);
+  den_is = identity (t.a.y ∷ t.a.z ∷ t.b.y ∷ t.b.z ∷ t.c.y ∷ t.c.z ∷ z ∷ []) (search reads depth 40 fits 5000) refl;
+  den_x_is = identity (t.a.x ∷ t.a.z ∷ t.b.x ∷ t.b.z ∷ t.c.x ∷ t.c.z ∷ z ∷ []) (search reads depth 40 fits 5000) refl;
+  num_is = λ x y. identity (t.a.x ∷ t.a.y ∷ t.a.z ∷ t.b.x ∷ t.b.y ∷ t.b.z ∷ t.c.x ∷ t.c.y ∷ t.c.z ∷ x ∷ y ∷ z ∷ []) (search reads depth 40 fits 5000) refl;
+}
+
+not_both : (u v : Point) (z : ℤ) → Rises u v z → Rises v u z → ⊥
+not_both u v z h k = omega (arith, ints)
+
+-- by the edges' numbers
+pub passes : (t : Facet) (z : ℤ) (d u : ℕ) → Rises (finish t d) (start t d) z → Rises (start t u) (finish t u) z → Passes t (finish t d) (start t d) (start t u) (finish t u) z
+passes t z zero zero d u = absurd (not_both t.a t.b z u d)
+passes t z zero (suc zero) d u = passes-bc-ab t z u d
+passes t z zero (suc (suc n)) d u = passes-ca-ab t z u d
+passes t z (suc zero) zero d u = passes-ab-bc t z u d
+passes t z (suc zero) (suc zero) d u = absurd (not_both t.b t.c z u d)
+passes t z (suc zero) (suc (suc n)) d u = passes-ca-bc t z u d
+passes t z (suc (suc m)) zero d u = passes-ab-ca t z u d
+passes t z (suc (suc m)) (suc zero) d u = passes-bc-ca t z u d
+passes t z (suc (suc m)) (suc (suc n)) d u = absurd (not_both t.c t.a z u d)

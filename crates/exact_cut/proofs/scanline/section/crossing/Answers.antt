@@ -1,0 +1,60 @@
+use Rattle.std.proofs.Common.{pos, FitsSigned, to_z, of_z, refl, ◌∙◌, ap, sym, subst, ◌<ℤ◌}
+use Rattle.std.proofs.lemmas.Int.{to_z-of_z}
+use mir.Syntax.{w64, w128}
+use Rattle.exact_int.proofs.lemmas.Sizes.{sizes, fits}
+use Rattle.geometry.specs.Facet.{twice}
+use Rattle.exact_cut.proofs.lemmas.Sections.{same_side, up_alone, down_alone, crosses_as}
+use Rattle.exact_cut.proofs.scanline.section.crossing.Goals as goal
+
+pub returns-then-is_up_ahead-is_down_ahead : goal.returns-then-is_up_ahead-is_down_ahead
+returns-then-is_up_ahead-is_down_ahead c =
+    let down = c.is_ahead-is_down_ahead in
+    let up = c.is_ahead-is_up_ahead in
+    let f1 = c.ranges.y2 in
+    let f2 = c.ranges.z2 in
+    let l = c.in_ok-ends.ensures in
+    simp to_z-of_z at (same_side (twice c.args.f.now) (to_z w64 (of_z w64 c.args.y2)) (to_z w64 (of_z w64 c.args.z2)) c.in_ok-ends.ends l down.result up.result down.ensures up.ensures c.if-is_up_ahead-is_down_ahead.true)
+
+pub of-requires-clause-den_positive : goal.of-requires-clause-den_positive
+of-requires-clause-den_positive c =
+    let down = c.is_ahead-is_down_ahead in
+    let up = c.is_ahead-is_up_ahead in
+    let m = c.meet-num in
+    let w = up_alone (twice c.args.f.now) (to_z w64 (of_z w64 c.args.y2)) (to_z w64 (of_z w64 c.args.z2)) c.in_ok-ends.ends c.in_ok-ends.ensures down.result up.result down.ensures up.ensures c.if-is_up_ahead-is_down_ahead.false c.if-is_up_ahead.true in
+    let f1 : FitsSigned w128 m.result.1 = fits w128 (search (sizes, m.ensures.den_in)) refl in
+    simp to_z-of_z (subst (λ d. pos 0 <ℤ d) (sym m.ensures.den) w.den_positive)
+
+pub of-requires-else-is_up_ahead-clause-den_positive : goal.of-requires-else-is_up_ahead-clause-den_positive
+of-requires-else-is_up_ahead-clause-den_positive c =
+    let down = c.is_ahead-is_down_ahead in
+    let up = c.is_ahead-is_up_ahead in
+    let m = c.meet-num-else-is_up_ahead in
+    let w = down_alone (twice c.args.f.now) (to_z w64 (of_z w64 c.args.y2)) (to_z w64 (of_z w64 c.args.z2)) c.in_ok-ends.ends c.in_ok-ends.ensures down.result up.result down.ensures up.ensures c.if-is_up_ahead-is_down_ahead.false c.if-is_up_ahead.false in
+    let f1 : FitsSigned w128 m.result.1 = fits w128 (search (sizes, m.ensures.den_in)) refl in
+    simp to_z-of_z (subst (λ d. pos 0 <ℤ d) (sym m.ensures.den) w.den_positive)
+
+pub returns-then-is_up_ahead : goal.returns-then-is_up_ahead
+returns-then-is_up_ahead c =
+    let down = c.is_ahead-is_down_ahead in
+    let up = c.is_ahead-is_up_ahead in
+    let m = c.meet-num in
+    let w = up_alone (twice c.args.f.now) (to_z w64 (of_z w64 c.args.y2)) (to_z w64 (of_z w64 c.args.z2)) c.in_ok-ends.ends c.in_ok-ends.ensures down.result up.result down.ensures up.ensures c.if-is_up_ahead-is_down_ahead.false c.if-is_up_ahead.true in
+    let f1 = c.ranges.y2 in
+    let f2 = c.ranges.z2 in
+    let f3 : FitsSigned w128 m.result.0 = fits w128 (search (sizes, m.ensures.num_in)) refl in
+    let f4 : FitsSigned w128 m.result.1 = fits w128 (search (sizes, m.ensures.den_in)) refl in
+    let k = simp to_z-of_z at c.of.ensures in
+    simp to_z-of_z at (crosses_as (ap (λ r. r.sign) k) (ap (λ r. r.num) k ∙ m.ensures.num) (ap (λ r. r.den) k ∙ m.ensures.den) w)
+
+pub returns-else-is_up_ahead : goal.returns-else-is_up_ahead
+returns-else-is_up_ahead c =
+    let down = c.is_ahead-is_down_ahead in
+    let up = c.is_ahead-is_up_ahead in
+    let m = c.meet-num-else-is_up_ahead in
+    let w = down_alone (twice c.args.f.now) (to_z w64 (of_z w64 c.args.y2)) (to_z w64 (of_z w64 c.args.z2)) c.in_ok-ends.ends c.in_ok-ends.ensures down.result up.result down.ensures up.ensures c.if-is_up_ahead-is_down_ahead.false c.if-is_up_ahead.false in
+    let f1 = c.ranges.y2 in
+    let f2 = c.ranges.z2 in
+    let f3 : FitsSigned w128 m.result.0 = fits w128 (search (sizes, m.ensures.num_in)) refl in
+    let f4 : FitsSigned w128 m.result.1 = fits w128 (search (sizes, m.ensures.den_in)) refl in
+    let k = simp to_z-of_z at c.of-else-is_up_ahead.ensures in
+    simp to_z-of_z at (crosses_as (ap (λ r. r.sign) k) (ap (λ r. r.num) k ∙ m.ensures.num) (ap (λ r. r.den) k ∙ m.ensures.den) w)

@@ -1,8 +1,0 @@
-use Rattle.std.proofs.Common.{◌+◌, length, ap, ◌∙◌, sym}
-use Rattle.exact_cut.proofs.Sliding.{length-columns_along}
-use Rattle.exact_cut.proofs.walks.Walk.end.Goals as goal
-
-pub returns : goal.returns
-returns c =
-    let w = c.self.inside in
-    ap (λ n. w.row + n) (sym (length-columns_along w.left w.columns w.slide)) ∙ ap (λ v. v.row + length v.columns) c.self.view_is

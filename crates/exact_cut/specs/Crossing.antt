@@ -1,0 +1,30 @@
+-- Where the line along x through a scanline passes a facet.
+use Rattle.std.specs.Prelude.{◌≡◌, ◌⊎◌, ◌↔◌, ℤ, pos, negsuc, ◌*ℤ◌, ◌<ℤ◌}
+use Rattle.exact_int.specs.Bounds.{IsAtMost}
+use Rattle.exact_cut.specs.Bounds.{denominator_limit, numerator_limit}
+use Rattle.geometry.specs.Facet.{Facet}
+use Rattle.geometry.specs.Winding.{wind, volume, normal_x}
+
+-- where a line along x crosses a facet: at x = num / den, with this sign
+pub record Crossing : Type 0 where
+  pub sign : ℤ
+  pub num : ℤ
+  pub den : ℤ
+
+-- the denominator is above 0, and both numbers are within their bounds
+pub record IsCrossing (c : Crossing) : Type 0 where
+  pub den_positive : pos 0 <ℤ c.den
+  pub num_in : IsAtMost numerator_limit c.num
+  pub den_in : IsAtMost denominator_limit c.den
+
+-- a winding that isn't 0: it is 1 or -1, and has the sign of the normal's x part
+pub record Winding (t : Facet) (w : ℤ) : Type 0 where
+  pub unit : (w ≡ pos 1) ⊎ (w ≡ negsuc 0)
+  pub normal : pos 0 <ℤ (w *ℤ normal_x t)
+
+-- sign, numerator and denominator say where the facet is crossed
+pub record Crosses (t : Facet) (y z sign num den : ℤ) : Type 0 where
+  pub sign_is : sign ≡ wind t y z
+  pub winding : Winding t (wind t y z)
+  pub den_positive : pos 0 <ℤ den
+  pub ahead_of : (x : ℤ) → ((x *ℤ den) <ℤ num) ↔ (pos 0 <ℤ (wind t y z *ℤ volume t (record { x = x; y = y; z = z })))

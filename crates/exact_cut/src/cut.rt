@@ -1,0 +1,92 @@
+//! Which edges of a facet pass a height, and their corners in half-micrometres.
+ghost use Rattle.std.specs.Prelude.{◌≡◌, ◌<◌, ◌↔◌, IsTrue, MatchOption};
+ghost use Rattle.exact_int.specs.Bounds.{IsAtMost};
+ghost use Rattle.geometry.specs.TieRule.{IsBelow};
+ghost use Rattle.geometry.specs.Point.{doubled};
+ghost use Rattle.geometry.specs.Facet.{corner, twice};
+ghost use Rattle.exact_cut.specs.Cut.{IsBetween, IsCut, finish, start};
+ghost use Rattle.exact_cut.specs.HalfPoint.{point_of};
+ghost use Rattle.geometry.specs.declared.limits.TheConstants.{CENTRE_LIMIT};
+
+pub(crate) mod half_point;
+
+use crate::cut::half_point::HalfPoint;
+use geometry::{Facet, Point, is_below as tie_rule};
+
+/// The edges of a facet that pass a height, by number: edge 0 runs from corner 0 to 1, edge 1 from 1 to 2, edge 2 from
+/// 2 to 0.
+#[derive(Clone, Copy, Debug, PartialEq, Eq)]
+pub struct Cut {
+    /// The edge from above the height to a corner that counts as below it.
+    pub down: usize,
+    /// The edge from a corner that counts as below the height to one above it.
+    pub up: usize,
+}
+
+/// The one edge that passes the height `z2` downward and the one that passes it upward, or `None` where no corner
+/// counts as below `z2` or no corner is above it. A corner at the height counts as below. `z2` is in half-micrometres,
+/// -256,200,000 to 256,200,000.
+pub fn cuts(f: &Facet, z2: i64) -> Option<Cut>
+    requires { IsAtMost CENTRE_LIMIT z2 }
+    ensures { MatchOption result (IsBetween (twice f.now) z2 → ⊥)
+        (λ c. IsCut (twice f.now) z2 c) }
+{
+    let a = is_below(f, 0, z2);
+    let b = is_below(f, 1, z2);
+    let c = is_below(f, 2, z2);
+    match (a, b, c) {
+        (true, true, true) | (false, false, false) => None,
+        (true, true, false) => Some(Cut { down: 2, up: 1 }),
+        (true, false, true) => Some(Cut { down: 1, up: 0 }),
+        (true, false, false) => Some(Cut { down: 2, up: 0 }),
+        (false, true, true) => Some(Cut { down: 0, up: 2 }),
+        (false, true, false) => Some(Cut { down: 0, up: 1 }),
+        (false, false, true) => Some(Cut { down: 1, up: 2 }),
+    }
+}
+
+/// Whether a corner counts as below the height `z2`.
+fn is_below(f: &Facet, number: usize, z2: i64) -> bool
+    requires { number < 3 }
+    ensures { IsTrue result ↔ IsBelow (corner (twice f.now) number).z z2 }
+{
+    tie_rule(corner_at(f, number).z, z2)
+}
+
+fn in_half_micrometres(p: Point) -> HalfPoint
+    ensures { point_of result ≡ doubled p }
+{
+    HalfPoint {
+        x: 2 * (p.x() as i64),
+        y: 2 * (p.y() as i64),
+        z: 2 * (p.z() as i64),
+    }
+}
+
+/// The corner with this number.
+pub(crate) fn corner_at(f: &Facet, number: usize) -> HalfPoint
+    requires { number < 3 }
+    ensures { point_of result ≡ corner (twice f.now) number }
+{
+    in_half_micrometres(f.corner(number))
+}
+
+/// The corner that an edge starts from.
+pub(crate) fn start_of(f: &Facet, edge: usize) -> HalfPoint
+    requires { edge < 3 }
+    ensures { point_of result ≡ start (twice f.now) edge }
+{
+    corner_at(f, edge)
+}
+
+/// The corner that an edge ends at.
+pub(crate) fn finish_of(f: &Facet, edge: usize) -> HalfPoint
+    requires { edge < 3 }
+    ensures { point_of result ≡ finish (twice f.now) edge }
+{
+    match edge {
+        0 => corner_at(f, 1),
+        1 => corner_at(f, 2),
+        _ => corner_at(f, 0),
+    }
+}

@@ -1,0 +1,122 @@
+//! Fractions that grow by one increment a step, without a division: a digital differential analyser (DDA). A walk along
+//! the rows of a lattice divides at its start alone, and then adds.
+ghost use Rattle.std.specs.Prelude.{◌≡◌, ◌+◌, ◌<◌, ◌≤◌, ◌*ℤ◌, ◌-ℤ◌, ◌<ℤ◌, ◌≤ℤ◌, pos, unsigned_abs, ℤ};
+ghost use Rattle.exact_int.specs.Bounds.{IsAtMost};
+ghost use Rattle.exact_cut.specs.Bounds.{distance_limit, quotient_limit, unit_limit, whole_limit};
+ghost use Rattle.exact_cut.specs.Dda.{IsDda, IsDivisionOf, increment_of, next, position_of};
+ghost use Rattle.exact_cut.specs.Lattice.{row_y};
+ghost use Rattle.exact_cut.specs.Section.{den_between, num_between, slope_between};
+
+pub(crate) mod lattice;
+pub(crate) mod walk;
+
+use crate::dda::lattice::Lattice;
+use crate::scanline::cut_point::CutPoint;
+use crate::scanline::section::{meet, slope};
+use exact_int::ceil_div;
+
+/// A position that grows by one increment a step. The position is `whole * unit - remainder`, and the increment
+/// `increment * unit - increment_remainder`. Both remainders are at least 0 and below the unit, so `whole` is the
+/// position over the unit, rounded up.
+#[derive(Clone, Copy)]
+pub(crate) struct Dda {
+    pub unit: i128,
+    pub whole: i128,
+    pub remainder: i128,
+    pub increment: i128,
+    pub increment_remainder: i128,
+}
+
+/// A number over a unit: the quotient is rounded up, and the remainder is what the number misses to that many units.
+#[derive(Clone, Copy)]
+pub(crate) struct Division {
+    pub quotient: i128,
+    pub remainder: i128,
+}
+
+/// Divides a number by a unit, rounding up.
+fn divide(n: i128, unit: i128) -> Division
+    requires n_in { IsAtMost distance_limit n }
+    requires unit_in { IsAtMost unit_limit unit }
+    requires unit_positive { pos 0 <ℤ unit }
+    ensures division { IsDivisionOf n unit result }
+    ensures quotient_in { unsigned_abs result.quotient ≤ unsigned_abs n + unsigned_abs unit }
+{
+    let quotient = ceil_div(n, unit);
+    Division {
+        quotient,
+        remainder: quotient * unit - n,
+    }
+}
+
+/// Divides the increment of a walk along `rows` rows by the unit, rounding up. A walk of one row never steps: its
+/// increment is 0, which saves a division.
+fn divide_increment(n: i128, unit: i128, rows: u32) -> Division
+    requires n_in { IsAtMost distance_limit n }
+    requires unit_in { IsAtMost unit_limit unit }
+    requires unit_positive { pos 0 <ℤ unit }
+    ensures division { 1 < rows → IsDivisionOf n unit result }
+    ensures not_negative { pos 0 ≤ℤ result.remainder }
+    ensures below { result.remainder <ℤ unit }
+    ensures quotient_in { unsigned_abs result.quotient ≤ unsigned_abs n + unsigned_abs unit }
+{
+    if rows > 1 {
+        divide(n, unit)
+    } else {
+        Division {
+            quotient: 0,
+            remainder: 0,
+        }
+    }
+}
+
+/// The DDA of the line through two cut points along `rows` rows from `row` on. Its position is where the line crosses
+/// the row, less the x of the first column's centres; its unit is the step from a column to the next; its increment is
+/// what the line goes along x from a row to the next. All three are numerators over the line's denominator.
+fn dda_between(near: &CutPoint, far: &CutPoint, lattice: &Lattice, row: u32, rows: u32) -> Dda
+    requires row_in { row < lattice.now.rows }
+    requires den_positive { pos 0 <ℤ den_between near.now far.now }
+    ensures dda { IsDda result }
+    ensures unit { result.unit ≡ pos 2 *ℤ pos lattice.now.step *ℤ den_between near.now far.now }
+    ensures position { position_of result ≡ num_between near.now far.now (row_y lattice.now row)
+        -ℤ lattice.now.x2 *ℤ den_between near.now far.now }
+    ensures increment { 1 < rows
+        → increment_of result ≡ pos 2 *ℤ pos lattice.now.step *ℤ slope_between near.now far.now }
+    ensures whole_in { IsAtMost quotient_limit result.whole }
+{
+    let (num, den) = meet(near, far, lattice.scanline(row));
+    let step2 = 2 * (lattice.step as i128);
+    let unit = step2 * den;
+    let position = divide(num - (lattice.x2 as i128) * den, unit);
+    let increment = divide_increment(step2 * slope(near, far), unit, rows);
+    Dda {
+        unit,
+        whole: position.quotient,
+        remainder: position.remainder,
+        increment: increment.quotient,
+        increment_remainder: increment.remainder,
+    }
+}
+
+/// The DDA one step on.
+fn stepped(d: &Dda) -> Dda
+    requires dda { IsDda d.now }
+    requires whole_in { IsAtMost whole_limit d.now.whole }
+    ensures { result ≡ next d.now }
+{
+    let whole = d.whole + d.increment;
+    let remainder = d.remainder + d.increment_remainder;
+    if remainder < d.unit {
+        Dda {
+            whole,
+            remainder,
+            ..*d
+        }
+    } else {
+        Dda {
+            whole: whole - 1,
+            remainder: remainder - d.unit,
+            ..*d
+        }
+    }
+}

@@ -1,0 +1,124 @@
+//! A facet's crossings with the rows of a lattice, one row after another, at a few additions a row.
+ghost use Rattle.std.specs.Prelude.{◌≡◌, ◌∷◌, ◌+◌, ◌-◌, ◌<◌, ◌≤◌, ◌<ℤ◌, MatchOption, length, pos, slice_index, ℕ};
+ghost use Rattle.exact_int.specs.Bounds.{IsAtMost};
+ghost use Rattle.geometry.specs.Facet.{twice};
+ghost use Rattle.exact_cut.specs.Column.{IsLeastColumn};
+ghost use Rattle.exact_cut.specs.Lattice.{IsUncrossed, row_y};
+ghost use Rattle.exact_cut.specs.Section.{den_between, num_between};
+ghost use Rattle.exact_cut.specs.Walk.{IsWalkOf, Walk};
+ghost use Rattle.geometry.specs.declared.limits.TheConstants.{CENTRE_LIMIT};
+
+use crate::dda::lattice::Lattice;
+use crate::dda::{Dda, dda_between, stepped};
+use crate::scanline::clamped;
+use crate::scanline::cut_point::CutPoint;
+use crate::scanline::section::Section;
+use geometry::Facet;
+use std::marker::Model;
+
+/// The crossings of a facet with the rows of a lattice that it passes, one row after another.
+#[derive(Drop)]
+pub struct Walk {
+    row: u32,
+    left: u32,
+    sign: i32,
+    columns: u32,
+    dda: Dda,
+}
+
+impl Model for Walk {
+    ghost use Rattle.exact_cut.specs.Walk.{Walk};
+    ghost use Rattle.exact_cut.specs.Dda.{IsOnRows, columns_along};
+
+    ghost Value = { Walk };
+
+    ghost view = { λ w. record { row = w.row; sign = w.sign; columns = columns_along w.left w.columns w.dda } };
+
+    ghost invariant = { λ w. IsOnRows w.row w.left w.dda };
+}
+
+impl Walk {
+    /// The crossings of a facet at the height `z2` with the rows of a lattice, or `None` where it crosses none of them.
+    /// `z2` is in half-micrometres, -256,200,000 to 256,200,000.
+    pub fn start(f: &Facet, z2: i64, lattice: &Lattice) -> Option<Walk>
+        requires { IsAtMost CENTRE_LIMIT z2 }
+        ensures { MatchOption result (IsUncrossed (twice f.now) z2 lattice.now)
+            (λ w. IsWalkOf (twice f.now) z2 lattice.now w) }
+    {
+        let ends = Section::at_height(f, z2)?;
+        let down = lattice.first_row(&ends.down);
+        let up = lattice.first_row(&ends.up);
+        if down < up {
+            Some(Walk::between(1, down, up, &ends.down, &ends.up, lattice))
+        } else if up < down {
+            Some(Walk::between(-1, up, down, &ends.up, &ends.down, lattice))
+        } else {
+            None
+        }
+    }
+
+    /// The crossings of the line through two cut points with the rows from `row` to `end`, which is excluded.
+    fn between(
+        sign: i32,
+        row: u32,
+        end: u32,
+        near: &CutPoint,
+        far: &CutPoint,
+        lattice: &Lattice,
+    ) -> Walk
+        requires some { row < end }
+        requires in_rows { end ≤ lattice.now.rows }
+        requires den_positive { pos 0 <ℤ den_between near.now far.now }
+        ensures row { result.row ≡ row }
+        ensures sign { result.sign ≡ sign }
+        ensures length { length result.columns ≡ end - row }
+        ensures columns { (n : ℕ) → n < end - row
+            → IsLeastColumn (num_between near.now far.now (row_y lattice.now (row + n)))
+            (den_between near.now far.now) lattice.now.x2 lattice.now.step
+            lattice.now.columns (slice_index result.columns n) }
+    {
+        Walk {
+            row,
+            left: end - row,
+            sign,
+            columns: lattice.columns,
+            dda: dda_between(near, far, lattice, row, end - row),
+        }
+    }
+
+    /// The row of the next crossing.
+    pub fn row(&self) -> u32
+        ensures { result ≡ self.now.row }
+    {
+        self.row
+    }
+
+    /// One past the row of the last crossing.
+    pub fn end(&self) -> u32
+        ensures { result ≡ self.now.row + length self.now.columns }
+    {
+        self.row + self.left
+    }
+
+    /// The facet's winding round each of the rows, 1 or -1.
+    pub fn sign(&self) -> i32
+        ensures { result ≡ self.now.sign }
+    {
+        self.sign
+    }
+
+    /// The column of the next crossing: the least one whose centre is not left of it, or the count of columns. Steps to
+    /// the next row. The condition: a crossing is left.
+    pub fn next_column(&mut self) -> u32
+        requires { 0 < length self.old.columns }
+        ensures column { self.old.columns ≡ result ∷ self.new.columns }
+        ensures row { self.new.row ≡ self.old.row + 1 }
+        ensures sign { self.new.sign ≡ self.old.sign }
+    {
+        let column = clamped(self.dda.whole, self.columns);
+        self.dda = stepped(&self.dda);
+        self.row += 1;
+        self.left -= 1;
+        column
+    }
+}

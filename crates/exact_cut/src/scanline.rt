@@ -1,0 +1,42 @@
+//! How scanlines cross facets, and which pixels of a row lie before a crossing.
+ghost use Rattle.std.specs.Prelude.{◌≡◌, ◌<◌, ◌≤◌};
+ghost use Rattle.exact_int.specs.Bounds.{IsAtMost};
+ghost use Rattle.exact_cut.specs.Column.{IsLeastColumn, clamp};
+ghost use Rattle.geometry.specs.declared.limits.TheConstants.{CENTRE_LIMIT, COLUMN_LIMIT, STEP_LIMIT};
+
+pub(crate) mod crossing;
+pub(crate) mod cut_point;
+pub(crate) mod section;
+
+use crate::scanline::crossing::Crossing;
+use exact_int::ceil_div;
+
+/// The least column whose centre is not left of the crossing, or `columns` where there is none.
+///
+/// Column i has its centre at x = `first2 + 2 * step * i`, in half-micrometres. `first2` is -256,200,000 to
+/// 256,200,000; `step` is in micrometres, 1 to 100,000; there are at most 16,384 columns.
+pub fn column(c: &Crossing, first2: i64, step: u32, columns: u32) -> u32
+    requires first_in { IsAtMost CENTRE_LIMIT first2 }
+    requires step_above { 0 < step }
+    requires step_in { step ≤ STEP_LIMIT }
+    requires columns_in { columns ≤ COLUMN_LIMIT }
+    ensures { IsLeastColumn c.now.num c.now.den first2 step columns result }
+{
+    let den = c.den();
+    let gap = c.num() - (first2 as i128) * den;
+    let unit = 2 * (step as i128) * den;
+    clamped(ceil_div(gap, unit), columns)
+}
+
+/// The number from 0 to `count` that is nearest to `i`.
+pub(crate) fn clamped(i: i128, count: u32) -> u32
+    ensures { result ≡ clamp i count }
+{
+    if i <= 0 {
+        0
+    } else if i >= (count as i128) {
+        count
+    } else {
+        i as u32
+    }
+}

@@ -1,0 +1,26 @@
+use Rattle.std.proofs.Common.{rules, pos, ◌+ℤ◌, ◌≤ℤ◌, ◌<ℤ◌, FitsSigned, to_z, of_z, int_div, int_rem, arith}
+use Rattle.std.proofs.lemmas.Int.{ints, quot_is, rem_is, quot_fits, to_z-of_z}
+use mir.Syntax.{w128}
+use Rattle.exact_int.proofs.lemmas.Ceilings.{ceiling-up, ceiling-same}
+use Rattle.exact_int.proofs.division.ceil_div.Goals as goal
+
+-- src/lib.rt:7:1
+pub returns-then-n-d-gt0 : goal.returns-then-n-d-gt0
+returns-then-n-d-gt0 c =
+    let n = c.args.n in
+    let d = c.args.d in
+    let q = quot_is w128 n d c.ranges.n c.ranges.d (quot_fits w128 n d c.ranges.n c.requires) in
+    let r = rem_is w128 n d c.ranges.n c.ranges.d in
+    let more : FitsSigned w128 (to_z w128 (of_z w128 (int_div (to_z w128 (of_z w128 n)) (to_z w128 (of_z w128 d)))) +ℤ pos 1) = search rules in
+    let big : pos 0 <ℤ int_rem n d = rw (← r) (omega (arith, ints)) in
+    λ k. rw (to_z-of_z w128 _ more, q) (ceiling-up n d c.requires big k)
+
+-- src/lib.rt:7:1
+pub returns-else-n-d-gt0 : goal.returns-else-n-d-gt0
+returns-else-n-d-gt0 c =
+    let n = c.args.n in
+    let d = c.args.d in
+    let q = quot_is w128 n d c.ranges.n c.ranges.d (quot_fits w128 n d c.ranges.n c.requires) in
+    let r = rem_is w128 n d c.ranges.n c.ranges.d in
+    let small : int_rem n d ≤ℤ pos 0 = rw (← r) (omega (arith, ints)) in
+    λ k. rw q (ceiling-same n d c.requires small k)

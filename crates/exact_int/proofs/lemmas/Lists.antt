@@ -1,0 +1,11 @@
+-- What holds of lists: a weaker test of all elements.
+use Rattle.std.proofs.Common.{◌≡◌, Bool, true, List, [], ◌∷◌, refl}
+use Rattle.std.specs.List.{list_all}
+use Rattle.std.proofs.lemmas.Bool.{and_parts}
+
+pub all-weaker : {X : Type 0} (p q : X → Bool) → ((x : X) → p x ≡ true → q x ≡ true) → (xs : List X)
+    → list_all p xs ≡ true → list_all q xs ≡ true
+all-weaker p q weaker [] h = refl
+all-weaker p q weaker (x ∷ xs) h =
+    let parts : (p x ≡ true) × (list_all p xs ≡ true) = and_parts _ _ h in
+    rw (weaker x parts.0) (all-weaker p q weaker xs parts.1)

@@ -1,0 +1,6 @@
+pub mod TieRule
+pub mod Point
+pub mod Facet
+pub mod BoundingBox
+pub mod Winding
+pub mod Touch

@@ -1,0 +1,39 @@
+-- Points in space by whole coordinates: points of a mesh, in micrometres, and centres of voxels, in half-micrometres.
+use Rattle.std.specs.Prelude.{ℕ, Bool, ◌&&◌, ◌||◌, ℤ, pos, ◌*ℤ◌, int_lt}
+use Rattle.std.specs.Ordering.{int_eq}
+use Rattle.exact_int.specs.Bounds.{IsAtMost}
+use Rattle.geometry.specs.declared.limits.TheConstants.{CENTRE_LIMIT, COORDINATE_LIMIT}
+
+pub record Point : Type 0 where
+  pub x : ℤ
+  pub y : ℤ
+  pub z : ℤ
+
+abbrev pub origin : Point
+origin = record { x = pos 0; y = pos 0; z = pos 0 }
+
+-- each coordinate is at most this far from 0
+abbrev pub IsWithin : ℕ → Point → Type 0
+IsWithin bound p = IsAtMost bound p.x × IsAtMost bound p.y × IsAtMost bound p.z
+
+-- a point of a mesh lies within 128 metres of 0, in micrometres
+abbrev pub IsMeshPoint : Point → Type 0
+IsMeshPoint p = IsWithin COORDINATE_LIMIT p
+
+-- a centre, in half-micrometres
+abbrev pub IsCentre : Point → Type 0
+IsCentre p = IsWithin CENTRE_LIMIT p
+
+-- a point in micrometres, given in half-micrometres
+abbrev pub doubled : Point → Point
+doubled p = record { x = pos 2 *ℤ p.x; y = pos 2 *ℤ p.y; z = pos 2 *ℤ p.z }
+
+-- the same coordinates
+abbrev pub same : Point → Point → Bool
+same p q = int_eq p.x q.x && int_eq p.y q.y && int_eq p.z q.z
+
+-- the order of points: by x, then y, then z
+abbrev pub is_before : Point → Point → Bool
+is_before p q =
+    int_lt p.x q.x
+    || (int_eq p.x q.x && (int_lt p.y q.y || (int_eq p.y q.y && int_lt p.z q.z)))

@@ -1,0 +1,39 @@
+//! The geometry of triangle meshes, in whole numbers.
+//!
+//! - [`Point`]: a point of a mesh, in whole micrometres; [`points_in_order`]: their order.
+//! - [`Facet`]: a triangle by its three corners, counterclockwise as seen from outside.
+//! - [`extent`]: the bounding box of facets.
+//! - [`is_below`], [`rises_through`]: the one tie rule of every cut and every ray.
+//! - [`COORDINATE_LIMIT`] and the other limits of coordinates, grids and meshes.
+//!
+//! ```
+//! // each corner is a `Some` of `Point::new`
+//! let facets = [Facet::of(corner(0, 0, 0), corner(5, 0, 0), corner(0, 5, 5))];
+//! assert!(rt; extent(&facets) == Some((corner(0, 0, 0), corner(5, 5, 5))));
+//! assert!(rt; is_below(4, 4) && rises_through(4, 5, 4) && !rises_through(3, 4, 4));
+//! ```
+//!
+//! Units: points are in whole micrometres. The centre of a pixel may lie half a micrometre between two of them, so what
+//! is compared with a centre is in half-micrometres (units of 0.5 µm): all centres are whole numbers then, and no
+//! comparison rounds. Names of such coordinates end in `2`.
+//!
+//! The definitions that other crates cite stand in `specs/`: winding and signed ray crossings (`Winding`), touch
+//! (`Touch`), half-edges (`Facet`), the tie rule (`TieRule`).
+#![tactic(auto)]
+
+mod bounding_box;
+mod facet;
+mod laws;
+mod limits;
+mod point;
+mod tie_rule;
+
+pub use bounding_box::extent;
+pub use facet::Facet;
+pub use laws::points_in_order;
+pub use limits::{
+    CENTRE_LIMIT, COLUMN_LIMIT, COORDINATE_LIMIT, CORNER_LIMIT, FACET_LIMIT, LAYER_LIMIT,
+    STEP_LIMIT,
+};
+pub use point::Point;
+pub use tie_rule::{is_below, rises_through};

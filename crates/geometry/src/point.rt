@@ -1,0 +1,76 @@
+//! Points of a mesh, in whole micrometres. A point in hand is in range, so no later product of coordinates overflows.
+ghost use Rattle.std.specs.Prelude.{◌≡◌, ◌<◌, ◌↔◌, IfSome, IsSome, IsTrue};
+ghost use Rattle.exact_int.specs.Bounds.{IsAtMost};
+ghost use Rattle.geometry.specs.Point.{Point, IsMeshPoint};
+ghost use Rattle.geometry.specs.declared.limits.TheConstants.{COORDINATE_LIMIT};
+
+use crate::limits::COORDINATE_LIMIT;
+use exact_int::is_at_most;
+use std::marker::Model;
+
+/// A point of a mesh, in micrometres; each coordinate lies from -[`COORDINATE_LIMIT`] to [`COORDINATE_LIMIT`], which is
+/// 128,000,000. Points are ordered by x, then y, then z.
+#[derive(Clone, Copy, Debug, PartialEq, Eq, PartialOrd, Ord)]
+pub struct Point {
+    x: i32,
+    y: i32,
+    z: i32,
+}
+
+impl Model for Point {
+    ghost use Rattle.geometry.specs.Point.{Point, IsMeshPoint};
+
+    ghost Value = { Point };
+
+    ghost view = { λ p. record { x = p.x; y = p.y; z = p.z } };
+
+    ghost invariant = { λ p. IsMeshPoint (record { x = p.x; y = p.y; z = p.z }) };
+
+    ghost inverse = { λ v. record { x = v.x; y = v.y; z = v.z } };
+}
+
+impl Point {
+    /// The point with these coordinates in micrometres, or `None` where one of them is more than [`COORDINATE_LIMIT`]
+    /// from 0.
+    pub fn new(x: i32, y: i32, z: i32) -> Option<Point>
+        ensures some { IsSome result ↔ IsMeshPoint (record { x = x; y = y; z = z }) }
+        ensures value { IfSome result (λ p. p ≡ record { x = x; y = y; z = z }) }
+    {
+        if is_coordinate(x) && is_coordinate(y) && is_coordinate(z) {
+            Some(Point { x, y, z })
+        } else {
+            None
+        }
+    }
+
+    /// The x coordinate, in micrometres.
+    pub fn x(&self) -> i32
+        ensures value { result ≡ self.now.x }
+        ensures within { IsAtMost COORDINATE_LIMIT result }
+    {
+        self.x
+    }
+
+    /// The y coordinate, in micrometres.
+    pub fn y(&self) -> i32
+        ensures value { result ≡ self.now.y }
+        ensures within { IsAtMost COORDINATE_LIMIT result }
+    {
+        self.y
+    }
+
+    /// The z coordinate, in micrometres.
+    pub fn z(&self) -> i32
+        ensures value { result ≡ self.now.z }
+        ensures within { IsAtMost COORDINATE_LIMIT result }
+    {
+        self.z
+    }
+}
+
+/// Whether a number of micrometres is in the range of coordinates.
+fn is_coordinate(z: i32) -> bool
+    ensures { IsTrue result ↔ IsAtMost COORDINATE_LIMIT z }
+{
+    is_at_most(COORDINATE_LIMIT, i64::from(z))
+}

@@ -1,0 +1,19 @@
+//! The limits as the documents publish them, stated here a second time, so that a limit changed by mistake fails a test.
+
+/// The greatest distance of a coordinate from 0, in micrometres.
+pub(crate) const FARTHEST: i32 = 128_000_000;
+
+/// The greatest distance of a centre's coordinate from 0, in half-micrometres.
+pub(crate) const FARTHEST_CENTRE: i64 = 256_200_000;
+
+/// The greatest count of columns, and of rows.
+pub(crate) const MOST_COLUMNS: u32 = 16_384;
+
+/// The greatest count of layers.
+pub(crate) const MOST_LAYERS: u32 = 65_535;
+
+/// A millimetre, in micrometres.
+pub(crate) const MILLIMETRE: i32 = 1_000;
+
+/// An inch, in micrometres.
+pub(crate) const INCH: i32 = 25_400;

@@ -1,0 +1,53 @@
+//! The book that the workers of a build share. Its type says of which job it is, so that nobody compares jobs while
+//! others wait for the lock.
+ghost use Rattle.std.specs.Prelude.{◌≡◌};
+ghost use Rattle.build_book.specs.Job.{Job, no_job};
+
+use build_book::{Book, Piece};
+use std::alloc::Allocator;
+use std::marker::{Brand, PhantomData};
+
+/// The job of a build, as a member of a type parameter. What the workers share cites it in its type.
+pub(crate) trait OfJob {
+    ghost job: { Job };
+}
+
+impl OfJob for Brand {
+    ghost job = { no_job };
+}
+
+/// The book of a build's own job.
+#[derive(Drop)]
+pub(crate) struct OwnBook<'m, A: Allocator, J: OfJob> {
+    book: Book<'m, A>,
+    of: PhantomData<J>,
+    ghost own: { book.job ≡ J.job },
+}
+
+impl<'m, A: Allocator + Copy + Send + Sync, J: OfJob> OwnBook<'m, A, J> {
+    /// A book of the build's job.
+    pub(crate) fn of(book: Book<'m, A>) -> OwnBook<'m, A, J>
+        requires { book.job ≡ J.job }
+        ensures { result.book ≡ book.entry }
+    {
+        OwnBook {
+            book,
+            of: PhantomData,
+        }
+    }
+
+    /// Files a piece of the build's job. A layer that isn't filed is made at the end.
+    pub(crate) fn file(&mut self, piece: Piece<'m, A>)
+        requires { piece.job ≡ J.job }
+    {
+        let _ = self.book.file_own(piece);
+    }
+
+    /// The book.
+    pub(crate) fn into_book(self) -> Book<'m, A>
+        ensures { result ≡ self.entry.book }
+    {
+        let OwnBook { book, .. } = self;
+        book
+    }
+}

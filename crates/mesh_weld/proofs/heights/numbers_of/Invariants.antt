@@ -1,5 +1,0 @@
-use Rattle.std.proofs.Common.{◌≡◌, ◌%◌, map, take}
-use Rattle.mesh_weld.proofs.heights.numbers_of.Given as goal
-
-abbrev pub invariant-loop-key : goal.invariant-loop-key
-invariant-loop-key g l = l.numbers.items ≡ map (λ key. key % 4294967296) (take l.key-index l.keys)

@@ -1,0 +1,63 @@
+-- A closed mesh as its kept facets and the number of dropped ones; its vertices and their numbers follow from these.
+use Rattle.std.specs.Prelude.{◌≡◌, ℕ, Bool, true, not, ◌&&◌, ◌||◌, List, [], ◌∷◌, length, map, filter, flat_map, count_by, IsPermutation, ℤ, if◌then◌else◌, slice_index_or, nat_lt, int_lt}
+use Rattle.std.specs.Ordering.{int_eq}
+use Rattle.std.specs.Int.{int_min}
+use Rattle.std.specs.List.{position_or_len, range_with_len, AllPairs}
+use Rattle.geometry.specs.Point.{Point, origin, same, is_before}
+use Rattle.geometry.specs.Facet.{Facet, facet_with, corners}
+
+pub record Solid : Type 0 where
+  pub facets : List Facet
+  pub dropped : ℕ
+
+-- a degenerate facet, one with two equal corners, is dropped
+abbrev pub is_kept : Facet → Bool
+is_kept t = not (same t.a t.b || same t.b t.c || same t.c t.a)
+
+abbrev pub kept_facets : List Facet → List Facet
+kept_facets facets = filter is_kept facets
+
+-- the mesh of facets
+abbrev pub solid_of : List Facet → Solid
+solid_of facets = record { facets = kept_facets facets; dropped = count_by (λ t. not (is_kept t)) facets }
+
+-- an ascending list with one more point, unless the list has this point
+abbrev pub with_point : Point → List Point → List Point
+with_point p [] = p ∷ []
+with_point p (q ∷ qs) =
+    if same p q then q ∷ qs else (if is_before p q then p ∷ q ∷ qs else q ∷ with_point p qs)
+
+-- the distinct points of a list in ascending order
+abbrev pub in_order : List Point → List Point
+in_order [] = []
+in_order (p ∷ ps) = with_point p (in_order ps)
+
+-- the distinct corners in ascending order
+abbrev pub vertices : List Facet → List Point
+vertices facets = in_order (flat_map corners facets)
+
+-- the number of a point: its index in a list
+abbrev pub number_of : List Point → Point → ℕ
+number_of points p = position_or_len (same p) points
+
+-- each facet by the numbers of its corners
+abbrev pub triples : List Facet → List (List ℕ)
+triples facets = map (λ t. map (number_of (vertices facets)) (corners t)) facets
+
+-- the least height of its corners
+abbrev pub least_z : Facet → ℤ
+least_z t = int_min (int_min t.a.z t.b.z) t.c.z
+
+abbrev pub facet_at : List Facet → ℕ → Facet
+facet_at facets n = slice_index_or facets n (facet_with origin origin origin)
+
+-- whether facet m stands before facet n: by least z, and by number where these are equal
+abbrev pub is_lower : List Facet → ℕ → ℕ → Bool
+is_lower facets m n =
+    int_lt (least_z (facet_at facets m)) (least_z (facet_at facets n))
+    || (int_eq (least_z (facet_at facets m)) (least_z (facet_at facets n)) && nat_lt m n)
+
+-- the numbers of all facets in that order
+pub record IsByHeight (facets : List Facet) (numbers : List ℕ) : Type 0 where
+  pub all : IsPermutation (range_with_len 0 (length facets)) numbers
+  pub ordered : AllPairs (λ m n. is_lower facets m n ≡ true) numbers

@@ -1,0 +1,97 @@
+//! The facets that welding drops, and how an open edge is counted over all facets.
+ghost use Rattle.std.specs.Prelude.{◌≡◌, ◌≤◌, ◌+◌, ◌&&◌, cond, count_by, not, filter, IfOk, length};
+ghost use Rattle.geometry.specs.Point.{same};
+ghost use Rattle.geometry.specs.Facet.{half_edges};
+ghost use Rattle.mesh_weld.specs.Balance.{edge_count};
+ghost use Rattle.mesh_weld.specs.Solid.{is_kept};
+ghost use Rattle.mesh_weld.specs.declared.weld_fault.WeldFault.TheVariants.{Open};
+ghost use Rattle.geometry.specs.declared.limits.TheConstants.{CORNER_LIMIT, FACET_LIMIT};
+
+use crate::weld_fault::WeldFault;
+use geometry::{Facet, Point};
+use std::alloc::{AllocError, Allocator};
+
+/// Whether the three corners are distinct, so that the facet is kept.
+fn has_distinct_corners(facet: &Facet) -> bool
+    ensures { result ≡ is_kept facet.now }
+{
+    let (first, second, third) = (facet.corner(0), facet.corner(1), facet.corner(2));
+    !(is_same(first, second) || is_same(second, third) || is_same(third, first))
+}
+
+fn is_same(first: Point, second: Point) -> bool
+    ensures { result ≡ same first second }
+{
+    first == second
+}
+
+/// The degenerate facets: those with two equal corners.
+pub(crate) fn degenerate_facets<A: Allocator + Copy>(
+    alloc: A,
+    facets: &[Facet],
+) -> Result<Vec<Facet, A>, AllocError>
+    ensures { IfOk result (λ degenerate. degenerate.items ≡ filter (λ t. not (is_kept t)) facets.now) }
+{
+    let mut degenerate = Vec::new(alloc);
+    for facet in facets {
+        if !has_distinct_corners(facet) {
+            degenerate.push(*facet)?;
+        }
+    }
+    Ok(degenerate)
+}
+
+/// Drops the degenerate facets, of which there are `dropped`.
+pub(crate) fn drop_degenerate<A: Allocator>(facets: &mut Vec<Facet, A>, dropped: usize)
+    requires { dropped ≡ count_by (λ t. not (is_kept t)) facets.old.items }
+    ensures { facets.new.items ≡ filter is_kept facets.old.items }
+{
+    if dropped > 0 {
+        facets.retain(|facet| has_distinct_corners(facet));
+    }
+}
+
+/// The number of edges from one point to the other.
+fn count_edges(facets: &[Facet], from: Point, to: Point) -> u32
+    requires { length facets.now ≤ FACET_LIMIT }
+    ensures count { result ≡ edge_count facets.now from to }
+    ensures limit { result ≤ CORNER_LIMIT }
+{
+    let mut count = 0;
+    for facet in facets {
+        count += count_own(facet, from, to);
+    }
+    count
+}
+
+/// The number of a facet's edges from one point to the other.
+fn count_own(facet: &Facet, from: Point, to: Point) -> u32
+    ensures count { result ≡ count_by (λ e. same e.from from && same e.to to) (half_edges facet.now) }
+    ensures limit { result ≤ 3 }
+{
+    let (first, second, third) = (facet.corner(0), facet.corner(1), facet.corner(2));
+    runs(first, second, from, to) + runs(second, third, from, to) + runs(third, first, from, to)
+}
+
+/// 1 for an edge from one point to the other, 0 for another edge.
+fn runs(first: Point, second: Point, from: Point, to: Point) -> u32
+    ensures count { result ≡ cond (same first from && same second to) 1 0 }
+    ensures limit { result ≤ 1 }
+{
+    u32::from(is_same(first, from) && is_same(second, to))
+}
+
+/// The fault of an open edge, with both numbers counted over all facets.
+pub(crate) fn open_edge(kept: &[Facet], degenerate: &[Facet], from: Point, to: Point) -> WeldFault
+    requires kept { length kept.now ≤ FACET_LIMIT }
+    requires degenerate { length degenerate.now ≤ FACET_LIMIT }
+    ensures { result ≡ Open from to (edge_count kept.now from to + edge_count degenerate.now from to)
+        (edge_count kept.now to from + edge_count degenerate.now to from) }
+{
+    WeldFault::Open {
+        from,
+        to,
+        there: count_edges(kept, from, to) + count_edges(degenerate, from, to),
+        back: count_edges(kept, to, from) + count_edges(degenerate, to, from),
+    }
+}

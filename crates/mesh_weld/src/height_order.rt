@@ -1,0 +1,82 @@
+//! Facets in the order in which a sweep from below meets them.
+ghost use Rattle.std.specs.Prelude.{◌≡◌, ◌≤◌, ◌^◌, ◌%◌, ◌/◌, ◌+ℤ◌, pos, IfOk, length, map};
+ghost use Rattle.std.specs.List.{range_with_len};
+ghost use Rattle.std.specs.List.Sorted.{IsPermutation, IsNonDecreasing};
+ghost use Rattle.mesh_weld.specs.HeightOrder.{AreHeightKeys};
+ghost use Rattle.mesh_weld.specs.Solid.{IsByHeight, least_z};
+ghost use Rattle.geometry.specs.declared.limits.TheConstants.{FACET_LIMIT};
+
+use crate::packing::{HALF_WORD, packed};
+use geometry::Facet;
+use std::alloc::{AllocError, Allocator};
+
+/// The numbers of the facets by ascending least height, and by number where least heights are equal.
+pub(crate) fn order_by_height<A: Allocator + Copy>(
+    alloc: A,
+    facets: &[Facet],
+) -> Result<Vec<u32, A>, AllocError>
+    requires { length facets.now ≤ FACET_LIMIT }
+    ensures { IfOk result (λ order. IsByHeight facets.now order.items) }
+{
+    let mut keys = list_heights(alloc, facets)?;
+    sort_heights(&mut keys);
+    numbers_of(alloc, keys.as_slice())
+}
+
+/// A facet's least height, made no less than 0, in the upper half of a word, and its number in the lower half.
+type HeightKey = u64;
+
+/// Added to a height so that it is no less than 0.
+const HEIGHT_OFFSET: i64 = 1 << 31;
+
+/// The keys of the facets, in their order.
+fn list_heights<A: Allocator + Copy>(
+    alloc: A,
+    facets: &[Facet],
+) -> Result<Vec<HeightKey, A>, AllocError>
+    requires { length facets.now ≤ FACET_LIMIT }
+    ensures numbers { IfOk result (λ keys. map (λ key. key % 2 ^ 32) keys.items ≡ range_with_len 0 (length facets.now)) }
+    ensures heights { IfOk result (λ keys. AreHeightKeys facets.now keys.items) }
+{
+    let mut keys = Vec::with_capacity(alloc, facets.len())?;
+    for facet in facets {
+        let number = keys.len() as u32;
+        keys.push(height_key(facet, number))?;
+    }
+    Ok(keys)
+}
+
+/// A key that ascends with a facet's least height, and then with its number.
+fn height_key(facet: &Facet, number: u32) -> HeightKey
+    ensures number { result % 2 ^ 32 ≡ number }
+    ensures height { pos (result / 2 ^ 32) ≡ least_z facet.now +ℤ pos (2 ^ 31) }
+{
+    let above = (i64::from(lowest(facet)) + HEIGHT_OFFSET) as u32;
+    packed(above, number)
+}
+
+/// The least height of a facet's corners, in micrometres.
+pub fn lowest(facet: &Facet) -> i32
+    ensures { result ≡ least_z facet.now }
+{
+    let (first, second, third) = (facet.corner(0), facet.corner(1), facet.corner(2));
+    first.z().min(second.z()).min(third.z())
+}
+
+fn sort_heights<A: Allocator>(keys: &mut Vec<HeightKey, A>)
+    ensures permuted { IsPermutation keys.old.items keys.new.items }
+    ensures ascending { IsNonDecreasing keys.new.items }
+{
+    keys.sort_unstable();
+}
+
+/// The numbers of the facets that have the keys.
+fn numbers_of<A: Allocator + Copy>(alloc: A, keys: &[HeightKey]) -> Result<Vec<u32, A>, AllocError>
+    ensures { IfOk result (λ numbers. numbers.items ≡ map (λ key. key % 2 ^ 32) keys.now) }
+{
+    let mut numbers = Vec::with_capacity(alloc, keys.len())?;
+    for key in keys {
+        numbers.push((*key % HALF_WORD) as u32)?;
+    }
+    Ok(numbers)
+}

@@ -1,0 +1,73 @@
+//! Runs of half-edges with the same two ends, by which both ways see whether edges balance.
+ghost use Rattle.std.specs.Prelude.{◌≡◌, ◌↔◌, ◌<◌, ◌*◌, ◌+◌, ◌-◌, ◌^◌, IsTrue, min, max};
+ghost use Rattle.mesh_weld.specs.Run.{started, counted};
+
+use crate::half_edge::HalfEdge;
+use crate::packing::packed;
+
+/// A run of half-edges with the same two ends in a sorted list: the numbers of those from the lesser end to the greater
+/// one, and of those back.
+#[derive(Clone, Copy)]
+pub(crate) struct Run {
+    pub low: u32,
+    pub high: u32,
+    pub there: u32,
+    pub back: u32,
+}
+
+impl Run {
+    pub const NONE: Run = Run {
+        low: 0,
+        high: 0,
+        there: 0,
+        back: 0,
+    };
+
+    /// The run of a half-edge's ends, before any half-edge is counted.
+    pub fn started(half_edge: &HalfEdge) -> Run
+        ensures { result ≡ started half_edge.now }
+    {
+        Run {
+            low: half_edge.from.min(half_edge.to),
+            high: half_edge.from.max(half_edge.to),
+            ..Run::NONE
+        }
+    }
+
+    /// The key that a half-edge with these ends has.
+    pub fn pair(&self) -> u64
+        ensures { result ≡ self.now.low * 2 ^ 32 + self.now.high }
+    {
+        packed(self.low, self.high)
+    }
+
+    /// Whether a half-edge has the run's ends.
+    pub fn has_ends_of(&self, half_edge: &HalfEdge) -> bool
+        ensures in_range { (self.now.high < 2 ^ 32) × (half_edge.now.from < 2 ^ 32) × (half_edge.now.to < 2 ^ 32) }
+        ensures value { IsTrue result ↔ (self.now.low ≡ min half_edge.now.from half_edge.now.to) × (self.now.high ≡ max half_edge.now.from half_edge.now.to) }
+    {
+        let (from, to, high) = (half_edge.from, half_edge.to, self.high);
+        self.low == from.min(to) && high == from.max(to)
+    }
+
+    /// The run with one more half-edge between its ends.
+    pub fn counted(self, half_edge: &HalfEdge) -> Run
+        requires there { self.there < 2 ^ 32 - 1 }
+        requires back { self.back < 2 ^ 32 - 1 }
+        ensures { result ≡ counted self half_edge.now }
+    {
+        if half_edge.from < half_edge.to {
+            Run {
+                there: self.there + 1,
+                ..self
+            }
+        } else if half_edge.to < half_edge.from {
+            Run {
+                back: self.back + 1,
+                ..self
+            }
+        } else {
+            self
+        }
+    }
+}

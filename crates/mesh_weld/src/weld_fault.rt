@@ -1,0 +1,32 @@
+//! Why welding fails.
+ghost use Rattle.std.specs.Prelude.{◌≡◌};
+ghost use Rattle.mesh_weld.specs.declared.weld_fault.WeldFault.TheVariants as weld_fault;
+
+use geometry::Point;
+use std::alloc::AllocError;
+use thiserror::Error;
+
+/// Why facets are no solid.
+#[derive(Clone, Copy, Debug, PartialEq, Eq, Error)]
+pub enum WeldFault {
+    /// The least pair of points, `from` before `to`, between which the directed edges there and back differ in number,
+    /// with both numbers, counted over all facets.
+    #[error("open edge {} {} {} to {} {} {} there {there} back {back}", .from.x(), .from.y(), .from.z(), .to.x(), .to.y(), .to.z())]
+    Open {
+        from: Point,
+        to: Point,
+        there: u32,
+        back: u32,
+    },
+    /// An allocation failed.
+    #[error("out of memory")]
+    Memory,
+}
+
+impl From<AllocError> for WeldFault {
+    ghost from_gives = { λ _ fault. fault ≡ weld_fault.Memory };
+
+    fn from(_refused: AllocError) -> WeldFault {
+        WeldFault::Memory
+    }
+}

@@ -1,0 +1,139 @@
+-- Texts and the coordinates that they stand for.
+use Rattle.std.proofs.Common.{◌≡◌, ◌++◌, replicate, refl, ap, lit≤, ◌+◌, ◌-◌, ◌^◌}
+use Rattle.std.specs.Prelude.{Ok, Err, pos, negsuc, codes}
+use Rattle.micro_num.specs.declared.unit.Unit.TheVariants.{Millimetre, Inch}
+use Rattle.micro_num.specs.declared.num_fault.NumFault.TheVariants.{NotNumber, TooLong, OutOfRange}
+use Rattle.micro_num.specs.Micrometres.{coordinate_of, coordinate_or_fault, magnitude}
+use Rattle.micro_num.proofs.lemmas.Magnitude.{magnitude-zero, magnitude_far, magnitude-near}
+use Rattle.geometry.specs.declared.limits.TheConstants.{COORDINATE_LIMIT}
+
+row_1 : coordinate_of Millimetre (codes "0.0005") ≡ Ok (pos 1)
+unfolding magnitude
+row_1 = refl
+
+row_2 : coordinate_of Millimetre (codes "-0.0005") ≡ Ok (negsuc 0)
+unfolding magnitude
+row_2 = refl
+
+row_3 : coordinate_of Millimetre (codes "4.9999E-4") ≡ Ok (pos 0)
+unfolding magnitude
+row_3 = refl
+
+row_4 : coordinate_of Millimetre (codes "2.648000e-002") ≡ Ok (pos 26)
+unfolding magnitude
+row_4 = refl
+
+row_6 : coordinate_of Millimetre (codes "1.") ≡ Ok (pos 1000)
+unfolding magnitude
+row_6 = refl
+
+row_7 : coordinate_of Millimetre (codes "+.5") ≡ Ok (pos 500)
+unfolding magnitude
+row_7 = refl
+
+row_8 : coordinate_of Millimetre (codes "8000.0005") ≡ Ok (pos 8000001)
+unfolding magnitude
+row_8 = refl
+
+row_9 : coordinate_of Millimetre (codes "128000.0004") ≡ Ok (pos COORDINATE_LIMIT)
+unfolding magnitude
+row_9 = refl
+
+row_10 : coordinate_of Millimetre (codes "128000.0005") ≡ Err OutOfRange
+unfolding magnitude
+row_10 = refl
+
+row_11 : coordinate_of Millimetre (codes ".") ≡ Err NotNumber
+unfolding magnitude
+row_11 = refl
+
+row_12 : coordinate_of Millimetre (codes "1e") ≡ Err NotNumber
+unfolding magnitude
+row_12 = refl
+
+row_13 : coordinate_of Millimetre (codes "1,5") ≡ Err NotNumber
+unfolding magnitude
+row_13 = refl
+
+row_14 : coordinate_of Millimetre (codes "nan") ≡ Err NotNumber
+unfolding magnitude
+row_14 = refl
+
+row_15 : coordinate_of Millimetre (codes "") ≡ Err NotNumber
+unfolding magnitude
+row_15 = refl
+
+row_16 : coordinate_of Millimetre (replicate 255 48) ≡ Ok (pos 0)
+unfolding magnitude
+row_16 = refl
+
+row_17 : coordinate_of Millimetre (replicate 256 48) ≡ Err TooLong
+unfolding magnitude
+row_17 = refl
+
+row_20 : coordinate_of Millimetre (codes "1" ++ replicate 240 48 ++ codes "e-240") ≡ Ok (pos 1000)
+unfolding magnitude
+row_20 = refl
+
+row_21 : coordinate_of Millimetre (codes "0." ++ replicate 240 48 ++ codes "1e241") ≡ Ok (pos 1000)
+unfolding magnitude
+row_21 = refl
+
+row_22 : coordinate_of Millimetre (codes "0." ++ replicate 240 48 ++ codes "5e237") ≡ Ok (pos 1)
+unfolding magnitude
+row_22 = refl
+
+row_23 : coordinate_of Millimetre (codes "0.00049" ++ replicate 240 57) ≡ Ok (pos 0)
+unfolding magnitude
+row_23 = refl
+
+inch_1 : coordinate_of Inch (codes "1") ≡ Ok (pos 25400)
+unfolding magnitude
+inch_1 = refl
+
+inch_2 : coordinate_of Inch (codes "0.0001") ≡ Ok (pos 3)
+unfolding magnitude
+inch_2 = refl
+
+inch_3 : coordinate_of Inch (codes "0.0025") ≡ Ok (pos 64)
+unfolding magnitude
+inch_3 = refl
+
+inch_4 : coordinate_of Inch (codes "-0.0025") ≡ Ok (negsuc 63)
+unfolding magnitude
+inch_4 = refl
+
+inch_5 : coordinate_of Inch (codes "0.0025" ++ replicate 240 48) ≡ Ok (pos 64)
+unfolding magnitude
+inch_5 = refl
+
+inch_6 : coordinate_of Inch (codes "0.00249" ++ replicate 240 57) ≡ Ok (pos 63)
+unfolding magnitude
+inch_6 = refl
+
+inch_7 : coordinate_of Inch (codes "5039.37") ≡ Ok (pos 127999998)
+unfolding magnitude
+inch_7 = refl
+
+inch_8 : coordinate_of Inch (codes "5039.37008") ≡ Ok (pos COORDINATE_LIMIT)
+unfolding magnitude
+inch_8 = refl
+
+inch_9 : coordinate_of Inch (codes "5039.3701") ≡ Err OutOfRange
+unfolding magnitude
+inch_9 = refl
+
+huge_1 : coordinate_of Millimetre (codes "0e99999999999") ≡ Ok (pos 0)
+huge_1 = ap (λ n. coordinate_or_fault (pos n)) (magnitude-zero (pos 100000000002))
+
+huge_2 : coordinate_of Millimetre (codes "1e99999999999") ≡ Err OutOfRange
+huge_2 = magnitude_far 1 100000000002 (lit≤ tt) (lit≤ tt)
+
+huge_3 : coordinate_of Millimetre (codes "0e" ++ replicate 253 57) ≡ Ok (pos 0)
+huge_3 = ap (λ n. coordinate_or_fault (pos n)) (magnitude-zero (pos (10 ^ 253 + 2)))
+
+huge_4 : coordinate_of Millimetre (codes "1e-" ++ replicate 252 57) ≡ Ok (pos 0)
+huge_4 = ap (λ n. coordinate_or_fault (pos n)) (magnitude-near 1 (10 ^ 252 - 5) (lit≤ tt) (lit≤ tt))
+
+huge_5 : coordinate_of Millimetre (codes "1e" ++ replicate 253 57) ≡ Err OutOfRange
+huge_5 = magnitude_far 1 (10 ^ 253 + 2) (lit≤ tt) (lit≤ tt)

@@ -1,0 +1,10 @@
+pub mod Magnitude
+pub mod Grammar
+pub mod Leading
+pub mod DigitRows
+pub mod Powers
+pub mod Capped
+pub mod Scanning
+pub mod Exponents
+pub mod Inches
+pub mod Coordinates

@@ -1,0 +1,9 @@
+//! The unit of a text's numbers: STL names none, so whoever reads a text gives it.
+/// The unit that the numbers of a text are in.
+#[derive(Clone, Copy, Debug, PartialEq, Eq)]
+pub enum Unit {
+    /// 1,000 micrometres.
+    Millimetre,
+    /// 25,400 micrometres.
+    Inch,
+}

@@ -1,8 +1,0 @@
-/// The unit that the numbers of a text are in.
-#[derive(Clone, Copy, Debug, PartialEq, Eq)]
-pub enum Unit {
-    /// 1,000 micrometres.
-    Millimetre,
-    /// 25,400 micrometres.
-    Inch,
-}

@@ -1,6 +1,0 @@
-use Rattle.std.proofs.Common.{refl, arith}
-use Rattle.raster.proofs.Packing.{blank-at}
-use Rattle.raster.proofs.chunk.Chunk.new.Goals as goal
-
-pub invariant_of-result : goal.invariant_of-result
-invariant_of-result c = (omega arith, refl, λ k low. blank-at 16384 k)

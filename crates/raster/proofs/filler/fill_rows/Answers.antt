@@ -1,0 +1,26 @@
+use Rattle.std.proofs.Common.{◌≡◌, ℕ, ap, subst, ◌∙◌, arith}
+use Rattle.raster.specs.Crossings.{signs}
+use Rattle.raster.specs.RowSpans.{AreSpansBelow}
+use Rattle.raster.proofs.lemmas.Layers.{spans-more}
+use Rattle.raster.proofs.filler.fill_rows.Goals as goal
+
+pub fill_row-requires-clause-balanced : goal.fill_row-requires-clause-balanced
+fill_row-requires-clause-balanced g c =
+    ap signs (c.loop-row.invariant.left c.loop-row.row (omega arith)) ∙ c.requires.balanced c.loop-row.row c.loop-row-test.true
+
+pub loop-row-preserved : goal.loop-row-preserved
+loop-row-preserved g c =
+    let inv = c.loop-row.invariant in
+    let done = c.in_ok-fill_row.ensures in
+    record {
+      rows = done.rows ∙ inv.rows;
+      left = λ j low. done.elsewhere j (λ same. omega (arith, low, same)) ∙ inv.left j (omega (arith, low));
+      spans = λ columns inside.
+          spans-more c.args.rule columns c.loop-row.row c.args.crossings.now c.loop-row.out.items c.fill_row.new.out.items inside done.kept
+          (rw (inv.left c.loop-row.row (omega arith)) at done.added) (inv.spans columns inside);
+    }
+
+pub returns : goal.returns
+returns g c = λ columns inside.
+    let all : c.loop-row.row ≡ c.args.rows = omega (arith, c.loop-row-test.false) in
+    subst (λ (n : ℕ). AreSpansBelow c.args.rule columns n c.args.crossings.now c.loop-row.out.items) all (c.loop-row.invariant.spans columns inside)

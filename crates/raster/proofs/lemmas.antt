@@ -1,0 +1,17 @@
+pub mod Areas
+pub mod Masks
+pub mod Packing
+pub mod Ordered
+pub mod Covered
+pub mod Decimals
+pub mod Sent
+pub mod Written
+pub mod Sweeps
+pub mod Pairs
+pub mod Walks
+pub mod RowCrossings
+pub mod Layers
+pub mod Boxes
+pub mod Segs
+pub mod Pixels
+pub mod Middles

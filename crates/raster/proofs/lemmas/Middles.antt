@@ -1,0 +1,103 @@
+-- The middle of a cell and the grid of a box, as the machine computes them.
+use Rattle.std.proofs.Common.{◌≡◌, ℕ, ◌+◌, ◌-◌, ◌*◌, ◌<◌, ◌≤◌, Bool, true, false, cond, ◌||◌, refl, ap, subst, sym, ◌∙◌, arith}
+use Rattle.std.specs.Prelude.{ℤ, pos, ◌+ℤ◌, ◌*ℤ◌, ◌≤ℤ◌, FitsSigned, int_lt, ◌==◌, Ok, Err}
+use Rattle.std.proofs.lemmas.Int.{ints, to_z-of_z}
+use Rattle.std.proofs.lemmas.Bool.Decides.{nat_tests}
+use Rattle.std.proofs.Math.Nat.{mul-le-mul}
+use mir.Syntax.{w32, w64}
+use mir.Val.{Fits, of_z, to_z}
+use Rattle.exact_int.specs.Bounds.{IsAtMost}
+use Rattle.exact_int.proofs.lemmas.Sizes.{cast_in, fits, size_add, size_back, size_known, size_mul, size_pos}
+use Rattle.geometry.specs.Point.{Point}
+use Rattle.raster.specs.Grid.{cell_count, given_grid, grid_with, has_no_cells, is_too_large, middle, reaches_too_far, too_large, within_limits}
+use Rattle.raster.specs.declared.grid.GridFault.TheVariants.{NoCells, FarCentre}
+use Rattle.geometry.specs.declared.limits.TheConstants.{CENTRE_LIMIT, COORDINATE_LIMIT, LAYER_LIMIT, STEP_LIMIT}
+
+pub double-fits : (n : ℕ) → n ≤ LAYER_LIMIT → Fits w64 (2 * n)
+double-fits n h = record { fits = omega arith }
+
+pub odd-fits : (n : ℕ) → n ≤ LAYER_LIMIT → Fits w64 (2 * n + 1)
+odd-fits n h = record { fits = omega arith }
+
+reach : (a b : ℕ) → a ≤ STEP_LIMIT → b ≤ LAYER_LIMIT → a * (2 * b + 1) ≤ 13107100000
+reach a b h k = let odd : 2 * b + 1 ≤ 131071 = omega arith in mul-le-mul h odd
+
+pub reach-fits : (a b : ℕ) → a ≤ STEP_LIMIT → b ≤ LAYER_LIMIT → Fits w64 (a * (2 * b + 1))
+reach-fits a b h k = record { fits = small (a * (2 * b + 1)) (reach a b h k) }
+  where
+    small : (n : ℕ) → n ≤ 13107100000 → n < 18446744073709551616
+    small n h = omega arith
+
+reach-in : (a b : ℕ) → a ≤ STEP_LIMIT → b ≤ LAYER_LIMIT → IsAtMost 13107100000 (pos (a * (2 * b + 1)))
+reach-in a b h k = record { at_most = reach a b h k }
+
+pub reach-signed : (a b : ℕ) → a ≤ STEP_LIMIT → b ≤ LAYER_LIMIT → FitsSigned w64 (pos (a * (2 * b + 1)))
+reach-signed a b h k = fits w64 (size_known (reach-in a b h k)) refl
+
+pub twice-fits : (s : ℤ) → IsAtMost COORDINATE_LIMIT s → FitsSigned w64 (pos 2 *ℤ to_z w64 (of_z w64 s))
+twice-fits s h = fits w64 (size_mul (size_pos 2) (size_back w64 s (size_known h))) refl
+
+pub middle-fits : (s : ℤ) (a b : ℕ) → IsAtMost COORDINATE_LIMIT s → a ≤ STEP_LIMIT → b ≤ LAYER_LIMIT
+    → FitsSigned w64 (to_z w64 (of_z w64 (pos 2 *ℤ to_z w64 (of_z w64 s))) +ℤ to_z w64 (a * (2 * b + 1)))
+middle-fits s a b h k l =
+    fits w64 (size_add (size_back w64 (pos 2 *ℤ to_z w64 (of_z w64 s)) (size_mul (size_pos 2) (size_back w64 s (size_known h))))
+    (size_known (cast_in w64 (a * (2 * b + 1)) 13107100000 (reach a b k l)))) refl
+
+pub middle-read : (start s : ℤ) (step number a b : ℕ) → s ≡ start → a ≡ step → b ≡ number → IsAtMost COORDINATE_LIMIT s → a ≤ STEP_LIMIT → b ≤ LAYER_LIMIT
+    → to_z w64 (of_z w64 (to_z w64 (of_z w64 (pos 2 *ℤ to_z w64 (of_z w64 s))) +ℤ to_z w64 (a * (2 * b + 1)))) ≡ middle start step number
+middle-read start s step number a b e f g h k l =
+    to_z-of_z w64 (to_z w64 (of_z w64 (pos 2 *ℤ to_z w64 (of_z w64 s))) +ℤ to_z w64 (a * (2 * b + 1))) (middle-fits s a b h k l)
+    ∙ ap (λ x. x +ℤ to_z w64 (a * (2 * b + 1))) (to_z-of_z w64 (pos 2 *ℤ to_z w64 (of_z w64 s)) (twice-fits s h))
+    ∙ ap (λ x. pos 2 *ℤ x +ℤ to_z w64 (a * (2 * b + 1))) (to_z-of_z w64 s (fits w64 (size_known h) refl))
+    ∙ ap (λ x. pos 2 *ℤ s +ℤ x) (to_z-of_z w64 (pos (a * (2 * b + 1))) (reach-signed a b k l))
+    ∙ ap (λ x. middle x a b) e ∙ ap (λ n. middle start n b) f ∙ ap (λ n. middle start step n) g
+
+-- ---- the grid of a box
+pub coordinate : (z : ℤ) → IsAtMost COORDINATE_LIMIT z → to_z w32 (of_z w32 z) ≡ z
+coordinate z h = to_z-of_z w32 z (fits w32 (size_known h) refl)
+
+pub coordinate-in : (z : ℤ) → IsAtMost COORDINATE_LIMIT z → IsAtMost COORDINATE_LIMIT (to_z w32 (of_z w32 z))
+coordinate-in z h = subst (IsAtMost COORDINATE_LIMIT) (sym (coordinate z h)) h
+
+pub coordinates-up : (a b low high : ℤ) → a ≡ low → b ≡ high → low ≤ℤ high → a ≤ℤ b
+coordinates-up a b low high e f h = subst (λ (z : ℤ). a ≤ℤ z) (sym f) (subst (λ (z : ℤ). z ≤ℤ high) (sym e) h)
+
+pub last-from : (a low : ℤ) (step n : ℕ) → a ≡ low → middle a step (n - 1) ≤ℤ pos CENTRE_LIMIT → middle low step (n - 1) ≤ℤ pos CENTRE_LIMIT
+last-from a low step n e h = subst (λ (z : ℤ). middle z step (n - 1) ≤ℤ pos CENTRE_LIMIT) e h
+
+pub count-from : (n : ℕ) (a b low high : ℤ) (step : ℕ) → n ≡ cell_count a b step → a ≡ low → b ≡ high → n ≡ cell_count low high step
+count-from n a b low high step h e f = h ∙ ap (λ z. cell_count z b step) e ∙ ap (λ z. cell_count low z step) f
+
+pub limits-from : (low : Point) (pitch height a b c x y z : ℕ) → a ≡ x → b ≡ y → c ≡ z
+    → within_limits (grid_with low pitch height a b c) ≡ within_limits (grid_with low pitch height x y z)
+limits-from low pitch height a b c x y z e f g =
+    ap (λ n. within_limits (grid_with low pitch height n b c)) e
+    ∙ ap (λ n. within_limits (grid_with low pitch height x n c)) f
+    ∙ ap (λ n. within_limits (grid_with low pitch height x y n)) g
+
+no-cells : (a b c : ℕ) → 1 ≤ a → 1 ≤ b → 1 ≤ c → (a == 0 || b == 0 || c == 0) ≡ false
+no-cells a b c h k l = grind (arith, nat_tests, h, k, l)
+
+not-beyond : (n : ℕ) (z : ℤ) → z ≤ℤ pos n → int_lt (pos n) z ≡ false
+not-beyond n z h = grind (arith, ints, h)
+
+neither : (a b c : Bool) → a ≡ false → b ≡ false → c ≡ false → (a || b || c) ≡ false
+neither true b c f g h = f
+neither false true c f g h = g
+neither false false c f g h = h
+
+decided : {R : Type 0} (a b c : Bool) (x y z w : R) → a ≡ false → c ≡ false → cond a x (cond b y (cond c z w)) ≡ cond b y w
+decided true b c x y z w e f = absurd (grind (arith, e))
+decided false true c x y z w e f = refl
+decided false false true x y z w e f = absurd (grind (arith, f))
+decided false false false x y z w e f = refl
+
+-- a grid with cells that doesn't reach too far is refused for its counts alone
+pub given-limits : (low : Point) (pitch height a b c : ℕ) → 1 ≤ a → 1 ≤ b → 1 ≤ c
+    → middle low.x pitch (a - 1) ≤ℤ pos CENTRE_LIMIT → middle low.y pitch (b - 1) ≤ℤ pos CENTRE_LIMIT → middle low.z height (c - 1) ≤ℤ pos CENTRE_LIMIT
+    → given_grid (grid_with low pitch height a b c) ≡ within_limits (grid_with low pitch height a b c)
+given-limits low pitch height a b c one two three x y z =
+    let g = grid_with low pitch height a b c in
+    decided (has_no_cells g) (is_too_large g) (reaches_too_far g) (Err NoCells) (Err (too_large g)) (Err FarCentre) (Ok g)
+    (no-cells a b c one two three)
+    (neither _ _ _ (not-beyond CENTRE_LIMIT (middle low.x pitch (a - 1)) x) (not-beyond CENTRE_LIMIT (middle low.y pitch (b - 1)) y) (not-beyond CENTRE_LIMIT (middle low.z height (c - 1)) z))

@@ -1,0 +1,58 @@
+-- What the form of spans says of those at their places.
+use Rattle.std.proofs.Common.{◌≡◌, ℕ, zero, suc, ◌+◌, ◌-◌, ◌<◌, ◌≤◌, ◌⊎◌, inl, inr, List, [], ◌∷◌, Bool, true, false, ◌&&◌, length, get_or, refl, ap, sym, arith}
+use Rattle.std.specs.Prelude.{nat_lt}
+use Rattle.std.specs.List.{list_all}
+use Rattle.std.proofs.lemmas.Bool.Decides.{nat_tests}
+use Rattle.raster.specs.declared.span.Span.{Span}
+use Rattle.raster.specs.Span.{are_apart, is_span_before}
+use Rattle.raster.specs.Rows.{IsSplit, are_within, crosses, span_at}
+use Rattle.raster.proofs.lemmas.Areas.{and-left, and-right, before-test}
+
+pub all-at : {X : Type 0} (p : X → Bool) (xs : List X) (d : X) (k : ℕ) → list_all p xs ≡ true → k < length xs → p (get_or xs k d) ≡ true
+all-at p [] d k h low = absurd (omega arith)
+all-at p (x ∷ xs) d zero h low = and-left (p x) (list_all p xs) h
+all-at p (x ∷ xs) d (suc k) h low = all-at p xs d k (and-right (p x) (list_all p xs) h) (omega arith)
+
+row-le : (s t : Span) → (s.row < t.row) ⊎ ((s.row ≡ t.row) × (s.to < t.from)) → s.row ≤ t.row
+row-le s t (inl h) = omega arith
+row-le s t (inr h) = omega (arith, h.0)
+
+pub rows-ascend : (spans : List Span) (k l : ℕ) → are_apart spans ≡ true → k < l → l < length spans → (span_at spans k).row ≤ (span_at spans l).row
+rows-ascend [] k l h low room = absurd (omega arith)
+rows-ascend (s ∷ rest) k zero h low room = absurd (omega arith)
+rows-ascend (s ∷ rest) zero (suc l) h low room =
+    row-le s (span_at rest l) (before-test s (span_at rest l) (all-at (is_span_before s) rest (record { row = 0; from = 0; to = 0 }) l (and-left (list_all (is_span_before s) rest) (are_apart rest) h) (omega arith)))
+rows-ascend (s ∷ rest) (suc k) (suc l) h low room =
+    rows-ascend rest k l (and-right (list_all (is_span_before s) rest) (are_apart rest) h) (omega arith) (omega arith)
+
+last-or-before : (k n : ℕ) → k < n → (k ≡ n - 1) ⊎ (k < n - 1)
+last-or-before k n h = grind arith
+
+-- the spans of a row begin behind a span of a lower row
+pub split-here : (spans : List Span) (start end number : ℕ) → are_apart spans ≡ true → IsSplit spans end (number + 1) → start ≤ end → 0 < start → ((span_at spans (start - 1)).row ≡ number → ⊥) → ((k : ℕ) → start ≤ k → k < length spans → number ≤ (span_at spans k).row) → IsSplit spans start number
+split-here spans start end number apart split order some other above =
+    let last : (span_at spans (start - 1)).row < number = lower (span_at spans (start - 1)).row number (split.below (start - 1) (omega arith)) other in
+    record {
+      within = omega (arith, split.within);
+      below = λ k h. elim (last-or-before k start h) [
+        | inl e ↦ omega (arith, ap (λ (n : ℕ). (span_at spans n).row) e, last)
+        | inr h' ↦ omega (arith, rows-ascend spans k (start - 1) apart h' (omega (arith, split.within)), last)
+      ];
+      above = above;
+    }
+  where
+    lower : (r n : ℕ) → r < n + 1 → (r ≡ n → ⊥) → r < n
+    lower r n h ne = grind arith
+
+-- a column in a span lies within the width
+pub within-crosses : (width : ℕ) (spans : List Span) (i : ℕ) → are_within width spans ≡ true → crosses spans i ≡ (nat_lt i width && crosses spans i)
+within-crosses width spans i h = settle (crosses spans i) (nat_lt i width) (λ e. inside spans h e)
+  where
+    settle : (a b : Bool) → (a ≡ true → b ≡ true) → a ≡ (b && a)
+    settle true b f = sym (ap (λ (c : Bool). c && true) (f refl))
+    settle false true f = refl
+    settle false false f = refl
+
+    inside : (spans : List Span) → are_within width spans ≡ true → crosses spans i ≡ true → nat_lt i width ≡ true
+    inside [] h e = absurd (grind arith)
+    inside (s ∷ rest) h e = grind (arith, nat_tests, inside rest)

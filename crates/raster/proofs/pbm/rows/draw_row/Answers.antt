@@ -1,0 +1,14 @@
+use Rattle.std.proofs.Common.{◌∙◌, ap, List}
+use Rattle.std.proofs.lemmas.List.{take_all}
+use Rattle.raster.specs.declared.span.Span.{Span}
+use Rattle.raster.specs.Rows.{crosses}
+use Rattle.raster.proofs.lemmas.Packing.{indicator, row-is}
+use Rattle.raster.proofs.lemmas.Ordered.{within-crosses}
+use Rattle.raster.proofs.pbm.rows.draw_row.Goals as goal
+
+pub returns : goal.returns
+returns c =
+    row-is c.args.width c.loop-span.row (crosses c.args.spans.now)
+    (c.loop-span.auto.row ∙ c.requires.size)
+    c.loop-span.invariant.bytes
+    (λ i. c.loop-span.invariant.drawn i ∙ ap (λ (spans : List Span). indicator (crosses spans i)) (take_all c.loop-span.span-index c.args.spans.now c.loop-span-test.false) ∙ ap indicator (within-crosses c.args.width c.args.spans.now i c.requires.within))

@@ -1,7 +1,0 @@
-use Rattle.std.specs.Vec.{with_items}
-use Rattle.raster.proofs.RowMarks.{changed-elsewhere}
-use Rattle.raster.proofs.row_marks.RowMarks.fill_row.Goals as goal
-
-pub returns-clause-elsewhere : goal.returns-clause-elsewhere
-returns-clause-elsewhere g c =
-    changed-elsewhere (λ v. v.items) c.self.inside.rows.items c.args.self.now c.args.row (with_items c.index_mut.result.now c.fill_row.new.marks) c.self.view_is

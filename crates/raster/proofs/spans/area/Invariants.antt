@@ -1,6 +1,0 @@
-use Rattle.std.proofs.Common.{◌≡◌, take}
-use Rattle.raster.specs.Fill.{span_area}
-use Rattle.raster.proofs.spans.area.Given as goal
-
-abbrev pub invariant-loop-span : goal.invariant-loop-span
-invariant-loop-span l = l.sum ≡ span_area (take l.span-index l.spans)

@@ -1,0 +1,205 @@
+//! The crossings of a layer's rows with the mesh: where each scanline crosses which facet, by column, and with which sign.
+ghost use Rattle.std.specs.Prelude.{◌≡◌, ◌≢◌, ◌<◌, ◌≤◌, ◌++◌, ◌∷◌, ◌+◌, ◌+ℤ◌, ◌-ℤ◌, [], All, OnOk, drop, length, pos, take, ℕ};
+ghost use Rattle.std.specs.Ordering.{int_eq};
+ghost use Rattle.exact_int.specs.Bounds.{IsAtMost};
+ghost use Rattle.geometry.specs.Facet.{twice};
+ghost use Rattle.geometry.specs.Winding.{hit, total, wind};
+ghost use Rattle.contour.specs.Segment.{segments};
+ghost use Rattle.exact_cut.specs.Lattice.{pixel, row_y};
+ghost use Rattle.raster.specs.Crossings.{AreCrossingsWithin, crossings_along, crossings_in, row_passed, row_signs, signs};
+ghost use Rattle.raster.specs.RowSpans.{AreRowSpans};
+ghost use Rattle.geometry.specs.declared.limits.TheConstants.{CENTRE_LIMIT, COLUMN_LIMIT};
+
+use crate::filler::fill_row;
+use crate::rule::Rule;
+use crate::span::Span;
+use contour::Segment;
+use exact_cut::{Lattice, Walk};
+use geometry::Facet;
+use mesh_weld::Solid;
+use std::alloc::{AllocError, Allocator};
+use std::marker::Model;
+
+/// Where a scanline crosses the mesh.
+#[derive(Clone, Copy, Debug, PartialEq, Eq)]
+pub(crate) struct RowCrossing {
+    /// The least column whose centre isn't left of the crossing; at most 16,384.
+    pub(crate) column: u16,
+    /// Whether the sign of the crossing is 1; else it is -1.
+    pub(crate) is_up: bool,
+}
+
+/// The greatest capacity that a row keeps from one layer to the next, in crossings.
+const KEPT: usize = 512;
+
+/// The crossings of a layer's rows, those of each row in the order in which they were added.
+#[derive(Drop)]
+pub(crate) struct RowCrossings<A: Allocator> {
+    rows: Vec<Vec<RowCrossing, A>, A>,
+}
+
+impl<A: Allocator> Model for RowCrossings<A> {
+    ghost use Rattle.std.specs.Prelude.{List, map};
+    ghost use Rattle.raster.specs.declared.crossings.RowCrossing.{RowCrossing};
+
+    ghost Value = { List (List RowCrossing) };
+
+    ghost view = { λ m. map (λ row. row.items) m.rows.items };
+}
+
+impl<A: Allocator + Copy> RowCrossings<A> {
+    /// An empty set of rows. It allocates no memory.
+    pub(crate) fn new(alloc: A) -> RowCrossings<A> {
+        RowCrossings {
+            rows: Vec::new(alloc),
+        }
+    }
+
+    /// Removes all crossings, and adds rows up to the number `rows`.
+    pub(crate) fn start(&mut self, alloc: A, rows: u32) -> Result<(), AllocError>
+        ensures empty { OnOk result ((j : ℕ) → crossings_in self.new j ≡ []) }
+        ensures rows { OnOk result (rows ≤ length self.new) }
+    {
+        forget_all(alloc, &mut self.rows);
+        make_room(alloc, &mut self.rows, rows as usize)
+    }
+}
+
+impl<A: Allocator> RowCrossings<A> {
+    /// Adds a crossing to a row. On an error the rows are as before.
+    pub(crate) fn push(&mut self, row: u32, crossing: RowCrossing) -> Result<(), AllocError>
+        requires { row < length self.old }
+        ensures rows { length self.new ≡ length self.old }
+        ensures here { OnOk result (crossings_in self.new row ≡ crossings_in self.old row ++ crossing ∷ []) }
+        ensures elsewhere { (j : ℕ) → j ≢ row → crossings_in self.new j ≡ crossings_in self.old j }
+    {
+        self.rows[row as usize].push(crossing)?;
+        Ok(())
+    }
+
+    /// Adds the spans of a row, from the left, by its crossings, which are sorted in place. On an error `out` may have some
+    /// of them.
+    pub(crate) fn fill_row(
+        &mut self,
+        rule: Rule,
+        row: u32,
+        out: &mut Vec<Span, A>,
+    ) -> Result<(), AllocError>
+        requires row { row < length self.old }
+        requires balanced { signs (crossings_in self.old row) ≡ pos 0 }
+        ensures rows { length self.new ≡ length self.old }
+        ensures elsewhere { (j : ℕ) → j ≢ row → crossings_in self.new j ≡ crossings_in self.old j }
+        ensures kept { OnOk result (take (length out.old.items) out.new.items ≡ out.old.items) }
+        ensures added { OnOk result (AreRowSpans rule row (crossings_in self.old row) (drop (length out.old.items) out.new.items)) }
+    {
+        fill_row(rule, row, self.rows[row as usize].as_mut_slice(), out)
+    }
+}
+
+/// Removes the crossings of all rows.
+fn forget_all<A: Allocator + Copy>(alloc: A, rows: &mut Vec<Vec<RowCrossing, A>, A>)
+    ensures { All (λ row. row.items ≡ []) rows.new.items }
+{
+    for row in 0..rows.len() {
+        forget(alloc, &mut rows[row]);
+    }
+}
+
+/// Adds empty rows until there are `count`.
+fn make_room<A: Allocator + Copy>(
+    alloc: A,
+    rows: &mut Vec<Vec<RowCrossing, A>, A>,
+    count: usize,
+) -> Result<(), AllocError>
+    requires { All (λ row. row.items ≡ []) rows.old.items }
+    ensures empty { OnOk result (All (λ row. row.items ≡ []) rows.new.items) }
+    ensures count { OnOk result (count ≤ length rows.new.items) }
+{
+    for _row in rows.len()..count {
+        rows.push(Vec::new(alloc))?;
+    }
+    Ok(())
+}
+
+/// Removes the crossings of a row, and frees its memory where its capacity is above `KEPT`.
+fn forget<A: Allocator + Copy>(alloc: A, crossings: &mut Vec<RowCrossing, A>)
+    ensures { crossings.new.items ≡ [] }
+{
+    if crossings.capacity() > KEPT {
+        *crossings = Vec::new(alloc);
+    } else {
+        crossings.clear();
+    }
+}
+
+/// Adds the crossings of all facets with the rows of a lattice at the height `z2`, in half-micrometres, by the segments
+/// there: a facet without a segment crosses no row. On an error `out` may have some of them.
+pub(crate) fn push_facets<A: Allocator>(
+    s: &Solid<A>,
+    z2: i64,
+    lattice: &Lattice,
+    list: &[Segment],
+    out: &mut RowCrossings<A>,
+) -> Result<(), AllocError>
+    requires height { IsAtMost CENTRE_LIMIT z2 }
+    requires list { list.now ≡ segments s.now.facets z2 }
+    requires empty { (j : ℕ) → crossings_in out.old j ≡ [] }
+    requires rows { lattice.now.rows ≤ length out.old }
+    ensures rows { length out.new ≡ length out.old }
+    ensures signs { OnOk result ((j : ℕ) → j < lattice.now.rows
+        → row_signs out.new j ≡ total (λ t. wind (twice t) (row_y lattice.now j) z2) s.now.facets) }
+    ensures passed { OnOk result ((i j : ℕ) → i < lattice.now.columns → j < lattice.now.rows
+        → row_passed out.new j i
+        ≡ total (λ t. wind (twice t) (row_y lattice.now j) z2 -ℤ hit (twice t) (pixel lattice.now z2 i j)) s.now.facets) }
+    ensures within { OnOk result (AreCrossingsWithin lattice.now.columns out.new) }
+{
+    for segment in list {
+        push_facet(&s.facet(segment.facet), z2, lattice, out)?;
+    }
+    Ok(())
+}
+
+/// Adds the crossings of a facet with the rows of a lattice at the height `z2`, in half-micrometres. On an error `out` may
+/// have some of them.
+fn push_facet<A: Allocator>(
+    facet: &Facet,
+    z2: i64,
+    lattice: &Lattice,
+    out: &mut RowCrossings<A>,
+) -> Result<(), AllocError>
+    requires height { IsAtMost CENTRE_LIMIT z2 }
+    requires rows { lattice.now.rows ≤ length out.old }
+    ensures rows { length out.new ≡ length out.old }
+    ensures signs { OnOk result ((j : ℕ) → j < lattice.now.rows
+        → row_signs out.new j ≡ row_signs out.old j +ℤ wind (twice facet.now) (row_y lattice.now j) z2) }
+    ensures passed { OnOk result ((i j : ℕ) → i < lattice.now.columns → j < lattice.now.rows
+        → row_passed out.new j i ≡ row_passed out.old j i
+        +ℤ (wind (twice facet.now) (row_y lattice.now j) z2 -ℤ hit (twice facet.now) (pixel lattice.now z2 i j))) }
+    ensures within { AreCrossingsWithin lattice.now.columns out.old → OnOk result (AreCrossingsWithin lattice.now.columns out.new) }
+{
+    match Walk::start(facet, z2, lattice) {
+        Some(walk) => push_walk(walk, out),
+        None => Ok(()),
+    }
+}
+
+/// Adds the crossings of a walk, one a row. On an error `out` may have some of them.
+fn push_walk<A: Allocator>(mut walk: Walk, out: &mut RowCrossings<A>) -> Result<(), AllocError>
+    requires few_rows { walk.row + length walk.columns ≤ COLUMN_LIMIT }
+    requires few_columns { All (λ column. column ≤ COLUMN_LIMIT) walk.columns }
+    requires rows { walk.row + length walk.columns ≤ length out.old }
+    ensures rows { length out.new ≡ length out.old }
+    ensures added { OnOk result ((j : ℕ) → crossings_in out.new j
+        ≡ crossings_in out.old j ++ crossings_along walk.row (int_eq walk.sign (pos 1)) walk.columns j) }
+{
+    let is_up = walk.sign() == 1;
+    for row in walk.row()..walk.end() {
+        let column = walk.next_column();
+        let crossing = RowCrossing {
+            column: column as u16,
+            is_up,
+        };
+        out.push(row, crossing)?;
+    }
+    Ok(())
+}

@@ -1,0 +1,8 @@
+//! Images of layers in raw PBM ("P4", pbm(5)): packed rows, gathered in chunks, written to a sink.
+
+mod bits;
+mod chunk;
+mod image;
+mod rows;
+
+pub use image::write_layer;

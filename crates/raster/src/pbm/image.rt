@@ -1,0 +1,60 @@
+//! Writes the image of a layer, row by row from the greatest row to the least, through a chunk on the stack.
+ghost use Rattle.std.specs.Prelude.{◌≡◌, ◌<◌, ◌≤◌, ◌+◌, ◌++◌, length, IfErr, OnErr, OnOk};
+ghost use Rattle.std.specs.Int.{div_ceil};
+ghost use Rattle.std.specs.Io.KnownBytes.{Appends};
+ghost use Rattle.raster.specs.Devices.{AppendsFirst, HasFailed};
+ghost use Rattle.raster.specs.Span.{AreSpans, covers};
+ghost use Rattle.raster.specs.Picture.{picture, row_bytes};
+ghost use Rattle.raster.specs.Rows.{IsSplit};
+ghost use Rattle.raster.specs.declared.pbm.chunk.TheConstants.{CHUNK_LEN};
+
+use crate::devices::{Sink, WriteFault};
+use crate::grid::Grid;
+use crate::pbm::chunk::Chunk;
+use crate::pbm::rows::start_of_row;
+use crate::span::Span;
+
+/// Writes the image of a layer in raw PBM ("P4", pbm(5)): the pixels in the spans are black, and the row of the greatest
+/// number stands at the top. The spans are those of one layer of the grid: in it, by ascending row, then column, not empty
+/// and not touching.
+///
+/// A call of the sink that fails isn't tried again: the first `written` bytes of the image went out, and no more. The sink
+/// isn't flushed, and no memory is allocated.
+pub fn write_layer<W: Sink>(g: &Grid, spans: &[Span], w: &mut W) -> Result<(), WriteFault>
+    requires { AreSpans g.now.columns g.now.rows spans.now }
+    ensures ok { OnOk result (Appends (W.contents w.old) (W.contents w.new) (picture g.now.columns g.now.rows (covers spans.now))) }
+    ensures same { OnOk result (W.Failures.failure_count w.new ≡ W.Failures.failure_count w.old) }
+    ensures written { IfErr result (λ fault. AppendsFirst (W.contents w.old) (W.contents w.new) fault.written
+        (picture g.now.columns g.now.rows (covers spans.now))) }
+    ensures within { IfErr result (λ fault. fault.written < length (picture g.now.columns g.now.rows (covers spans.now))) }
+    ensures failed { OnErr result (HasFailed (W.Failures.failure_count w.old) (W.Failures.failure_count w.new)) }
+{
+    let needed = g.columns().div_ceil(8) as usize;
+    let mut chunk = Chunk::new();
+    chunk.push_header(g.columns(), g.rows());
+    let mut written = 0;
+    let mut end = spans.len();
+    let mut row = g.rows();
+    while row > 0 {
+        row -= 1;
+        written = chunk.make_room(needed, w, written)?;
+        end = push_row(&mut chunk, g, spans, row, end);
+    }
+    chunk.send(w, written)?;
+    Ok(())
+}
+
+/// Adds a row of the layer to the chunk. The first `end` spans are those of this row and of the rows below; answers how
+/// many are in the rows below.
+fn push_row(chunk: &mut Chunk, g: &Grid, spans: &[Span], row: u32, end: usize) -> usize
+    requires form { AreSpans g.now.columns g.now.rows spans.now }
+    requires row { row < g.now.rows }
+    requires split { IsSplit spans.now end (row + 1) }
+    requires room { length chunk.old + div_ceil g.now.columns 8 ≤ CHUNK_LEN }
+    ensures split { IsSplit spans.now result row }
+    ensures drawn { chunk.new ≡ chunk.old ++ row_bytes g.now.columns (λ i. covers spans.now i row) }
+{
+    let start = start_of_row(g, spans, row, end);
+    chunk.push_row(g.columns(), &spans[start..end]);
+    start
+}

@@ -1,0 +1,27 @@
+//! The fill rules: which sums of signed crossings count as inside. A new rule is one variant and one arm of `is_inside`,
+//! here and in `specs/Rule`.
+ghost use Rattle.std.specs.Prelude.{◌≡◌};
+ghost use Rattle.raster.specs.Rule.{is_inside};
+
+/// Which pixels are filled, by the sum of the signed crossings of the mesh with the ray from a pixel's centre: the
+/// winding rules of the field.
+#[derive(Clone, Copy, Debug, PartialEq, Eq)]
+pub enum Rule {
+    /// Where the sum is odd.
+    EvenOdd,
+    /// Where the sum is not 0.
+    NonZero,
+    /// Where the sum is above 0.
+    Positive,
+}
+
+/// Whether a sum of signed crossings counts as inside.
+pub(crate) fn is_inside(rule: Rule, count: i64) -> bool
+    ensures { result ≡ is_inside rule count }
+{
+    match rule {
+        Rule::EvenOdd => count.unsigned_abs() % 2 == 1,
+        Rule::NonZero => count != 0,
+        Rule::Positive => count > 0,
+    }
+}

@@ -1,0 +1,293 @@
+-- What a text spells is determined: two beginnings of solids that it spells are one and the same, as far as the
+-- shorter goes.
+use Rattle.std.proofs.Common.{◌≡◌, ℕ, Bool, true, false, ◌&&◌, List, [], ◌∷◌, ◌++◌, length, refl, sym, ◌∙◌, ap, subst, inl, inr, arith, ◌⊎◌, append_assoc}
+use Rattle.std.specs.Prelude.{Option, Some, None, Ok, Err, Result, ℤ, ◌==◌, if◌then◌else◌, codes, flat_map, slice_index_or}
+use Rattle.std.specs.Str.{bytes_eq}
+use Rattle.std.specs.Ordering.{int_eq}
+use Rattle.std.proofs.lemmas.Slice.Eq.{bytes_eq-Decides}
+use Rattle.std.proofs.lemmas.Bool.{and_parts, eqb-true}
+use Rattle.std.proofs.lemmas.Bool.Decides.{Decides-int_eq}
+use Rattle.micro_num.specs.declared.unit.Unit.{Unit as LengthUnit}
+use Rattle.micro_num.specs.declared.num_fault.NumFault.{NumFault}
+use Rattle.micro_num.specs.Micrometres.{coordinate_of}
+use Rattle.stl_text.specs.declared.word.Word.{Word}
+use Rattle.stl_text.specs.declared.word.Word.TheVariants.{Solid, FacetOrEnd, Normal, Outer, Loop, Vertex, Number, EndLoop, EndFacet}
+use Rattle.geometry.specs.Facet.{Facet}
+use Rattle.stl_text.specs.Text.{Token, keyword, normal_part, coordinate, rest_of_line, end_word, facet_tokens, solid_tokens, is_keyword, is_read_as, begins_with, after_token, rest_behind, first_word}
+
+-- What may stand in a place: a keyword, a word of a normal, a coordinate, a rest of a line.
+pub data Slot : Type 0 where
+  fixed : Word → List ℕ → Slot
+  any_word : Slot
+  any_coordinate : Slot
+  any_line : Slot
+
+abbrev pub word_code : Word → ℕ
+word_code Solid = 0
+word_code FacetOrEnd = 1
+word_code Normal = 2
+word_code Outer = 3
+word_code Loop = 4
+word_code Vertex = 5
+word_code Number = 6
+word_code EndLoop = 7
+word_code EndFacet = 8
+
+abbrev pub word_at : ℕ → Word
+word_at n = slice_index_or (Solid ∷ FacetOrEnd ∷ Normal ∷ Outer ∷ Loop ∷ Vertex ∷ Number ∷ EndLoop ∷ EndFacet ∷ []) n Solid
+
+pub word_at-code : (w : Word) → word_at (word_code w) ≡ w
+word_at-code Solid = refl
+word_at-code FacetOrEnd = refl
+word_at-code Normal = refl
+word_at-code Outer = refl
+word_at-code Loop = refl
+word_at-code Vertex = refl
+word_at-code Number = refl
+word_at-code EndLoop = refl
+word_at-code EndFacet = refl
+
+word_same : (v w : Word) → (word_code v == word_code w) ≡ true → v ≡ w
+word_same v w h = sym (word_at-code v) ∙ ap word_at (eqb-true _ _ h) ∙ word_at-code w
+
+abbrev pub matches : Slot → Token → Bool
+matches (fixed w text) (keyword w' text') = (word_code w == word_code w') && bytes_eq text text'
+matches (fixed w text) normal_part = false
+matches (fixed w text) (coordinate z) = false
+matches (fixed w text) rest_of_line = false
+matches any_word (keyword w' text') = false
+matches any_word normal_part = true
+matches any_word (coordinate z) = false
+matches any_word rest_of_line = false
+matches any_coordinate (keyword w' text') = false
+matches any_coordinate normal_part = false
+matches any_coordinate (coordinate z) = true
+matches any_coordinate rest_of_line = false
+matches any_line (keyword w' text') = false
+matches any_line normal_part = false
+matches any_line (coordinate z) = false
+matches any_line rest_of_line = true
+
+abbrev pub IsShape : Slot → Token → Type 0
+IsShape (fixed w text) p = p ≡ keyword w text
+IsShape any_word p = p ≡ normal_part
+IsShape any_coordinate p = (z : ℤ) × (p ≡ coordinate z)
+IsShape any_line p = p ≡ rest_of_line
+
+pub shape-is : (slot : Slot) (p : Token) → matches slot p ≡ true → IsShape slot p
+shape-is (fixed w text) (keyword w' text') h =
+    let parts : ((word_code w == word_code w') ≡ true) × (bytes_eq text text' ≡ true) = and_parts _ _ h in
+    let word_is : w' ≡ w = sym (word_same w w' parts.0) in
+    let text_is : text' ≡ text = sym ((bytes_eq-Decides text text').0 parts.1) in
+    λ i. keyword (word_is i) (text_is i)
+shape-is (fixed w text) normal_part h = cc
+shape-is (fixed w text) (coordinate z) h = cc
+shape-is (fixed w text) rest_of_line h = cc
+shape-is any_word (keyword w' text') h = cc
+shape-is any_word normal_part h = refl
+shape-is any_word (coordinate z) h = cc
+shape-is any_word rest_of_line h = cc
+shape-is any_coordinate (keyword w' text') h = cc
+shape-is any_coordinate normal_part h = cc
+shape-is any_coordinate (coordinate z) h = (z, refl)
+shape-is any_coordinate rest_of_line h = cc
+shape-is any_line (keyword w' text') h = cc
+shape-is any_line normal_part h = cc
+shape-is any_line (coordinate z) h = cc
+shape-is any_line rest_of_line h = refl
+
+-- a word that is read as a coordinate
+pub read-is : (unit : LengthUnit) (word : List ℕ) (z : ℤ) → is_read_as z word unit ≡ true → coordinate_of unit word ≡ Ok z
+read-is unit word z h = by_answer (coordinate_of unit word) refl h
+  where
+    by_answer : (o : Result ℤ NumFault) → coordinate_of unit word ≡ o
+        → (elim o [ Ok x ↦ int_eq x z | Err cause ↦ false ]) ≡ true → coordinate_of unit word ≡ Ok z
+    by_answer (Ok x) is e = is ∙ ap {B = Result ℤ NumFault} Ok ((Decides-int_eq x z).0 e)
+    by_answer (Err cause) is e = cc
+
+-- in one slot a text begins with one token at most
+same_token : (unit : LengthUnit) (bytes : List ℕ) (slot : Slot) (p q : Token) → matches slot p ≡ true → matches slot q ≡ true
+    → begins_with unit p bytes ≡ true → begins_with unit q bytes ≡ true → p ≡ q
+same_token unit bytes (fixed w text) p q h k _ _ = shape-is (fixed w text) p h ∙ sym (shape-is (fixed w text) q k)
+same_token unit bytes any_word p q h k _ _ = shape-is any_word p h ∙ sym (shape-is any_word q k)
+same_token unit bytes any_line p q h k _ _ = shape-is any_line p h ∙ sym (shape-is any_line q k)
+same_token unit bytes any_coordinate p q h k begins begins' =
+    let a : (z : ℤ) × (p ≡ coordinate z) = shape-is any_coordinate p h in
+    let b : (z : ℤ) × (q ≡ coordinate z) = shape-is any_coordinate q k in
+    let read : coordinate_of unit (first_word bytes) ≡ Ok a.0 =
+    read-is unit (first_word bytes) a.0 (subst (λ x. begins_with unit x bytes ≡ true) a.1 begins) in
+    let read' : coordinate_of unit (first_word bytes) ≡ Ok b.0 =
+    read-is unit (first_word bytes) b.0 (subst (λ x. begins_with unit x bytes ≡ true) b.1 begins') in
+    let same_value : ◌≡◌ {A = Result ℤ NumFault} (Ok a.0) (Ok b.0) = sym read ∙ read' in
+    let same_number : a.0 ≡ b.0 = cc in
+    a.1 ∙ ap coordinate same_number ∙ sym b.1
+
+-- The places of the grammar: the slots to come before the next facet or solid, and whether a solid is open then.
+
+abbrev pub solid_slot : Slot
+solid_slot = fixed Solid (codes "solid")
+
+abbrev pub facet_slot : Slot
+facet_slot = fixed FacetOrEnd (codes "facet")
+
+abbrev pub end_slot : Slot
+end_slot = fixed FacetOrEnd (codes "endsolid")
+
+abbrev pub vertex_slots : List Slot
+vertex_slots = fixed Vertex (codes "vertex") ∷ any_coordinate ∷ any_coordinate ∷ any_coordinate ∷ []
+
+abbrev pub facet_slots : List Slot
+facet_slots =
+    (fixed Normal (codes "normal") ∷ any_word ∷ any_word ∷ any_word ∷ [])
+    ++ (fixed Outer (codes "outer") ∷ fixed Loop (codes "loop") ∷ []) ++ vertex_slots ++ vertex_slots ++ vertex_slots
+    ++ fixed EndLoop (codes "endloop") ∷ fixed EndFacet (codes "endfacet") ∷ []
+
+pub record Place : Type 0 where
+  pub slots : List Slot
+  pub is_open : Bool
+
+abbrev pub outside : Place
+outside = record { slots = []; is_open = false }
+
+abbrev pub inside : Place
+inside = record { slots = []; is_open = true }
+
+abbrev pub next_in : List Slot → Bool → Token → Option Place
+next_in [] false p = if matches solid_slot p then Some (record { slots = any_line ∷ []; is_open = true }) else None
+next_in [] true p =
+    if matches facet_slot p then Some (record { slots = facet_slots; is_open = true })
+    else (if matches end_slot p then Some (record { slots = any_line ∷ []; is_open = false }) else None)
+next_in (slot ∷ slots) is_open p = if matches slot p then Some (record { slots = slots; is_open = is_open }) else None
+
+abbrev pub next : Place → Token → Option Place
+next offset p = next_in offset.slots offset.is_open p
+
+abbrev pub then_at : Option Place → (Place → Option Place) → Option Place
+then_at None f = None
+then_at (Some offset) f = f offset
+
+abbrev pub run : Place → List Token → Option Place
+run offset [] = Some offset
+run offset (p ∷ ps) = then_at (next offset p) (λ after. run after ps)
+
+pub run-append : (offset : Place) (ps qs : List Token) → run offset (ps ++ qs) ≡ then_at (run offset ps) (λ after. run after qs)
+run-append offset [] qs = refl
+run-append offset (p ∷ ps) qs = by_next (λ after. run-append after ps qs) (next offset p)
+  where
+    by_next : ((after : Place) → run after (ps ++ qs) ≡ then_at (run after ps) (λ later. run later qs))
+        → (o : Option Place) → then_at o (λ after. run after (ps ++ qs)) ≡ then_at (then_at o (λ after. run after ps)) (λ later. run later qs)
+    by_next rest None = refl
+    by_next rest (Some after) = rest after
+
+-- Solids are a run from outside to outside.
+
+facet-run : (t : Facet) (rest : List Token) → run inside (facet_tokens t ++ rest) ≡ run inside rest
+facet-run t rest = refl
+
+facets-run : (facets : List Facet) (rest : List Token) → run inside (flat_map facet_tokens facets ++ rest) ≡ run inside rest
+facets-run [] rest = refl
+facets-run (t ∷ facets) rest =
+    ap (run inside) (append_assoc (facet_tokens t) (flat_map facet_tokens facets) rest)
+    ∙ facet-run t (flat_map facet_tokens facets ++ rest)
+    ∙ facets-run facets rest
+
+solid-run : (facets : List Facet) (rest : List Token) → run outside (solid_tokens facets ++ rest) ≡ run outside rest
+solid-run facets rest =
+    ap (run inside) (append_assoc (flat_map facet_tokens facets) (end_word ∷ rest_of_line ∷ []) rest)
+    ∙ facets-run facets (end_word ∷ rest_of_line ∷ rest)
+
+pub solids-run : (solids : List (List Facet)) → run outside (flat_map solid_tokens solids) ≡ Some outside
+solids-run [] = refl
+solids-run (facets ∷ solids) = solid-run facets (flat_map solid_tokens solids) ∙ solids-run solids
+
+-- what a test has chosen
+pub passed : {A : Type 0} (b : Bool) (x : A) (y : Option A) (t : A) → (if b then Some x else y) ≡ Some t
+    → ((b ≡ true) × (x ≡ t)) ⊎ ((b ≡ false) × (y ≡ Some t))
+passed true x y t h = let same_value : x ≡ t = cc in inl (refl, same_value)
+passed false x y t h = inr (refl, h)
+
+pub only : {A : Type 0} (b : Bool) (x : A) (t : A) → (if b then Some x else None) ≡ Some t → (b ≡ true) × (x ≡ t)
+only true x t h = let same_value : x ≡ t = cc in (refl, same_value)
+only false x t h = cc
+
+-- a text that begins with one keyword begins with no other
+keyword_once : (text text' word : List ℕ) → is_keyword text word ≡ true → is_keyword text' word ≡ true → text ≡ text'
+keyword_once text text' word h k = sym ((bytes_eq-Decides _ text).0 h) ∙ (bytes_eq-Decides _ text').0 k
+
+pub facet-or-end : (word : List ℕ) → is_keyword (codes "facet") word ≡ true → is_keyword (codes "endsolid") word ≡ true → ⊥
+facet-or-end word h k =
+    let same_length : 5 ≡ 8 = ap {A = List ℕ} length (keyword_once (codes "facet") (codes "endsolid") word h k) in
+    omega (arith, same_length)
+
+-- in one place a text begins with one token at most
+same_next_in : (unit : LengthUnit) (bytes : List ℕ) (slots : List Slot) (is_open : Bool) (p q : Token) (t u : Place)
+    → next_in slots is_open p ≡ Some t → next_in slots is_open q ≡ Some u
+    → begins_with unit p bytes ≡ true → begins_with unit q bytes ≡ true → p ≡ q
+same_next_in unit bytes (slot ∷ slots) is_open p q t u h k begins begins' =
+    same_token unit bytes slot p q (only _ _ t h).0 (only _ _ u k).0 begins begins'
+same_next_in unit bytes [] false p q t u h k begins begins' =
+    same_token unit bytes solid_slot p q (only _ _ t h).0 (only _ _ u k).0 begins begins'
+same_next_in unit bytes [] true p q t u h k begins begins' = by_choice (passed _ _ _ t h) (passed _ _ _ u k)
+  where
+    word : List ℕ
+    word = first_word bytes
+
+    as_facet : (x : Token) → matches facet_slot x ≡ true → begins_with unit x bytes ≡ true → is_keyword (codes "facet") word ≡ true
+    as_facet x m b = subst (λ y. begins_with unit y bytes ≡ true) (shape-is facet_slot x m) b
+
+    as_end : (x : Token) → matches end_slot x ≡ true → begins_with unit x bytes ≡ true → is_keyword (codes "endsolid") word ≡ true
+    as_end x m b = subst (λ y. begins_with unit y bytes ≡ true) (shape-is end_slot x m) b
+
+    Facet : Token → Place → Type 0
+    Facet x v = (matches facet_slot x ≡ true) × (record { slots = facet_slots; is_open = true } ≡ v)
+
+    End : Token → Place → Type 0
+    End x v = (matches facet_slot x ≡ false) × ((if matches end_slot x then Some (record { slots = any_line ∷ []; is_open = false }) else None) ≡ Some v)
+
+    by_choice : Facet p t ⊎ End p t → Facet q u ⊎ End q u → p ≡ q
+    by_choice (inl a) (inl b) = same_token unit bytes facet_slot p q a.0 b.0 begins begins'
+    by_choice (inl a) (inr b) =
+        absurd (facet-or-end word (as_facet p a.0 begins) (as_end q (only _ _ u b.1).0 begins'))
+    by_choice (inr a) (inl b) =
+        absurd (facet-or-end word (as_facet q b.0 begins') (as_end p (only _ _ t a.1).0 begins))
+    by_choice (inr a) (inr b) = same_token unit bytes end_slot p q (only _ _ t a.1).0 (only _ _ u b.1).0 begins begins'
+
+pub then-some : (o : Option Place) (f : Place → Option Place) (t : Place) → then_at o f ≡ Some t
+    → (after : Place) × (o ≡ Some after) × (f after ≡ Some t)
+then-some None f t h = cc
+then-some (Some after) f t h = (after, refl, h)
+
+-- the one begins with the other
+pub data Prefixes (ps qs : List Token) : Type 0 where
+  longer : (more : List Token) → qs ≡ ps ++ more → Prefixes ps qs
+  shorter : (p : Token) (more : List Token) → ps ≡ qs ++ p ∷ more → Prefixes ps qs
+
+with_head : (p : Token) (ps qs : List Token) → Prefixes ps qs → Prefixes (p ∷ ps) (p ∷ qs)
+with_head p ps qs (longer more is) = longer more (ap {B = List Token} (λ r. p ∷ r) is)
+with_head p ps qs (shorter q more is) = shorter q more (ap {B = List Token} (λ r. p ∷ r) is)
+
+pub agree : (unit : LengthUnit) (offset : Place) (bytes : List ℕ) (ps qs : List Token) (s t : Place) (rest rest' : List ℕ)
+    → run offset ps ≡ Some s → run offset qs ≡ Some t
+    → rest_behind unit ps bytes ≡ Some rest → rest_behind unit qs bytes ≡ Some rest' → Prefixes ps qs
+agree unit offset bytes [] qs s t rest rest' h k spelled spelled' = longer qs refl
+agree unit offset bytes (p ∷ ps) [] s t rest rest' h k spelled spelled' = shorter p ps refl
+agree unit offset bytes (p ∷ ps) (q ∷ qs) s t rest rest' h k spelled spelled' =
+    let a : (after : Place) × (next offset p ≡ Some after) × (run after ps ≡ Some s) = then-some _ _ s h in
+    let b : (after : Place) × (next offset q ≡ Some after) × (run after qs ≡ Some t) = then-some _ _ t k in
+    let c : (begins_with unit p bytes ≡ true) × (rest_behind unit ps (after_token p bytes) ≡ Some rest) = begun _ _ rest spelled in
+    let d : (begins_with unit q bytes ≡ true) × (rest_behind unit qs (after_token q bytes) ≡ Some rest') = begun _ _ rest' spelled' in
+    let same : p ≡ q = same_next_in unit bytes offset.slots offset.is_open p q a.0 b.0 a.1 b.1 c.0 d.0 in
+    let same_after : a.0 ≡ b.0 = some-is (sym a.1 ∙ ap (next offset) same ∙ b.1) in
+    subst (λ x. Prefixes (p ∷ ps) (x ∷ qs)) same
+    (with_head p ps qs
+    (agree unit a.0 (after_token p bytes) ps qs s t rest rest' a.2
+    (subst (λ x. run x qs ≡ Some t) (sym same_after) b.2)
+    c.1
+    (subst (λ x. rest_behind unit qs (after_token x bytes) ≡ Some rest') (sym same) d.1)))
+  where
+    begun : (b : Bool) (o : Option (List ℕ)) (r : List ℕ) → (if b then o else None) ≡ Some r → (b ≡ true) × (o ≡ Some r)
+    begun true o r e = (refl, e)
+    begun false o r e = cc
+
+    some-is : {x y : Place} → ◌≡◌ {A = Option Place} (Some x) (Some y) → x ≡ y
+    some-is e = cc

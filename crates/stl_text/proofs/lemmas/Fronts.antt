@@ -1,0 +1,119 @@
+-- The first word of a text that is cut in front of white space.
+use Rattle.std.proofs.Common.{◌≡◌, ◌⊎◌, inl, inr, ℕ, ◌<◌, ◌≤◌, Bool, true, false, not, ◌&&◌, List, [], ◌∷◌, ◌++◌, take, drop, length, refl, sym, ◌∙◌, ap, arith}
+use Rattle.std.specs.Prelude.{Option, Some, None, Ok, Err, ℤ, ◌==◌, nat_lt, nat_le, if◌then◌else◌}
+use Rattle.std.specs.Char.{is_ascii_digit, to_ascii_lowercase}
+use Rattle.std.specs.Str.{str_to_ascii_lowercase}
+use Rattle.std.specs.List.{list_all, before_first}
+use Rattle.std.proofs.lemmas.Bool.{and_parts, cases_lt, lt-leb, ne_eqb, eqb-true}
+use Rattle.std.proofs.lemmas.List.{take-append-drop}
+use Rattle.std.proofs.lemmas.List.Folds.{list_all-append}
+use Rattle.std.proofs.lemmas.Slice.Eq.{bytes_eq-Decides}
+use Rattle.std.proofs.lemmas.Str.Ascii.{lowercase_is}
+use Rattle.micro_num.specs.declared.unit.Unit.{Unit as LengthUnit}
+use Rattle.micro_num.specs.declared.num_fault.NumFault.TheVariants.{TooLong}
+use Rattle.micro_num.specs.Numeral.{Sign, unsigned, plus, minus, Exponent, Numeral, IsNumeral, is_exponent_mark, sign_text, fraction_text, exponent_text, numeral_text, fraction_digits, is_exponent, from_first, numeral_of}
+use Rattle.micro_num.specs.Micrometres.{coordinate_of, numeral_coordinate}
+use Rattle.exact_int.proofs.lemmas.Lists.{all-weaker}
+use Rattle.micro_num.proofs.lemmas.Grammar.{Starts, before-is, from-is, bounds, numeral_of-is}
+use Rattle.stl_text.specs.Text.{is_white, is_keyword}
+use Rattle.stl_text.specs.Written.{IsApart}
+use Rattle.micro_num.specs.declared.limits.TheConstants.{WORD_LIMIT}
+
+abbrev is_black : ℕ → Bool
+is_black byte = not (is_white byte)
+
+module _ (front : List ℕ) (n : ℕ) (clear : list_all (λ byte. not (is_white byte)) (take n front) ≡ true) (apart : IsApart (drop n front)) where
+  starts : (xs : List ℕ) → IsApart xs → Starts is_white xs
+  starts [] h = h
+  starts (x ∷ xs) h = h
+
+  pub word_is : before_first is_white front ≡ take n front
+  word_is =
+      ap (before_first is_white) (sym (take-append-drop n front))
+      ∙ before-is is_white (take n front) (drop n front) clear (starts (drop n front) apart)
+
+  pub rest_is : from_first is_white front ≡ drop n front
+  rest_is =
+      ap (from_first is_white) (sym (take-append-drop n front))
+      ∙ from-is is_white (take n front) (drop n front) clear (starts (drop n front) apart)
+
+-- what stands above the space is not white
+above_black : (c : ℕ) → 32 < c → is_black c ≡ true
+above_black c h = rw (ne_eqb c 32 (λ e. omega (arith, h, e)), lt-leb c 13 (omega arith)) (last (nat_le 9 c))
+  where
+    last : (b : Bool) → not (b && false) ≡ true
+    last true = refl
+    last false = refl
+
+-- Keywords.
+
+white_lower : (c : ℕ) → is_black (to_ascii_lowercase c) ≡ is_black c
+white_lower c = by_cases (cases_lt c 65) (cases_lt 90 c)
+  where
+    by_cases : (c < 65) ⊎ (65 ≤ c) → (90 < c) ⊎ (c ≤ 90) → is_black (to_ascii_lowercase c) ≡ is_black c
+    by_cases (inl low) other = ap is_black ((lowercase_is c).1 low)
+    by_cases (inr some) (inl high) = ap is_black ((lowercase_is c).2 high)
+    by_cases (inr some) (inr few) =
+        above_black (to_ascii_lowercase c) (omega (arith, (lowercase_is c).0 (some, few))) ∙ sym (above_black c (omega arith))
+
+lower_black : (word : List ℕ) → list_all is_black (str_to_ascii_lowercase word) ≡ list_all is_black word
+lower_black [] = refl
+lower_black (c ∷ cs) = λ i. white_lower c i && lower_black cs i
+
+pub keyword_black : (text word : List ℕ) → list_all is_black text ≡ true → is_keyword text word ≡ true → list_all is_black word ≡ true
+keyword_black text word clear is =
+    sym (lower_black word) ∙ ap (list_all is_black) ((bytes_eq-Decides (str_to_ascii_lowercase word) text).0 is) ∙ clear
+
+-- Numbers.
+
+join : (xs ys : List ℕ) → list_all is_black xs ≡ true → list_all is_black ys ≡ true → list_all is_black (xs ++ ys) ≡ true
+join xs ys h k = list_all-append is_black xs ys ∙ rw h k
+
+digits_black : (ds : List ℕ) → list_all is_ascii_digit ds ≡ true → list_all is_black ds ≡ true
+digits_black ds h = all-weaker is_ascii_digit is_black (λ d is. above_black d (omega (arith, (bounds d is).0))) ds h
+
+sign_black : (s : Sign) → list_all is_black (sign_text s) ≡ true
+sign_black unsigned = refl
+sign_black plus = refl
+sign_black minus = refl
+
+fraction_black : (fraction : Option (List ℕ)) → list_all is_ascii_digit (fraction_digits fraction) ≡ true → list_all is_black (fraction_text fraction) ≡ true
+fraction_black None h = refl
+fraction_black (Some ds) h = digits_black ds h
+
+mark_black : (mark : ℕ) → is_exponent_mark mark ≡ true → is_black mark ≡ true
+mark_black mark h = by_tests (mark == 69) (mark == 101) refl refl h
+  where
+    by_tests : (a b : Bool) → (mark == 69) ≡ a → (mark == 101) ≡ b → is_exponent_mark mark ≡ true → is_black mark ≡ true
+    by_tests true b is other h = above_black mark (omega (arith, eqb-true mark 69 is))
+    by_tests false true other is h = above_black mark (omega (arith, eqb-true mark 101 is))
+    by_tests false false first second h = let h' = rw (first, second) at h in cc
+
+exponent_black : (exponent : Option Exponent) → is_exponent exponent ≡ true → list_all is_black (exponent_text exponent) ≡ true
+exponent_black None h = refl
+exponent_black (Some e) h =
+    let parts = and_parts _ _ h in
+    let digits = and_parts _ _ parts.1 in
+    rw (mark_black e.mark parts.0) (join (sign_text e.sign) e.digits (sign_black e.sign) (digits_black e.digits digits.1))
+
+numeral_black : (n : Numeral) → IsNumeral n → list_all is_black (numeral_text n) ≡ true
+numeral_black n is =
+    let digits = and_parts _ _ is.0 in
+    let each = and_parts _ _ (sym (list_all-append is_ascii_digit n.whole (fraction_digits n.fraction)) ∙ digits.1) in
+    join (sign_text n.sign ++ n.whole ++ fraction_text n.fraction) (exponent_text n.exponent)
+    (join (sign_text n.sign ++ n.whole) (fraction_text n.fraction)
+    (join (sign_text n.sign) n.whole (sign_black n.sign) (digits_black n.whole each.0)) (fraction_black n.fraction each.1))
+    (exponent_black n.exponent is.1)
+
+pub coordinate_black : (unit : LengthUnit) (word : List ℕ) (z : ℤ) → coordinate_of unit word ≡ Ok z → list_all is_black word ≡ true
+coordinate_black unit word z e = by_length (nat_lt WORD_LIMIT (length word)) e
+  where
+    by_numeral : (n : Option Numeral) → numeral_of word ≡ n → numeral_coordinate unit n ≡ Ok z → list_all is_black word ≡ true
+    by_numeral None read h = cc
+    by_numeral (Some n) read h =
+        let is : IsNumeral n × (word ≡ numeral_text n) = numeral_of-is word n read in
+        ap (list_all is_black) is.1 ∙ numeral_black n is.0
+
+    by_length : (b : Bool) → (if b then Err TooLong else numeral_coordinate unit (numeral_of word)) ≡ Ok z → list_all is_black word ≡ true
+    by_length true h = cc
+    by_length false h = by_numeral (numeral_of word) refl h

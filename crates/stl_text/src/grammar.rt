@@ -1,0 +1,156 @@
+//! The grammar of ASCII STL, from vertices to solids: a method of the reader for each rule.
+ghost use Rattle.std.specs.Prelude.{◌≡◌, ◌≢◌, ◌-◌, ◌<◌, ◌≤◌, [], ◌∷◌, ◌++◌, length, flat_map, IfErr, IfOk, IsTrue, List, vec_len};
+ghost use Rattle.std.specs.Bool.{MatchBool};
+ghost use Rattle.stl_text.specs.declared.stl_fault.StlFault.TheVariants.{Ended, Memory};
+ghost use Rattle.stl_text.specs.declared.word.Word.TheVariants.{Solid};
+ghost use Rattle.geometry.specs.Facet.{Facet};
+ghost use Rattle.geometry.specs.Point.{Point};
+ghost use Rattle.stl_text.specs.Reader.{Breaks, Spells, Stops, facet_tail};
+ghost use Rattle.stl_text.specs.Text.{after_space, end_word, facet_word, facets_of, loop_tokens, normal_tokens, solid_tokens, vertex_tokens};
+
+use crate::reader::Reader;
+use crate::scanning::{behind_keyword, is_keyword};
+use crate::stl_fault::StlFault;
+use crate::word::Word;
+use geometry::{Facet, Point};
+use std::alloc::Allocator;
+
+impl<'t> Reader<'t> {
+    /// Reads a vertex: `vertex` and three coordinates.
+    fn vertex(&mut self) -> Result<Point, StlFault>
+        ensures read { IfOk result (λ p. Spells (vertex_tokens p) self.old self.new) }
+        ensures fault { IfErr result (λ fault. (p : Point) × Breaks (vertex_tokens p) self.old fault) }
+    {
+        self.keyword(Word::Vertex, b"vertex")?;
+        let x = self.coordinate()?;
+        let y = self.coordinate()?;
+        let z = self.coordinate()?;
+        let Some(point) = Point::new(x, y, z) else {
+            unreachable!();
+        };
+        Ok(point)
+    }
+
+    /// Reads a normal: `normal` and any three words.
+    fn normal(&mut self) -> Result<(), StlFault>
+        ensures read { IfOk result (λ _. Spells normal_tokens self.old self.new) }
+        ensures fault { IfErr result (Breaks normal_tokens self.old) }
+    {
+        self.keyword(Word::Normal, b"normal")?;
+        self.normal_part()?;
+        self.normal_part()?;
+        self.normal_part()
+    }
+
+    /// Reads the loop of a facet: `outer loop`, three vertices, `endloop`.
+    fn outer_loop(&mut self) -> Result<Facet, StlFault>
+        ensures read { IfOk result (λ t. Spells (loop_tokens t) self.old self.new) }
+        ensures fault { IfErr result (λ fault. (t : Facet) × Breaks (loop_tokens t) self.old fault) }
+    {
+        self.keyword(Word::Outer, b"outer")?;
+        self.keyword(Word::Loop, b"loop")?;
+        let a = self.vertex()?;
+        let b = self.vertex()?;
+        let c = self.vertex()?;
+        self.keyword(Word::EndLoop, b"endloop")?;
+        Ok(Facet::of(a, b, c))
+    }
+
+    /// Reads a facet behind its word `facet`: a normal, a loop, `endfacet`.
+    fn facet(&mut self) -> Result<Facet, StlFault>
+        ensures read { IfOk result (λ t. Spells (facet_tail t) self.old self.new) }
+        ensures fault { IfErr result (λ fault. (t : Facet) × Breaks (facet_tail t) self.old fault) }
+    {
+        self.normal()?;
+        let facet = self.outer_loop()?;
+        self.keyword(Word::EndFacet, b"endfacet")?;
+        Ok(facet)
+    }
+
+    /// Reads the word `facet`, where `room` is above 0, or `endsolid`, and tells whether it is `facet`. `room` is the
+    /// number of facets that may still begin.
+    #[inline(always)]
+    fn begins_facet(&mut self, room: usize) -> Result<bool, StlFault>
+        ensures read { IfOk result (λ more. MatchBool more
+            (Spells (facet_word ∷ []) self.old self.new) (Spells (end_word ∷ []) self.old self.new)) }
+        ensures room { IfOk result (λ more. IsTrue more → 0 < room) }
+        ensures fault { IfErr result (Stops room (facet_word ∷ []) self.old) }
+    {
+        if room > 0 {
+            if let Some(rest) = behind_keyword(self.rest, b"facet") {
+                self.rest = rest;
+                return Ok(true);
+            }
+        }
+        self.begins_word(room)
+    }
+
+    /// The same by the slow way, which finds the fault.
+    #[cold]
+    #[inline(never)]
+    fn begins_word(&mut self, room: usize) -> Result<bool, StlFault>
+        ensures read { IfOk result (λ more. MatchBool more
+            (Spells (facet_word ∷ []) self.old self.new) (Spells (end_word ∷ []) self.old self.new)) }
+        ensures room { IfOk result (λ more. IsTrue more → 0 < room) }
+        ensures fault { IfErr result (Stops room (facet_word ∷ []) self.old) }
+    {
+        let word = self.next_word();
+        if is_keyword(word, b"facet") {
+            if room == 0 {
+                return Err(StlFault::TooMany {
+                    at: self.offset_of(word),
+                });
+            }
+            return Ok(true);
+        }
+        if is_keyword(word, b"endsolid") {
+            return Ok(false);
+        }
+        Err(self.fault_at(word, Word::FacetOrEnd))
+    }
+
+    /// Reads a solid, `solid` to `endsolid`, and adds its facets to `facets`, up to `limit` in all.
+    fn solid<A: Allocator>(
+        &mut self,
+        limit: usize,
+        facets: &mut Vec<Facet, A>,
+    ) -> Result<(), StlFault>
+        requires { vec_len facets.old ≤ limit }
+        ensures read { IfOk result (λ _. (added : List Facet) × (facets.new.items ≡ facets.old.items ++ added)
+            × Spells (solid_tokens added) self.old self.new) }
+        ensures few { IfOk result (λ _. vec_len facets.new ≤ limit) }
+        ensures fault { IfErr result (λ fault. fault ≢ Memory
+            → (added : List Facet) × Stops (limit - vec_len facets.old) (solid_tokens added) self.old fault) }
+    {
+        self.keyword(Word::Solid, b"solid")?;
+        self.end_line();
+        'facets: while self.begins_facet(limit - facets.len())? {
+            let facet = self.facet()?;
+            facets.push(facet)?;
+        }
+        self.end_line();
+        Ok(())
+    }
+
+    /// Reads all solids of a text, and adds their facets to `facets`, up to `limit`.
+    pub(crate) fn solids<A: Allocator>(
+        &mut self,
+        limit: usize,
+        facets: &mut Vec<Facet, A>,
+    ) -> Result<(), StlFault>
+        requires { facets.old.items ≡ [] }
+        ensures read { IfOk result (λ _. (solids : List (List Facet)) × (0 < length solids)
+            × (facets.new.items ≡ facets_of solids) × Spells (flat_map solid_tokens solids) self.old self.new) }
+        ensures whole { IfOk result (λ _. after_space self.new.rest ≡ []) }
+        ensures few { IfOk result (λ _. vec_len facets.new ≤ limit) }
+        ensures fault { IfErr result (λ fault. fault ≢ Memory
+            → (solids : List (List Facet)) × Stops limit (flat_map solid_tokens solids) self.old fault) }
+        ensures no_solid { IfErr result (λ fault. fault ≡ Ended Solid → after_space self.old.rest ≡ []) }
+    {
+        self.solid(limit, facets)?;
+        'solids: while !self.is_at_end() {
+            self.solid(limit, facets)?;
+        }
+        Ok(())
+    }
+}

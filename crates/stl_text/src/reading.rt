@@ -1,0 +1,57 @@
+//! The reader of whole texts: all that the crate is for, in one call.
+ghost use Rattle.std.specs.Prelude.{◌≡◌, ◌≢◌, ◌≤◌, IfErr, IfOk, List, MatchResult};
+ghost use Rattle.stl_text.specs.declared.stl_fault.StlFault.TheVariants.{Memory};
+ghost use Rattle.stl_text.specs.Text.{IsFaultOf, Reads};
+ghost use Rattle.geometry.specs.Facet.{Facet};
+ghost use Rattle.geometry.specs.declared.limits.TheConstants.{FACET_LIMIT};
+
+use crate::reader::Reader;
+use crate::stl_fault::StlFault;
+use geometry::{FACET_LIMIT, Facet};
+use micro_num::Unit;
+use std::alloc::Allocator;
+
+/// The facets of an ASCII STL text in file order, at most `limit` of them.
+///
+/// A text is one or more solids: `solid` and a name up to the end of its line, any number of facets, `endsolid` and the
+/// rest of its line. Keywords are read in any case, and a normal is any three words. The text's numbers are in `unit`;
+/// points are in whole micrometres. `limit` is at most [`FACET_LIMIT`], 1,048,576.
+///
+/// # Errors
+/// Memory aside, a text that spells no mesh has exactly one fault, and that is the answer:
+/// - `Expected` where the first word that doesn't fit stands in place of a keyword,
+/// - `Number` where it stands in place of a vertex number,
+/// - `TooMany` where it is the word `facet` of one facet more than `limit`, over all solids,
+/// - `Ended` where the text ends in place of a word.
+///
+/// `Memory` comes only where an allocation failed.
+pub fn read_stl_at_most<A: Allocator + Copy + Send + Sync>(
+    alloc: A,
+    bytes: &[u8],
+    limit: u32,
+    unit: Unit,
+) -> Result<Vec<Facet, A>, StlFault>
+    requires { limit ≤ FACET_LIMIT }
+    ensures found { IfOk result (λ facets. Reads limit unit bytes.now facets.items) }
+    ensures only { (facets : List Facet) → Reads limit unit bytes.now facets
+        → MatchResult result (λ found. found.items ≡ facets) (λ fault. fault ≡ Memory) }
+    ensures fault { IfErr result (λ fault. fault ≢ Memory → IsFaultOf limit unit bytes.now fault) }
+{
+    let mut facets = Vec::new(alloc);
+    Reader::new(bytes, unit).solids(limit as usize, &mut facets)?;
+    Ok(facets)
+}
+
+/// The facets of an ASCII STL text in file order, at most [`FACET_LIMIT`] of them: [`read_stl_at_most`] with this limit.
+pub fn read_stl<A: Allocator + Copy + Send + Sync>(
+    alloc: A,
+    bytes: &[u8],
+    unit: Unit,
+) -> Result<Vec<Facet, A>, StlFault>
+    ensures found { IfOk result (λ facets. Reads FACET_LIMIT unit bytes.now facets.items) }
+    ensures only { (facets : List Facet) → Reads FACET_LIMIT unit bytes.now facets
+        → MatchResult result (λ found. found.items ≡ facets) (λ fault. fault ≡ Memory) }
+    ensures fault { IfErr result (λ fault. fault ≢ Memory → IsFaultOf FACET_LIMIT unit bytes.now fault) }
+{
+    read_stl_at_most(alloc, bytes, FACET_LIMIT, unit)
+}

@@ -1,6 +1,0 @@
-use Rattle.std.proofs.Common.{◌∙◌, rules}
-use Rattle.stlslice.proofs.Pictures.{length-picture}
-use Rattle.stlslice.proofs.images.image_len.Goals as goal
-
-pub returns-clause-value : goal.returns-clause-value
-returns-clause-value c = λ pixel. length-picture c.args.grid.now.columns c.args.grid.now.rows pixel ∙ search rules

@@ -1,0 +1,5 @@
+pub mod Bytes
+pub mod Ends
+pub mod Faults
+pub mod Pictures
+pub mod Stream

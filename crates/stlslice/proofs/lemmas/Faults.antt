@@ -1,0 +1,97 @@
+-- Which faults of a run come of its input, and what a probe answers.
+use Rattle.std.proofs.Common.{◌≡◌, ◌≢◌, ◌⊎◌, ℕ, List, Option, inl, inr, refl, subst}
+use Rattle.std.specs.Prelude.{Err, Result, IsErrAnd, IfErr, Ok, false}
+use Rattle.micro_num.specs.declared.unit.Unit.{Unit as LengthUnit}
+use Rattle.stl_text.specs.declared.stl_fault.StlFault.{StlFault}
+use Rattle.stl_text.specs.declared.stl_fault.StlFault.TheVariants as stl
+use Rattle.stl_text.specs.Text.{IsFaultOf, Reads}
+use Rattle.geometry.specs.Facet.{Facet}
+use Rattle.mesh_weld.specs.Welding.{IsWeldFault}
+use Rattle.mesh_weld.specs.declared.weld_fault.WeldFault.{WeldFault}
+use Rattle.mesh_weld.specs.declared.weld_fault.WeldFault.TheVariants as weld
+use Rattle.mesh_weld.specs.Solid.{Solid}
+use Rattle.raster.specs.declared.grid.GridFault.{GridFault}
+use Rattle.raster.specs.Grid.{Grid}
+use Rattle.task_words.specs.declared.task.Given.{Given}
+use Rattle.task_words.specs.declared.task.Task.{Task}
+use Rattle.task_words.specs.declared.task.Task.TheVariants as task
+use Rattle.stlslice.specs.declared.fault.RunFault.{RunFault}
+use Rattle.stlslice.specs.declared.fault.RunFault.TheVariants as fault
+use Rattle.stlslice.specs.Outcome.{IsMade, IsOutcome, closed, grid_for, is_box, misread, open_mesh, outside, probed_text, unit_of}
+use Rattle.stlslice.specs.Status.{of_weld}
+use Rattle.stlslice.specs.Ending.{IsLoadFault, IsPlacingFault, IsSolidOf, IsWorkFault}
+use Rattle.geometry.specs.declared.limits.TheConstants.{FACET_LIMIT}
+
+abbrev pub IsTextFault : LengthUnit → List ℕ → RunFault → Type 0
+IsTextFault unit input f = (f ≡ fault.Memory) ⊎ ((cause : StlFault) × (f ≡ fault.Stl cause) × IsFaultOf FACET_LIMIT unit input cause)
+
+-- what a fault of the text is told as
+pub told : (unit : LengthUnit) (input : List ℕ) (cause : StlFault) (f : RunFault)
+    → ((cause ≡ stl.Memory → f ≡ fault.Memory) × (cause ≢ stl.Memory → f ≡ fault.Stl cause))
+    → (cause ≢ stl.Memory → IsFaultOf FACET_LIMIT unit input cause) → IsTextFault unit input f
+told unit input stl.Memory f gives known = inl (gives.0 refl)
+told unit input (stl.Expected word at) f gives known = inr (stl.Expected word at, gives.1 (λ e. cc), known (λ e. cc))
+told unit input (stl.Number cause at) f gives known = inr (stl.Number cause at, gives.1 (λ e. cc), known (λ e. cc))
+told unit input (stl.Ended word) f gives known = inr (stl.Ended word, gives.1 (λ e. cc), known (λ e. cc))
+told unit input (stl.TooMany at) f gives known = inr (stl.TooMany at, gives.1 (λ e. cc), known (λ e. cc))
+
+-- a text that is no mesh is no solid
+pub unread : (unit : LengthUnit) (input : List ℕ) (f : RunFault) → IsTextFault unit input f → IsLoadFault unit input f
+unread unit input f (inl is) = rw is tt
+unread unit input f (inr h) = rw h.1 h.2
+
+-- a mesh that is not closed is no solid
+pub unclosed : (unit : LengthUnit) (input : List ℕ) (facets : List Facet) (cause : WeldFault) (f : RunFault) → f ≡ of_weld cause
+    → Reads FACET_LIMIT unit input facets → IsWeldFault facets cause → IsLoadFault unit input f
+unclosed unit input facets (weld.Open from to there back) f gives reads known = rw gives (facets, reads, known)
+unclosed unit input facets weld.Memory f gives reads known = rw gives tt
+
+-- a text that is no mesh is the outcome of a box
+pub misread_box : (unit : LengthUnit) (input : List ℕ) (f : RunFault) → IsTextFault unit input f → IsWorkFault (task.Box unit) input f
+misread_box unit input f (inl is) = rw is (tt, (λ e. cc), (λ w e. cc))
+misread_box unit input f (inr h) = rw h.1 (misread h.0 h.2 refl, (λ e. cc), (λ w e. cc))
+
+pub passed_on : {T : Type 0} (r : Result T RunFault) (P Q : RunFault → Type 0) → ((f : RunFault) → P f → Q f) → IsErrAnd r P → IfErr r Q
+passed_on (Ok x) P Q more h = tt
+passed_on (Err f) P Q more h = more f h
+
+-- a text that is no closed mesh is the outcome of what needs one
+pub unloaded : (t : Task) (input : List ℕ) (f : RunFault) → is_box t ≡ false → IsLoadFault (unit_of t) input f → IsWorkFault t input f
+unloaded t input fault.Read other h = absurd h
+unloaded t input (fault.Stl cause) other h = (misread cause h refl, (λ e. cc), (λ w e. cc))
+unloaded t input (fault.Open from to there back) other h = (open_mesh h.0 h.1 other from to there back h.2 refl, (λ e. cc), (λ w e. cc))
+unloaded t input (fault.Grid cause) other h = absurd h
+unloaded t input fault.Memory other h = (tt, (λ e. cc), (λ w e. cc))
+unloaded t input (fault.Write written) other h = absurd h
+unloaded t input (fault.Outside columns rows layers) other h = absurd h
+
+-- what is made of the mesh is the outcome
+pub made_there : (t : Task) (input : List ℕ) (solid : Solid) (answer : Result (List ℕ) RunFault) → is_box t ≡ false
+    → IsSolidOf (unit_of t) input solid → IsMade t solid answer → IsOutcome t input answer
+made_there t input solid answer other s made = closed s.0 s.1 other s.2 (subst (λ (m : Solid). IsMade t m answer) s.3 made)
+
+-- where there is no closed mesh or no grid, that is the outcome of a probe, and of slicing
+pub unplaced : (t : Task) (pitch layer : ℕ) (given : Option Given) (input : List ℕ) (f : RunFault) → is_box t ≡ false
+    → ((solid : Solid) (cause : GridFault) → grid_for given pitch layer solid.facets ≡ Err cause → IsMade t solid (Err (fault.Grid cause)))
+    → IsPlacingFault (unit_of t) given pitch layer input f → IsWorkFault t input f
+unplaced t pitch layer given input f other made (inl h) = unloaded t input f other h
+unplaced t pitch layer given input f other made (inr h) =
+    rw h.3 (made_there t input h.0 (Err (fault.Grid h.2)) other h.1 (made h.0 h.2 h.4), (λ e. cc), (λ w e. cc))
+
+-- what a probe answers in its grid is its outcome
+pub probed_there : (unit : LengthUnit) (pitch layer : ℕ) (given : Option Given) (i j k : ℕ) (input : List ℕ) (solid : Solid) (g : Grid)
+    (answer : Result (List ℕ) RunFault) → IsSolidOf unit input solid → grid_for given pitch layer solid.facets ≡ Ok g
+    → answer ≡ probed_text i j k solid.facets g → IsOutcome (task.Probe unit pitch layer given i j k) input answer
+probed_there unit pitch layer given i j k input solid g answer s placed is =
+    made_there (task.Probe unit pitch layer given i j k) input solid answer refl s (rw placed is)
+
+-- so is its fault, unless memory is short
+pub probed_fault : (unit : LengthUnit) (pitch layer : ℕ) (given : Option Given) (i j k : ℕ) (input : List ℕ) (solid : Solid) (g : Grid)
+    (f : RunFault) → IsSolidOf unit input solid → grid_for given pitch layer solid.facets ≡ Ok g
+    → (f ≡ fault.Memory) ⊎ (f ≡ outside g) × (Err f ≡ probed_text i j k solid.facets g)
+    → IsWorkFault (task.Probe unit pitch layer given i j k) input f
+probed_fault unit pitch layer given i j k input solid g f s placed (inl is) = rw is (tt, (λ e. cc), (λ w e. cc))
+probed_fault unit pitch layer given i j k input solid g f s placed (inr h) =
+    let said : Err (outside g) ≡ probed_text i j k solid.facets g =
+    subst (λ (x : RunFault). Err x ≡ probed_text i j k solid.facets g) h.0 h.1 in
+    rw h.0 (probed_there unit pitch layer given i j k input solid g (Err (outside g)) s placed said, (λ e. cc), (λ w e. cc))

@@ -1,9 +1,0 @@
-use Rattle.std.proofs.Common.{◌≡◌}
-use Rattle.std.specs.Prelude.{flat_map, string_bytes}
-use Rattle.raster.specs.Fill.{below}
-use Rattle.stlslice.specs.Stream.{layer_line}
-use Rattle.stlslice.proofs.report.report.Given as goal
-
-abbrev pub invariant-loop-layer : goal.invariant-loop-layer
-invariant-loop-layer g l =
-    string_bytes l.text ≡ flat_map (layer_line l.build.work.grid l.build.work.rule l.build.work.mesh.facets) (below l.layer-index)

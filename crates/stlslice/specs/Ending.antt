@@ -1,0 +1,70 @@
+-- Which faults of a run come when, beside those of its devices and of memory.
+use Rattle.std.specs.Prelude.{◌≡◌, ◌≢◌, ℕ, ◌≤◌, ◌⊎◌, List, Option, Err, Ok, length}
+use Rattle.std.specs.Io.KnownBytes.{Keeps}
+use Rattle.raster.specs.Devices.{AppendsFirst, HasFailed}
+use Rattle.task_words.specs.declared.task.Task.{Task}
+use Rattle.stlslice.specs.declared.fault.RunFault.{RunFault}
+use Rattle.stlslice.specs.declared.fault.RunFault.TheVariants as fault
+use Rattle.micro_num.specs.declared.unit.Unit.{Unit as LengthUnit}
+use Rattle.stl_text.specs.Text.{IsFaultOf, Reads}
+use Rattle.geometry.specs.Facet.{Facet}
+use Rattle.mesh_weld.specs.Balance.{IsBalanced, IsLeastOpen}
+use Rattle.mesh_weld.specs.Solid.{Solid, solid_of}
+use Rattle.raster.specs.declared.grid.GridFault.{GridFault}
+use Rattle.task_words.specs.declared.task.Given.{Given}
+use Rattle.stlslice.specs.Outcome.{IsOutcome, grid_for}
+use Rattle.geometry.specs.declared.limits.TheConstants.{FACET_LIMIT}
+
+-- a fault of the input is its outcome; the others are of a device or of memory
+abbrev pub IsRunFault : Task → List ℕ → RunFault → Type 0
+IsRunFault t input fault.Read = Unit {0}
+IsRunFault t input (fault.Stl cause) = IsOutcome t input (Err (fault.Stl cause))
+IsRunFault t input (fault.Open from to there back) = IsOutcome t input (Err (fault.Open from to there back))
+IsRunFault t input (fault.Grid cause) = IsOutcome t input (Err (fault.Grid cause))
+IsRunFault t input fault.Memory = Unit {0}
+IsRunFault t input (fault.Write written) = Unit {0}
+IsRunFault t input (fault.Outside columns rows layers) = IsOutcome t input (Err (fault.Outside columns rows layers))
+
+-- a text that is no closed mesh: its fault, or its least open edge
+abbrev pub IsLoadFault : LengthUnit → List ℕ → RunFault → Type 0
+IsLoadFault unit bytes fault.Read = ⊥
+IsLoadFault unit bytes (fault.Stl cause) = IsFaultOf FACET_LIMIT unit bytes cause
+IsLoadFault unit bytes (fault.Open from to there back) =
+    (facets : List Facet) × Reads FACET_LIMIT unit bytes facets × IsLeastOpen facets from to there back
+IsLoadFault unit bytes (fault.Grid cause) = ⊥
+IsLoadFault unit bytes fault.Memory = Unit {0}
+IsLoadFault unit bytes (fault.Write written) = ⊥
+IsLoadFault unit bytes (fault.Outside columns rows layers) = ⊥
+
+-- the closed mesh that a text is
+abbrev pub IsSolidOf : LengthUnit → List ℕ → Solid → Type 0
+IsSolidOf unit bytes solid =
+    (facets : List Facet) × Reads FACET_LIMIT unit bytes facets × IsBalanced facets × (solid ≡ solid_of facets)
+
+-- a text that is no closed mesh, or a closed mesh that has no grid
+abbrev pub IsPlacingFault : LengthUnit → Option Given → ℕ → ℕ → List ℕ → RunFault → Type 0
+IsPlacingFault unit given pitch layer bytes f =
+    IsLoadFault unit bytes f ⊎ ((solid : Solid) × IsSolidOf unit bytes solid
+    × (cause : GridFault) × (f ≡ fault.Grid cause) × (grid_for given pitch layer solid.facets ≡ Err cause))
+
+-- a sink before and after a call: the bytes that it holds, and the count of its failed calls
+pub record Transcript : Type 0 where
+  pub old : Option (List ℕ)
+  pub new : Option (List ℕ)
+  pub failed_before : ℕ
+  pub failed : ℕ
+
+-- the first bytes of a text went out, as many as the fault counts, and the device failed
+abbrev pub IsUnwritten : Transcript → List ℕ → RunFault → Type 0
+IsUnwritten transcript text f =
+    (written : ℕ) × (f ≡ fault.Write written) × (written ≤ length text) × AppendsFirst transcript.old transcript.new written text
+    × HasFailed transcript.failed_before transcript.failed
+
+-- a fault of a run that read its input and has written nothing
+abbrev pub IsWorkFault : Task → List ℕ → RunFault → Type 0
+IsWorkFault t input f = IsRunFault t input f × (f ≢ fault.Read) × ((written : ℕ) → f ≢ fault.Write written)
+
+-- nothing was written, or a part of the outcome was
+abbrev pub IsEnd : Task → List ℕ → Transcript → RunFault → Type 0
+IsEnd t input transcript f =
+    (IsWorkFault t input f × Keeps transcript.old transcript.new) ⊎ ((text : List ℕ) × IsOutcome t input (Ok text) × IsUnwritten transcript text f)

@@ -1,0 +1,102 @@
+-- What the program writes for a task and an input, or which fault it ends with.
+use Rattle.std.specs.Prelude.{◌≡◌, ℕ, Bool, true, false, ◌&&◌, List, ◌++◌, length, Option, Some, None, Result, Ok, Err, nat_lt, if◌then◌else◌, codes, decimal, option_map}
+use Rattle.std.specs.Fmt.{signed_decimal}
+use Rattle.micro_num.specs.declared.unit.Unit.{Unit as LengthUnit}
+use Rattle.stl_text.specs.declared.stl_fault.StlFault.{StlFault}
+use Rattle.geometry.specs.Point.{Point}
+use Rattle.geometry.specs.Facet.{Facet}
+use Rattle.geometry.specs.BoundingBox.{bounds}
+use Rattle.stl_text.specs.Text.{Reads, IsFaultOf}
+use Rattle.geometry.specs.Winding.{ray, ray_y}
+use Rattle.mesh_weld.specs.Balance.{IsBalanced, IsLeastOpen}
+use Rattle.mesh_weld.specs.Solid.{Solid, solid_of}
+use Rattle.raster.specs.declared.grid.GridFault.{GridFault}
+use Rattle.raster.specs.Grid.{Grid, centre, fitted_grid, given_grid, grid_with}
+use Rattle.raster.specs.declared.rule.Rule.{Rule}
+use Rattle.stlslice.specs.SlicedText.{sliced_text}
+use Rattle.task_words.specs.declared.task.Given.{Given}
+use Rattle.task_words.specs.declared.task.Task.{Task}
+use Rattle.task_words.specs.declared.task.Task.TheVariants as task
+use Rattle.stlslice.specs.declared.fault.RunFault.{RunFault}
+use Rattle.stlslice.specs.declared.fault.RunFault.TheVariants as fault
+use Rattle.geometry.specs.declared.limits.TheConstants.{FACET_LIMIT}
+
+abbrev pub position_text : Point → List ℕ
+position_text p = signed_decimal p.x ++ codes " " ++ signed_decimal p.y ++ codes " " ++ signed_decimal p.z
+
+-- the line of a count of facets, with the corners of their bounding box
+abbrev pub line_text : ℕ → Option (Point × Point) → List ℕ
+line_text count None = codes "facets " ++ (decimal count ++ codes "\n")
+line_text count (Some corners) =
+    codes "facets " ++ (decimal count
+    ++ (codes " box " ++ (position_text corners.0 ++ (codes " " ++ (position_text corners.1 ++ codes "\n")))))
+
+-- the box line, over all facets that were read
+abbrev pub box_text : List Facet → List ℕ
+box_text facets = line_text (length facets) (option_map (λ b. (b.low, b.high)) (bounds facets))
+
+abbrev pub unit_of : Task → LengthUnit
+unit_of (task.Box unit) = unit
+unit_of (task.Slice unit pitch layer rule workers report grid) = unit
+unit_of (task.Probe unit pitch layer grid i j k) = unit
+
+abbrev pub is_box : Task → Bool
+is_box (task.Box unit) = true
+is_box (task.Slice unit pitch layer rule workers report grid) = false
+is_box (task.Probe unit pitch layer grid i j k) = false
+
+-- the two rays at a voxel
+abbrev pub probe_text : Grid → List Facet → ℕ → ℕ → ℕ → List ℕ
+probe_text g facets i j k =
+    codes "voxel " ++ (decimal i ++ (codes " " ++ (decimal j ++ (codes " " ++ (decimal k
+    ++ (codes " x " ++ (signed_decimal (ray facets (centre g i j k))
+    ++ (codes " y " ++ (signed_decimal (ray_y facets (centre g i j k)) ++ codes "\n")))))))))
+
+-- the grid that was handed in, or else the one that the mesh fits in
+abbrev pub grid_for : Option Given → ℕ → ℕ → List Facet → Result Grid GridFault
+grid_for None pitch layer facets = fitted_grid facets pitch layer
+grid_for (Some given) pitch layer facets =
+    given_grid (grid_with given.origin pitch layer given.columns given.rows given.layers)
+
+abbrev pub outside : Grid → RunFault
+outside g = fault.Outside g.columns g.rows g.layers
+
+abbrev pub is_voxel : Grid → ℕ → ℕ → ℕ → Bool
+is_voxel g i j k = nat_lt i g.columns && nat_lt j g.rows && nat_lt k g.layers
+
+-- with a grid, what it gives; without one, the grid's fault
+abbrev pub with_grid : (Grid → Result (List ℕ) RunFault) → Result Grid GridFault → Result (List ℕ) RunFault
+with_grid f (Ok g) = f g
+with_grid f (Err cause) = Err (fault.Grid cause)
+
+abbrev pub probed_text : ℕ → ℕ → ℕ → List Facet → Grid → Result (List ℕ) RunFault
+probed_text i j k facets g = if is_voxel g i j k then Ok (probe_text g facets i j k) else Err (outside g)
+
+-- what a probe answers for the kept facets of a closed mesh
+abbrev pub probed : Option Given → ℕ → ℕ → ℕ → ℕ → ℕ → List Facet → Result (List ℕ) RunFault
+probed grid pitch layer i j k facets = with_grid (probed_text i j k facets) (grid_for grid pitch layer facets)
+
+-- what slicing answers for the kept facets of a closed mesh: the images of all layers, or the report
+abbrev pub sliced : Option Given → ℕ → ℕ → Rule → Bool → List Facet → Result (List ℕ) RunFault
+sliced grid pitch layer rule report facets =
+    with_grid (λ g. Ok (sliced_text report g rule facets)) (grid_for grid pitch layer facets)
+
+-- what comes of the kept facets of a closed mesh
+abbrev pub IsMade : Task → Solid → Result (List ℕ) RunFault → Type 0
+IsMade (task.Box unit) solid answer = ⊥
+IsMade (task.Slice unit pitch layer rule workers report grid) solid answer =
+    answer ≡ sliced grid pitch layer rule report solid.facets
+IsMade (task.Probe unit pitch layer grid i j k) solid answer = answer ≡ probed grid pitch layer i j k solid.facets
+
+-- The program's answer to a task and an input, by the order of its checks: the text has to read as facets, and for a
+-- box that is all; else the mesh has to be closed, and then the grid and the voxel decide.
+pub data IsOutcome (t : Task) (bytes : List ℕ) (answer : Result (List ℕ) RunFault) : Type 0 where
+  misread : (cause : StlFault) → IsFaultOf FACET_LIMIT (unit_of t) bytes cause → answer ≡ Err (fault.Stl cause)
+      → IsOutcome t bytes answer
+  boxed : (facets : List Facet) → Reads FACET_LIMIT (unit_of t) bytes facets → is_box t ≡ true
+      → answer ≡ Ok (box_text facets) → IsOutcome t bytes answer
+  open_mesh : (facets : List Facet) → Reads FACET_LIMIT (unit_of t) bytes facets → is_box t ≡ false
+      → (from to : Point) (there back : ℕ) → IsLeastOpen facets from to there back
+      → answer ≡ Err (fault.Open from to there back) → IsOutcome t bytes answer
+  closed : (facets : List Facet) → Reads FACET_LIMIT (unit_of t) bytes facets → is_box t ≡ false
+      → IsBalanced facets → IsMade t (solid_of facets) answer → IsOutcome t bytes answer

@@ -1,0 +1,34 @@
+-- What slicing writes: the images of all layers, or a line for each.
+use Rattle.std.specs.Prelude.{ℕ, Bool, List, ◌++◌, codes, decimal, flat_map, length, sum_by, if◌then◌else◌}
+use Rattle.geometry.specs.Facet.{Facet}
+use Rattle.contour.specs.Loops.{loops}
+use Rattle.contour.specs.Segment.{segments}
+use Rattle.raster.specs.declared.rule.Rule.{Rule}
+use Rattle.raster.specs.declared.span.Span.{Span}
+use Rattle.raster.specs.Fill.{area_of, below}
+use Rattle.raster.specs.Span.{covers}
+use Rattle.raster.specs.Grid.{Grid, plane}
+use Rattle.raster.specs.Picture.{picture, pictures}
+
+-- the image of the pixels that lie in the spans
+abbrev pub image : Grid → List Span → List ℕ
+image g spans = picture g.columns g.rows (covers spans)
+
+abbrev pub line_of_layer : ℕ → ℕ → ℕ → List ℕ
+line_of_layer number loops area =
+    codes "layer " ++ (decimal number ++ (codes " loops " ++ (decimal loops ++ (codes " area " ++ (decimal area ++ codes "\n")))))
+
+-- the line of layer k: how many loops its plane has, and how many of its voxels are filled
+abbrev pub layer_line : Grid → Rule → List Facet → ℕ → List ℕ
+layer_line g rule facets k = line_of_layer k (length (loops (segments facets (plane g k)))) (area_of g rule facets k)
+
+abbrev pub total_line : ℕ → List ℕ
+total_line total = codes "total " ++ (decimal total ++ codes "\n")
+
+-- the lines of all layers, from 0 up, and one on the filled voxels of all
+abbrev pub report_text : Grid → Rule → List Facet → List ℕ
+report_text g rule facets =
+    flat_map (layer_line g rule facets) (below g.layers) ++ total_line (sum_by (area_of g rule facets) (below g.layers))
+
+abbrev pub sliced_text : Bool → Grid → Rule → List Facet → List ℕ
+sliced_text is_report g rule facets = if is_report then report_text g rule facets else pictures g rule facets

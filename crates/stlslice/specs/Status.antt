@@ -1,0 +1,19 @@
+-- What faults of the parts become in a run, and the exit status of a program that ends with a fault.
+use Rattle.std.specs.Prelude.{ℕ}
+use Rattle.mesh_weld.specs.declared.weld_fault.WeldFault.{WeldFault}
+use Rattle.mesh_weld.specs.declared.weld_fault.WeldFault.TheVariants as weld
+use Rattle.stlslice.specs.declared.fault.RunFault.{RunFault}
+use Rattle.stlslice.specs.declared.fault.RunFault.TheVariants as fault
+
+abbrev pub of_weld : WeldFault → RunFault
+of_weld (weld.Open from to there back) = fault.Open from to there back
+of_weld weld.Memory = fault.Memory
+
+abbrev pub run_status : RunFault → ℕ
+run_status fault.Read = 7
+run_status (fault.Stl cause) = 3
+run_status (fault.Open from to there back) = 4
+run_status (fault.Grid cause) = 5
+run_status fault.Memory = 6
+run_status (fault.Write written) = 7
+run_status (fault.Outside columns rows layers) = 5

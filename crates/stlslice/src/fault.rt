@@ -1,0 +1,114 @@
+//! Why a run wrote no text, or not all of it.
+ghost use Rattle.std.specs.Prelude.{◌≡◌, ◌≢◌};
+ghost use Rattle.stl_text.specs.declared.stl_fault.StlFault.TheVariants as stl_fault;
+ghost use Rattle.stlslice.specs.Status.{of_weld, run_status};
+ghost use Rattle.stlslice.specs.declared.fault.RunFault.TheVariants.{Grid, Memory, Stl};
+
+use geometry::Point;
+use mesh_weld::WeldFault;
+use raster::GridFault;
+use std::alloc::AllocError;
+use stl_text::StlFault;
+use thiserror::Error;
+
+/// Why a run wrote no text, or not all of it. Its `Display` is the program's line on standard error.
+#[derive(Clone, Copy, Debug, PartialEq, Eq, Error)]
+pub enum RunFault {
+    /// The input could not be read. Nothing was written.
+    #[error("stlslice: read failed")]
+    Read,
+    /// The input is no mesh. Nothing was written.
+    #[error("stlslice: {0}")]
+    Stl(StlFault),
+    /// The mesh is not closed. Of all pairs of points `from` before `to` between which the directed edges there and
+    /// back differ in number, the least; with both numbers. Nothing was written.
+    #[error("stlslice: open edge {} {} {} to {} {} {} there {there} back {back}", .from.x(), .from.y(), .from.z(), .to.x(), .to.y(), .to.z())]
+    Open {
+        from: Point,
+        to: Point,
+        there: u32,
+        back: u32,
+    },
+    /// There is no grid. Nothing was written.
+    #[error("stlslice: {0}")]
+    Grid(GridFault),
+    /// An allocation failed. Nothing was written.
+    #[error("stlslice: out of memory")]
+    Memory,
+    /// The output could not be written. Its first `written` bytes were.
+    #[error("stlslice: write failed after {written} bytes")]
+    Write {
+        written: u64,
+    },
+    /// The voxel is not in the grid, which has these counts. Nothing was written.
+    #[error("stlslice: voxel outside the grid: {columns} columns, {rows} rows, {layers} layers")]
+    Outside {
+        columns: u32,
+        rows: u32,
+        layers: u32,
+    },
+}
+
+impl RunFault {
+    /// The exit status of a program that ends with this fault.
+    pub fn status(&self) -> u8
+        ensures { result ≡ run_status self.now }
+    {
+        match self {
+            RunFault::Stl(_) => 3,
+            RunFault::Open { .. } => 4,
+            RunFault::Grid(_) | RunFault::Outside { .. } => 5,
+            RunFault::Memory => 6,
+            RunFault::Read | RunFault::Write { .. } => 7,
+        }
+    }
+}
+
+impl From<AllocError> for RunFault {
+    ghost from_gives = { λ _ fault. fault ≡ Memory };
+
+    fn from(_error: AllocError) -> RunFault {
+        RunFault::Memory
+    }
+}
+
+impl From<StlFault> for RunFault {
+    ghost from_gives = { λ cause fault. (cause ≡ stl_fault.Memory → fault ≡ Memory)
+        × (cause ≢ stl_fault.Memory → fault ≡ Stl cause) };
+
+    fn from(cause: StlFault) -> RunFault {
+        match cause {
+            StlFault::Memory => RunFault::Memory,
+            _ => RunFault::Stl(cause),
+        }
+    }
+}
+
+impl From<WeldFault> for RunFault {
+    ghost from_gives = { λ cause fault. fault ≡ of_weld cause };
+
+    fn from(cause: WeldFault) -> RunFault {
+        match cause {
+            WeldFault::Open {
+                from,
+                to,
+                there,
+                back,
+            } => RunFault::Open {
+                from,
+                to,
+                there,
+                back,
+            },
+            WeldFault::Memory => RunFault::Memory,
+        }
+    }
+}
+
+impl From<GridFault> for RunFault {
+    ghost from_gives = { λ cause fault. fault ≡ Grid cause };
+
+    fn from(cause: GridFault) -> RunFault {
+        RunFault::Grid(cause)
+    }
+}

@@ -1,0 +1,78 @@
+//! What a run writes, each output in a module of its own; and how a text goes out.
+ghost use Rattle.std.specs.Prelude.{◌≡◌, ◌≤◌, IfErr, OnOk, length, true, ℕ, ◌⊎◌};
+ghost use Rattle.std.specs.Io.KnownBytes.{Appends, Keeps};
+ghost use Rattle.raster.specs.Devices.{AppendsFirst, HasFailed};
+ghost use Rattle.stlslice.specs.declared.fault.RunFault.TheVariants.{Write, Memory};
+ghost use Rattle.stlslice.specs.Ending.{IsUnwritten};
+ghost use Rattle.stlslice.specs.SlicedText.{sliced_text};
+
+pub(crate) mod box_line;
+pub(crate) mod images;
+pub(crate) mod probe_line;
+pub(crate) mod report;
+
+use crate::fault::RunFault;
+use crate::write::images::write_images;
+use crate::write::report::report;
+use build_book::Build;
+use raster::{Sink, put_all};
+use std::alloc::Allocator;
+
+/// Writes and flushes the images of all layers of a build, or a report of them. A report is whole before its first
+/// byte goes out; images take no memory.
+pub(crate) fn write_build<A: Allocator + Copy + Send + Sync, O: Sink>(
+    alloc: A,
+    build: &Build<'_, A>,
+    is_report: bool,
+    sink: &mut O,
+) -> Result<(), RunFault>
+    ensures flushed { OnOk result (O.is_settled sink.new ≡ true) }
+    ensures ok { OnOk result (Appends (O.contents sink.old) (O.contents sink.new)
+        (sliced_text is_report build.now.job.grid build.now.job.rule build.now.job.solid.facets)) }
+    ensures err { IfErr result (λ fault. ((fault ≡ Memory) × Keeps (O.contents sink.old) (O.contents sink.new))
+        ⊎ IsUnwritten
+        (record {
+          old = O.contents sink.old;
+          new = O.contents sink.new;
+          failed_before = O.Failures.failure_count sink.old;
+          failed = O.Failures.failure_count sink.new;
+        })
+        (sliced_text is_report build.now.job.grid build.now.job.rule build.now.job.solid.facets) fault) }
+{
+    if is_report {
+        let text = report(alloc, build)?;
+        write_all(sink, text.as_bytes())
+    } else {
+        write_images(build, sink)
+    }
+}
+
+/// Writes a whole text, and flushes it. On a fault its first `written` bytes went out; all of them where it was the
+/// flush that failed.
+pub(crate) fn write_all<O: Sink>(sink: &mut O, text: &[u8]) -> Result<(), RunFault>
+    ensures flushed { OnOk result (O.is_settled sink.new ≡ true) }
+    ensures ok { OnOk result (Appends (O.contents sink.old) (O.contents sink.new) text.now) }
+    ensures err { IfErr result (λ fault. (written : ℕ) × (fault ≡ Write written) × (written ≤ length text.now)
+        × AppendsFirst (O.contents sink.old) (O.contents sink.new) written text.now
+        × HasFailed (O.Failures.failure_count sink.old) (O.Failures.failure_count sink.new)) }
+{
+    match put_all(sink, text) {
+        Ok(()) => settle(sink, text.len() as u64),
+        Err(fault) => Err(RunFault::Write {
+            written: fault.written,
+        }),
+    }
+}
+
+/// Flushes a sink, after `written` bytes of a run's output.
+pub(crate) fn settle<O: Sink>(sink: &mut O, written: u64) -> Result<(), RunFault>
+    ensures flushed { OnOk result (O.is_settled sink.new ≡ true) }
+    ensures kept { Keeps (O.contents sink.old) (O.contents sink.new) }
+    ensures err { IfErr result (λ fault. (fault ≡ Write written)
+        × HasFailed (O.Failures.failure_count sink.old) (O.Failures.failure_count sink.new)) }
+{
+    match sink.settle() {
+        Ok(()) => Ok(()),
+        Err(_) => Err(RunFault::Write { written }),
+    }
+}

@@ -1,0 +1,50 @@
+//! The output of `--box`: how many facets there are, and their bounding box.
+ghost use Rattle.std.specs.Prelude.{◌≡◌, IfOk, Some, string_bytes};
+ghost use Rattle.stlslice.specs.Outcome.{box_text, line_text, position_text};
+
+use geometry::{Facet, Point, extent};
+use std::alloc::{AllocError, Allocator};
+use std::fmt::{self, Display, Formatter, Write};
+
+/// The line on how many facets there are, and their box in micrometres.
+pub(crate) fn box_line<A: Allocator + Copy + Send + Sync>(
+    alloc: A,
+    facets: &[Facet],
+) -> Result<String<A>, AllocError>
+    ensures { IfOk result (λ line. string_bytes line ≡ box_text facets.now) }
+{
+    line(alloc, facets.len(), extent(facets))
+}
+
+/// The line of a count of facets, with the corners of their bounding box.
+fn line<A: Allocator + Copy + Send + Sync>(
+    alloc: A,
+    count: usize,
+    corners: Option<(Point, Point)>,
+) -> Result<String<A>, AllocError>
+    ensures { IfOk result (λ line. string_bytes line ≡ line_text count corners) }
+{
+    match corners {
+        None => format!(in alloc; "facets {count}\n"),
+        Some(corners) => {
+            let low = Place(corners.0);
+            let high = Place(corners.1);
+            format!(in alloc; "facets {count} box {low} {high}\n")
+        }
+    }
+}
+
+/// A point as it is written: its coordinates in micrometres.
+#[derive(Clone, Copy)]
+struct Place(Point);
+
+impl Display for Place {
+    ghost output = { λ place. Some (position_text place.0) };
+
+    fn fmt<W: Write>(&self, f: &mut Formatter<W>) -> fmt::Result {
+        let x = self.0.x();
+        let y = self.0.y();
+        let z = self.0.z();
+        write!(f, "{x} {y} {z}")
+    }
+}

@@ -1,0 +1,83 @@
+//! The output of slicing: the images of all layers, one after the other.
+ghost use Rattle.std.specs.Prelude.{◌≡◌, ◌≤◌, ◌+◌, ◌^◌, Bool, IfErr, IfOk, OnOk, decimal, length, true, ℕ};
+ghost use Rattle.std.specs.Io.KnownBytes.{Appends};
+ghost use Rattle.raster.specs.Devices.{AppendsFirst, HasFailed};
+ghost use Rattle.raster.specs.Span.{AreSpans};
+ghost use Rattle.raster.specs.Picture.{picture, pictures};
+ghost use Rattle.stlslice.specs.SlicedText.{image};
+ghost use Rattle.stlslice.specs.declared.fault.RunFault.TheVariants.{Write};
+
+use crate::fault::RunFault;
+use crate::write::settle;
+use build_book::Build;
+use raster::{Grid, Sink, Span, write_layer};
+use std::alloc::Allocator;
+
+/// Writes the images of all layers of a build, one at a time, and flushes them. On a fault just the first `written`
+/// bytes of all went out; all of them where it was the flush that failed.
+pub(crate) fn write_images<A: Allocator, O: Sink>(
+    build: &Build<'_, A>,
+    sink: &mut O,
+) -> Result<(), RunFault>
+    ensures flushed { OnOk result (O.is_settled sink.new ≡ true) }
+    ensures ok { OnOk result (Appends (O.contents sink.old) (O.contents sink.new)
+        (pictures build.now.job.grid build.now.job.rule build.now.job.solid.facets)) }
+    ensures err { IfErr result (λ fault. (written : ℕ) × (fault ≡ Write written)
+        × (written ≤ length (pictures build.now.job.grid build.now.job.rule build.now.job.solid.facets))
+        × AppendsFirst (O.contents sink.old) (O.contents sink.new) written
+        (pictures build.now.job.grid build.now.job.rule build.now.job.solid.facets)
+        × HasFailed (O.Failures.failure_count sink.old) (O.Failures.failure_count sink.new)) }
+{
+    let grid = build.job().grid();
+    // (a grid has few layers, so the count of bytes has room)
+    let _layers = grid.layers();
+    let mut written = 0;
+    for layer in build.layers() {
+        written = write_image(grid, layer.spans(), sink, written)?;
+    }
+    settle(sink, written)
+}
+
+/// Writes the image of a layer, after `before` bytes of a run's output; answers how many are out then.
+pub(crate) fn write_image<O: Sink>(
+    grid: &Grid,
+    spans: &[Span],
+    sink: &mut O,
+    before: u64,
+) -> Result<u64, RunFault>
+    requires form { AreSpans grid.now.columns grid.now.rows spans.now }
+    requires before { before ≤ 2 ^ 62 }
+    ensures total { IfOk result (λ total. total ≡ before + length (image grid.now spans.now)) }
+    ensures small { length (image grid.now spans.now) ≤ 2 ^ 26 }
+    ensures ok { OnOk result (Appends (O.contents sink.old) (O.contents sink.new) (image grid.now spans.now)) }
+    ensures same { OnOk result (O.Failures.failure_count sink.new ≡ O.Failures.failure_count sink.old) }
+    ensures err { IfErr result (λ fault. (written : ℕ) × (fault ≡ Write (before + written))
+        × (written ≤ length (image grid.now spans.now))
+        × AppendsFirst (O.contents sink.old) (O.contents sink.new) written (image grid.now spans.now)
+        × HasFailed (O.Failures.failure_count sink.old) (O.Failures.failure_count sink.new)) }
+{
+    let image = image_len(grid);
+    match write_layer(grid, spans, sink) {
+        Ok(()) => Ok(before + image),
+        Err(fault) => Err(RunFault::Write {
+            written: before + fault.written,
+        }),
+    }
+}
+
+/// How many bytes the image of each layer of a grid has.
+fn image_len(grid: &Grid) -> u64
+    ensures value { (pixel : ℕ → ℕ → Bool) → length (picture grid.now.columns grid.now.rows pixel) ≡ result }
+    ensures small { result ≤ 2 ^ 26 }
+{
+    let header = 5 + digit_count(grid.columns()) + digit_count(grid.rows());
+    header + u64::from(grid.rows()) * u64::from(grid.columns().div_ceil(8))
+}
+
+/// How many digits a number has in plain decimal.
+fn digit_count(n: u32) -> u64
+    ensures value { result ≡ length (decimal n) }
+    ensures few { result ≤ 10 }
+{
+    if n < 10 { 1 } else { 1 + digit_count(n / 10) }
+}

@@ -1,0 +1,4 @@
+pub mod Counts
+pub mod Fair
+pub mod Moves
+pub mod Gathers

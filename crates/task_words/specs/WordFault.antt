@@ -1,0 +1,19 @@
+-- The exit status of a program that ends with a fault of its words.
+use Rattle.std.specs.Prelude.{◌≡◌, ◌≢◌, ℕ}
+use Rattle.clap.specs.Words.{kind_of}
+use Rattle.clap.specs.declared.error.kind.ErrorKind.TheVariants.{DisplayHelp, DisplayVersion}
+use Rattle.task_words.specs.declared.word_fault.WordFault.{WordFault}
+use Rattle.task_words.specs.declared.word_fault.WordFault.TheVariants as words
+
+-- 0 where the words ask for help or for the version, 6 where an allocation failed, else 2
+abbrev pub IsWordStatus : WordFault → ℕ → Type 0
+IsWordStatus (words.Refused refusal) status =
+    (kind_of refusal ≡ DisplayHelp → status ≡ 0)
+    × (kind_of refusal ≡ DisplayVersion → status ≡ 0)
+    × (kind_of refusal ≢ DisplayHelp → kind_of refusal ≢ DisplayVersion → status ≡ 2)
+IsWordStatus (words.Missing option) status = status ≡ 2
+IsWordStatus words.BadRule status = status ≡ 2
+IsWordStatus words.Memory status = status ≡ 6
+IsWordStatus words.BadUnit status = status ≡ 2
+IsWordStatus words.BadGrid status = status ≡ 2
+IsWordStatus words.BadProbe status = status ≡ 2

@@ -1,0 +1,93 @@
+//! Why words stand for no task.
+ghost use Rattle.std.specs.Prelude.{◌≡◌, ◌≢◌};
+ghost use Rattle.clap.specs.Words.{kind_of};
+ghost use Rattle.clap.specs.declared.error.kind.ErrorKind.TheVariants.{OutOfMemory};
+ghost use Rattle.task_words.specs.declared.word_fault.WordFault.TheVariants.{Memory, Refused};
+ghost use Rattle.task_words.specs.WordFault.{IsWordStatus};
+
+use clap::Error as Refusal;
+use clap::error::ErrorKind;
+use std::alloc::AllocError;
+use std::fmt::{self, Display, Formatter, Write};
+use thiserror::Error;
+
+/// An option that a task cannot go without.
+#[derive(Clone, Copy, Debug, PartialEq, Eq)]
+pub enum Wanted {
+    Pitch,
+    Layer,
+}
+
+impl Display for Wanted {
+    /// As it is written.
+    fn fmt<W: Write>(&self, f: &mut Formatter<W>) -> fmt::Result {
+        f.write_str(match self {
+            Wanted::Pitch => "--pitch",
+            Wanted::Layer => "--layer",
+        })
+    }
+}
+
+/// Why words are no task. Its `Display` is the program's line on standard error, but for `Refused`, which is a text
+/// of several lines.
+#[derive(Debug, Drop, Error)]
+pub enum WordFault {
+    /// The words are not of the form of the command, or ask for its help or its version.
+    #[error("{0}")]
+    Refused(Refusal),
+    /// A task other than the box needs this option.
+    #[error("stlslice: {option} is missing")]
+    Missing { option: Wanted },
+    /// The text of `--rule` is not among the rules.
+    #[error("stlslice: --rule takes evenodd, nonzero or positive")]
+    BadRule,
+    /// An allocation failed.
+    #[error("stlslice: out of memory")]
+    Memory,
+    /// The text of `--unit` is not among the units.
+    #[error("stlslice: --unit takes mm or inch")]
+    BadUnit,
+    /// The text of `--grid` is no grid.
+    #[error("stlslice: --grid takes COLUMNS,ROWS,LAYERS,X0,Y0,Z0")]
+    BadGrid,
+    /// The text of `--probe` is no voxel.
+    #[error("stlslice: --probe takes I,J,K")]
+    BadProbe,
+}
+
+impl WordFault {
+    /// The exit status of a program that ends with this fault; 0 where the words ask for help or for the version.
+    pub fn status(&self) -> u8
+        ensures { IsWordStatus self.now result }
+    {
+        match self {
+            WordFault::Refused(refusal) => { if refusal.use_stderr() { 2 } else { 0 } }
+            WordFault::Memory => 6,
+            WordFault::Missing { .. }
+            | WordFault::BadRule
+            | WordFault::BadUnit
+            | WordFault::BadGrid
+            | WordFault::BadProbe => 2,
+        }
+    }
+}
+
+impl From<Refusal> for WordFault {
+    ghost from_gives = { λ refusal fault. (kind_of refusal ≡ OutOfMemory → fault ≡ Memory)
+        × (kind_of refusal ≢ OutOfMemory → fault ≡ Refused refusal) };
+
+    fn from(refusal: Refusal) -> WordFault {
+        match refusal.kind() {
+            ErrorKind::OutOfMemory => WordFault::Memory,
+            _ => WordFault::Refused(refusal),
+        }
+    }
+}
+
+impl From<AllocError> for WordFault {
+    ghost from_gives = { λ _ fault. fault ≡ Memory };
+
+    fn from(_error: AllocError) -> WordFault {
+        WordFault::Memory
+    }
+}

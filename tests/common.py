@@ -1,0 +1,68 @@
+"""What the tests share: the program's path, a folder where it is called stlslice, and how a test ends."""
+
+import os
+import subprocess
+import sys
+import tempfile
+
+sys.dont_write_bytecode = True
+
+ROOT = os.path.dirname(os.path.dirname(os.path.abspath(__file__)))
+PROGRAM = os.path.abspath(sys.argv[1]) if len(sys.argv) > 1 else sys.exit("use: a test takes the program's path")
+
+
+def skip(why):
+    """Ends the test as one that can't run here."""
+    print(why)
+    sys.exit(77)
+
+
+def text_of(name):
+    with open(os.path.join(ROOT, name), encoding="utf-8") as file:
+        return file.read()
+
+
+def same(what, found, wanted):
+    """Ends the test as failed, where the two differ."""
+    if found != wanted:
+        sys.exit(f"{what}: found\n{found!r}\nand wanted\n{wanted!r}")
+    print(f"{what}: as wanted")
+
+
+def holds(what, is_so):
+    if not is_so:
+        sys.exit(f"{what}: not so")
+    print(f"{what}: so")
+
+
+class Room:
+    """A folder that is removed in the end, with bin/stlslice, and an environment whose PATH begins with its bin/."""
+
+    def __enter__(self):
+        self.folder = tempfile.TemporaryDirectory(prefix="stlslice-test-")
+        self.path = self.folder.name
+        os.mkdir(self.file("bin"))
+        os.symlink(PROGRAM, self.file("bin", "stlslice"))
+        self.environment = {**os.environ, "PATH": f"{self.file('bin')}:{os.environ['PATH']}", "LC_ALL": "C.UTF-8"}
+        # a make above this test hands its own words down
+        for name in ("MAKEFLAGS", "MFLAGS", "MAKELEVEL", "DESTDIR", "PREFIX"):
+            self.environment.pop(name, None)
+        return self
+
+    def __exit__(self, *_):
+        self.folder.cleanup()
+
+    def file(self, *names):
+        return os.path.join(self.path, *names)
+
+    def run(self, *words, **how):
+        """A command run in the repository's folder; its outputs are texts unless `text=False`."""
+        how = {"cwd": ROOT, "env": self.environment, "stdin": subprocess.DEVNULL, "text": True, **how}
+        return subprocess.run(words, stdout=subprocess.PIPE, stderr=subprocess.PIPE, **how)
+
+    def make(self, *words):
+        """make with the program at hand in the place of build/stlslice; it is taken as built."""
+        ran = self.run("make", "-o", PROGRAM, f"PROGRAM={PROGRAM}", *words)
+        if ran.returncode:
+            sys.exit(f"make {' '.join(words)}: status {ran.returncode}\n{ran.stdout}{ran.stderr}")
+        return ran

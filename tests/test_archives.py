@@ -1,0 +1,306 @@
+#!/usr/bin/env -S python3 -B
+"""examples/to_sl1.py and examples/to_pngs.py: each pixel beside the slicer's own P4 stream, the place on the canvas, what
+is refused, and that a fault leaves nothing."""
+
+import os
+import signal
+import subprocess
+import sys
+import time
+import zipfile
+
+from parts import (box, environment, example, main, p4_images, pixels_of_p4, pixels_of_png, run, same, text)
+
+SL1 = example("to_sl1.py")
+PNGS = example("to_pngs.py")
+CANVAS = (331, 203)
+SMALL = ["--canvas", "331x203", "--pitch", "200", "--layer", "500", "--workers", "2"]
+
+
+def script(path, words):
+    return [sys.executable, path] + words
+
+
+def stream(program, part, rule, shift=(0, 0)):
+    """The images of a part in the middle of the small canvas, reckoned here from the box."""
+    with open(part, "rb") as file:
+        status, told, _ = run([program, "--box"], stdin=file)
+    same(status, 0, "status of the box")
+    x0, y0, z0, x1, y1, z1 = [int(word) for word in told.split()[3:]]
+    layers = -(-(z1 - z0) // 500)
+    gx = (x0 + x1 - CANVAS[0] * 200) // 2
+    gy = (y0 + y1 - CANVAS[1] * 200) // 2
+    with open(part, "rb") as file:
+        status, told, _ = run([program, "--pitch", "200", "--layer", "500", "--rule", rule,
+                               f"--grid={CANVAS[0]},{CANVAS[1]},{layers},{gx},{gy},{z0}"], stdin=file)
+    same(status, 0, "status of the stream")
+    return [pixels_of_p4(image) for image in p4_images(told)]
+
+
+def opened(path):
+    """The settings and the images of an archive, the lowest layer first."""
+    with zipfile.ZipFile(path) as archive:
+        same(archive.testzip(), None, "a damaged entry")
+        names = archive.namelist()
+        same(len(names), len(set(names)), "names that stand twice")
+        lines = archive.read("config.ini").decode().splitlines()
+        settings = dict(line.split(" = ", 1) for line in lines)
+        names.remove("config.ini")
+        job = settings["jobDir"]
+        same(names, [f"{job}{k:05}.png" for k in range(len(names))], "names of images")
+        return settings, [pixels_of_png(archive.read(name)) for name in names]
+
+
+def leaves_nothing(folder, before):
+    same(sorted(os.listdir(folder)), sorted(before), "files in the folder")
+
+
+def archive_is_the_stream(program, folder):
+    for depth in ("8", "1"):
+        for rule in ("evenodd", "positive"):
+            words = SMALL + ["--rule", rule, "--depth", depth, "--program", program]
+            part, out = example("supported.stl"), os.path.join(folder, "out.sl1")
+            status, told, fault = run(script(SL1, words + [part, out]))
+            same((status, fault), (0, b""), "archive")
+            settings, images = opened(out)
+            wanted = stream(program, part, rule)
+            same(len(images), 64, "layers")
+            assert images == wanted, f"pixels differ (rule {rule}, depth {depth})"
+            lit = sum(row.count(255) for image in images for row in image)
+            same(settings["usedMaterial"], f"{lit * 200 * 200 * 500 / 1e12:.6f}", "material")
+            assert lit > 0, "nothing is lit"
+
+
+def settings_are_those_asked_for(program, folder):
+    out = os.path.join(folder, "my part.SL1")
+    words = SMALL + ["--exposure", "2.5", "--first-exposure", "30", "--fade", "4", "--printer", "SL1S", "--material", "grey",
+                     "--program", program, example("bracket.stl"), out]
+    env = dict(os.environ, SOURCE_DATE_EPOCH="1700000000")
+    status, told, fault = run(script(SL1, words), env=env)
+    same((status, fault), (0, b""), "archive")
+    settings, images = opened(out)
+    same(len(images), 54, "layers")
+    wanted = {"action": "print", "expTime": "2.5", "expTimeFirst": "30", "expUserProfile": "0", "hollow": "0",
+              "fileCreationTimestamp": "2023-11-14 at 22:13:20 UTC", "jobDir": "my_part", "layerHeight": "0.5",
+              "materialName": "grey", "numFade": "4", "numFast": "54", "numSlow": "0", "printProfile": "0.5 mm",
+              # three layers of 30 s; 24.5, 19, 13.5 and 8 s; 47 of 2.5 s; and 5 s behind each
+              "printTime": f"{90 + 24.5 + 19 + 13.5 + 8 + 47 * 2.5 + 54 * 5:.6f}",
+              "printerModel": "SL1S", "printerProfile": "SL1S", "printerVariant": "default",
+              "prusaSlicerVersion": "stlslice", "usedMaterial": settings["usedMaterial"]}
+    same(settings, wanted, "settings")
+    with open(out, "rb") as file:
+        first = file.read()
+    run(script(SL1, words), env=env)
+    with open(out, "rb") as file:
+        assert file.read() == first, "a second run with the same date wrote other bytes"
+
+
+def large_layers_are_slow(program, folder):
+    part, out = os.path.join(folder, "part.stl"), os.path.join(folder, "out.sl1")
+    with open(part, "w") as file:
+        file.write(text(box((0, 0, 0), (1, 1, 1))) + text(box((0, 0, 1), (1, "0.5", 2))))
+    words = ["--canvas", "10x10", "--pitch", "100", "--layer", "250", "--program", program, part, out]
+    same(run(script(SL1, words))[0], 0, "status")
+    settings, _ = opened(out)
+    same((settings["numSlow"], settings["numFast"]), ("4", "4"), "slow and fast layers")
+
+
+def part_is_upright_and_in_the_middle(program, folder):
+    """A part of an L's shape, far from the origin: its foot points to the right, its stem stands at the left."""
+    part, out = os.path.join(folder, "part.stl"), os.path.join(folder, "out.sl1")
+    with open(part, "w") as file:
+        file.write(text(box((100, -50, 7), (101, -47, 8)) + box((101, -50, 7), (102, -49, 8))))
+    wanted = [b"\0" * 6] + [b"\0\0\xff\0\0\0"] * 2 + [b"\0\0\xff\xff\0\0"] + [b"\0" * 6]
+    left = [row[::-1] for row in wanted]
+    words = ["--canvas", "6x5", "--pitch", "1000", "--layer", "1000", "--program", program, part, out]
+    for more, image in (([], wanted), (["--mirror-x"], left), (["--mirror-y"], wanted[::-1]),
+                        (["--mirror-x", "--mirror-y"], left[::-1])):
+        same(run(script(SL1, words + more))[0], 0, "status")
+        same(opened(out)[1], [image], f"image {more}")
+
+
+def folder_is_the_stream(program, folder):
+    part, out = example("bracket.stl"), os.path.join(folder, "pngs")
+    status, told, fault = run(script(PNGS, SMALL + ["--program", program, part, out + "/"]))
+    same((status, fault), (0, b""), "folder")
+    names = sorted(os.listdir(out))
+    same(names, [f"{k:05}.png" for k in range(54)], "names")
+    images = []
+    for name in names:
+        with open(os.path.join(out, name), "rb") as file:
+            images.append(pixels_of_png(file.read()))
+    assert images == stream(program, part, "positive"), "pixels differ"
+    leaves_nothing(folder, ["pngs"])
+    status, _, fault = run(script(PNGS, SMALL + ["--program", program, part, out]))
+    same((status, fault), (1, f"to_pngs.py: {out} is there already\n".encode()), "a folder that is there")
+    same(sorted(os.listdir(out)), names, "names after that")
+    os.mkdir(out + "2")
+    same(run(script(PNGS, SMALL + ["--program", program, part, out + "2"]))[0], 0, "an empty folder")
+    same(len(os.listdir(out + "2")), 54, "layers")
+
+
+def large_part_is_refused(program, folder):
+    part = example("bracket.stl")
+    for path, out in ((SL1, "out.sl1"), (PNGS, "out")):
+        name, out = os.path.basename(path), os.path.join(folder, out)
+        for words, size in ((["--canvas", "640x239"], "32.000 x 11.950"), (["--canvas", "639x240"], "31.950 x 12.000"),
+                            (["--canvas", "640x240", "--height", "26.9"], "32.000 x 12.000 x 26.900")):
+            status, told, fault = run(script(path, words + ["--program", program, part, out]))
+            line = f"{name}: the part doesn't fit: it is 31.964 x 12.000 x 27.000 mm, the canvas {size} mm\n"
+            same((status, told, fault.decode()), (1, b"", line), "a part that is too large")
+        leaves_nothing(folder, [])
+    status, _, _ = run(script(SL1, ["--canvas", "640x240", "--height", "27", "--layer", "1000", "--program", program, part,
+                                    os.path.join(folder, "fits.sl1")]))
+    same(status, 0, "a part that fits exactly")
+
+
+def faults_are_handed_on(program, folder):
+    files = {
+        "text": (b"facet", 3, b"stlslice: expected solid at byte 0\n"),
+        "open": (text(box((0, 0, 0), (1, 1, 1))[1:]).encode(), 4,
+                 b"stlslice: open edge 0 0 0 to 0 1000 0 there 0 back 1\n"),
+        "empty": (b"solid\nendsolid\n", 1, b"%s: the part has no facets\n"),
+        "dark": (text([(a, c, b) for a, b, c in box((0, 0, 0), (1, 1, 1))]).encode(), 1,
+                 b"%s: no pixel is lit by --rule positive: is the part inside out (try --rule nonzero), or its unit "
+                 b"another than mm? It is 1.000 x 1.000 x 1.000 mm\n"),
+        "small": (text(box((0, 0, 0), ("0.02", "0.027", "0.03"))).encode(), 1,
+                  b"%s: no pixel is lit by --rule positive: is the part inside out (try --rule nonzero), or its unit "
+                  b"another than mm? It is 0.020 x 0.027 x 0.030 mm\n"),
+    }
+    for name, (bad, wanted, line) in files.items():
+        part = os.path.join(folder, name + ".stl")
+        with open(part, "wb") as file:
+            file.write(bad)
+        for path, out in ((SL1, "out.sl1"), (PNGS, "out")):
+            told_line = line.replace(b"%s", os.path.basename(path).encode())
+            out = os.path.join(folder, out)
+            status, told, fault = run(script(path, SMALL + ["--program", program, part, out]))
+            same((status, told, fault), (wanted, b"", told_line), name)
+            assert not os.path.lexists(out), f"{name}: a file is left"
+        with open(part, "rb") as file:
+            out = os.path.join(folder, "out.sl1")
+            status, _, fault = run(script(SL1, SMALL + ["--program", program, "-", out]), input=bad)
+            same((status, fault), (wanted, line.replace(b"%s", b"to_sl1.py")), name + " on standard input")
+        leaves_nothing(folder, [f"{n}.stl" for n in files if os.path.exists(os.path.join(folder, n + ".stl"))])
+
+
+def fault_keeps_what_was_there(program, folder):
+    part, out = os.path.join(folder, "part.stl"), os.path.join(folder, "out.sl1")
+    same(run(script(SL1, SMALL + ["--program", program, example("bracket.stl"), out]))[0], 0, "status")
+    with open(out, "rb") as file:
+        before = file.read()
+    with open(part, "w") as file:
+        file.write(text(box((0, 0, 0), (1, 1, 1))[1:]))
+    same(run(script(SL1, SMALL + ["--program", program, part, out]))[0], 4, "status")
+    with open(out, "rb") as file:
+        assert file.read() == before, "the archive that was there has changed"
+    leaves_nothing(folder, ["out.sl1", "part.stl"])
+
+
+def output_that_is_no_plain_file_is_refused(program, folder):
+    pipe, link = os.path.join(folder, "pipe"), os.path.join(folder, "link")
+    os.mkfifo(pipe)
+    os.symlink("elsewhere", link)
+    for out in (pipe, link, folder):
+        status, told, fault = run(script(SL1, SMALL + ["--program", program, example("bracket.stl"), out]))
+        same((status, told, fault.decode()), (1, b"", f"to_sl1.py: {out} is no plain file\n"), "an output that is no plain file")
+    leaves_nothing(folder, ["link", "pipe"])
+
+
+def pitch_of_quarters_is_exact(program, folder):
+    """A pixel of 47.25: the part four times as large in x and y, with a pixel of 189, has the same image. The part is
+    80 pixels wide but for a quarter of a micrometre, so any error of the pitch adds or takes a column."""
+    part, large = os.path.join(folder, "part.stl"), os.path.join(folder, "large.stl")
+    with open(part, "w") as file:
+        file.write(text(box(("-1.5", "+2.0e0", ".5"), ("2.27975", "4.", "1")) + box(("2.5", "2", "0.5"), ("3", "2.3", "0.9")),
+                        "vertex of all"))
+    with open(large, "w") as file:
+        file.write(text(box(("-6.0", "8", ".5"), ("9.119", "16", "1")) + box(("10", "8", "0.5"), ("12", "9.2", "0.9"))))
+    x0, y0 = (-6000 + 12000 - 301 * 189) // 2, (8000 + 16000 - 101 * 189) // 2
+    with open(large, "rb") as file:
+        status, told, _ = run([program, "--pitch", "189", "--layer", "100", f"--grid=301,101,5,{x0},{y0},500"], stdin=file)
+    same(status, 0, "status")
+    wanted = [pixels_of_p4(image) for image in p4_images(told)]
+    out = os.path.join(folder, "out.sl1")
+    words = ["--canvas", "301x101", "--pitch", "47.25", "--layer", "100", "--program", program]
+    same(run(script(SL1, words + [part, out]))[0], 0, "status")
+    settings, images = opened(out)
+    assert images == wanted, "pixels differ"
+    same(images[0][50].count(255), 80, "pixels of a row that is 80 wide")
+    lit = sum(row.count(255) for image in images for row in image)
+    same(settings["usedMaterial"], f"{lit * 47.25 * 47.25 * 100 / 1e12:.6f}", "material")
+    for bad, status, line in ((text(box((0, 0, 0), (1, 1, 1))[1:]), 4, "open edge 0 0 0 to 0 1000 0 there 0 back 1"),
+                              ("solid\nfacet normal 0 0 0\nouter loop\nvertex 0 x 0", 3,
+                               "number at byte 45: not a number")):
+        with open(part, "w") as file:
+            file.write(bad)
+        found = run(script(SL1, words + [part, out + "2"]))
+        same(found, (status, b"", f"stlslice: {line}\n".encode()), "a fault")
+    for pitch in ("0", "47.2500", "-1", "0.000", "1e2"):
+        status, _, fault = run(script(SL1, ["--pitch=" + pitch, part, out + "2"]))
+        assert status == 2 and b"it takes micrometres" in fault, f"pitch {pitch}: {fault!r}"
+    leaves_nothing(folder, ["large.stl", "out.sl1", "part.stl"])
+
+
+def slicer(folder, body):
+    """A stand-in for the slicer: it answers the box, and slices as `body` says."""
+    path = os.path.join(folder, "slicer")
+    with open(path, "w") as file:
+        file.write("#!/bin/sh\ncase \"$*\" in *--box*) echo facets 12 box 0 0 0 800 100 1000; exit;; esac\n" + body)
+    os.chmod(path, 0o755)
+    return path
+
+
+def broken_slicers_leave_nothing(program, folder):
+    image = "printf 'P4\\n8 1\\n\\377'\n"
+    for body, status, line in (
+            (image + "echo stlslice: write failed after 8 bytes >&2; exit 7\n", 7, "stlslice: write failed after 8 bytes"),
+            (image, 1, "to_sl1.py: the program's output ended within its layers"),
+            (image + image + "printf x\n", 1, "to_sl1.py: the program wrote more layers than it was asked for"),
+            (image + "printf 'P4\\n1 8\\n\\377'", 1, "to_sl1.py: the program's output isn't a P4 stream of that canvas"),
+            (image + "kill -KILL $$\n", 137, None),
+    ):
+        words = ["--canvas", "8x1", "--pitch", "100", "--layer", "500", "--program", slicer(folder, body),
+                 example("bracket.stl"), os.path.join(folder, "out.sl1")]
+        found, _, fault = run(script(SL1, words))
+        same((found, fault.decode()), (status, line + "\n" if line else ""), body)
+        leaves_nothing(folder, ["slicer"])
+
+
+def stopped_script_leaves_nothing(program, folder):
+    path = slicer(folder, "printf 'P4\\n8 1\\n\\377'; exec sleep 60\n")
+    child = subprocess.Popen(script(SL1, ["--canvas", "8x1", "--pitch", "100", "--layer", "500", "--program", path,
+                                          example("bracket.stl"), os.path.join(folder, "out.sl1")]))
+    for _ in range(200):
+        time.sleep(0.05)
+        if any(name.endswith(".part") for name in os.listdir(folder)):
+            break
+    else:
+        raise AssertionError("no file was begun")
+    child.send_signal(signal.SIGTERM)
+    same(child.wait(timeout=60), 143, "status")
+    leaves_nothing(folder, ["slicer"])
+
+
+def pipes_and_units(program, folder):
+    out = [os.path.join(folder, name) for name in ("a.sl1", "b.sl1")]
+    env = environment(program, folder)
+    status, _, _ = run(script(SL1, SMALL + [example("bracket.stl"), out[0]]), env=env)
+    same(status, 0, "the program on PATH")
+    status, _, fault = run(["bash", "-c", 'exec "$0" "${@:1:$#-1}" <(cat "${@: -1}") "' + out[1] + '"', sys.executable, SL1]
+                           + SMALL + [example("bracket.stl")], env=env)
+    same((status, fault), (0, b""), "a named pipe")
+    same(opened(out[1])[1], opened(out[0])[1], "images of a pipe")
+    part = os.path.join(folder, "inch.stl")
+    with open(part, "w") as file:
+        file.write(text(box((0, 0, 0), (2, 1, 1))))
+    same(run(script(SL1, SMALL + ["--unit", "inch", part, out[1]]), env=env)[0], 0, "inches")
+    first = opened(out[1])[1][0]
+    same((sum(255 in row for row in first), max(row.count(255) for row in first)), (127, 254), "a box of 2 x 1 inches")
+
+
+if __name__ == "__main__":
+    main([archive_is_the_stream, settings_are_those_asked_for, large_layers_are_slow, part_is_upright_and_in_the_middle,
+          folder_is_the_stream, large_part_is_refused, faults_are_handed_on, fault_keeps_what_was_there,
+          output_that_is_no_plain_file_is_refused,
+          pitch_of_quarters_is_exact, broken_slicers_leave_nothing, stopped_script_leaves_nothing, pipes_and_units])

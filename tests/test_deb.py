@@ -1,0 +1,47 @@
+#!/usr/bin/env python3
+"""The Debian package has program, manual, completions, examples and licence; made twice it is the same bytes; and
+lintian, where it is there, has nothing to say beyond what the package's overrides explain."""
+
+import glob
+import os
+import shutil
+
+from common import PROGRAM, ROOT, Room, holds, same, skip, text_of
+
+PLACES = """./usr/bin/stlslice ./usr/share/man/man1/stlslice.1.gz ./usr/share/doc/stlslice/copyright
+./usr/share/doc/stlslice/changelog.gz ./usr/share/doc/stlslice/examples/bracket.stl
+./usr/share/bash-completion/completions/stlslice ./usr/share/zsh/vendor-completions/_stlslice
+./usr/share/fish/vendor_completions.d/stlslice.fish""".split()
+
+
+def made(room, name):
+    ran = room.run("tools/deb", PROGRAM, text_of("VERSION").strip(), room.file(name))
+    same("status of tools/deb", (ran.returncode, ran.stderr), (0, ""))
+    package, = glob.glob(room.file(name, "*.deb"))
+    with open(package, "rb") as file:
+        return package, file.read()
+
+
+def main():
+    for tool in ("dpkg-deb", "make"):
+        if not shutil.which(tool):
+            skip(f"{tool} is missing")
+    with Room() as room:
+        package, first = made(room, "one")
+        holds("both packages are the same bytes", first == made(room, "another")[1])
+        listed = room.run("dpkg-deb", "-c", package).stdout.splitlines()
+        files = {line.split()[-1]: line.split() for line in listed}
+        for place in PLACES:
+            holds(f"{place} is in it, as root's", place in files and files[place][1] == "root/root")
+        room.run("dpkg-deb", "-x", package, room.file("opened"))
+        with open(os.path.join(ROOT, "examples", "bracket.stl"), "rb") as part:
+            told = room.run(room.file("opened", "usr/bin/stlslice"), "--box", stdin=part)
+        holds("the program runs", told.returncode == 0 and told.stdout.startswith("facets "))
+        if shutil.which("lintian"):
+            same("what lintian has to say", room.run("lintian", "--allow-root", package).stdout, "")
+        else:
+            print("lintian is missing: the package was not looked at by it")
+
+
+if __name__ == "__main__":
+    main()

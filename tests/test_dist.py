@@ -1,0 +1,50 @@
+#!/usr/bin/env python3
+"""make dist gives the same bytes at another time, in another place and under another umask; the program in the
+tarball has the SHA-256 that stands beside it, and runs."""
+
+import glob
+import hashlib
+import os
+import shutil
+import tarfile
+
+from common import PROGRAM, ROOT, Room, holds, same, text_of
+
+
+def made(room, name, umask):
+    """The tarball, made in a copy of the repository's files whose times differ."""
+    copy = room.file(name)
+    shutil.copytree(ROOT, copy, ignore=shutil.ignore_patterns(".git", "crates", "build", "__pycache__"))
+    for at, _, names in os.walk(copy):
+        for it in names:
+            os.utime(os.path.join(at, it), (umask * 1000, umask * 1000))
+    version = text_of("VERSION").strip()
+    ran = room.run("bash", "-c", f"umask {umask:03}; cd '{copy}'; tools/dist '{PROGRAM}' {version} '{copy}/out'")
+    same(f"status of tools/dist in {name}", (ran.returncode, ran.stderr), (0, ""))
+    tarball, = glob.glob(f"{copy}/out/*.tar.gz")
+    with open(tarball, "rb") as file:
+        body = file.read()
+    said = f"{hashlib.sha256(body).hexdigest()}  {os.path.basename(tarball)}\n"
+    same("SHA-256 of the tarball", ran.stdout, said)
+    return tarball, body
+
+
+def main():
+    with Room() as room:
+        tarball, first = made(room, "one", 22)
+        _, second = made(room, "another", 77)
+        holds("both tarballs are the same bytes", first == second)
+        with tarfile.open(tarball) as archive:
+            archive.extractall(room.file("opened"))
+        folder, = glob.glob(room.file("opened", "*"))
+        same("the folder's name", os.path.basename(folder), os.path.basename(tarball)[:-len(".tar.gz")])
+        same("sha256sum -c", room.run("sha256sum", "-c", "SHA256SUMS", cwd=folder).stdout, "stlslice: OK\n")
+        with open(os.path.join(ROOT, "examples", "bracket.stl"), "rb") as part:
+            told = room.run(os.path.join(folder, "stlslice"), "--box", stdin=part)
+        holds("the program runs", told.returncode == 0 and told.stdout.startswith("facets "))
+        for name in ("README.md", "LICENSE", "stlslice.1", "completions/_stlslice", "docs/PROVED.md"):
+            holds(f"{name} is in it", os.path.exists(os.path.join(folder, name)))
+
+
+if __name__ == "__main__":
+    main()

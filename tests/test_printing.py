@@ -1,0 +1,265 @@
+#!/usr/bin/env -S python3 -B
+"""docs/printing.md: each block of shell is run as it stands, in a folder of its own, and prints what stands under it;
+what it leaves is looked at too. The blocks that need Debian packages are run by test_printing_tools.py."""
+
+import os
+import re
+import shutil
+import stat
+import zlib
+
+from pages import blocks
+from parts import (ROOT, box, environment, example, leave_out, main, p4_images, pixels_of_p4, pixels_of_png, run, same, text)
+
+PAGE = os.path.join(ROOT, "docs", "printing.md")
+TOOLS = {"python3": ["python3"], "netpbm": ["pamsplit", "pnminvert", "pnmtopng"], "gnuplot-nox": ["gnuplot"],
+         "imagemagick": ["montage", "identify"], "zstd": ["zstd"], "parallel": ["parallel"], "rsync": []}
+SBATCH = """#!/bin/bash
+# A stand-in for Slurm's sbatch: runs each task of the array, the last first.
+set -eu
+[[ $1 == --wait && $2 =~ ^--array=0-([0-9]+)$ ]]
+for ((task = BASH_REMATCH[1]; task >= 0; task--)); do
+  SLURM_ARRAY_TASK_ID=$task SLURM_JOB_ID=1 bash "${@:3}"
+done
+"""
+
+
+def content(*names):
+    with open(os.path.join(*names), "rb") as file:
+        return file.read()
+
+
+def sliced(program, words, part=example("bracket.stl")):
+    with open(part, "rb") as file:
+        status, told, fault = run([program, *words], stdin=file)
+    same((status, fault), (0, b""), "the slicer")
+    return told
+
+
+def shown(path):
+    """Width and height of a PNG of any kind, and whether it has more than one colour."""
+    png = content(path)
+    same(png[:8], b"\x89PNG\r\n\x1a\n", "start of the PNG")
+    at, body = 8, b""
+    while at < len(png):
+        size = int.from_bytes(png[at:at + 4], "big")
+        if png[at + 4:at + 8] == b"IDAT":
+            body += png[at + 8:at + 8 + size]
+        at += 12 + size
+    return int.from_bytes(png[16:20], "big"), int.from_bytes(png[20:24], "big"), len(set(zlib.decompress(body))) > 2
+
+
+def netpbm_pngs(program, folder):
+    names = sorted(os.listdir(os.path.join(folder, "layers")))
+    same(names, [f"{k:05}.png" for k in range(54)], "names")
+    images = p4_images(sliced(program, ["--pitch", "100", "--layer", "500"]))
+    for name, image in zip(names, images):
+        same(shown(os.path.join(folder, "layers", name))[:2], image[:2], "size of a PNG")
+        status, told, _ = run(["pngtopnm", os.path.join(folder, "layers", name)])
+        same(status, 0, "pngtopnm")
+        # netpbm takes white for 0 and black for 1, so the part, now white, has bits of 0
+        status, told, _ = run(["pnminvert"], input=told)
+        assert pixels_of_p4(p4_images(told)[0]) == pixels_of_p4(image), f"{name} differs, or its part isn't white"
+
+
+def archive(program, folder):
+    import zipfile
+    with zipfile.ZipFile(os.path.join(folder, "out.sl1")) as file:
+        same(len(file.namelist()), 541, "entries")
+        rows = pixels_of_png(file.read("out00017.png"))
+    same((len(rows), len(rows[0])), (1620, 2560), "canvas")
+
+
+def one_layer(program, folder):
+    whole = sliced(program, ["--pitch", "50", "--layer", "50"])
+    size = len(whole) // 540
+    assert content(folder, "layer17.pbm") == whole[17 * size:18 * size], "not the bytes of layer 17 in the whole"
+
+
+def fixed_canvas(program, folder):
+    images = p4_images(content(folder, "canvas.pbm"))
+    same((len(images), images[0][:2]), (540, (2560, 1620)), "images")
+    rows = [row for row in pixels_of_p4(images[0]) if 255 in row]
+    above = next(j for j, row in enumerate(pixels_of_p4(images[0])) if 255 in row)
+    same((above, len(rows)), (690, 240), "rows above the part, and rows of it")
+
+
+def plot(program, folder):
+    same(shown(os.path.join(folder, "area.png")), (640, 480, True), "the plot")
+
+
+def streams(program, folder):
+    whole = sliced(program, ["--pitch", "50", "--layer", "50"])
+    for tool, name in (("zstd", "layers.zst"), ("gzip", "layers.gz")):
+        assert run([tool, "-d", "-c", os.path.join(folder, name)])[1] == whole, f"{name} is another stream"
+
+
+def slurm(program, folder):
+    assert content(folder, "layers.pbm") == sliced(program, ["--pitch", "50", "--layer", "50"]), "bytes differ"
+    same(len(os.listdir(os.path.join(folder, "slabs"))), 7, "files: six slabs and the words")
+
+
+# What a block leaves, looked at beside what it prints; by the last file that it writes.
+LEFT = {"layers/%d.pbm": netpbm_pngs, "out.sl1\n": archive, "layer17.pbm": one_layer, "canvas.pbm": fixed_canvas,
+        "area.png": plot, "layers.gz": streams, "slabs/*.pbm": slurm}
+
+
+def needs(block):
+    """The Debian packages that the text before a block says it needs."""
+    named = re.search(r"\bNeeds (.*?)(?:\.|;)", block.before)
+    packages = re.findall(r"`([\w-]+)`", named[1]) if named else []
+    unknown = [package for package in packages if package not in TOOLS]
+    assert not unknown, f"packages that the test doesn't know: {unknown}"
+    return packages
+
+
+def folder_of(program, folder, number):
+    """A folder with the sample part, as the page's first block leaves it."""
+    here = os.path.join(folder, str(number))
+    os.mkdir(here)
+    os.symlink(os.path.join(ROOT, "examples"), os.path.join(here, "examples"))
+    shutil.copy(example("bracket.stl"), os.path.join(here, "part.stl"))
+    return here
+
+
+def recipes():
+    """Each block to run, with its number, what it prints, and what is looked at besides."""
+    page = blocks(PAGE)
+    for number, block in enumerate(page):
+        if block.language != "sh" or block.words == ["setup"]:
+            continue
+        follows = page[number + 1] if number + 1 < len(page) else None
+        wanted = follows.body if follows and follows.language == "text" and not follows.before else None
+        refused = wanted is not None and wanted.startswith("to_sl1.py:")
+        check = next((name for name in LEFT if name in block.body and not refused), None)
+        assert wanted is not None or check, f"{block.head}: nothing says what this block gives"
+        yield number, block, wanted, check, refused
+
+
+def try_recipe(program, folder, env, recipe):
+    number, block, wanted, check, refused = recipe
+    here = folder_of(program, folder, number)
+    if block.words == ["slurm"]:
+        with open(os.path.join(folder, "tools", "sbatch"), "w") as file:
+            file.write(SBATCH)
+            os.chmod(file.fileno(), 0o755)
+    status, told, fault = run(["bash", "-c", block.body], cwd=here, env=env)
+    same(status, 1 if refused else 0, f"{block.head}: status ({fault.decode()})")
+    if wanted is not None:
+        same((told + fault).decode(), wanted, f"{block.head}: what is printed")
+    if check:
+        LEFT[check](program, here)
+    if refused:
+        same(sorted(os.listdir(here)), ["examples", "part.stl"], "files behind a refusal")
+
+
+def recipes_do_what_they_say(program, folder):
+    env = environment(program, folder)
+    found = list(recipes())
+    same({check for _, _, _, check, _ in found} - {None}, set(LEFT), "what is left by blocks")
+    plain = [recipe for recipe in found if set(needs(recipe[1])) <= {"python3"}]
+    assert len(plain) >= 10, f"only {len(plain)} blocks need no package"
+    for recipe in plain:
+        try_recipe(program, folder, env, recipe)
+
+
+def recipes_with_tools_do_what_they_say(program, folder):
+    env = environment(program, folder)
+    found = [recipe for recipe in recipes() if not set(needs(recipe[1])) <= {"python3"}]
+    assert len(found) >= 5, f"only {len(found)} blocks need a package"
+    for recipe in found:
+        missing = [package for package in needs(recipe[1])
+                   if not all(shutil.which(tool, path=env["PATH"]) for tool in TOOLS[package])]
+        if missing:
+            leave_out(recipe[1].head, missing)
+        else:
+            try_recipe(program, folder, env, recipe)
+
+
+def old_slabs_are_not_mixed_in(program, folder):
+    """The lines for Slurm, in a folder where slabs of another part stand: nothing is run."""
+    env, here = environment(program, folder), folder_of(program, folder, 0)
+    block = next(block for block in blocks(PAGE) if block.words == ["slurm"])
+    os.mkdir(os.path.join(here, "slabs"))
+    status, told, fault = run(["bash", "-c", block.body], cwd=here, env=env)
+    assert status != 0 and fault.startswith(b"mkdir:"), f"status {status}: {fault!r}"
+    same((os.listdir(os.path.join(here, "slabs")), "layers.pbm" in os.listdir(here)), ([], False), "files")
+
+
+def first_block_is_the_folder(program, folder):
+    """The page's first block sets up what the others take: in a folder with build/ and examples/."""
+    block = next(block for block in blocks(PAGE) if block.words == ["setup"])
+    os.mkdir(os.path.join(folder, "build"))
+    os.symlink(program, os.path.join(folder, "build", "stlslice"))
+    os.symlink(os.path.join(ROOT, "examples"), os.path.join(folder, "examples"))
+    status, told, fault = run(["bash", "-c", block.body + "command -v stlslice"], cwd=folder, env={"PATH": "/usr/bin:/bin"})
+    same((status, told.decode(), fault), (0, os.path.join(folder, "build", "stlslice") + "\n", b""), "setup")
+    assert content(folder, "part.stl") == content(example("bracket.stl")), "another part"
+
+
+def canvas_that_is_too_small_is_refused(program, folder):
+    env, here = environment(program, folder), folder_of(program, folder, 0)
+    block = next(block for block in blocks(PAGE) if block.head == "A fixed canvas" and block.language == "sh")
+    assert block.body.count("W=2560 H=1620") == 1
+    found = run(["bash", "-c", block.body.replace("W=2560 H=1620", "W=640 H=239")], cwd=here, env=env)
+    same(found, (0, b"", b"the part doesn't fit: 31964 x 12000 micrometres\n"), "a canvas that is too small")
+    same(sorted(os.listdir(here)), ["examples", "part.stl"], "files")
+
+
+def refused_part_stops_recipes(program, folder):
+    """With a part that is no STL, and with one that is open, the slicer's line is told and no file gets its name."""
+    env = environment(program, folder)
+    heads = ("An archive for the printer", "A folder of PNGs", "One layer alone", "A fixed canvas", "Compressed streams",
+             "Many processors, many machines")
+    names = {"out.sl1", "pngs", "layer17.pbm", "canvas.pbm", "layers.zst", "layers.gz", "layers.pbm"}
+    seen = set()
+    for number, block in enumerate(blocks(PAGE)):
+        if block.language != "sh" or block.head not in heads or block.words or "--canvas 640x200" in block.body:
+            continue
+        if any(not shutil.which(tool) for package in needs(block) for tool in TOOLS[package]):
+            continue
+        for bad, line in (("nothing", "expected solid at byte 0"),
+                          (text(box((0, 0, 0), (9, 9, 9))[1:]), "open edge 0 0 0 to 0 9000 0 there 0 back 1")):
+            here = folder_of(program, folder, f"{number}{bad[0]}")
+            with open(os.path.join(here, "part.stl"), "w") as file:
+                file.write(bad)
+            status, told, fault = run(["bash", "-c", block.body], cwd=here, env=env)
+            assert fault.startswith(f"stlslice: {line}\n".encode()), f"{block.head}: {fault!r}"
+            left = set(os.listdir(here))
+            same(left & names, set(), f"{block.head}: files")
+            if "layers" in left:
+                same([name for name in os.listdir(os.path.join(here, "layers")) if name.endswith(".png")], [], "PNGs")
+        seen.add(block.head)
+    assert len(seen) >= 3, f"only {seen} were tried"
+
+
+def rules_are_as_in_the_table(program, folder):
+    """Which rules give the volume that the table of shells and supports names: 1,000 voxels to a cubic centimetre."""
+    outer, inner = box((0, 0, 0), (30, 30, 30)), box((10, 10, 10), (20, 20, 20))
+    beside, across = box((40, 0, 0), (50, 10, 10)), box((20, 20, 20), (40, 40, 40))
+    out = lambda facets: [(a, c, b) for a, b, c in facets]
+    rows = [
+        ("one shell", outer, (27, 27, 27)),
+        ("shells that don't overlap", outer + beside, (28, 28, 28)),
+        ("bodies that overlap", outer + across, (33, 34, 34)),
+        ("hollow, inner shell turned outside in", outer + out(inner), (26, 26, 26)),
+        ("hollow, inner shell turned like the outer one", outer + inner, (26, 27, 27)),
+        ("inside out", out(outer), (27, 27, 0)),
+        ("inside out, bodies that overlap", out(outer + across), (33, 34, 0)),
+        ("one of two bodies inside out, apart", outer + out(beside), (28, 28, 27)),
+    ]
+    for name, facets, volumes in rows:
+        for rule, volume in zip(("evenodd", "nonzero", "positive"), volumes):
+            status, told, _ = run([program, "--pitch", "1000", "--layer", "1000", "--rule", rule, "--report"],
+                                  input=text(facets).encode())
+            same((status, told.split()[-1]), (0, b"%d" % (1000 * volume)), f"{name} by {rule}")
+
+
+def examples_are_executable(program, folder):
+    for name in ("to_sl1.py", "to_pngs.py", "mark_edge.py", "slabs.sh", "slabs.sbatch"):
+        assert os.stat(example(name)).st_mode & stat.S_IXUSR, f"{name} isn't executable"
+
+
+if __name__ == "__main__":
+    main([recipes_do_what_they_say, old_slabs_are_not_mixed_in, first_block_is_the_folder, canvas_that_is_too_small_is_refused,
+          refused_part_stops_recipes, rules_are_as_in_the_table, examples_are_executable])

@@ -1,0 +1,110 @@
+#!/usr/bin/env python3
+"""What make does before rt run: libraries side by side, each behind those that it stands on; an end with status 1
+where one isn't proved or the quick pass has something to mend; and nothing at all where the toolchain's library is
+another than expected. It is tried with a library that stands in for the toolchain's."""
+
+import os
+import sys
+
+from common import Room, holds, same
+
+LIBRARY = '''
+import os, threading, time
+
+LOG, mutex = os.environ["LOG"], threading.Lock()
+DEPS = {"low": [], "middle": ["low"], "high": ["middle", "side"], "side": [], "other": []}
+LINES = {"low": 50, "middle": 50, "high": 50, "side": 20, "other": 10}
+known = {}
+
+
+class Crate:
+    def __init__(self, folder, root, crates):
+        self.name, self.folder = os.path.basename(folder), folder
+        self.deps = [known.setdefault(it, Crate(f"{root}/{it}", root, {})) for it in DEPS.get(self.name, [])]
+
+    def below(self):
+        return [known.setdefault(it, Crate(f"{os.path.dirname(self.folder)}/{it}", os.path.dirname(self.folder), {}))
+                for it in ("low", "middle", "side", "high", "other")]
+
+    def count(self, pattern):
+        return LINES[self.name]
+
+    def need(self):
+        return 1
+
+    def front_end(self):
+        return int(os.environ["QUICK"])
+
+    def build_rlib(self, flags, anew):
+        for what in ("begins", "ends"):
+            with mutex, open(LOG, "a") as file:
+                print(self.name, what, *flags, file=file)
+            time.sleep(0.1 * (what == "begins"))
+        return int(self.name == os.environ["FAILS"])
+
+
+def guarded():
+    return []
+
+
+def root_above(folder):
+    return os.path.dirname(folder)
+
+
+def lock(crates):
+    return []
+
+
+def cores():
+    return 4
+
+
+def fits(*needs):
+    return True
+'''
+
+
+def main():
+    with Room() as room:
+        for name, text in (("rt", "#!/bin/sh\n"), ("rtlib.py", LIBRARY)):
+            with open(room.file("bin", name), "w") as file:
+                file.write(text)
+            os.chmod(room.file("bin", name), 0o755)
+        room.environment["LOG"] = room.file("log")
+
+        def prove(quick=0, fails=""):
+            open(room.file("log"), "w").close()
+            room.environment.update(QUICK=str(quick), FAILS=fails)
+            ran = room.run(sys.executable, "tools/prove.py", room.file("program"))
+            with open(room.file("log")) as file:
+                return ran.returncode, file.read().splitlines(), ran.stderr
+
+        status, log, _ = prove()
+        same("status", status, 0)
+        at = {line: k for k, line in enumerate(log)}
+        names = {line.split()[0]: line for line in log if " begins" in line}
+        same("libraries", sorted(names), ["high", "low", "middle", "other", "side"])
+        flags = {name: line.split(" begins")[1].strip() for name, line in names.items()}
+        same("jobs", [flags["low"], flags["middle"], flags["high"], flags["side"]], ["", "", "", "--jobs 1"])
+        for above, below in (("middle", "low"), ("high", "middle"), ("high", "side")):
+            ends = next(k for line, k in at.items() if line.startswith(f"{below} ends"))
+            holds(f"{above} begins behind {below}", at[names[above]] > ends)
+        holds("side begins beside low", at[names["side"]] < next(k for it, k in at.items() if it.startswith("low ends")))
+        running = [0]
+        for line in log:
+            running.append(running[-1] + (1 if " begins" in line else -1))
+        same("most at once", max(running), 2)
+
+        status, log, said = prove(fails="middle")
+        holds("a library that isn't proved is named", status == 1 and "middle is not proved" in said)
+        holds("nothing above it is built", not any(line.startswith("high") for line in log))
+        same("status where there is something to mend", prove(quick=1)[0], 1)
+
+        with open(room.file("bin", "rtlib.py"), "w") as file:
+            file.write("# another toolchain's\n")
+        status, log, said = prove()
+        holds("another toolchain", status == 0 and not log and "another than expected" in said)
+
+
+if __name__ == "__main__":
+    main()

@@ -1,0 +1,68 @@
+#!/usr/bin/env python3
+"""README's lines do as it says: the first run, each status with its line, the canvas."""
+
+import os
+import re
+import shutil
+
+from common import ROOT, Room, holds, same, text_of
+
+
+def first_run(room, readme):
+    """Each command of the first run, with the lines that README shows below it."""
+    block = readme.split("## The first run")[1].split("`layers.pbm` holds")[0]
+    lines = [line[4:] for line in block.splitlines() if line.startswith("    ")]
+    runs = "\n".join(lines).split("$ ")[1:]
+    holds("README shows a first run", len(runs) >= 4)
+    os.symlink(os.path.join(ROOT, "examples"), room.file("examples"))
+    for run in runs:
+        command, _, wanted = run.partition("\n")
+        ran = room.run("bash", "-c", command, cwd=room.path)
+        same(f"status of: {command}", ran.returncode, 0)
+        same(f"output of: {command}", ran.stdout.rstrip("\n"), wanted.rstrip("\n"))
+        same(f"faults of: {command}", ran.stderr, "")
+
+
+def statuses(room, readme):
+    shutil.copy(os.path.join(ROOT, "README.md"), room.file("README.md"))
+    table = readme.split("## Statuses")[1].split("##")[0]
+    rows = re.findall(r"(?m)^\| (\d) \|[^|]*\| `([^`]+)` \| ?(?:`([^`]+)`)? ?\|$", table)
+    same("statuses with a sample line", [int(row[0]) for row in rows], [0, 2, 3, 4, 5, 6, 7])
+    for status, command, line in rows:
+        ran = room.run("bash", "-c", command, cwd=room.path)
+        same(f"status of: {command}", ran.returncode, int(status))
+        same(f"standard error of: {command}", ran.stderr, line + "\n" if line else "")
+        if int(status):
+            same(f"standard output of: {command}", ran.stdout, "")
+
+
+def canvas(room, readme):
+    """The recipe for a canvas puts the part in its middle, whole."""
+    block = re.search(r"(?m)^    W=.*\n(?:    .*\n)+", readme)[0]
+    shutil.copy(os.path.join(ROOT, "examples", "bracket.stl"), room.file("part.stl"))
+    ran = room.run("bash", "-euc", block, cwd=room.path)
+    same("status and faults of the canvas", (ran.returncode, ran.stderr), (0, ""))
+    with open(room.file("layers.pbm"), "rb") as file:
+        stream = file.read()
+    size = len(b"P4\n2560 1620\n") + 320 * 1620
+    same("layers of the canvas", (len(stream) % size, len(stream) // size), (0, 540))
+    box = [int(word) for word in room.run("bash", "-c", "stlslice --box < part.stl", cwd=room.path).stdout.split()[3:]]
+    x0, y0 = ((box[k] + box[k + 3] - side * 50) // 2 for k, side in ((0, 2560), (1, 1620)))
+    wider = f"2760,1820,560,{x0 - 5000},{y0 - 5000},{box[2] - 500}"
+    report = room.run("bash", "-c", f"stlslice --pitch 50 --layer 50 --grid={wider} --report < part.stl", cwd=room.path)
+    lit = sum(bin(int.from_bytes(stream[at + 13:at + size], "big")).count("1") for at in range(0, len(stream), size))
+    same("nothing is cut: the pixels of the canvas, and of a wider one", f"total {lit}", report.stdout.splitlines()[-1])
+    held = [k for k in range(1620) if any(stream[13 + 320 * k:333 + 320 * k])]
+    holds("the part is in the middle", abs(held[0] - (1619 - held[-1])) <= 1)
+
+
+def main():
+    readme = text_of("README.md")
+    with Room() as room:
+        first_run(room, readme)
+        statuses(room, readme)
+        canvas(room, readme)
+
+
+if __name__ == "__main__":
+    main()

@@ -1,0 +1,193 @@
+#!/usr/bin/env -S python3 -B
+"""examples/slabs.sh and examples/slabs.sbatch: the slabs' images, joined, are those of the whole, and a slab that fails
+leaves nothing. What needs GNU parallel and an ssh server is in test_slabs_tools.py."""
+
+import glob
+import os
+import shutil
+import socket
+import subprocess
+import time
+
+from parts import box, environment, example, main, run, same, text
+
+SLABS = example("slabs.sh")
+BATCH = example("slabs.sbatch")
+
+
+def whole(program, part, words=("--pitch", "200", "--layer", "300")):
+    with open(part, "rb") as file:
+        status, told, _ = run([program, *words], stdin=file)
+    same(status, 0, "status of the whole")
+    return told
+
+
+def content(path):
+    with open(path, "rb") as file:
+        return file.read()
+
+
+def words_are_slabs_of_the_whole(program, folder):
+    """Slabs of 1, 7, 30, 90 and 200 layers of a part of 90; and a part of whose layers and columns none is whole."""
+    env = environment(program, folder)
+    odd = os.path.join(folder, "odd part.stl")
+    with open(odd, "w") as file:
+        file.write(text(box(("-0.101", "-3", "-7.0003"), ("5.3", "0.0996", "1.1111"))))
+    for part, per, slabs in ((example("bracket.stl"), 1, 90), (example("bracket.stl"), 7, 13),
+                             (example("bracket.stl"), 30, 3), (example("bracket.stl"), 90, 1),
+                             (example("bracket.stl"), 200, 1), (odd, 10, 3)):
+        status, told, fault = run([SLABS, "-p", "200", "-l", "300", "-n", str(per), "--words", part], env=env)
+        same((status, fault), (0, b""), "words")
+        lines = told.decode().splitlines()
+        same(len(lines), slabs, f"slabs of {per} layers")
+        assert b"".join(whole(program, part, line.split()) for line in lines) == whole(program, part), "bytes differ"
+
+
+def batch_of_tasks_is_the_whole(program, folder):
+    env = environment(program, folder)
+    part, slabs = example("bracket.stl"), os.path.join(folder, "slabs")
+    os.mkdir(slabs)
+    for words, wanted in ((["-p", "200", "-l", "300"], ["--pitch", "200", "--layer", "300"]),
+                          (["-p", "6000", "-l", "4000", "-r", "nonzero", "-u", "inch"],
+                           ["--pitch", "6000", "--layer", "4000", "--rule", "nonzero", "--unit", "inch"])):
+        for old in glob.glob(slabs + "/*"):
+            os.remove(old)
+        status, told, _ = run([SLABS, *words, "-n", "25", "--words", part], env=env)
+        same(status, 0, "words")
+        with open(os.path.join(slabs, "words"), "wb") as file:
+            file.write(told)
+        count = len(told.splitlines())
+        for number in reversed(range(count)):
+            status, told, fault = run([BATCH, part, slabs], env=dict(env, SLURM_ARRAY_TASK_ID=str(number)))
+            same((status, told, fault), (0, b"", b""), f"task {number}")
+        names = sorted(os.listdir(slabs))
+        same(names, [f"{k:05}.pbm" for k in range(count)] + ["words"], "files")
+        joined = b"".join(content(os.path.join(slabs, name)) for name in names[:-1])
+        assert joined == whole(program, part, wanted), "bytes differ"
+
+
+def task_that_fails_leaves_nothing(program, folder):
+    env = environment(program, folder)
+    slabs = os.path.join(folder, "slabs")
+    os.mkdir(slabs)
+    with open(os.path.join(slabs, "words"), "w") as file:
+        file.write("--pitch 50 --layer 50 --grid=1,1,1,0,0,0\n")
+    with open(os.path.join(folder, "open.stl"), "w") as file:
+        file.write(text(box((0, 0, 0), (1, 1, 1))[1:]))
+    words = [BATCH, os.path.join(folder, "open.stl"), slabs]
+    found = run(words, env=dict(env, SLURM_ARRAY_TASK_ID="0"))
+    same(found, (4, b"", b"stlslice: open edge 0 0 0 to 0 1000 0 there 0 back 1\n"), "a part that is open")
+    same(os.listdir(slabs), ["words"], "files")
+    found = run(words, env=dict(env, SLURM_ARRAY_TASK_ID="1"))
+    same(found, (2, b"", f"slabs.sbatch: {slabs}/words has no line for task 1\n".encode()), "a task beyond the last")
+    same(os.listdir(slabs), ["words"], "files")
+
+
+def wrong_words_are_refused(program, folder):
+    env = environment(program, folder)
+    part = example("bracket.stl")
+    for words, status, line in ((["-p", "0", part, "x"], 2, "-p takes a whole number, at least 1"),
+                                (["-n", "", part, "x"], 2, "-n takes a whole number, at least 1"),
+                                (["-x", part, "x"], 2, "there is no option -x"),
+                                (["-", "x"], 2, "there is no option -"),
+                                ([part], 2, "it takes part.stl and layers.pbm, or --words and part.stl"),
+                                ([folder, "x"], 1, f"{folder} can't be read")):
+        same(run([SLABS, *words], cwd=folder, env=env), (status, b"", f"slabs.sh: {line}\n".encode()), str(words))
+    same(run([SLABS, "-r", "odd", "--words", part], cwd=folder, env=env)[0], 0, "words of a rule aren't looked at here")
+    empty = os.path.join(folder, "empty.stl")
+    with open(empty, "w") as file:
+        file.write("solid\nendsolid\n")
+    same(run([SLABS, empty, "x"], cwd=folder, env=env), (1, b"", b"slabs.sh: the part has no facets\n"), "no facets")
+    same(sorted(os.listdir(folder)), ["empty.stl", "home", "tools"], "files")
+
+
+def parallel_slabs_are_the_whole(program, folder):
+    env = environment(program, folder)
+    part, out = os.path.join(folder, "it's my part.stl"), os.path.join(folder, "all layers.pbm")
+    shutil.copy(example("bracket.stl"), part)
+    with open(out, "w") as file:
+        file.write("what was there before")
+    for words in (["-n", "7", "-j", "3"], ["-n", "100"], ["-n", "30", "-P", program]):
+        found = run([SLABS, "-p", "200", "-l", "300", *words, os.path.basename(part), os.path.basename(out)], cwd=folder,
+                    env=env)
+        same(found, (0, b"", b""), str(words))
+        assert content(out) == whole(program, part), f"{words}: bytes differ"
+    same(sorted(os.listdir(folder)), ["all layers.pbm", "home", "it's my part.stl", "tools"], "files")
+
+
+def first_failure_halts(program, folder):
+    """A stand-in for the slicer answers the box and each slab but one; the last ones would take a minute."""
+    env = environment(program, folder)
+    tool, out = os.path.join(folder, "slicer"), os.path.join(folder, "out.pbm")
+    with open(tool, "w") as file:
+        file.write("#!/bin/sh\ncase \"$*\" in\n*--box*) echo facets 12 box 0 0 0 1000 1000 900;;\n"
+                   "*0,0,300) echo stlslice: out of memory >&2; exit 6;;\n*0,0,600) sleep 60;;\nesac\n")
+    os.chmod(tool, 0o755)
+    with open(out, "w") as file:
+        file.write("what was there before")
+    start = time.monotonic()
+    status, told, fault = run([SLABS, "-l", "100", "-n", "3", "-j", "3", "-P", tool, example("bracket.stl"), out], env=env)
+    same((status, told), (6, b""), "status")
+    assert b"stlslice: out of memory\n" in fault, f"the slab's line is missing: {fault!r}"
+    assert time.monotonic() - start < 30, "the other slabs went on"
+    same(content(out), b"what was there before", "the file that was there")
+    same(sorted(os.listdir(folder)), ["home", "out.pbm", "slicer", "tools"], "files")
+
+
+def server(folder):
+    """An ssh server of this test alone, and the words that reach it."""
+    ssh = os.path.join(folder, "ssh")
+    os.mkdir(ssh, 0o700)
+    for name in ("host", "user"):
+        subprocess.run(["ssh-keygen", "-q", "-t", "ed25519", "-N", "", "-f", os.path.join(ssh, name)], check=True)
+    with socket.socket() as free:
+        free.bind(("127.0.0.1", 0))
+        port = free.getsockname()[1]
+    with open(os.path.join(ssh, "sshd_config"), "w") as file:
+        file.write(f"Port {port}\nListenAddress 127.0.0.1\nHostKey {ssh}/host\nAuthorizedKeysFile {ssh}/user.pub\n"
+                   f"StrictModes no\nUsePAM no\nPasswordAuthentication no\nPermitRootLogin yes\nPidFile {ssh}/pid\n")
+    with open(os.path.join(ssh, "ssh_config"), "w") as file:
+        file.write(f"Host one two\nHostName 127.0.0.1\nPort {port}\nIdentityFile {ssh}/user\nIdentitiesOnly yes\n"
+                   f"UserKnownHostsFile {ssh}/known\nStrictHostKeyChecking no\nLogLevel ERROR\nBatchMode yes\n")
+    with open(os.path.join(ssh, "log"), "wb") as log:
+        child = subprocess.Popen(["/usr/sbin/sshd", "-D", "-e", "-f", os.path.join(ssh, "sshd_config")], stderr=log)
+    words = ["ssh", "-F", os.path.join(ssh, "ssh_config")]
+    for _ in range(50):
+        if run(words + ["one", "true"])[0] == 0:
+            return child, words
+        time.sleep(0.1)
+    child.terminate()
+    child.wait()
+    raise AssertionError(content(os.path.join(ssh, "log")).decode())
+
+
+def slabs_over_ssh_are_the_whole(program, folder):
+    env = environment(program, folder)
+    child, words = server(folder)
+    try:
+        out = os.path.join(folder, "out.pbm")
+        found = run([SLABS, "-p", "200", "-l", "300", "-n", "20", "-S", "2/one,1/two,:", "-P", program,
+                     example("bracket.stl"), out], env=dict(env, PARALLEL_SSH=" ".join(words)))
+        same(found, (0, b"", b""), "run")
+        assert content(out) == whole(program, example("bracket.stl")), "bytes differ"
+        same(run(words + ["one", "ls -A | grep '^stlslice-.*[.]stl$'"])[1], b"", "files in the login folder there")
+        accepted = content(os.path.join(folder, "ssh", "log")).count(b"Accepted publickey")
+        assert accepted > 8, f"only {accepted} logins: nothing ran there"
+    finally:
+        child.terminate()
+        child.wait()
+
+
+def missing_tools():
+    """What test_slabs_tools.py needs and isn't here: for slabs in parallel, and for these over ssh."""
+    is_gnu = shutil.which("parallel") and run(["parallel", "--version"])[1].startswith(b"GNU parallel")
+    parallel = [] if is_gnu else ["parallel"]
+    far = [tool for tool in ("ssh", "ssh-keygen", "rsync", "/usr/sbin/sshd") if not shutil.which(tool)]
+    if os.geteuid() == 0 and not os.path.isdir("/run/sshd"):
+        far.append("/run/sshd, which sshd wants")
+    return parallel, parallel + far
+
+
+if __name__ == "__main__":
+    main([words_are_slabs_of_the_whole, batch_of_tasks_is_the_whole, task_that_fails_leaves_nothing,
+          wrong_words_are_refused])

@@ -1,0 +1,116 @@
+#!/usr/bin/env python3
+"""Proves and builds the libraries below a program, those side by side of which none stands on another.
+
+    prove.py FOLDER
+
+FOLDER is the program's crate. `rt run` there proves the libraries one after another; `rt all check --jobs N` proves
+N at a time, but gives each one job, and most of these crates stand on one another. This calls the toolchain's own
+library, as both of them do: of the libraries that can be built, the one with the longest chain of others above it
+chooses its jobs as under `rt run`, and those beside it get one job each, where processors and memory allow. The quick
+pass over all sources, with which `rt run` begins, goes on beside the first proofs. What is built here `rt run` takes as built, by its own stamps, and what isn't it builds itself: so where the toolchain's
+library is another than expected, this says so and leaves all to `rt run`.
+"""
+
+import importlib.util
+import os
+import shutil
+import signal
+import sys
+import tempfile
+from concurrent.futures import FIRST_COMPLETED, ThreadPoolExecutor, wait
+
+sys.dont_write_bytecode = True
+
+
+def toolchain():
+    path = os.path.join(os.path.dirname(os.path.realpath(shutil.which("rt"))), "rtlib.py")
+    spec = importlib.util.spec_from_file_location("rtlib", path)
+    module = importlib.util.module_from_spec(spec)
+    sys.modules["rtlib"] = module
+    spec.loader.exec_module(module)
+    return module
+
+
+def heights(crates):
+    """For each library, the lines of the longest chain of libraries from it upwards."""
+    found = {}
+    for crate in reversed(crates):
+        above = [found[it] for it in crates if crate in it.deps]
+        found[crate] = crate.count(rb"\n") + max(above, default=0)
+    return found
+
+
+def built(crate, flags, streams):
+    """Whether the library was proved and built. What is said of it comes at once, or else when it has ended."""
+    os.makedirs(f"{crate.folder}/out", exist_ok=True)
+    with tempfile.TemporaryFile("w+", errors="replace") as said:
+        crate.out = sys.stdout if streams else said
+        print(f"== {crate.name}", file=crate.out, flush=True)
+        try:
+            status = crate.build_rlib(flags, anew=False)
+        except SystemExit:
+            status = 2
+        said.seek(0)
+        print(said.read(), end="", flush=True)
+    return status == 0
+
+
+def read(program):
+    """Whether the quick pass over all sources, which proves nothing, finds nothing to mend."""
+    with tempfile.TemporaryFile("w+", errors="replace") as program.out:
+        status = program.front_end()
+        program.out.seek(0)
+        said = program.out.read()
+    if status:
+        print(f"{said}prove.py: mend these first", flush=True)
+    return status == 0
+
+
+def prove(rtlib, folder):
+    # its first call sets a signal's handler, which only the main thread may
+    rtlib.guarded()
+    program = rtlib.Crate(folder, rtlib.root_above(folder), {})
+    left = program.below()
+    held = rtlib.lock([*left, program])
+    chain, done, running, first = heights(left), [], {}, None
+    beside = rtlib.cores() // 4
+    with ThreadPoolExecutor(2 + beside) as pool:
+        reading = pool.submit(read, program)
+        while left or running:
+            if reading.done() and not reading.result():
+                return False
+            ready = [it for it in left if all(dep in done for dep in it.deps)]
+            for crate in sorted(ready, key=lambda it: -chain[it]):
+                if first is None:
+                    first, flags = crate, []
+                elif len(running) <= beside and rtlib.fits(crate.need()):
+                    flags = ["--jobs", "1"]
+                else:
+                    break
+                left.remove(crate)
+                running[pool.submit(built, crate, flags, crate is first)] = crate
+            for it in wait(running, return_when=FIRST_COMPLETED).done:
+                crate = running.pop(it)
+                first = None if crate is first else first
+                if not it.result():
+                    print(f"prove.py: {crate.name} is not proved", file=sys.stderr)
+                    return False
+                done.append(crate)
+        well = reading.result()
+    for it in held:
+        os.close(it)
+    return well
+
+
+def main():
+    # with Python's own handler Ctrl-C would wait for the checks that run
+    signal.signal(signal.SIGINT, signal.SIG_DFL)
+    try:
+        return 0 if prove(toolchain(), os.path.abspath(sys.argv[1])) else 1
+    except (AttributeError, ImportError, TypeError, OSError) as fault:
+        print(f"prove.py: not side by side, since the toolchain is another than expected: {fault}", file=sys.stderr)
+        return 0
+
+
+if __name__ == "__main__":
+    sys.exit(main())
