@@ -58,7 +58,7 @@ install: $(PROGRAM)
 	install -D -m 644 completions/stlslice.bash $(DESTDIR)$(BASH_COMPLETION)
 	install -D -m 644 completions/_stlslice $(DESTDIR)$(ZSH_COMPLETION)
 	install -D -m 644 completions/stlslice.fish $(DESTDIR)$(FISH_COMPLETION)
-	install -m 644 README.md CHANGELOG.md LICENSE $(DESTDIR)$(DOCS)
+	install -m 644 README.md CHANGELOG.md CONTRIBUTING.md LICENSE $(DESTDIR)$(DOCS)
 	install -m 644 docs/* $(DESTDIR)$(DOCS)/docs
 	for file in examples/*.*; do \
 		mode=644; test ! -x "$$file" || mode=755; \

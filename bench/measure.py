@@ -63,7 +63,11 @@ def run(program, words, path):
 
 
 def main():
+    if len(sys.argv) not in (2, 3) or not all(word.isdecimal() for word in sys.argv[2:]):
+        sys.exit("use: bench/measure.py PROGRAM [FACETS]")
     program = os.path.abspath(sys.argv[1])
+    if not os.access(program, os.X_OK):
+        sys.exit(f"bench: {sys.argv[1]} is no program: build it with make")
     facets = int(sys.argv[2]) if len(sys.argv) > 2 else 200_000
     with tempfile.TemporaryDirectory() as folder:
         path = os.path.join(folder, "ring.stl")

@@ -92,4 +92,9 @@ def main():
 
 
 if __name__ == "__main__":
-    main()
+    try:
+        main()
+    except subprocess.CalledProcessError as fault:
+        sys.exit(f"demo: {fault.cmd[0]} ended with status {fault.returncode}")
+    except OSError as fault:
+        sys.exit(f"demo: {fault.strerror}: {fault.filename}")

@@ -11,6 +11,7 @@ An SL1 archive is what PrusaSlicer writes for the Original Prusa SL1; UVtools an
 of other printers.
 """
 
+import argparse
 import os
 import re
 import sys
@@ -104,17 +105,15 @@ def exposure_of(number, given):
 
 
 def count(text):
-    value = int(text)
-    if not 0 <= value <= 1000:
-        raise ValueError
-    return value
+    if not re.fullmatch(r"\d{1,3}", text):
+        raise argparse.ArgumentTypeError("it takes a whole number, at most 999")
+    return int(text)
 
 
 def seconds(text):
-    value = float(text)
-    if not 0 < value < 1e6:
-        raise ValueError
-    return value
+    if not re.fullmatch(r"\d{1,5}(\.\d{1,6})?", text) or not float(text):
+        raise argparse.ArgumentTypeError("it takes seconds above 0, as 2.2")
+    return float(text)
 
 
 def job_name(output):

@@ -42,7 +42,8 @@ def main():
         with open(os.path.join(ROOT, "examples", "bracket.stl"), "rb") as part:
             told = room.run(os.path.join(folder, "stlslice"), "--box", stdin=part)
         holds("the program runs", told.returncode == 0 and told.stdout.startswith("facets "))
-        for name in ("README.md", "LICENSE", "stlslice.1", "completions/_stlslice", "docs/PROVED.md"):
+        for name in ("README.md", "LICENSE", "stlslice.1", "completions/_stlslice", "docs/PROVED.md", "CONTRIBUTING.md",
+                     "examples/to_sl1.py", "examples/bracket.stl"):
             holds(f"{name} is in it", os.path.exists(os.path.join(folder, name)))
 
 

@@ -42,13 +42,13 @@ def binary(head):
 
 
 def moved(facets, size, seed):
-    """Facets whose corners are off by up to so much, each in its own way."""
+    """Facets whose corners are off by up to `size`, each in its own way."""
     draw = random.Random(seed)
     return [tuple(tuple("%.6f" % (x + draw.uniform(-size, size)) for x in corner) for corner in facet) for facet in facets]
 
 
 def ball(radius, times):
-    """A ball of facets: an octahedron, each of whose triangles is cut into four so many times."""
+    """A ball of facets: an octahedron, each of whose triangles is cut into four this many times."""
     corner = [(1, 0, 0), (-1, 0, 0), (0, 1, 0), (0, -1, 0), (0, 0, 1), (0, 0, -1)]
     sides = [(0, 2, 4), (2, 1, 4), (1, 3, 4), (3, 0, 4), (2, 0, 5), (1, 2, 5), (3, 1, 5), (0, 3, 5)]
     facets = [tuple(corner[k] for k in side) for side in sides]
@@ -103,7 +103,7 @@ def open_support():
 
 
 def before(word, number=0):
-    """The bracket up to the so-manieth place of a word."""
+    """The bracket up to one of the places where a word stands."""
     text = bracket()
     return text[:[found.start() for found in re.finditer(rb"\b" + word + rb"\b", text)][number]]
 
@@ -144,7 +144,7 @@ FILES = {
     "A facet that isn't closed": ([replaced(rb" *endfacet\n", b"")], bracket()),
     "The file was cut": ([before(b"normal", 50), before(b"outer", 50), before(b"loop", 50), before(b"vertex", 151),
                           before(b"vertex", 151) + b"vertex 1 2", before(b"endloop", 50), before(b"endfacet", 50),
-                          text(cube()).encode()[:999]], None),
+                          text(cube()).encode()[:999], bracket()[:30000]], None),
     "Only endsolid is missing": ([replaced(rb"endsolid.*\n", b""), replaced(rb"\nendsolid.*\n", b"")], bracket()),
     "An empty file": ([b"", b" \n\n"], None),
     "Decimal commas": ([bracket().replace(b".", b",")], bracket()),
