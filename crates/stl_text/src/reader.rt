@@ -1,9 +1,9 @@
 //! A text that is read from the left, word by word: its keywords, coordinates and rests of lines, and what is wrong with
 //! the word that was read last.
-ghost use Rattle.std.specs.Prelude.{◌≡◌, ◌+◌, ◌-◌, ◌≤◌, ◌↔◌, ℤ, [], ◌∷◌, length, IfErr, IfOk, IsTrue, Some};
+ghost use Rattle.std.specs.Prelude.{◌≡◌, ◌+◌, ◌-◌, ◌≤◌, ◌↔◌, ℤ, [], ◌∷◌, length, IfErr, IfOk, IsTrue};
 ghost use Rattle.exact_int.specs.Bounds.{IsAtMost};
 ghost use Rattle.stl_text.specs.Reader.{Breaks, Spells, left_at, start, unfitting, unread};
-ghost use Rattle.stl_text.specs.Text.{after_line, after_space, after_word, coordinate, first_word, keyword, keyword_text, normal_part};
+ghost use Rattle.stl_text.specs.Text.{after_line, after_space, after_word, coordinate, first_word, keyword_of, HasOneKeyword, normal_part};
 ghost use Rattle.geometry.specs.declared.limits.TheConstants.{COORDINATE_LIMIT};
 
 use crate::scanning::{
@@ -112,30 +112,30 @@ impl<'t> Reader<'t> {
         }
     }
 
-    /// Reads the keyword `text`, which is what `wanted` names.
+    /// Reads the keyword that `wanted` names.
     #[inline(always)]
-    pub(crate) fn keyword(&mut self, wanted: Word, text: &[u8]) -> Result<(), StlFault>
-        requires { keyword_text wanted ≡ Some text.now }
-        ensures read { IfOk result (λ _. Spells (keyword wanted text.now ∷ []) self.old self.new) }
-        ensures fault { IfErr result (Breaks (keyword wanted text.now ∷ []) self.old) }
+    pub(crate) fn keyword(&mut self, wanted: Word) -> Result<(), StlFault>
+        requires { HasOneKeyword wanted }
+        ensures read { IfOk result (λ _. Spells (keyword_of wanted ∷ []) self.old self.new) }
+        ensures fault { IfErr result (Breaks (keyword_of wanted ∷ []) self.old) }
     {
-        if let Some(rest) = behind_keyword(self.rest, text) {
+        if let Some(rest) = behind_keyword(self.rest, wanted.text().as_bytes()) {
             self.rest = rest;
             return Ok(());
         }
-        self.keyword_word(wanted, text)
+        self.keyword_word(wanted)
     }
 
-    /// Reads a word, and tests whether it is the keyword `text`: the slow way, for a text that isn't in the usual form.
+    /// Reads a word, and tests whether it is the keyword that `wanted` names: the slow way, which finds the fault.
     #[cold]
     #[inline(never)]
-    pub(crate) fn keyword_word(&mut self, wanted: Word, text: &[u8]) -> Result<(), StlFault>
-        requires { keyword_text wanted ≡ Some text.now }
-        ensures read { IfOk result (λ _. Spells (keyword wanted text.now ∷ []) self.old self.new) }
-        ensures fault { IfErr result (Breaks (keyword wanted text.now ∷ []) self.old) }
+    pub(crate) fn keyword_word(&mut self, wanted: Word) -> Result<(), StlFault>
+        requires { HasOneKeyword wanted }
+        ensures read { IfOk result (λ _. Spells (keyword_of wanted ∷ []) self.old self.new) }
+        ensures fault { IfErr result (Breaks (keyword_of wanted ∷ []) self.old) }
     {
         let word = self.next_word();
-        if is_keyword(word, text) {
+        if is_keyword(word, wanted.text().as_bytes()) {
             Ok(())
         } else {
             Err(self.fault_at(word, wanted))
