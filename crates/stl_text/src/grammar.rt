@@ -1,4 +1,4 @@
-//! The grammar of ASCII STL, from vertices to solids: a method of the reader for each rule.
+//! The grammar of ASCII STL, from vertices to solids. Each rule is a method of the reader.
 ghost use Rattle.std.specs.Prelude.{◌≡◌, ◌≢◌, ◌-◌, ◌<◌, ◌≤◌, [], ◌∷◌, ◌++◌, length, flat_map, IfErr, IfOk, IsTrue, List, vec_len};
 ghost use Rattle.std.specs.Bool.{MatchBool};
 ghost use Rattle.stl_text.specs.declared.stl_fault.StlFault.TheVariants.{Ended, Memory};
@@ -56,7 +56,7 @@ impl<'t> Reader<'t> {
         Ok(Facet::of(a, b, c))
     }
 
-    /// Reads a facet behind its word `facet`: a normal, a loop, `endfacet`.
+    /// Reads the rest of a facet, behind its keyword `facet`: a normal, a loop, `endfacet`.
     fn facet(&mut self) -> Result<Facet, StlFault>
         ensures read { IfOk result (λ t. Spells (facet_tail t) self.old self.new) }
         ensures fault { IfErr result (λ fault. (t : Facet) × Breaks (facet_tail t) self.old fault) }
@@ -67,8 +67,8 @@ impl<'t> Reader<'t> {
         Ok(facet)
     }
 
-    /// Reads the word `facet`, where `room` is above 0, or `endsolid`, and tells whether it is `facet`. `room` is the
-    /// number of facets that may still begin.
+    /// Reads `facet` or `endsolid`, and tells whether it is `facet`. `room` is the number of facets that may still
+    /// begin: where it is 0, `facet` is a fault.
     #[inline(always)]
     fn begins_facet(&mut self, room: usize) -> Result<bool, StlFault>
         ensures read { IfOk result (λ more. MatchBool more
@@ -85,7 +85,7 @@ impl<'t> Reader<'t> {
         self.begins_word(room)
     }
 
-    /// The same by the slow way, which finds the fault.
+    /// The slow part of `begins_facet`, which also finds the fault.
     #[cold]
     #[inline(never)]
     fn begins_word(&mut self, room: usize) -> Result<bool, StlFault>
@@ -109,7 +109,8 @@ impl<'t> Reader<'t> {
         Err(self.fault_at(word, Word::FacetOrEnd))
     }
 
-    /// Reads a solid, `solid` to `endsolid`, and adds its facets to `facets`, up to `limit` in all.
+    /// Reads a solid, from `solid` to the rest of the line of `endsolid`, and adds its facets to `facets`, which may
+    /// have up to `limit` facets in all.
     fn solid<A: Allocator>(
         &mut self,
         limit: usize,
@@ -132,7 +133,7 @@ impl<'t> Reader<'t> {
         Ok(())
     }
 
-    /// Reads all solids of a text, and adds their facets to `facets`, up to `limit`.
+    /// Reads all solids of a text, and adds their facets to `facets`, which is empty before and may have up to `limit`.
     pub(crate) fn solids<A: Allocator>(
         &mut self,
         limit: usize,

@@ -1,4 +1,4 @@
-//! What may be wanted at an offset of a text, and the table of keywords.
+//! What may be wanted at a byte offset of a text, and the table of keywords.
 ghost use Rattle.std.specs.Prelude.{◌≡◌};
 ghost use Rattle.stl_text.specs.Text.{HasOneKeyword, keyword_text};
 
@@ -10,7 +10,7 @@ pub(crate) const FACET: &[u8] = b"facet";
 /// The keyword that ends a solid, in lower case.
 pub(crate) const END_SOLID: &[u8] = b"endsolid";
 
-/// What is wanted at an offset of a text: a keyword, one of two keywords, or a number.
+/// What is wanted at a byte offset of a text: a keyword, one of two keywords, or a number.
 #[derive(Clone, Copy, Debug, PartialEq, Eq)]
 pub enum Word {
     Solid,
