@@ -141,40 +141,40 @@ facet_slots =
     ++ (fixed Outer (keyword_text Outer) ∷ fixed Loop (keyword_text Loop) ∷ []) ++ vertex_slots ++ vertex_slots ++ vertex_slots
     ++ fixed EndLoop (keyword_text EndLoop) ∷ fixed EndFacet (keyword_text EndFacet) ∷ []
 
-pub record Place : Type 0 where
+pub record State : Type 0 where
   pub slots : List Slot
   pub is_open : Bool
 
-abbrev pub outside : Place
+abbrev pub outside : State
 outside = record { slots = []; is_open = false }
 
-abbrev pub inside : Place
+abbrev pub inside : State
 inside = record { slots = []; is_open = true }
 
-abbrev pub next_in : List Slot → Bool → Token → Option Place
+abbrev pub next_in : List Slot → Bool → Token → Option State
 next_in [] false p = if matches solid_slot p then Some (record { slots = any_line ∷ []; is_open = true }) else None
 next_in [] true p =
     if matches facet_slot p then Some (record { slots = facet_slots; is_open = true })
     else (if matches end_slot p then Some (record { slots = any_line ∷ []; is_open = false }) else None)
 next_in (slot ∷ slots) is_open p = if matches slot p then Some (record { slots = slots; is_open = is_open }) else None
 
-abbrev pub next : Place → Token → Option Place
-next offset p = next_in offset.slots offset.is_open p
+abbrev pub next : State → Token → Option State
+next state p = next_in state.slots state.is_open p
 
-abbrev pub then_at : Option Place → (Place → Option Place) → Option Place
+abbrev pub then_at : Option State → (State → Option State) → Option State
 then_at None f = None
-then_at (Some offset) f = f offset
+then_at (Some state) f = f state
 
-abbrev pub run : Place → List Token → Option Place
-run offset [] = Some offset
-run offset (p ∷ ps) = then_at (next offset p) (λ after. run after ps)
+abbrev pub run : State → List Token → Option State
+run state [] = Some state
+run state (p ∷ ps) = then_at (next state p) (λ after. run after ps)
 
-pub run-append : (offset : Place) (ps qs : List Token) → run offset (ps ++ qs) ≡ then_at (run offset ps) (λ after. run after qs)
-run-append offset [] qs = refl
-run-append offset (p ∷ ps) qs = by_next (λ after. run-append after ps qs) (next offset p)
+pub run-append : (state : State) (ps qs : List Token) → run state (ps ++ qs) ≡ then_at (run state ps) (λ after. run after qs)
+run-append state [] qs = refl
+run-append state (p ∷ ps) qs = by_next (λ after. run-append after ps qs) (next state p)
   where
-    by_next : ((after : Place) → run after (ps ++ qs) ≡ then_at (run after ps) (λ later. run later qs))
-        → (o : Option Place) → then_at o (λ after. run after (ps ++ qs)) ≡ then_at (then_at o (λ after. run after ps)) (λ later. run later qs)
+    by_next : ((after : State) → run after (ps ++ qs) ≡ then_at (run after ps) (λ later. run later qs))
+        → (o : Option State) → then_at o (λ after. run after (ps ++ qs)) ≡ then_at (then_at o (λ after. run after ps)) (λ later. run later qs)
     by_next rest None = refl
     by_next rest (Some after) = rest after
 
@@ -219,7 +219,7 @@ facet-or-end word h k =
     omega (arith, same_length)
 
 -- a text begins with at most one token that the grammar permits next
-same_next_in : (unit : LengthUnit) (bytes : List ℕ) (slots : List Slot) (is_open : Bool) (p q : Token) (t u : Place)
+same_next_in : (unit : LengthUnit) (bytes : List ℕ) (slots : List Slot) (is_open : Bool) (p q : Token) (t u : State)
     → next_in slots is_open p ≡ Some t → next_in slots is_open q ≡ Some u
     → begins_with unit p bytes ≡ true → begins_with unit q bytes ≡ true → p ≡ q
 same_next_in unit bytes (slot ∷ slots) is_open p q t u h k begins begins' =
@@ -237,10 +237,10 @@ same_next_in unit bytes [] true p q t u h k begins begins' = by_choice (passed _
     as_end : (x : Token) → matches end_slot x ≡ true → begins_with unit x bytes ≡ true → is_keyword end_keyword word ≡ true
     as_end x m b = subst (λ y. begins_with unit y bytes ≡ true) (shape-is end_slot x m) b
 
-    Facet : Token → Place → Type 0
+    Facet : Token → State → Type 0
     Facet x v = (matches facet_slot x ≡ true) × (record { slots = facet_slots; is_open = true } ≡ v)
 
-    End : Token → Place → Type 0
+    End : Token → State → Type 0
     End x v = (matches facet_slot x ≡ false) × ((if matches end_slot x then Some (record { slots = any_line ∷ []; is_open = false }) else None) ≡ Some v)
 
     by_choice : Facet p t ⊎ End p t → Facet q u ⊎ End q u → p ≡ q
@@ -251,8 +251,8 @@ same_next_in unit bytes [] true p q t u h k begins begins' = by_choice (passed _
         absurd (facet-or-end word (as_facet q b.0 begins') (as_end p (only _ _ t a.1).0 begins))
     by_choice (inr a) (inr b) = same_token unit bytes end_slot p q (only _ _ t a.1).0 (only _ _ u b.1).0 begins begins'
 
-pub then-some : (o : Option Place) (f : Place → Option Place) (t : Place) → then_at o f ≡ Some t
-    → (after : Place) × (o ≡ Some after) × (f after ≡ Some t)
+pub then-some : (o : Option State) (f : State → Option State) (t : State) → then_at o f ≡ Some t
+    → (after : State) × (o ≡ Some after) × (f after ≡ Some t)
 then-some None f t h = cc
 then-some (Some after) f t h = (after, refl, h)
 
@@ -265,18 +265,18 @@ with_head : (p : Token) (ps qs : List Token) → Prefixes ps qs → Prefixes (p 
 with_head p ps qs (longer more is) = longer more (ap {B = List Token} (λ r. p ∷ r) is)
 with_head p ps qs (shorter q more is) = shorter q more (ap {B = List Token} (λ r. p ∷ r) is)
 
-pub agree : (unit : LengthUnit) (offset : Place) (bytes : List ℕ) (ps qs : List Token) (s t : Place) (rest rest' : List ℕ)
-    → run offset ps ≡ Some s → run offset qs ≡ Some t
+pub agree : (unit : LengthUnit) (state : State) (bytes : List ℕ) (ps qs : List Token) (s t : State) (rest rest' : List ℕ)
+    → run state ps ≡ Some s → run state qs ≡ Some t
     → rest_behind unit ps bytes ≡ Some rest → rest_behind unit qs bytes ≡ Some rest' → Prefixes ps qs
-agree unit offset bytes [] qs s t rest rest' h k spelled spelled' = longer qs refl
-agree unit offset bytes (p ∷ ps) [] s t rest rest' h k spelled spelled' = shorter p ps refl
-agree unit offset bytes (p ∷ ps) (q ∷ qs) s t rest rest' h k spelled spelled' =
-    let a : (after : Place) × (next offset p ≡ Some after) × (run after ps ≡ Some s) = then-some _ _ s h in
-    let b : (after : Place) × (next offset q ≡ Some after) × (run after qs ≡ Some t) = then-some _ _ t k in
+agree unit state bytes [] qs s t rest rest' h k spelled spelled' = longer qs refl
+agree unit state bytes (p ∷ ps) [] s t rest rest' h k spelled spelled' = shorter p ps refl
+agree unit state bytes (p ∷ ps) (q ∷ qs) s t rest rest' h k spelled spelled' =
+    let a : (after : State) × (next state p ≡ Some after) × (run after ps ≡ Some s) = then-some _ _ s h in
+    let b : (after : State) × (next state q ≡ Some after) × (run after qs ≡ Some t) = then-some _ _ t k in
     let c : (begins_with unit p bytes ≡ true) × (rest_behind unit ps (after_token p bytes) ≡ Some rest) = first_begins _ _ rest spelled in
     let d : (begins_with unit q bytes ≡ true) × (rest_behind unit qs (after_token q bytes) ≡ Some rest') = first_begins _ _ rest' spelled' in
-    let same : p ≡ q = same_next_in unit bytes offset.slots offset.is_open p q a.0 b.0 a.1 b.1 c.0 d.0 in
-    let same_after : a.0 ≡ b.0 = some-is (sym a.1 ∙ ap (next offset) same ∙ b.1) in
+    let same : p ≡ q = same_next_in unit bytes state.slots state.is_open p q a.0 b.0 a.1 b.1 c.0 d.0 in
+    let same_after : a.0 ≡ b.0 = some-is (sym a.1 ∙ ap (next state) same ∙ b.1) in
     subst (λ x. Prefixes (p ∷ ps) (x ∷ qs)) same
     (with_head p ps qs
     (agree unit a.0 (after_token p bytes) ps qs s t rest rest' a.2
@@ -288,5 +288,5 @@ agree unit offset bytes (p ∷ ps) (q ∷ qs) s t rest rest' h k spelled spelled
     first_begins true o r e = (refl, e)
     first_begins false o r e = cc
 
-    some-is : {x y : Place} → ◌≡◌ {A = Option Place} (Some x) (Some y) → x ≡ y
+    some-is : {x y : State} → ◌≡◌ {A = Option State} (Some x) (Some y) → x ≡ y
     some-is e = cc

@@ -16,7 +16,7 @@ use Rattle.stl_text.specs.declared.stl_fault.StlFault.{StlFault}
 use Rattle.stl_text.specs.declared.stl_fault.StlFault.TheVariants as fault
 use Rattle.geometry.specs.Facet.{Facet}
 use Rattle.stl_text.specs.Text.{Token, keyword, normal_part, coordinate, rest_of_line, facet_word, end_word, facet_tokens, solid_tokens, is_keyword, is_text_of, is_wanted, is_facet_word, wanted, begins_with, rest_behind, first_word, after_space, is_white, facets_of, Reads, Wants, IsFaultOf, keyword_of, facet_keyword, facet_count}
-use Rattle.stl_text.proofs.lemmas.Determined.{Slot, fixed, any_word, any_coordinate, any_line, facet_slots, Place, Prefixes, Prefixes.longer, Prefixes.shorter, word_code, word_at, word_at-code, matches, outside, next, next_in, run, run-append, then-some, then_at, only, passed, shape-is, read-is, solid_slot, facet_slot, end_slot, solids-run, agree}
+use Rattle.stl_text.proofs.lemmas.Determined.{Slot, fixed, any_word, any_coordinate, any_line, facet_slots, State, Prefixes, Prefixes.longer, Prefixes.shorter, word_code, word_at, word_at-code, matches, outside, next, next_in, run, run-append, then-some, then_at, only, passed, shape-is, read-is, solid_slot, facet_slot, end_slot, solids-run, agree}
 use Rattle.stl_text.proofs.lemmas.OneReading.{GoesOn, goes_on, nothing_more}
 
 -- Tokens of one kind.
@@ -79,13 +79,13 @@ same_kind any_line p q h k = ap kind_of (shape-is any_line p h ∙ sym (shape-is
 same_kind any_coordinate p q h k = ap kind_of (shape-is any_coordinate p h).1 ∙ sym (ap kind_of (shape-is any_coordinate q k).1)
 
 -- the tokens that the grammar permits in one state are of one kind
-next_kind_in : (slots : List Slot) (is_open : Bool) (p q : Token) (t u : Place)
+next_kind_in : (slots : List Slot) (is_open : Bool) (p q : Token) (t u : State)
     → next_in slots is_open p ≡ Some t → next_in slots is_open q ≡ Some u → kind_of p ≡ kind_of q
 next_kind_in (slot ∷ slots) is_open p q t u h k = same_kind slot p q (only _ _ t h).0 (only _ _ u k).0
 next_kind_in [] false p q t u h k = same_kind solid_slot p q (only _ _ t h).0 (only _ _ u k).0
 next_kind_in [] true p q t u h k = open_kind p t h ∙ sym (open_kind q u k)
   where
-    open_kind : (x : Token) (v : Place) → next_in [] true x ≡ Some v → kind_of x ≡ 1
+    open_kind : (x : Token) (v : State) → next_in [] true x ≡ Some v → kind_of x ≡ 1
     open_kind x v e = by_choice (passed _ _ _ v e)
       where
         by_choice : ((matches facet_slot x ≡ true) × (record { slots = facet_slots; is_open = true } ≡ v))
@@ -94,8 +94,8 @@ next_kind_in [] true p q t u h k = open_kind p t h ∙ sym (open_kind q u k)
         by_choice (inl a) = ap kind_of (shape-is facet_slot x a.0)
         by_choice (inr b) = ap kind_of (shape-is end_slot x (only _ _ v b.1).0)
 
-next_kind : (offset : Place) (p q : Token) (t u : Place) → next offset p ≡ Some t → next offset q ≡ Some u → kind_of p ≡ kind_of q
-next_kind offset p q t u h k = next_kind_in offset.slots offset.is_open p q t u h k
+next_kind : (state : State) (p q : Token) (t u : State) → next state p ≡ Some t → next state q ≡ Some u → kind_of p ≡ kind_of q
+next_kind state p q t u h k = next_kind_in state.slots state.is_open p q t u h k
 
 -- Each keyword of a solid is one of the kind that is wanted there, in lower case.
 
@@ -174,29 +174,29 @@ pub record Refuses (limit : ℕ) (unit : LengthUnit) (bytes : List ℕ) (h : Hal
       → (is_facet_word p ≡ true) × (h.facets_before ≡ limit)
 
 module _ (limit : ℕ) (unit : LengthUnit) (bytes : List ℕ) where
-  offset_of : (h : Halt limit unit bytes)
-      → (offset : Place) × (run outside h.wants.front ≡ Some offset) × (after : Place) × (next offset h.token ≡ Some after)
-  offset_of h =
+  state_of : (h : Halt limit unit bytes)
+      → (state : State) × (run outside h.wants.front ≡ Some state) × (after : State) × (next state h.token ≡ Some after)
+  state_of h =
       let w : Wants limit unit bytes h.at h.token h.facets_before h.word = h.wants in
-      let whole : then_at (run outside w.front) (λ offset. run offset (h.token ∷ w.more)) ≡ Some outside =
+      let whole : then_at (run outside w.front) (λ state. run state (h.token ∷ w.more)) ≡ Some outside =
       sym (run-append outside w.front (h.token ∷ w.more)) ∙ ap (run outside) (sym w.cut) ∙ solids-run w.solids in
-      let first : (offset : Place) × (run outside w.front ≡ Some offset) × (run offset (h.token ∷ w.more) ≡ Some outside) =
+      let first : (state : State) × (run outside w.front ≡ Some state) × (run state (h.token ∷ w.more) ≡ Some outside) =
       then-some _ _ outside whole in
-      let second : (after : Place) × (next first.0 h.token ≡ Some after) × (run after w.more ≡ Some outside) =
+      let second : (after : State) × (next first.0 h.token ≡ Some after) × (run after w.more ≡ Some outside) =
       then-some _ _ outside first.2 in
       (first.0, first.1, second.0, second.1)
 
   -- no token follows where a fault is
-  no_more : (h : Halt limit unit bytes) → Refuses limit unit bytes h → (p : Token) (more : List Token) (end : Place) (last : List ℕ)
+  no_more : (h : Halt limit unit bytes) → Refuses limit unit bytes h → (p : Token) (more : List Token) (end : State) (last : List ℕ)
       → list_all is_sound (h.wants.front ++ p ∷ more) ≡ true → facet_count (h.wants.front ++ p ∷ more) ≤ limit
       → run outside (h.wants.front ++ p ∷ more) ≡ Some end → rest_behind unit (h.wants.front ++ p ∷ more) bytes ≡ Some last → ⊥
   no_more h refuses p more end last sound few ran spelled =
-      let offset : (offset : Place) × (run outside h.wants.front ≡ Some offset) × (after : Place) × (next offset h.token ≡ Some after) = offset_of h in
-      let on : GoesOn unit offset.0 p h.wants.rest =
-      goes_on unit bytes h.wants.front p more offset.0 end h.wants.rest last offset.1 h.wants.spelled ran spelled in
+      let state : (state : State) × (run outside h.wants.front ≡ Some state) × (after : State) × (next state h.token ≡ Some after) = state_of h in
+      let on : GoesOn unit state.0 p h.wants.rest =
+      goes_on unit bytes h.wants.front p more state.0 end h.wants.rest last state.1 h.wants.spelled ran spelled in
       let stopped : (is_facet_word p ≡ true) × (h.facets_before ≡ limit) =
       refuses.stops p (sound_within h.wants.front p more sound)
-      (next_kind offset.0 h.token p offset.2 on.after offset.3 on.permitted) on.begins in
+      (next_kind state.0 h.token p state.2 on.after state.3 on.permitted) on.begins in
       omega (arith, stopped.1, h.wants.count, facet_count-more h.wants.front p more stopped.0, few)
 
   -- Each fault excludes the tokens that the grammar permits at it.
@@ -305,22 +305,22 @@ module _ (limit : ℕ) (unit : LengthUnit) (bytes : List ℕ) where
   not_behind : (h : Halt limit unit bytes) → Refuses limit unit bytes h → (k : Halt limit unit bytes) (p : Token) (more : List Token)
       → k.wants.front ≡ h.wants.front ++ p ∷ more → ⊥
   not_behind h refusing k p more is =
-      let offset : (offset : Place) × (run outside k.wants.front ≡ Some offset) × (after : Place) × (next offset k.token ≡ Some after) = offset_of k in
-      no_more h refusing p more offset.0 k.wants.rest
+      let state : (state : State) × (run outside k.wants.front ≡ Some state) × (after : State) × (next state k.token ≡ Some after) = state_of k in
+      no_more h refusing p more state.0 k.wants.rest
       (ap (list_all is_sound) (sym is) ∙ sound_front k)
       (subst (λ ps. facet_count ps ≤ limit) is (few_front k))
-      (ap (run outside) (sym is) ∙ offset.1)
+      (ap (run outside) (sym is) ∙ state.1)
       (ap (λ ps. rest_behind unit ps bytes) (sym is) ∙ k.wants.spelled)
 
   same_front : (h k : Halt limit unit bytes) → Refuses limit unit bytes h → Refuses limit unit bytes k → h.wants.front ≡ k.wants.front
-  same_front h k refusing refusing' = by_prefix (agree unit outside bytes h.wants.front k.wants.front offset.0 offset'.0
-      h.wants.rest k.wants.rest offset.1 offset'.1 h.wants.spelled k.wants.spelled)
+  same_front h k refusing refusing' = by_prefix (agree unit outside bytes h.wants.front k.wants.front state.0 state'.0
+      h.wants.rest k.wants.rest state.1 state'.1 h.wants.spelled k.wants.spelled)
     where
-      offset : (offset : Place) × (run outside h.wants.front ≡ Some offset) × (after : Place) × (next offset h.token ≡ Some after)
-      offset = offset_of h
+      state : (state : State) × (run outside h.wants.front ≡ Some state) × (after : State) × (next state h.token ≡ Some after)
+      state = state_of h
 
-      offset' : (offset : Place) × (run outside k.wants.front ≡ Some offset) × (after : Place) × (next offset k.token ≡ Some after)
-      offset' = offset_of k
+      state' : (state : State) × (run outside k.wants.front ≡ Some state) × (after : State) × (next state k.token ≡ Some after)
+      state' = state_of k
 
       by_prefix : Prefixes h.wants.front k.wants.front → h.wants.front ≡ k.wants.front
       by_prefix (longer [] is) = sym (append-nil _) ∙ sym is
@@ -336,21 +336,21 @@ module _ (limit : ℕ) (unit : LengthUnit) (bytes : List ℕ) where
   same_halt : (h k : Halt limit unit bytes) → h.wants.front ≡ k.wants.front → Same h k
   same_halt h k front =
       let rest : h.wants.rest ≡ k.wants.rest = some-is (sym h.wants.spelled ∙ ap (λ ps. rest_behind unit ps bytes) front ∙ k.wants.spelled) in
-      let offset : (offset : Place) × (run outside h.wants.front ≡ Some offset) × (after : Place) × (next offset h.token ≡ Some after) = offset_of h in
-      let offset' : (offset : Place) × (run outside k.wants.front ≡ Some offset) × (after : Place) × (next offset k.token ≡ Some after) = offset_of k in
-      let place_is : offset.0 ≡ offset'.0 = offset-is (sym offset.1 ∙ ap (run outside) front ∙ offset'.1) in
+      let state : (state : State) × (run outside h.wants.front ≡ Some state) × (after : State) × (next state h.token ≡ Some after) = state_of h in
+      let state' : (state : State) × (run outside k.wants.front ≡ Some state) × (after : State) × (next state k.token ≡ Some after) = state_of k in
+      let state_is : state.0 ≡ state'.0 = state-is (sym state.1 ∙ ap (run outside) front ∙ state'.1) in
       let left : length (after_space h.wants.rest) ≡ length (after_space k.wants.rest) = ap (λ r. length (after_space r)) rest in
       record {
         at = omega (arith, h.wants.offset, k.wants.offset, left);
         word = h.wants.stands ∙ ap first_word rest ∙ sym k.wants.stands;
-        kind = next_kind offset.0 h.token k.token offset.2 offset'.2 offset.3 (ap (λ x. next x k.token) place_is ∙ offset'.3);
+        kind = next_kind state.0 h.token k.token state.2 state'.2 state.3 (ap (λ x. next x k.token) state_is ∙ state'.3);
       }
     where
       some-is : {x y : List ℕ} → ◌≡◌ {A = Option (List ℕ)} (Some x) (Some y) → x ≡ y
       some-is e = cc
 
-      offset-is : {x y : Place} → ◌≡◌ {A = Option Place} (Some x) (Some y) → x ≡ y
-      offset-is e = cc
+      state-is : {x y : State} → ◌≡◌ {A = Option State} (Some x) (Some y) → x ≡ y
+      state-is e = cc
 
   wanted_same : (p q : Token) (v w : Word) → wanted p ≡ Some v → wanted q ≡ Some w → kind_of p ≡ kind_of q → v ≡ w
   wanted_same p q v w h k same =
@@ -428,7 +428,7 @@ module _ (limit : ℕ) (unit : LengthUnit) (bytes : List ℕ) where
   no_fault_at_end (fault.TooMany at) x none solid some = facet_some x.word x.facet none
   no_fault_at_end fault.Memory x none solid some = x
 
-  solid_wanted : (p : Token) (after : Place) → next outside p ≡ Some after → (kind : Word) → wanted p ≡ Some kind → kind ≡ Solid
+  solid_wanted : (p : Token) (after : State) → next outside p ≡ Some after → (kind : Word) → wanted p ≡ Some kind → kind ≡ Solid
   solid_wanted p after permitted kind wants =
       let is : ◌≡◌ {A = Option Word} (Some kind) (Some Solid) = sym wants ∙ ap wanted (shape-is solid_slot p (only _ _ after permitted).0) in
       cc
@@ -449,8 +449,8 @@ module _ (limit : ℕ) (unit : LengthUnit) (bytes : List ℕ) where
 
   -- a text that reads as facets has no fault
   pub not_both : (facets : List Facet) (f : StlFault) → Reads limit unit bytes facets → IsFaultOf limit unit bytes f → ⊥
-  not_both facets f r x = by_prefix (agree unit outside bytes whole h.wants.front outside offset.0
-      r.rest h.wants.rest (solids-run r.solids) offset.1 r.spelled h.wants.spelled)
+  not_both facets f r x = by_prefix (agree unit outside bytes whole h.wants.front outside state.0
+      r.rest h.wants.rest (solids-run r.solids) state.1 r.spelled h.wants.spelled)
     where
       h : Halt limit unit bytes
       h = halt_of f x
@@ -458,22 +458,22 @@ module _ (limit : ℕ) (unit : LengthUnit) (bytes : List ℕ) where
       whole : List Token
       whole = flat_map solid_tokens r.solids
 
-      offset : (offset : Place) × (run outside h.wants.front ≡ Some offset) × (after : Place) × (next offset h.token ≡ Some after)
-      offset = offset_of h
+      state : (state : State) × (run outside h.wants.front ≡ Some state) × (after : State) × (next state h.token ≡ Some after)
+      state = state_of h
 
       some-is : {x y : List ℕ} → ◌≡◌ {A = Option (List ℕ)} (Some x) (Some y) → x ≡ y
       some-is e = cc
 
-      offset-is : {x y : Place} → ◌≡◌ {A = Option Place} (Some x) (Some y) → x ≡ y
-      offset-is e = cc
+      state-is : {x y : State} → ◌≡◌ {A = Option State} (Some x) (Some y) → x ≡ y
+      state-is e = cc
 
       at_end : h.wants.front ≡ whole → ⊥
       at_end e =
           let rest : h.wants.rest ≡ r.rest = some-is (sym h.wants.spelled ∙ ap (λ ps. rest_behind unit ps bytes) e ∙ r.spelled) in
-          let there : offset.0 ≡ outside = offset-is (sym offset.1 ∙ ap (run outside) e ∙ solids-run r.solids) in
+          let there : state.0 ≡ outside = state-is (sym state.1 ∙ ap (run outside) e ∙ solids-run r.solids) in
           no_fault_at_end f x
           (h.wants.stands ∙ ap first_word rest ∙ no_word_left r.rest r.whole)
-          (solid_wanted h.token offset.2 (ap (λ p. next p h.token) (sym there) ∙ offset.3))
+          (solid_wanted h.token state.2 (ap (λ p. next p h.token) (sym there) ∙ state.3))
           (has_word r.solids r.rest r.some r.spelled)
 
       few : facet_count whole ≤ limit
@@ -483,8 +483,8 @@ module _ (limit : ℕ) (unit : LengthUnit) (bytes : List ℕ) where
       by_prefix (longer [] is) = at_end (is ∙ append-nil _)
       by_prefix (longer (p ∷ more) is) =
           nothing_more unit p r.rest r.whole
-          (goes_on unit bytes whole p more outside offset.0 r.rest h.wants.rest (solids-run r.solids) r.spelled
-          (ap (run outside) (sym is) ∙ offset.1)
+          (goes_on unit bytes whole p more outside state.0 r.rest h.wants.rest (solids-run r.solids) r.spelled
+          (ap (run outside) (sym is) ∙ state.1)
           (ap (λ ps. rest_behind unit ps bytes) (sym is) ∙ h.wants.spelled))
       by_prefix (shorter p more is) =
           no_more h (refuses f x) p more outside r.rest

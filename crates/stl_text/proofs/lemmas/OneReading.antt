@@ -8,7 +8,7 @@ use Rattle.geometry.specs.Point.{Point}
 use Rattle.geometry.specs.Facet.{Facet}
 use Rattle.stl_text.specs.declared.word.Word.TheVariants.{Solid}
 use Rattle.stl_text.specs.Text.{Token, keyword, keyword_of, normal_part, coordinate, rest_of_line, facet_tokens, solid_tokens, is_keyword, begins_with, after_token, rest_behind, first_word, after_space, is_white, end_word, facets_of, Reads, keyword_text}
-use Rattle.stl_text.proofs.lemmas.Determined.{Place, Prefixes, Prefixes.longer, Prefixes.shorter, outside, next, run, run-append, then-some, then_at, only, shape-is, solid_slot, solids-run, agree}
+use Rattle.stl_text.proofs.lemmas.Determined.{State, Prefixes, Prefixes.longer, Prefixes.shorter, outside, next, run, run-append, then-some, then_at, only, shape-is, solid_slot, solids-run, agree}
 
 -- The rest of a text behind tokens, and behind further tokens.
 
@@ -28,20 +28,20 @@ rest-append unit (p ∷ ps) qs bytes = by_test (begins_with unit p bytes) (rest-
     by_test false e = refl
 
 -- a token that the text continues with, and that the grammar permits next
-pub record GoesOn (unit : LengthUnit) (offset : Place) (p : Token) (rest : List ℕ) : Type 0 where
-  pub after : Place
-  pub permitted : next offset p ≡ Some after
+pub record GoesOn (unit : LengthUnit) (state : State) (p : Token) (rest : List ℕ) : Type 0 where
+  pub after : State
+  pub permitted : next state p ≡ Some after
   pub begins : begins_with unit p rest ≡ true
 
-pub goes_on : (unit : LengthUnit) (bytes : List ℕ) (front : List Token) (p : Token) (more : List Token) (offset end : Place) (rest last : List ℕ)
-    → run outside front ≡ Some offset → rest_behind unit front bytes ≡ Some rest
-    → run outside (front ++ p ∷ more) ≡ Some end → rest_behind unit (front ++ p ∷ more) bytes ≡ Some last → GoesOn unit offset p rest
-goes_on unit bytes front p more offset end rest last ran spelled ran_on spelled_on =
-    let on : run offset (p ∷ more) ≡ Some end =
+pub goes_on : (unit : LengthUnit) (bytes : List ℕ) (front : List Token) (p : Token) (more : List Token) (state end : State) (rest last : List ℕ)
+    → run outside front ≡ Some state → rest_behind unit front bytes ≡ Some rest
+    → run outside (front ++ p ∷ more) ≡ Some end → rest_behind unit (front ++ p ∷ more) bytes ≡ Some last → GoesOn unit state p rest
+goes_on unit bytes front p more state end rest last ran spelled ran_on spelled_on =
+    let on : run state (p ∷ more) ≡ Some end =
     ap (λ o. then_at o (λ after. run after (p ∷ more))) (sym ran) ∙ sym (run-append outside front (p ∷ more)) ∙ ran_on in
     let text_on : rest_behind unit (p ∷ more) rest ≡ Some last =
     ap (λ o. then_on o (λ bs. rest_behind unit (p ∷ more) bs)) (sym spelled) ∙ sym (rest-append unit front (p ∷ more) bytes) ∙ spelled_on in
-    let step : (after : Place) × (next offset p ≡ Some after) × (run after more ≡ Some end) = then-some _ _ end on in
+    let step : (after : State) × (next state p ≡ Some after) × (run after more ≡ Some end) = then-some _ _ end on in
     record { after = step.0; permitted = step.1; begins = tested _ _ text_on }
   where
     tested : (b : Bool) (o : Option (List ℕ)) → (if b then o else None) ≡ Some last → b ≡ true
