@@ -2,7 +2,7 @@
 ghost use Rattle.std.specs.Prelude.{◌≡◌, ◌<◌, ◌↔◌, IsTrue, MatchOption};
 ghost use Rattle.exact_int.specs.Bounds.{IsAtMost};
 ghost use Rattle.geometry.specs.TieRule.{IsBelow};
-ghost use Rattle.geometry.specs.Point.{doubled};
+ghost use Rattle.geometry.specs.Point.{half_micrometres_of};
 ghost use Rattle.geometry.specs.Facet.{corner, twice};
 ghost use Rattle.exact_cut.specs.Cut.{IsBetween, IsCut, finish, start};
 ghost use Rattle.exact_cut.specs.HalfPoint.{point_of};
@@ -54,7 +54,7 @@ fn is_below(f: &Facet, number: usize, z2: i64) -> bool
 }
 
 fn in_half_micrometres(p: Point) -> HalfPoint
-    ensures { point_of result ≡ doubled p }
+    ensures { point_of result ≡ half_micrometres_of p }
 {
     HalfPoint {
         x: 2 * (p.x() as i64),

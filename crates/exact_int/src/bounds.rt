@@ -1,4 +1,4 @@
-//! Bounds on magnitudes: the one test behind the ranges of points and of centres.
+//! Bounds on magnitudes. The ranges of points and of centres are tested by this function.
 ghost use Rattle.std.specs.Prelude.{◌↔◌, IsTrue};
 ghost use Rattle.exact_int.specs.Bounds.{IsAtMost};
 

@@ -1,4 +1,4 @@
-//! Division that rounds up: it gives the number of the first column whose centre isn't left of a crossing.
+//! Division that rounds up: it finds the first column whose centre isn't left of a crossing.
 ghost use Rattle.std.specs.Prelude.{ℤ, pos, ◌*ℤ◌, ◌≤ℤ◌, ◌<ℤ◌, ◌↔◌};
 
 /// The least whole number that isn't below `n / d`, for a `d` above 0: 4 for 7 / 2, and -3 for -7 / 2.

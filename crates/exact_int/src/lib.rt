@@ -2,7 +2,7 @@
 //!
 //! Other crates compute crossings of edges and rays as fractions of whole numbers, never with floats. Their proofs use
 //! the laws of this crate, in `proofs/lemmas`: `Ring` and `Identity` (identities of polynomials), `Signs` (signs of
-//! products, comparison of fractions), `Sizes` (a result fits its type), `Ceilings` (the division below) and `Tests`
+//! products, comparison of multiples), `Sizes` (a result fits its type), `Ceilings` (the division below) and `Tests`
 //! (comparisons). `proofs/examples/Calls.antt` shows how each is called.
 //!
 //! ```
@@ -10,7 +10,7 @@
 //! assert!(rt; is_at_most(7, -7) && !is_at_most(7, 8));
 //! ```
 //!
-//! Both functions are of plain numbers, without a unit.
+//! Both functions take and give plain numbers, without a unit.
 #![tactic(auto)]
 
 mod bounds;

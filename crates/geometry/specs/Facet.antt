@@ -1,8 +1,9 @@
--- A facet by its corners, in order, and its three half-edges. An edge is directed: it has two ends in order. A half-edge
--- is one occurrence of an edge in a facet, so a mesh has three of them a facet, with repetitions.
+-- A facet by its corners, in order, and its three half-edges. An edge is directed: its two ends are in order. A
+-- half-edge is one occurrence of an edge in a facet: a mesh has three half-edges per facet, and an edge may occur
+-- several times.
 use Rattle.std.specs.Prelude.{◌≡◌, ℕ, zero, suc, List, [], ◌∷◌, length, slice_index_or, flat_map, refl}
 use Rattle.std.proofs.Common.{subst}
-use Rattle.geometry.specs.Point.{Point, origin, doubled}
+use Rattle.geometry.specs.Point.{Point, origin, half_micrometres_of}
 
 pub record Facet : Type 0 where
   pub a : Point
@@ -33,13 +34,13 @@ corner t zero = t.a
 corner t (suc zero) = t.b
 corner t (suc (suc n)) = t.c
 
--- the half-edges of all facets, in order, three a facet
+-- the half-edges of all facets, in order, three per facet
 abbrev pub edges : List Facet → List Edge
 edges facets = flat_map half_edges facets
 
--- a facet in micrometres, given in half-micrometres
+-- a facet that is given in micrometres, in half-micrometres
 abbrev pub twice : Facet → Facet
-twice t = facet_with (doubled t.a) (doubled t.b) (doubled t.c)
+twice t = facet_with (half_micrometres_of t.a) (half_micrometres_of t.b) (half_micrometres_of t.c)
 
 -- the facet of a list of three corners
 abbrev pub facet_from : List Point → Facet
@@ -53,7 +54,7 @@ IsNotThree (suc (suc zero)) = Unit {0}
 IsNotThree (suc (suc (suc zero))) = ⊥
 IsNotThree (suc (suc (suc (suc n)))) = Unit {0}
 
--- three corners are those of their facet
+-- the corners of the facet of three corners are those three
 pub corners-facet_from : (ps : List Point) → length ps ≡ 3 → corners (facet_from ps) ≡ ps
 corners-facet_from [] h = absurd (subst IsNotThree h tt)
 corners-facet_from (p ∷ []) h = absurd (subst IsNotThree h tt)

@@ -16,7 +16,7 @@ origin = record { x = pos 0; y = pos 0; z = pos 0 }
 abbrev pub IsWithin : ℕ → Point → Type 0
 IsWithin bound p = IsAtMost bound p.x × IsAtMost bound p.y × IsAtMost bound p.z
 
--- a point of a mesh lies within 128 metres of 0, in micrometres
+-- a point of a mesh, in micrometres: each coordinate is at most 128 metres from 0
 abbrev pub IsMeshPoint : Point → Type 0
 IsMeshPoint p = IsWithin COORDINATE_LIMIT p
 
@@ -24,9 +24,9 @@ IsMeshPoint p = IsWithin COORDINATE_LIMIT p
 abbrev pub IsCentre : Point → Type 0
 IsCentre p = IsWithin CENTRE_LIMIT p
 
--- a point in micrometres, given in half-micrometres
-abbrev pub doubled : Point → Point
-doubled p = record { x = pos 2 *ℤ p.x; y = pos 2 *ℤ p.y; z = pos 2 *ℤ p.z }
+-- a point that is given in micrometres, in half-micrometres
+abbrev pub half_micrometres_of : Point → Point
+half_micrometres_of p = record { x = pos 2 *ℤ p.x; y = pos 2 *ℤ p.y; z = pos 2 *ℤ p.z }
 
 -- the same coordinates
 abbrev pub same : Point → Point → Bool

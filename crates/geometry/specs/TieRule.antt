@@ -1,6 +1,6 @@
 -- The tie rule of every cut and every ray: a height that equals the plane's counts as below it. Heights and planes are
--- in half-micrometres. Each fact stands as a test and as a proposition; the clauses of `geometry::is_below` say that
--- these agree.
+-- in half-micrometres. Each fact is defined as a test and as a proposition; the clauses of `geometry::is_below` say
+-- that the two agree.
 use Rattle.std.specs.Prelude.{Bool, ◌&&◌, ℤ, int_le, int_lt, ◌≤ℤ◌, ◌<ℤ◌}
 
 abbrev pub is_below : ℤ → ℤ → Bool

@@ -1,5 +1,5 @@
 -- Whether a point lies on a facet, and whether a facet meets the segment between two points: by whole weights of the
--- corners (barycentric coordinates without the division). All coordinates are half-micrometres.
+-- corners (barycentric coordinates without the division). All coordinates are in half-micrometres.
 use Rattle.std.specs.Prelude.{◌≡◌, ℕ, ◌+◌, ◌<◌, pos, ◌+ℤ◌, ◌*ℤ◌}
 use Rattle.geometry.specs.Point.{Point}
 use Rattle.geometry.specs.Facet.{Facet}

@@ -1,6 +1,6 @@
--- The signed crossings of a mesh by a ray. At a centre they are the crossing count that the fill rules judge, nonzero,
--- even-odd and positive, as in the winding rules of PostScript and SVG, and the tie rule (`TieRule`) says on which side
--- of a ray a corner counts that lies level with it. All coordinates are half-micrometres but those of a mesh.
+-- The signed crossings of a mesh by a ray. The fill rules (nonzero, even-odd, positive) judge the count of them by the ray
+-- from a centre, as PostScript and SVG judge winding numbers. The tie rule (`TieRule`) says on which side of a ray a
+-- corner at the ray's height counts. All coordinates are in half-micrometres, except those of a mesh.
 --     left u v y z       orient2d: twice the signed area of the triangle u, v, (y, z), seen along x
 --     turn u v y z       1 where the edge rises through height z with (y, z) on its left, -1 where it falls through it with
 --                        (y, z) on its right, else 0
@@ -32,7 +32,7 @@ turn u v y z = turn_of u.z v.z z (left u v y z)
 unfoldable pub wind : Facet → ℤ → ℤ → ℤ
 wind t y z = turn t.a t.b y z +ℤ turn t.b t.c y z +ℤ turn t.c t.a y z
 
--- of three rows
+-- the determinant of three rows
 abbrev pub determinant : ℤ → ℤ → ℤ → ℤ → ℤ → ℤ → ℤ → ℤ → ℤ → ℤ
 determinant a b c d e f g h i = a *ℤ (e *ℤ i -ℤ f *ℤ h) -ℤ b *ℤ (d *ℤ i -ℤ f *ℤ g) +ℤ c *ℤ (d *ℤ h -ℤ e *ℤ g)
 
@@ -69,11 +69,11 @@ ray facets c = total (λ t. hit (twice t) c) facets
 abbrev pub ray_back : List Facet → Point → ℤ
 ray_back facets c = total (λ t. wind (twice t) c.y c.z -ℤ hit (twice t) c) facets
 
--- the crossings ahead, as a closed mesh has them by those that don't lie ahead: all of a line's add up to 0
+-- the crossings ahead of c in a closed mesh, by those that don't lie ahead: the crossings of a whole line add up to 0
 abbrev pub neg_ray_back : List Facet → Point → ℤ
 neg_ray_back facets c = neg_ℤ (ray_back facets c)
 
--- `left` and `turn` with x in the place of y
+-- `left` and `turn` with x instead of y
 abbrev pub left_x : Point → Point → ℤ → ℤ → ℤ
 left_x u v x z = (v.x -ℤ u.x) *ℤ (z -ℤ u.z) -ℤ (x -ℤ u.x) *ℤ (v.z -ℤ u.z)
 

@@ -1,4 +1,4 @@
-//! The bounding box of facets, with edges along the axes: a grid is laid round it.
+//! The bounding box of facets, which a grid is fitted to.
 ghost use Rattle.std.specs.Prelude.{◌≡◌, option_map};
 ghost use Rattle.geometry.specs.BoundingBox.{bounds, greatest_of, least_of};
 

@@ -1,4 +1,4 @@
-//! The order of points, as a law: their comparison is derived, so no function's contract can say it.
+//! The order of points, as a law. Their comparison is derived, so it has no contract that could state the order.
 ghost use Rattle.std.specs.Prelude.{◌≡◌};
 ghost use Rattle.std.specs.Ordering.{is_lt};
 ghost use Rattle.geometry.specs.Point.{Point, is_before};

@@ -3,7 +3,7 @@
 //! - [`Point`]: a point of a mesh, in whole micrometres; [`points_in_order`]: their order.
 //! - [`Facet`]: a triangle by its three corners, counterclockwise as seen from outside.
 //! - [`extent`]: the bounding box of facets.
-//! - [`is_below`], [`rises_through`]: the one tie rule of every cut and every ray.
+//! - [`is_below`], [`rises_through`]: the tie rule, the same for every cut and every ray.
 //! - [`COORDINATE_LIMIT`] and the other limits of coordinates, grids and meshes.
 //!
 //! ```
@@ -13,11 +13,11 @@
 //! assert!(rt; is_below(4, 4) && rises_through(4, 5, 4) && !rises_through(3, 4, 4));
 //! ```
 //!
-//! Units: points are in whole micrometres. The centre of a pixel may lie half a micrometre between two of them, so what
-//! is compared with a centre is in half-micrometres (units of 0.5 µm): all centres are whole numbers then, and no
-//! comparison rounds. Names of such coordinates end in `2`.
+//! Units: points are in whole micrometres. The centre of a pixel may lie halfway between two of them, so coordinates
+//! that are compared with a centre are in half-micrometres (units of 0.5 µm). In this unit every centre is a whole
+//! number, and no comparison rounds. Names of such coordinates end in `2`.
 //!
-//! The definitions that other crates cite stand in `specs/`: winding and signed ray crossings (`Winding`), touch
+//! The definitions that other crates cite are in `specs/`: winding and signed ray crossings (`Winding`), touch
 //! (`Touch`), half-edges (`Facet`), the tie rule (`TieRule`).
 #![tactic(auto)]
 

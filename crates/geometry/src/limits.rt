@@ -1,9 +1,9 @@
-//! The limits of coordinates, grids and meshes, each in one place: clauses and definitions of all crates cite them by name.
+//! The limits of coordinates, grids and meshes. The clauses and definitions of all crates cite these constants.
 
 /// The greatest distance of a mesh's coordinate from 0, in micrometres: 128 metres.
 pub const COORDINATE_LIMIT: u64 = 128_000_000;
 
-/// The greatest distance of a centre's coordinate from 0, in half-micrometres: a mesh's, and one pitch beyond.
+/// The greatest distance of a centre's coordinate from 0, in half-micrometres: the limit of a mesh, and one pitch more.
 pub const CENTRE_LIMIT: u64 = 2 * COORDINATE_LIMIT + 2 * (STEP_LIMIT as u64);
 
 /// The greatest pitch and the greatest layer height, in micrometres.
@@ -18,5 +18,5 @@ pub const LAYER_LIMIT: u32 = 65_535;
 /// The greatest count of facets that are read.
 pub const FACET_LIMIT: u32 = 1_048_576;
 
-/// The greatest count of corners of a mesh, and of its half-edges: three a facet.
+/// The greatest count of corners of a mesh, and of its half-edges: three per facet.
 pub const CORNER_LIMIT: u32 = 3 * FACET_LIMIT;

@@ -1,4 +1,4 @@
-//! Points of a mesh, in whole micrometres. A point in hand is in range, so no later product of coordinates overflows.
+//! Points of a mesh, in whole micrometres. Every `Point` is in range, so products of its coordinates fit their types.
 ghost use Rattle.std.specs.Prelude.{◌≡◌, ◌<◌, ◌↔◌, IfSome, IsSome, IsTrue};
 ghost use Rattle.exact_int.specs.Bounds.{IsAtMost};
 ghost use Rattle.geometry.specs.Point.{Point, IsMeshPoint};
@@ -8,8 +8,8 @@ use crate::limits::COORDINATE_LIMIT;
 use exact_int::is_at_most;
 use std::marker::Model;
 
-/// A point of a mesh, in micrometres; each coordinate lies from -[`COORDINATE_LIMIT`] to [`COORDINATE_LIMIT`], which is
-/// 128,000,000. Points are ordered by x, then y, then z.
+/// A point of a mesh, in micrometres. Each coordinate is in the range from -[`COORDINATE_LIMIT`] to
+/// [`COORDINATE_LIMIT`], which is 128,000,000. Points are ordered by x, then y, then z.
 #[derive(Clone, Copy, Debug, PartialEq, Eq, PartialOrd, Ord)]
 pub struct Point {
     x: i32,
@@ -30,8 +30,8 @@ impl Model for Point {
 }
 
 impl Point {
-    /// The point with these coordinates in micrometres, or `None` where one of them is more than [`COORDINATE_LIMIT`]
-    /// from 0.
+    /// The point with these coordinates in micrometres, or `None` where one of them is farther than
+    /// [`COORDINATE_LIMIT`] from 0.
     pub fn new(x: i32, y: i32, z: i32) -> Option<Point>
         ensures some { IsSome result ↔ IsMeshPoint (record { x = x; y = y; z = z }) }
         ensures value { IfSome result (λ p. p ≡ record { x = x; y = y; z = z }) }

@@ -11,7 +11,7 @@ use Rattle.micro_num.specs.Numeral.{Sign, unsigned, plus, minus, Exponent, Numer
 use Rattle.geometry.specs.declared.limits.TheConstants.{COORDINATE_LIMIT}
 use Rattle.micro_num.specs.declared.limits.TheConstants.{WORD_LIMIT}
 
--- the number that a row of decimal digits writes
+-- the value of a row of decimal digits
 abbrev pub digits_value : List ℕ → ℕ
 digits_value ds = fold (λ n d. 10 * n + (d - 48)) 0 ds
 
@@ -43,7 +43,7 @@ abbrev pub unit_power : LengthUnit → ℕ
 unit_power Millimetre = 3
 unit_power Inch = 2
 
--- the power of ten that takes the digits of the mantissa, times the unit's factor, to micrometres
+-- the digits of the mantissa, times the factor of the unit, times ten to this power, are the value in micrometres
 abbrev pub power_of : LengthUnit → Numeral → ℤ
 power_of unit n = (exponent_value n.exponent -ℤ pos (length (fraction_digits n.fraction))) +ℤ pos (unit_power unit)
 

@@ -1,5 +1,5 @@
--- The grammar of a number: a sign or none; digits with at most one point among, before or after them, and at
--- least one digit; then nothing, or `e` or `E`, a sign or none, and at least one digit.
+-- The grammar of a number: an optional sign, then at least one digit and at most one point among, before or after the
+-- digits, then an optional exponent: `e` or `E`, an optional sign, and at least one digit.
 --     Numeral, numeral_text      a number by its parts, and how it is written
 --     IsNumeral                  the parts are those of a number
 --     numeral_of                 the parts of a word, if it is a number
@@ -13,7 +13,7 @@ pub data Sign : Type 0 where
   plus : Sign
   minus : Sign
 
--- a mark, `e` or `E`, then a sign or none, and digits
+-- a mark (`e` or `E`), a sign or none, and digits
 pub record Exponent : Type 0 where
   pub mark : ℕ
   pub sign : Sign
@@ -59,7 +59,7 @@ fraction_digits (Some digits) = digits
 abbrev pub mantissa_digits : Numeral → List ℕ
 mantissa_digits n = n.whole ++ fraction_digits n.fraction
 
--- one digit at least, and nothing else
+-- at least one digit, and digits only
 abbrev pub are_digits : List ℕ → Bool
 are_digits ds = nat_lt 0 (length ds) && list_all is_ascii_digit ds
 
@@ -75,7 +75,7 @@ IsNumeral n = (are_digits (mantissa_digits n) ≡ true) × (is_exponent n.expone
 abbrev pub IsSpelled : List ℕ → Type 0
 IsSpelled word = (length word ≤ WORD_LIMIT) × (n : Numeral) × IsNumeral n × (word ≡ numeral_text n)
 
--- Below, the parts of a word: it is cut at its first `e` or `E`, and the text before that at its first point.
+-- The parts of a word: it is cut at its first `e` or `E`, and the text before that is cut at its first point.
 
 abbrev pub sign_of : List ℕ → Sign
 sign_of [] = unsigned
@@ -85,7 +85,7 @@ abbrev pub after_sign : List ℕ → List ℕ
 after_sign [] = []
 after_sign (byte ∷ rest) = if byte == 43 || byte == 45 then rest else byte ∷ rest
 
--- the bytes from the first one on that passes the test
+-- the bytes from the first one that passes the test to the end
 abbrev pub from_first : (ℕ → Bool) → List ℕ → List ℕ
 from_first test bytes = drop (position_or_len test bytes) bytes
 

@@ -1,12 +1,12 @@
--- The state of the reader of numbers between the parts of a word: what it has read, and what that says of the number.
+-- The state of the reader of numbers between the parts of a word: what it has read, and what this says of the number.
 --     scanned                   the parts of a text behind its sign, read from the left
 --     size_of                   the coordinate that such a text stands for, or its fault
---     IsLeading                 the leading digits of a number, without those that were dropped
---     IsMantissa                the digits of a number with such leading digits
+--     IsLeading                 the value of the leading digits of a number, and how many digits were dropped
+--     IsMantissa                the digits of a number, with their leading digits
 --     IsCarry                   what dropped digits add to 254 times the leading ones
---     IsCapped                  a number, or any number beyond the limit of coordinates where that is beyond it
---     IsCut                     such leading digits in a unit
---     IsNear                    the same exponent, or both beyond any coordinate on the same side
+--     IsCapped                  the same number, or both are beyond the limit of coordinates
+--     IsCut                     the leading digits times the factor of a unit
+--     IsNear                    the same exponent, or both far beyond those of coordinates, on the same side
 --     IsExponentFront           a text begins with an exponent, or with none
 --     IsNumberFront             a text begins with a number that has no sign
 --     IsEnded                   a text that doesn't begin with a byte of a number
@@ -29,7 +29,7 @@ abbrev pub digits_behind : List ℕ → Option (List ℕ)
 digits_behind [] = None
 digits_behind (byte ∷ bytes) = if byte == 46 then Some (before_first is_other bytes) else None
 
--- what stands behind the point and its digits
+-- the text behind the point and its digits
 abbrev pub rest_behind : List ℕ → List ℕ
 rest_behind [] = []
 rest_behind (byte ∷ bytes) = if byte == 46 then from_first is_other bytes else byte ∷ bytes
@@ -60,11 +60,11 @@ scanned_size unit n = if is_numeral n then size_or_fault (size unit n) else Err 
 abbrev pub size_of : LengthUnit → List ℕ → Result ℤ NumFault
 size_of unit text = scanned_size unit (scanned unsigned text)
 
--- the number that digits write behind n
+-- the value of the digits of n with these digits behind them
 abbrev pub digits_after : ℕ → List ℕ → ℕ
 digits_after n ds = fold (λ n d. 10 * n + (d - 48)) n ds
 
--- value is n without its last `dropped` digits, and none is dropped while value is below LEADING_ROOM
+-- value is n without its last `dropped` digits; no digit is dropped while value is below LEADING_ROOM
 pub record IsLeading (value dropped n : ℕ) : Type 0 where
   pub low : value * 10 ^ dropped ≤ n
   pub high : n < (value + 1) * 10 ^ dropped
@@ -78,38 +78,38 @@ pub record IsMantissa (value dropped : ℕ) (whole fraction : List ℕ) : Type 0
   pub few : dropped ≤ length whole + length fraction
   pub within : length whole + length fraction ≤ WORD_LIMIT
 
--- carry is the whole part of 254 times the fraction that n writes in `count` digits
+-- carry is the whole part of 254 times the decimal fraction whose `count` digits are those of n
 pub record IsCarry (carry count n : ℕ) : Type 0 where
   pub low : carry * 10 ^ count ≤ 254 * n
   pub high : 254 * n < (carry + 1) * 10 ^ count
 
--- the same of a value in a unit, which may be 254 times as large
+-- IsLeading for a value in a unit, which may be 254 times as large
 pub record IsCut (value dropped n : ℕ) : Type 0 where
   pub low : value * 10 ^ dropped ≤ n
   pub high : n < (value + 1) * 10 ^ dropped
   pub short : value < SCALE_LIMIT
   pub long : 0 < dropped → LEADING_ROOM ≤ value
 
--- the same exponent, or both so high that any number but 0 is out of range, or both so low that any number is rounded to 0
+-- the same exponent; or both so high that any number but 0 is out of range; or both so low that any number rounds to 0
 abbrev pub IsNear : ℤ → ℤ → Type 0
 IsNear a b =
     (a ≡ b)
     ⊎ ((pos LEADING_ROOM ≤ℤ a) × (pos LEADING_ROOM ≤ℤ b))
     ⊎ ((a ≤ℤ neg_ℤ (pos LEADING_ROOM)) × (b ≤ℤ neg_ℤ (pos LEADING_ROOM)))
 
--- b is a where a is in range of coordinates, and else out of range too
+-- b is a if a is in the range of coordinates; otherwise b is out of range too
 pub record IsCapped (a b : ℕ) : Type 0 where
   pub within : a ≤ COORDINATE_LIMIT → b ≡ a
   pub beyond : COORDINATE_LIMIT < a → COORDINATE_LIMIT < b
 
--- the text begins with an exponent near e, or with none where e is near 0, and `rest` is left behind it
+-- the text is an exponent near e, or none where e is near 0, and then `rest`
 pub record IsExponentFront (text rest : List ℕ) (e : ℤ) : Type 0 where
   pub exponent : Option Exponent
   pub is : is_exponent exponent ≡ true
   pub spelled : text ≡ exponent_text exponent ++ rest
   pub near : IsNear e (exponent_value exponent)
 
--- the text begins with a number without a sign, whose value is m where that is a coordinate, and `rest` is left behind it
+-- the text is a number without a sign, and then `rest`; m is the value of the number, if that is a coordinate
 pub record IsNumberFront (unit : LengthUnit) (text rest : List ℕ) (m : ℕ) : Type 0 where
   pub number : Numeral
   pub is : IsNumeral number

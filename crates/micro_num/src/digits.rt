@@ -1,4 +1,4 @@
-//! Digits at the front of a text: their number and their value, cut where 64 bits end.
+//! The digits at the front of a text: how many there are, and their value as far as it fits 64 bits.
 ghost use Rattle.std.specs.Prelude.{◌≡◌, ◌≤◌, ◌<◌, ◌+◌, ◌*◌, ◌-◌, IfSome, ℕ, length, take, true};
 ghost use Rattle.std.specs.List.{position_or_len};
 ghost use Rattle.std.specs.Char.{is_ascii_digit};
@@ -7,14 +7,15 @@ ghost use Rattle.micro_num.specs.declared.limits.TheConstants.{LEADING_ROOM, TEN
 
 use crate::limits::{LEADING_ROOM, TEN_DIGITS_ROOM};
 
-/// The number that the leading digits write: zeros in front, then 16 digits at most.
+/// The value of the leading digits of a number: any zeros in front, then at most 16 digits. Further digits are dropped
+/// and only counted.
 ///
-/// These and the number of digits behind them decide how a number is rounded. Where one of the leading digits is behind
-/// the point, it decides the half; where none is, the number is far out of range.
+/// This is enough to round the number to whole micrometres. If one of the leading digits is behind the point of the
+/// value in micrometres, it decides whether the fraction reaches a half; if none is, the number is far out of range.
 #[derive(Clone, Copy)]
 pub(crate) struct Leading {
     pub(crate) value: u64,
-    /// The number of digits behind those.
+    /// The number of dropped digits.
     pub(crate) dropped: u64,
 }
 
@@ -60,11 +61,11 @@ impl Leading {
     }
 }
 
-/// The digits at the front of a text, behind those that were read before.
+/// The digits at the front of a text, and those that were read before them.
 #[derive(Clone, Copy)]
 pub(crate) struct Digits {
     pub(crate) leading: Leading,
-    /// The number of these digits.
+    /// The number of digits at the front.
     pub(crate) count: usize,
 }
 
@@ -83,10 +84,10 @@ pub(crate) fn read_digits(bytes: &[u8], before: Leading) -> Digits
     }
 }
 
-/// Fewer digits than this are read without a test of the room that is left.
+/// Fewer digits than this are read without testing whether each one still fits.
 const FEW: usize = 10;
 
-/// Reads the digits at the front of a text, behind those in `before`, where there are fewer than `FEW` of them and room for these. Else `None`.
+/// Like `read_digits`, where there are fewer than `FEW` digits and `FEW` of them fit. Else `None`.
 #[inline(always)]
 fn few_digits(bytes: &[u8], before: Leading) -> Option<Digits>
     ensures count { IfSome result (λ digits. digits.count ≡ position_or_len is_other bytes.now) }
@@ -111,7 +112,7 @@ fn few_digits(bytes: &[u8], before: Leading) -> Option<Digits>
     None
 }
 
-/// Reads the digits at the front of a text, behind those in `before`, whatever their number.
+/// Like `read_digits`, for any number of digits.
 #[cold]
 #[inline(never)]
 fn many_digits(bytes: &[u8], before: Leading) -> Digits

@@ -1,8 +1,8 @@
 //! Decimal texts read as whole micrometres, exactly: no float, and one rounding at the end.
 //!
 //! - [`read_micro`]: the coordinate that a word stands for, or a [`NumFault`].
-//! - [`read_front`]: the same of a word at the front of a longer text, with its length.
-//! - [`Unit`]: what the text's numbers are in, millimetres or inches.
+//! - [`read_front`]: the same for a word at the front of a longer text, with the length of the word.
+//! - [`Unit`]: the unit of the text's numbers, millimetres or inches.
 //! - [`WORD_LIMIT`]: the greatest length of a number's text, in bytes.
 //! - [`one_spelling`]: the law that a number's text and its parts determine each other.
 //! - [`ceil_div`], handed on from `exact_int`.

@@ -1,20 +1,20 @@
-//! The limits of a number's text, and the bounds of what is computed from its digits. Clauses and definitions cite these
-//! names.
+//! The limit of a number's text, and the bounds of what is computed from its digits. Clauses and definitions cite these
+//! constants.
 
 /// The greatest length of a number's text, in bytes.
 pub const WORD_LIMIT: usize = 255;
 
-/// While the leading digits are below this, one more of them still fits.
+/// While the value of the leading digits is below this, one more digit still fits.
 pub(crate) const LEADING_ROOM: u64 = 1_000_000_000_000_000;
 
-/// The leading digits of a number are below this: there are 16 of them at most.
+/// The value of the leading digits is below this: there are at most 16 of them.
 pub(crate) const LEADING_LIMIT: u64 = 10 * LEADING_ROOM;
 
-/// While the leading digits are below this, ten more of them still fit.
+/// While the value of the leading digits is below this, ten more digits still fit.
 pub(crate) const TEN_DIGITS_ROOM: u64 = 1_000_000;
 
-/// What the digits behind the leading ones add to 254 times those is below this.
+/// What the dropped digits add to 254 times the leading ones is below this.
 pub(crate) const CARRY_LIMIT: u64 = 10_000;
 
-/// The leading digits in a unit are below this: 254 times them for an inch, with what the digits behind them add.
+/// The leading digits times the factor of a unit, with what the dropped digits add, are below this.
 pub(crate) const SCALE_LIMIT: u64 = 254 * LEADING_LIMIT + CARRY_LIMIT;

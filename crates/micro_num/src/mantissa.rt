@@ -18,7 +18,7 @@ pub(crate) fn split_sign(bytes: &[u8]) -> (bool, &[u8])
         return (false, bytes);
     };
     let negative = *first == b'-';
-    // without a branch: signs come in no order, so the processor would mispredict it half of the time
+    // This test has no branch: the signs of a mesh follow no pattern, so the processor would often predict it wrongly.
     let signed = negative | (*first == b'+');
     let (_, behind) = bytes.split_at(usize::from(signed));
     (negative, behind)
@@ -65,8 +65,9 @@ pub(crate) fn read_mantissa(bytes: &[u8]) -> Mantissa<'_>
     }
 }
 
-/// Reads the exponent at the front of a text, 0 where there is none, and gives the text behind it. An exponent of more
-/// than 16 digits is read as one of 16. `None` where a mark stands there without a digit behind it.
+/// Reads the exponent at the front of a text, and gives it with the text behind it. The exponent is 0 where there is
+/// none, and one of more than 16 digits, besides zeros in front, is read by its first 16. `None` where a mark, `e` or
+/// `E`, has no digit behind it.
 #[inline(always)]
 pub(crate) fn exponent_front(bytes: &[u8]) -> Option<(i64, &[u8])>
     requires { length bytes.now ≤ WORD_LIMIT }

@@ -36,7 +36,7 @@ pub fn read_micro(word: &[u8], unit: Unit) -> Result<i32, NumFault>
     read_word(word, unit)
 }
 
-/// What `read_micro` answers, from the word's sign and the text behind that.
+/// Like `read_micro`, without the clauses on how numbers are spelled.
 fn read_word(word: &[u8], unit: Unit) -> Result<i32, NumFault>
     ensures { result ≡ coordinate_of unit word.now }
 {
@@ -66,10 +66,11 @@ fn read_unsigned(text: &[u8], unit: Unit) -> Result<i32, NumFault>
     }
 }
 
-/// A word at the front of a text, as its coordinate by [`read_micro`] and its number of bytes.
+/// The coordinate of a word at the front of a text, as [`read_micro`] reads it, and the length of the word in bytes.
 ///
-/// A word is found where `read_micro` reads it, and the text ends behind it or goes on with a byte that is no digit, no
-/// point and neither `e` nor `E`. `None` says that no such word stands there, but not why.
+/// A word in range is always found where the text ends behind it, or continues with a byte that is no digit, no point
+/// and neither `e` nor `E`. A word that is found may also be followed by another byte. `None` doesn't say why there is
+/// no such word.
 #[inline(always)]
 pub fn read_front(bytes: &[u8], unit: Unit) -> Option<(i32, usize)>
     ensures exact { IfSome result (λ found. coordinate_of unit (take found.1 bytes.now) ≡ Ok found.0) }
@@ -88,8 +89,8 @@ pub fn read_front(bytes: &[u8], unit: Unit) -> Option<(i32, usize)>
     Some((if negative { -size } else { size }, count))
 }
 
-/// The value of the number without a sign at the front of a text, in micrometres, or more than `COORDINATE_LIMIT` where
-/// that is more, and the text behind the number.
+/// The value of the number at the front of a text, which has no sign, in micrometres, and the text behind the number. A
+/// value above `COORDINATE_LIMIT` may be given as any other such value.
 #[inline(always)]
 fn size_front(text: &[u8], unit: Unit) -> Option<(u64, &[u8])>
     requires { length text.now ≤ WORD_LIMIT }

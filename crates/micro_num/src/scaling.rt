@@ -1,4 +1,4 @@
-//! Digits and an exponent as micrometres: the unit's factor, then a power of ten, with the rounding that this needs.
+//! From digits and an exponent to micrometres: times the factor of the unit, then times a power of ten, rounded once.
 ghost use Rattle.std.specs.Prelude.{◌≡◌, ◌≤◌, ◌<◌, ◌+◌, ◌*◌, ◌^◌, ◌++◌, ◌+ℤ◌, ◌-ℤ◌, length, ℕ, ℤ, pos, unsigned_abs};
 ghost use Rattle.micro_num.specs.Micrometres.{digits_value, magnitude, rounded_quotient, unit_factor, unit_power};
 ghost use Rattle.micro_num.specs.Scan.{IsCapped, IsCarry, IsCut, IsMantissa, IsNear, digits_after};
@@ -61,7 +61,7 @@ fn shrunk(value: u64, power: u64) -> u64
     requires small { value < SCALE_LIMIT }
     ensures { result ≡ rounded_quotient value power }
 {
-    // no value here is half of ten to the power 20
+    // each value here is less than half of ten to the power 20
     if power > 19 {
         return 0;
     }
@@ -69,7 +69,7 @@ fn shrunk(value: u64, power: u64) -> u64
     (value + unit / 2) / unit
 }
 
-/// `value` times ten to the power `power`, or more than `COORDINATE_LIMIT` where that is more.
+/// `value` times ten to the power `power`. A product above `COORDINATE_LIMIT` may be given as any other such number.
 #[inline(always)]
 fn grown(value: u64, power: u64) -> u64
     ensures { IsCapped (value * 10 ^ power) result }
@@ -83,8 +83,8 @@ fn grown(value: u64, power: u64) -> u64
     }
 }
 
-/// `value` times ten to the power `power`, to the nearest whole number, halves upward, or more than `COORDINATE_LIMIT`
-/// where that is more.
+/// `value` times ten to the power `power`, to the nearest whole number, halves upward. A product above
+/// `COORDINATE_LIMIT` may be given as any other such number.
 #[inline(always)]
 fn scaled(value: u64, power: i64) -> u64
     requires { value < SCALE_LIMIT }
@@ -97,7 +97,7 @@ fn scaled(value: u64, power: i64) -> u64
     }
 }
 
-/// The whole part of 254 times the fraction that the digits write, where the digits behind them add `behind` to it.
+/// The whole part of 254 times the decimal fraction with these digits, to which the digits behind them add `behind`.
 fn carried(digits: &[u8], behind: u64) -> u64
     requires { behind < CARRY_LIMIT }
     ensures carry { (count n : ℕ) → IsCarry behind count n
@@ -112,7 +112,7 @@ fn carried(digits: &[u8], behind: u64) -> u64
     carry
 }
 
-/// 254 times the leading digits, with what the digits behind them carry into that.
+/// 254 times the leading digits, with what the dropped digits carry into the product.
 #[cold]
 #[inline(never)]
 fn in_inches(leading: Leading, whole: &[u8], fraction: &[u8]) -> u64
@@ -128,7 +128,7 @@ fn in_inches(leading: Leading, whole: &[u8], fraction: &[u8]) -> u64
     254 * leading.value + carried(before, carried(last, 0))
 }
 
-/// The leading digits times the unit's factor, with what the digits behind them carry into that.
+/// The leading digits times the factor of the unit, with what the dropped digits carry into the product.
 #[inline(always)]
 fn in_unit(mantissa: &Mantissa<'_>, unit: Unit) -> u64
     requires { IsMantissa mantissa.now.leading.value mantissa.now.leading.dropped
@@ -143,7 +143,7 @@ fn in_unit(mantissa: &Mantissa<'_>, unit: Unit) -> u64
     }
 }
 
-/// The power of ten by which the unit's factor falls short of micrometres.
+/// A unit is its factor, times ten to this power, in micrometres.
 #[inline(always)]
 fn power_in(unit: Unit) -> i64
     ensures { result ≡ pos (unit_power unit) }
@@ -154,7 +154,8 @@ fn power_in(unit: Unit) -> i64
     }
 }
 
-/// The value of a number in micrometres without its sign, or more than `COORDINATE_LIMIT` where that is more.
+/// The value of a number without its sign, in micrometres. A value above `COORDINATE_LIMIT` may be given as any other
+/// such value.
 #[inline(always)]
 pub(crate) fn size_in(mantissa: &Mantissa<'_>, exponent: i64, unit: Unit) -> u64
     requires mantissa { IsMantissa mantissa.now.leading.value mantissa.now.leading.dropped

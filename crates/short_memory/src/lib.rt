@@ -1,21 +1,22 @@
-//! An allocator for tests, which refuses one growth: a test counts up which one, and so meets every refusal of a call.
+//! An allocator for tests that fails one allocation. A test repeats a call, and fails the first allocation, then the
+//! second, and so on, until the call has none left to fail.
 #![tactic(auto)]
 
 use std::alloc::{AllocError, Allocator};
 use std::sync::atomic::AtomicU64;
 use std::sync::atomic::Ordering::SeqCst;
 
-/// Asks an inner allocator for memory, except at the one growth that it refuses.
+/// Takes memory from an inner allocator, except for one allocation, which it fails.
 ///
-/// `&ShortMemory<Global>` is an allocator that is `Copy + Send + Sync`, so one count serves many threads.
+/// `&ShortMemory<Global>` is an allocator too, and `Copy + Send + Sync`: several threads share one count.
 pub struct ShortMemory<B: Allocator> {
     inner: B,
-    // How many growths are left up to and including the refused one. It wraps round below zero after that.
+    // The number of allocations up to and including the one that fails. It wraps round below zero after that.
     left: AtomicU64,
 }
 
 impl<B: Allocator> ShortMemory<B> {
-    /// An allocator that refuses the growth numbered `turn`, counted from 1, and no other of the first 2^63.
+    /// An allocator that fails the allocation numbered `turn`, counted from 1, and no other of the first 2^63.
     pub fn new(inner: B, turn: u64) -> ShortMemory<B> {
         ShortMemory {
             inner,
@@ -23,7 +24,7 @@ impl<B: Allocator> ShortMemory<B> {
         }
     }
 
-    /// Whether the growth was reached and refused. For a `turn` from 1 to 2^63.
+    /// Whether the allocation that fails was reached, for a `turn` from 1 to 2^63.
     pub fn has_refused(&self) -> bool {
         self.left.load(SeqCst).wrapping_sub(1) > u64::MAX / 2
     }
@@ -35,7 +36,8 @@ impl<B: Allocator> Drop for ShortMemory<B> {
     }
 }
 
-// Counts one growth. The count is atomic, so of many threads just one finds its growth refused.
+// Counts one allocation, and tells whether it is the one that fails. The count is atomic, so only one thread is told
+// so.
 fn is_turn(left: &AtomicU64) -> bool {
     left.fetch_sub(1, SeqCst) == 1
 }

@@ -1,10 +1,11 @@
--- ASCII STL, as in 3D Systems' "StereoLithography Interface Specification": which facets a text spells, and what it
--- wants where it stops spelling any.
+-- ASCII STL, as in 3D Systems' "StereoLithography Interface Specification": which facets a text reads as, and which
+-- fault it has otherwise.
+--     keywords                the table of keywords
 --     Token, solid_tokens     what a solid is written with: keywords, words of normals, coordinates, rests of lines
---     rest_behind             what is left of a text behind the tokens at its front
+--     rest_behind             the rest of a text behind the tokens at its front
 --     Reads                   the text is whole solids, and these are their facets
---     Wants                   up to a byte offset the text is a beginning of solids, and there it wants this token
---     IsFaultOf               the one thing that is wrong with a text
+--     Wants                   up to a byte offset the text begins as solids do, and there it wants this token
+--     IsFaultOf               the one fault of a text
 use Rattle.std.specs.Prelude.{◌≡◌, ◌≢◌, ℕ, ◌+◌, ◌<◌, ◌≤◌, Bool, true, false, ◌&&◌, ◌||◌, List, [], ◌∷◌, ◌++◌, drop, length, Option, Some, None, Ok, Err, ℤ, ◌==◌, nat_lt, nat_le, if◌then◌else◌, codes, flat_map, count_by}
 use Rattle.std.specs.Ordering.{int_eq}
 use Rattle.std.specs.Str.{bytes_eq, str_to_ascii_lowercase}
@@ -28,18 +29,18 @@ is_white byte = byte == 32 || (nat_le 9 byte && nat_le byte 13)
 abbrev pub is_line_end : ℕ → Bool
 is_line_end byte = byte == 10 || byte == 13
 
--- what is left behind the white space at the front
+-- the text behind the white space at the front
 abbrev pub after_space : List ℕ → List ℕ
 after_space bytes = drop (prefix_len is_white bytes) bytes
 
--- the word there, empty at the end of the text
+-- the first word, which is empty if only white space is left
 abbrev pub first_word : List ℕ → List ℕ
 first_word bytes = before_first is_white (after_space bytes)
 
 abbrev pub after_word : List ℕ → List ℕ
 after_word bytes = from_first is_white (after_space bytes)
 
--- up to the first LF or CR, or to the end
+-- the text from the first LF or CR on, which is empty if there is none
 abbrev pub after_line : List ℕ → List ℕ
 after_line bytes = from_first is_line_end bytes
 
@@ -47,10 +48,17 @@ after_line bytes = from_first is_line_end bytes
 abbrev pub is_keyword : List ℕ → List ℕ → Bool
 is_keyword text word = bytes_eq (str_to_ascii_lowercase word) text
 
--- The table of keywords, in lower case: those that may stand where a word of this kind is wanted.
+-- The table of keywords, in lower case. Each kind of word has the keywords that may stand where it is wanted.
+
+abbrev pub facet_keyword : List ℕ
+facet_keyword = codes "facet"
+
+abbrev pub end_keyword : List ℕ
+end_keyword = codes "endsolid"
+
 abbrev pub keywords : Word → List (List ℕ)
 keywords Solid = codes "solid" ∷ []
-keywords FacetOrEnd = codes "facet" ∷ codes "endsolid" ∷ []
+keywords FacetOrEnd = facet_keyword ∷ end_keyword ∷ []
 keywords Normal = codes "normal" ∷ []
 keywords Outer = codes "outer" ∷ []
 keywords Loop = codes "loop" ∷ []
@@ -64,16 +72,20 @@ is_one_of text [] = false
 is_one_of text (k ∷ []) = bytes_eq text k
 is_one_of text (k ∷ l ∷ ks) = bytes_eq text k || is_one_of text (l ∷ ks)
 
-abbrev pub only_one : List (List ℕ) → Option (List ℕ)
-only_one [] = None
-only_one (k ∷ []) = Some k
-only_one (k ∷ l ∷ ks) = None
+abbrev pub only_one : List (List ℕ) → List ℕ
+only_one [] = []
+only_one (k ∷ []) = k
+only_one (k ∷ l ∷ ks) = []
 
 -- the keyword of a kind that has just one
-abbrev pub keyword_text : Word → Option (List ℕ)
+abbrev pub keyword_text : Word → List ℕ
 keyword_text kind = only_one (keywords kind)
 
--- Tokens of the grammar. A keyword has what is wanted in its place, and its text.
+-- the kind has just one keyword
+abbrev pub HasOneKeyword : Word → Type 0
+HasOneKeyword kind = length (keywords kind) ≡ 1
+
+-- Tokens of the grammar. A keyword has the kind of word that is wanted there, and its text.
 
 pub data Token : Type 0 where
   keyword : Word → List ℕ → Token
@@ -81,32 +93,36 @@ pub data Token : Type 0 where
   coordinate : ℤ → Token
   rest_of_line : Token
 
+-- the keyword of a kind that has just one
+abbrev pub keyword_of : Word → Token
+keyword_of kind = keyword kind (keyword_text kind)
+
 abbrev pub facet_word : Token
-facet_word = keyword FacetOrEnd (codes "facet")
+facet_word = keyword FacetOrEnd facet_keyword
 
 abbrev pub end_word : Token
-end_word = keyword FacetOrEnd (codes "endsolid")
+end_word = keyword FacetOrEnd end_keyword
 
 abbrev pub vertex_tokens : Point → List Token
-vertex_tokens p = keyword Vertex (codes "vertex") ∷ coordinate p.x ∷ coordinate p.y ∷ coordinate p.z ∷ []
+vertex_tokens p = keyword_of Vertex ∷ coordinate p.x ∷ coordinate p.y ∷ coordinate p.z ∷ []
 
 abbrev pub normal_tokens : List Token
-normal_tokens = keyword Normal (codes "normal") ∷ normal_part ∷ normal_part ∷ normal_part ∷ []
+normal_tokens = keyword_of Normal ∷ normal_part ∷ normal_part ∷ normal_part ∷ []
 
 abbrev pub loop_tokens : Facet → List Token
 loop_tokens t =
-    (keyword Outer (codes "outer") ∷ keyword Loop (codes "loop") ∷ [])
+    (keyword_of Outer ∷ keyword_of Loop ∷ [])
     ++ vertex_tokens t.a ++ vertex_tokens t.b ++ vertex_tokens t.c
-    ++ keyword EndLoop (codes "endloop") ∷ []
+    ++ keyword_of EndLoop ∷ []
 
 -- what a facet is written with
 abbrev pub facet_tokens : Facet → List Token
-facet_tokens t = (facet_word ∷ normal_tokens) ++ loop_tokens t ++ keyword EndFacet (codes "endfacet") ∷ []
+facet_tokens t = (facet_word ∷ normal_tokens) ++ loop_tokens t ++ keyword_of EndFacet ∷ []
 
 -- what a solid is written with: its name and what follows `endsolid` are rests of lines
 abbrev pub solid_tokens : List Facet → List Token
 solid_tokens facets =
-    (keyword Solid (codes "solid") ∷ rest_of_line ∷ []) ++ flat_map facet_tokens facets ++ end_word ∷ rest_of_line ∷ []
+    (keyword_of Solid ∷ rest_of_line ∷ []) ++ flat_map facet_tokens facets ++ end_word ∷ rest_of_line ∷ []
 
 -- whether a word stands for the coordinate
 abbrev pub is_read_as : ℤ → List ℕ → LengthUnit → Bool
@@ -125,7 +141,7 @@ after_token (keyword wanted text) bytes = after_word bytes
 after_token normal_part bytes = after_word bytes
 after_token (coordinate z) bytes = after_word bytes
 
--- what is left behind the tokens, if the text begins with them
+-- the rest of the text behind the tokens, if the text begins with them
 abbrev pub rest_behind : LengthUnit → List Token → List ℕ → Option (List ℕ)
 rest_behind unit [] bytes = Some bytes
 rest_behind unit (token ∷ tokens) bytes =
@@ -145,7 +161,7 @@ pub record Reads (limit : ℕ) (unit : LengthUnit) (bytes : List ℕ) (facets : 
   pub spelled : rest_behind unit (flat_map solid_tokens solids) bytes ≡ Some rest
   pub whole : after_space rest ≡ []
 
--- What a text is told when it can't continue with a token: a word of a normal counts as a number.
+-- What is wanted where a token has to come, as a fault names it. A word of a normal counts as a number.
 abbrev pub wanted : Token → Option Word
 wanted (keyword word text) = Some word
 wanted normal_part = Some Number
@@ -153,50 +169,55 @@ wanted (coordinate z) = Some Number
 wanted rest_of_line = None
 
 abbrev pub is_facet_word : Token → Bool
-is_facet_word (keyword wanted text) = is_keyword text (codes "facet")
+is_facet_word (keyword wanted text) = is_keyword text facet_keyword
 is_facet_word normal_part = false
 is_facet_word (coordinate z) = false
 is_facet_word rest_of_line = false
 
--- The text begins as solids do, whole or not, cut in front of a token; there, behind white space, it wants that
--- token. `begun` facets have begun by then, and `at` is the byte offset of what stands there: `word`, or the text's end.
-pub record Wants (limit : ℕ) (unit : LengthUnit) (bytes : List ℕ) (at : ℕ) (token : Token) (begun : ℕ) (word : List ℕ) : Type 0 where
+-- the number of facets that begin in these tokens
+abbrev pub facet_count : List Token → ℕ
+facet_count tokens = count_by is_facet_word tokens
+
+-- The text begins with the front of some solids, which is cut before a token: that token is wanted next. `facets_before`
+-- is the number of facets that begin in the front. `word` is the next word, and `at` its byte offset; where the text
+-- ends, `word` is empty and `at` is the length of the text.
+pub record Wants (limit : ℕ) (unit : LengthUnit) (bytes : List ℕ) (at : ℕ) (token : Token) (facets_before : ℕ) (word : List ℕ) : Type 0 where
   pub solids : List (List Facet)
   pub front : List Token
   pub more : List Token
   pub cut : flat_map solid_tokens solids ≡ front ++ token ∷ more
-  pub count : begun ≡ count_by is_facet_word front
-  pub few : begun ≤ limit
+  pub count : facets_before ≡ facet_count front
+  pub few : facets_before ≤ limit
   pub rest : List ℕ
   pub spelled : rest_behind unit front bytes ≡ Some rest
   pub offset : at + length (after_space rest) ≡ length bytes
   pub stands : word ≡ first_word rest
 
--- whether a text is a keyword that may stand where a word of this kind is wanted
+-- whether a text in lower case is a keyword of this kind
 abbrev pub is_text_of : Word → List ℕ → Bool
 is_text_of kind text = is_one_of text (keywords kind)
 
--- whether a word is one of these, in any case
+-- whether a word is a keyword of this kind, in any case
 abbrev pub is_wanted : Word → List ℕ → Bool
 is_wanted kind word = is_text_of kind (str_to_ascii_lowercase word)
 
--- another word stands where a keyword is wanted
+-- a keyword is wanted, and the word there is another one
 pub record IsUnexpected (limit : ℕ) (unit : LengthUnit) (bytes : List ℕ) (kind : Word) (at : ℕ) : Type 0 where
   pub token : Token
-  pub begun : ℕ
+  pub facets_before : ℕ
   pub word : List ℕ
-  pub wants : Wants limit unit bytes at token begun word
+  pub wants : Wants limit unit bytes at token facets_before word
   pub kind_is : wanted token ≡ Some kind
   pub keyword_wanted : kind ≢ Number
   pub stands : 0 < length word
   pub other : is_wanted kind word ≡ false
 
--- a word that stands for no coordinate stands where one is wanted
+-- a coordinate is wanted, and the word there stands for none
 pub record IsBadNumber (limit : ℕ) (unit : LengthUnit) (bytes : List ℕ) (cause : NumFault) (at : ℕ) : Type 0 where
   pub z : ℤ
-  pub begun : ℕ
+  pub facets_before : ℕ
   pub word : List ℕ
-  pub wants : Wants limit unit bytes at (coordinate z) begun word
+  pub wants : Wants limit unit bytes at (coordinate z) facets_before word
   pub stands : 0 < length word
   pub refused : coordinate_of unit word ≡ Err cause
 
@@ -204,13 +225,14 @@ pub record IsBadNumber (limit : ℕ) (unit : LengthUnit) (bytes : List ℕ) (cau
 pub record IsTooMany (limit : ℕ) (unit : LengthUnit) (bytes : List ℕ) (at : ℕ) : Type 0 where
   pub word : List ℕ
   pub wants : Wants limit unit bytes at facet_word limit word
-  pub facet : is_keyword (codes "facet") word ≡ true
+  pub facet : is_keyword facet_keyword word ≡ true
 
--- the text ends where a word is wanted; but behind a whole solid it may end
+-- The text ends where a word is wanted. `solid` is wanted only in a text of white space: behind a whole solid, a text
+-- may end.
 pub record IsEndedBefore (limit : ℕ) (unit : LengthUnit) (bytes : List ℕ) (kind : Word) : Type 0 where
   pub token : Token
-  pub begun : ℕ
-  pub wants : Wants limit unit bytes (length bytes) token begun []
+  pub facets_before : ℕ
+  pub wants : Wants limit unit bytes (length bytes) token facets_before []
   pub kind_is : wanted token ≡ Some kind
   pub no_solid : kind ≡ Solid → after_space bytes ≡ []
 

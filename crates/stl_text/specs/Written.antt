@@ -1,22 +1,23 @@
 -- How facets may be written: in solids, with any white space between words, keywords in any case, any words for
 -- normals, any names, and anything behind `endsolid` on its line.
 --     SpacedWord        a word and the white space behind it
---     AreWordsOf        spaced words that stand for these tokens
+--     AreWordsOf        these spaced words stand for these tokens
 --     IsRemark          what may follow a word up to the end of its line: a name, or what is skipped
 --     WrittenSolid      a solid of these facets
 --     Written           a text of these facets
-use Rattle.std.specs.Prelude.{◌≡◌, ℕ, ◌<◌, Bool, true, ◌&&◌, not, List, [], ◌∷◌, ◌++◌, length, Ok, nat_lt, codes, flat_map}
+use Rattle.std.specs.Prelude.{◌≡◌, ℕ, ◌<◌, Bool, true, ◌&&◌, not, List, [], ◌∷◌, ◌++◌, length, Ok, nat_lt, flat_map}
 use Rattle.std.specs.Str.{str_to_ascii_lowercase}
 use Rattle.std.specs.List.{list_all}
 use Rattle.micro_num.specs.declared.unit.Unit.{Unit as LengthUnit}
 use Rattle.micro_num.specs.Micrometres.{coordinate_of}
 use Rattle.geometry.specs.Facet.{Facet}
-use Rattle.stl_text.specs.Text.{Token, keyword, normal_part, coordinate, rest_of_line, facet_tokens, facets_of, is_white, is_line_end}
+use Rattle.stl_text.specs.declared.word.Word.TheVariants.{Solid}
+use Rattle.stl_text.specs.Text.{Token, keyword, keyword_text, end_keyword, normal_part, coordinate, rest_of_line, facet_tokens, facets_of, is_white, is_line_end}
 
 abbrev pub are_white : List ℕ → Bool
 are_white bytes = list_all is_white bytes
 
--- some bytes, none of them white
+-- one byte at least, and none of them white
 abbrev pub is_word : List ℕ → Bool
 is_word bytes = nat_lt 0 (length bytes) && list_all (λ byte. not (is_white byte)) bytes
 
@@ -57,7 +58,7 @@ pub record IsRemark (bytes : List ℕ) : Type 0 where
 -- a solid of these facets, and the white space behind it
 pub record WrittenSolid (unit : LengthUnit) (facets : List Facet) (text : List ℕ) : Type 0 where
   pub opening : List ℕ
-  pub opening_is : str_to_ascii_lowercase opening ≡ codes "solid"
+  pub opening_is : str_to_ascii_lowercase opening ≡ keyword_text Solid
   pub name : List ℕ
   pub name_is : IsRemark name
   pub name_end : ℕ
@@ -67,7 +68,7 @@ pub record WrittenSolid (unit : LengthUnit) (facets : List Facet) (text : List �
   pub body : List SpacedWord
   pub body_is : AreWordsOf unit (flat_map facet_tokens facets) body
   pub closing : List ℕ
-  pub closing_is : str_to_ascii_lowercase closing ≡ codes "endsolid"
+  pub closing_is : str_to_ascii_lowercase closing ≡ end_keyword
   pub remark : List ℕ
   pub remark_is : IsRemark remark
   pub remark_end : ℕ

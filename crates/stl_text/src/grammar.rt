@@ -1,4 +1,4 @@
-//! The grammar of ASCII STL, from vertices to solids: a method of the reader for each rule.
+//! The grammar of ASCII STL, from vertices to solids. Each rule is a method of the reader.
 ghost use Rattle.std.specs.Prelude.{◌≡◌, ◌≢◌, ◌-◌, ◌<◌, ◌≤◌, [], ◌∷◌, ◌++◌, length, flat_map, IfErr, IfOk, IsTrue, List, vec_len};
 ghost use Rattle.std.specs.Bool.{MatchBool};
 ghost use Rattle.stl_text.specs.declared.stl_fault.StlFault.TheVariants.{Ended, Memory};
@@ -11,7 +11,7 @@ ghost use Rattle.stl_text.specs.Text.{after_space, end_word, facet_word, facets_
 use crate::reader::Reader;
 use crate::scanning::{behind_keyword, is_keyword};
 use crate::stl_fault::StlFault;
-use crate::word::Word;
+use crate::word::{END_SOLID, FACET, Word};
 use geometry::{Facet, Point};
 use std::alloc::Allocator;
 
@@ -21,7 +21,7 @@ impl<'t> Reader<'t> {
         ensures read { IfOk result (λ p. Spells (vertex_tokens p) self.old self.new) }
         ensures fault { IfErr result (λ fault. (p : Point) × Breaks (vertex_tokens p) self.old fault) }
     {
-        self.keyword(Word::Vertex, b"vertex")?;
+        self.keyword(Word::Vertex)?;
         let x = self.coordinate()?;
         let y = self.coordinate()?;
         let z = self.coordinate()?;
@@ -36,7 +36,7 @@ impl<'t> Reader<'t> {
         ensures read { IfOk result (λ _. Spells normal_tokens self.old self.new) }
         ensures fault { IfErr result (Breaks normal_tokens self.old) }
     {
-        self.keyword(Word::Normal, b"normal")?;
+        self.keyword(Word::Normal)?;
         self.normal_part()?;
         self.normal_part()?;
         self.normal_part()
@@ -47,28 +47,28 @@ impl<'t> Reader<'t> {
         ensures read { IfOk result (λ t. Spells (loop_tokens t) self.old self.new) }
         ensures fault { IfErr result (λ fault. (t : Facet) × Breaks (loop_tokens t) self.old fault) }
     {
-        self.keyword(Word::Outer, b"outer")?;
-        self.keyword(Word::Loop, b"loop")?;
+        self.keyword(Word::Outer)?;
+        self.keyword(Word::Loop)?;
         let a = self.vertex()?;
         let b = self.vertex()?;
         let c = self.vertex()?;
-        self.keyword(Word::EndLoop, b"endloop")?;
+        self.keyword(Word::EndLoop)?;
         Ok(Facet::of(a, b, c))
     }
 
-    /// Reads a facet behind its word `facet`: a normal, a loop, `endfacet`.
+    /// Reads the rest of a facet, behind its keyword `facet`: a normal, a loop, `endfacet`.
     fn facet(&mut self) -> Result<Facet, StlFault>
         ensures read { IfOk result (λ t. Spells (facet_tail t) self.old self.new) }
         ensures fault { IfErr result (λ fault. (t : Facet) × Breaks (facet_tail t) self.old fault) }
     {
         self.normal()?;
         let facet = self.outer_loop()?;
-        self.keyword(Word::EndFacet, b"endfacet")?;
+        self.keyword(Word::EndFacet)?;
         Ok(facet)
     }
 
-    /// Reads the word `facet`, where `room` is above 0, or `endsolid`, and tells whether it is `facet`. `room` is the
-    /// number of facets that may still begin.
+    /// Reads `facet` or `endsolid`, and tells whether it is `facet`. `room` is the number of facets that may still
+    /// begin: where it is 0, `facet` is a fault.
     #[inline(always)]
     fn begins_facet(&mut self, room: usize) -> Result<bool, StlFault>
         ensures read { IfOk result (λ more. MatchBool more
@@ -77,7 +77,7 @@ impl<'t> Reader<'t> {
         ensures fault { IfErr result (Stops room (facet_word ∷ []) self.old) }
     {
         if room > 0 {
-            if let Some(rest) = behind_keyword(self.rest, b"facet") {
+            if let Some(rest) = behind_keyword(self.rest, FACET) {
                 self.rest = rest;
                 return Ok(true);
             }
@@ -85,7 +85,7 @@ impl<'t> Reader<'t> {
         self.begins_word(room)
     }
 
-    /// The same by the slow way, which finds the fault.
+    /// The slow part of `begins_facet`, which also finds the fault.
     #[cold]
     #[inline(never)]
     fn begins_word(&mut self, room: usize) -> Result<bool, StlFault>
@@ -95,7 +95,7 @@ impl<'t> Reader<'t> {
         ensures fault { IfErr result (Stops room (facet_word ∷ []) self.old) }
     {
         let word = self.next_word();
-        if is_keyword(word, b"facet") {
+        if is_keyword(word, FACET) {
             if room == 0 {
                 return Err(StlFault::TooMany {
                     at: self.offset_of(word),
@@ -103,13 +103,14 @@ impl<'t> Reader<'t> {
             }
             return Ok(true);
         }
-        if is_keyword(word, b"endsolid") {
+        if is_keyword(word, END_SOLID) {
             return Ok(false);
         }
         Err(self.fault_at(word, Word::FacetOrEnd))
     }
 
-    /// Reads a solid, `solid` to `endsolid`, and adds its facets to `facets`, up to `limit` in all.
+    /// Reads a solid, from `solid` to the rest of the line of `endsolid`, and adds its facets to `facets`, which may
+    /// have up to `limit` facets in all.
     fn solid<A: Allocator>(
         &mut self,
         limit: usize,
@@ -122,7 +123,7 @@ impl<'t> Reader<'t> {
         ensures fault { IfErr result (λ fault. fault ≢ Memory
             → (added : List Facet) × Stops (limit - vec_len facets.old) (solid_tokens added) self.old fault) }
     {
-        self.keyword(Word::Solid, b"solid")?;
+        self.keyword(Word::Solid)?;
         self.end_line();
         'facets: while self.begins_facet(limit - facets.len())? {
             let facet = self.facet()?;
@@ -132,7 +133,7 @@ impl<'t> Reader<'t> {
         Ok(())
     }
 
-    /// Reads all solids of a text, and adds their facets to `facets`, up to `limit`.
+    /// Reads all solids of a text, and adds their facets to `facets`, which is empty before and may have up to `limit`.
     pub(crate) fn solids<A: Allocator>(
         &mut self,
         limit: usize,

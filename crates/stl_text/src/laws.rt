@@ -1,4 +1,4 @@
-//! Laws of the format: they tie the definitions that the reader's contract cites to each other.
+//! Laws of the format, which relate the definitions that the contract of the reader cites.
 ghost use Rattle.std.specs.Prelude.{◌≡◌, ◌≤◌, ◌⊎◌, List, length, ℕ};
 ghost use Rattle.micro_num.specs.declared.unit.Unit.{Unit as LengthUnit};
 ghost use Rattle.stl_text.specs.declared.stl_fault.StlFault.{StlFault};
@@ -6,7 +6,7 @@ ghost use Rattle.stl_text.specs.Text.{IsFaultOf, Reads};
 ghost use Rattle.geometry.specs.Facet.{Facet};
 ghost use Rattle.stl_text.specs.Written.{Written};
 
-/// A text has exactly one outcome under a limit and in a unit: one list of facets, or one fault.
+/// A text has exactly one outcome for a limit and a unit: one list of facets, or one fault.
 pub fn one_outcome()
     ensures reading { (limit : ℕ) (unit : LengthUnit) (bytes : List ℕ) (facets others : List Facet)
         → Reads limit unit bytes facets → Reads limit unit bytes others → facets ≡ others }
@@ -18,8 +18,8 @@ pub fn one_outcome()
         → ((facets : List Facet) × Reads limit unit bytes facets) ⊎ ((fault : StlFault) × IsFaultOf limit unit bytes fault) }
 {}
 
-/// Facets that are written as STL read back as themselves, whatever the white space between words, the case of
-/// keywords, the words of normals and the names of solids.
+/// Facets that are written as STL are read back unchanged, for any white space between words, any case of keywords, any
+/// words of normals and any names of solids.
 pub fn written_reads_back()
     ensures { (limit : ℕ) (unit : LengthUnit) (facets : List Facet) (bytes : List ℕ)
         → length facets ≤ limit → Written unit facets bytes → Reads limit unit bytes facets }

@@ -1,8 +1,9 @@
 //! Triangle meshes read from ASCII STL.
 //!
 //! - [`read_stl`], [`read_stl_at_most`]: the facets of a text in file order, or its one fault.
-//! - [`StlFault`]: why a text is no mesh, with the byte offset where it stops being one; [`Word`]: what is wanted there.
-//! - [`one_outcome`], [`written_reads_back`]: laws. Each text has one outcome, and facets that are written as STL read back.
+//! - [`StlFault`]: why a text is no mesh, with the byte offset of the fault; [`Word`]: what is wanted there.
+//! - [`one_outcome`], [`written_reads_back`]: laws. Each text has one outcome, and facets that are written as STL are read
+//!   back unchanged.
 //! - [`Point`], [`Facet`], [`extent`], [`points_in_order`] and [`FACET_LIMIT`], handed on from `geometry`.
 //!
 //! ```

@@ -1,9 +1,9 @@
-//! A text that is read from the left, word by word: its keywords, coordinates and rests of lines, and what is wrong with
+//! The reader of a text, from left to right: keywords, coordinates, other words and rests of lines, and the fault at
 //! the word that was read last.
-ghost use Rattle.std.specs.Prelude.{◌≡◌, ◌+◌, ◌-◌, ◌≤◌, ◌↔◌, ℤ, [], ◌∷◌, length, IfErr, IfOk, IsTrue, Some};
+ghost use Rattle.std.specs.Prelude.{◌≡◌, ◌+◌, ◌-◌, ◌≤◌, ◌↔◌, ℤ, [], ◌∷◌, length, IfErr, IfOk, IsTrue};
 ghost use Rattle.exact_int.specs.Bounds.{IsAtMost};
 ghost use Rattle.stl_text.specs.Reader.{Breaks, Spells, left_at, start, unfitting, unread};
-ghost use Rattle.stl_text.specs.Text.{after_line, after_space, after_word, coordinate, first_word, keyword, keyword_text, normal_part};
+ghost use Rattle.stl_text.specs.Text.{after_line, after_space, after_word, coordinate, first_word, keyword_of, HasOneKeyword, normal_part};
 ghost use Rattle.geometry.specs.declared.limits.TheConstants.{COORDINATE_LIMIT};
 
 use crate::scanning::{
@@ -14,10 +14,10 @@ use crate::word::Word;
 use micro_num::{NumFault, Unit, read_micro};
 use std::marker::Model;
 
-/// A text that is read from the left, word by word.
+/// A text that is read from left to right, word by word.
 #[derive(Drop)]
 pub(crate) struct Reader<'t> {
-    /// What is left of the text.
+    /// The part of the text that is not read yet.
     pub(crate) rest: &'t [u8],
     /// The length of the whole text, in bytes.
     whole: usize,
@@ -55,7 +55,7 @@ impl<'t> Reader<'t> {
         skip_space(self.rest).is_empty()
     }
 
-    /// Reads a word, which is empty at the end of the text.
+    /// Reads the next word, which is empty at the end of the text.
     pub(crate) fn next_word(&mut self) -> &'t [u8]
         ensures word { result.now ≡ first_word self.old.rest }
         ensures rest { self.new ≡ left_at self.old (after_word self.old.rest) }
@@ -82,7 +82,7 @@ impl<'t> Reader<'t> {
         self.whole - (word.len() + self.rest.len())
     }
 
-    /// The fault of a text in which `word`, which was read last, stands in place of `wanted`.
+    /// The fault where `wanted` is wanted, and `word`, which was read last, is another word or empty.
     pub(crate) fn fault_at(&self, word: &[u8], wanted: Word) -> StlFault
         requires { length word.now + length self.now.rest ≤ self.now.whole }
         ensures { result ≡ unfitting wanted word.now (self.now.whole - (length word.now + length self.now.rest)) }
@@ -97,7 +97,7 @@ impl<'t> Reader<'t> {
         }
     }
 
-    /// The fault of a text in which `word`, which was read last, stands for no coordinate.
+    /// The fault where a coordinate is wanted, and `word`, which was read last, stands for none or is empty.
     pub(crate) fn number_fault(&self, word: &[u8], cause: NumFault) -> StlFault
         requires { length word.now + length self.now.rest ≤ self.now.whole }
         ensures { result ≡ unread cause word.now (self.now.whole - (length word.now + length self.now.rest)) }
@@ -112,30 +112,30 @@ impl<'t> Reader<'t> {
         }
     }
 
-    /// Reads the keyword `text`, which is what `wanted` names.
+    /// Reads the keyword of `wanted`, which has only one.
     #[inline(always)]
-    pub(crate) fn keyword(&mut self, wanted: Word, text: &[u8]) -> Result<(), StlFault>
-        requires { keyword_text wanted ≡ Some text.now }
-        ensures read { IfOk result (λ _. Spells (keyword wanted text.now ∷ []) self.old self.new) }
-        ensures fault { IfErr result (Breaks (keyword wanted text.now ∷ []) self.old) }
+    pub(crate) fn keyword(&mut self, wanted: Word) -> Result<(), StlFault>
+        requires { HasOneKeyword wanted }
+        ensures read { IfOk result (λ _. Spells (keyword_of wanted ∷ []) self.old self.new) }
+        ensures fault { IfErr result (Breaks (keyword_of wanted ∷ []) self.old) }
     {
-        if let Some(rest) = behind_keyword(self.rest, text) {
+        if let Some(rest) = behind_keyword(self.rest, wanted.text().as_bytes()) {
             self.rest = rest;
             return Ok(());
         }
-        self.keyword_word(wanted, text)
+        self.keyword_word(wanted)
     }
 
-    /// Reads a word, and tests whether it is the keyword `text`: the slow way, for a text that isn't in the usual form.
+    /// The slow part of `keyword`, which also finds the fault.
     #[cold]
     #[inline(never)]
-    pub(crate) fn keyword_word(&mut self, wanted: Word, text: &[u8]) -> Result<(), StlFault>
-        requires { keyword_text wanted ≡ Some text.now }
-        ensures read { IfOk result (λ _. Spells (keyword wanted text.now ∷ []) self.old self.new) }
-        ensures fault { IfErr result (Breaks (keyword wanted text.now ∷ []) self.old) }
+    pub(crate) fn keyword_word(&mut self, wanted: Word) -> Result<(), StlFault>
+        requires { HasOneKeyword wanted }
+        ensures read { IfOk result (λ _. Spells (keyword_of wanted ∷ []) self.old self.new) }
+        ensures fault { IfErr result (Breaks (keyword_of wanted ∷ []) self.old) }
     {
         let word = self.next_word();
-        if is_keyword(word, text) {
+        if is_keyword(word, wanted.text().as_bytes()) {
             Ok(())
         } else {
             Err(self.fault_at(word, wanted))
@@ -168,7 +168,7 @@ impl<'t> Reader<'t> {
         self.coordinate_word()
     }
 
-    /// Reads a word as a coordinate, in whole micrometres: the slow way, which finds the fault.
+    /// The slow part of `coordinate`, which also finds the fault.
     #[cold]
     #[inline(never)]
     pub(crate) fn coordinate_word(&mut self) -> Result<i32, StlFault>

@@ -1,4 +1,4 @@
-//! The reader of whole texts: all that the crate is for, in one call.
+//! The reader of a whole text: the main function of this crate.
 ghost use Rattle.std.specs.Prelude.{◌≡◌, ◌≢◌, ◌≤◌, IfErr, IfOk, List, MatchResult};
 ghost use Rattle.stl_text.specs.declared.stl_fault.StlFault.TheVariants.{Memory};
 ghost use Rattle.stl_text.specs.Text.{IsFaultOf, Reads};
@@ -13,18 +13,19 @@ use std::alloc::Allocator;
 
 /// The facets of an ASCII STL text in file order, at most `limit` of them.
 ///
-/// A text is one or more solids: `solid` and a name up to the end of its line, any number of facets, `endsolid` and the
-/// rest of its line. Keywords are read in any case, and a normal is any three words. The text's numbers are in `unit`;
-/// points are in whole micrometres. `limit` is at most [`FACET_LIMIT`], 1,048,576.
+/// A text is one or more solids: `solid` and a name up to the end of its line, any number of facets, `endsolid` and
+/// the rest of its line. Keywords are read in any case, and a normal is any three words. The text's numbers are in
+/// `unit`; points are in whole micrometres. `limit` is at most [`FACET_LIMIT`], 1,048,576.
 ///
 /// # Errors
-/// Memory aside, a text that spells no mesh has exactly one fault, and that is the answer:
-/// - `Expected` where the first word that doesn't fit stands in place of a keyword,
-/// - `Number` where it stands in place of a vertex number,
-/// - `TooMany` where it is the word `facet` of one facet more than `limit`, over all solids,
-/// - `Ended` where the text ends in place of a word.
+/// A text that spells no mesh has exactly one fault, which is the answer unless memory runs out. It is at the first
+/// word that doesn't fit:
+/// - `Expected` where a keyword is wanted there,
+/// - `Number` where a coordinate of a vertex is wanted there,
+/// - `TooMany` where the word is the `facet` of one facet more than `limit`, over all solids,
+/// - `Ended` where the text ends and a word is wanted.
 ///
-/// `Memory` comes only where an allocation failed.
+/// `Memory` comes only if an allocation failed.
 pub fn read_stl_at_most<A: Allocator + Copy + Send + Sync>(
     alloc: A,
     bytes: &[u8],
@@ -42,7 +43,8 @@ pub fn read_stl_at_most<A: Allocator + Copy + Send + Sync>(
     Ok(facets)
 }
 
-/// The facets of an ASCII STL text in file order, at most [`FACET_LIMIT`] of them: [`read_stl_at_most`] with this limit.
+/// The facets of an ASCII STL text in file order, at most [`FACET_LIMIT`] of them: [`read_stl_at_most`] with this
+/// limit.
 pub fn read_stl<A: Allocator + Copy + Send + Sync>(
     alloc: A,
     bytes: &[u8],

@@ -1,4 +1,4 @@
-//! What stands at the front of a text: white space, words, keywords, coordinates and lines.
+//! Scanning the front of a text: white space, words, keywords, coordinates and lines.
 
 ghost use Rattle.std.specs.Prelude.{◌≡◌, ◌+◌, ◌≤◌, IfSome, Ok, length, not, true};
 ghost use Rattle.std.specs.Str.{str_to_ascii_lowercase};
@@ -83,11 +83,11 @@ pub(crate) fn is_keyword(word: &[u8], text: &[u8]) -> bool
     requires { str_to_ascii_lowercase text.now ≡ text.now }
     ensures { result ≡ Text.is_keyword text.now word.now }
 {
-    // most texts have keywords in lower case, and this comparison is the faster one
+    // the comparison of bytes is faster, and most texts have their keywords in lower case
     word == text || word.eq_ignore_ascii_case(text)
 }
 
-/// Whether a word ends in front of a text: the text is empty, or begins with white space.
+/// Whether a word that is followed by this text ends there: the text is empty, or begins with white space.
 #[inline(always)]
 fn ends_word(bytes: &[u8]) -> bool
     ensures { result ≡ true → IsApart bytes.now }
@@ -98,7 +98,7 @@ fn ends_word(bytes: &[u8]) -> bool
     }
 }
 
-/// The text behind the first word, where that is this keyword. `None` says nothing of the text.
+/// The text behind the first word, if that is this keyword. `None` says nothing about the text.
 #[inline(always)]
 pub(crate) fn behind_keyword<'t>(bytes: &'t [u8], text: &[u8]) -> Option<&'t [u8]>
     requires lower { str_to_ascii_lowercase text.now ≡ text.now }
@@ -119,7 +119,7 @@ pub(crate) fn behind_keyword<'t>(bytes: &'t [u8], text: &[u8]) -> Option<&'t [u8
     }
 }
 
-/// The coordinate that the first word stands for, and the text behind it. `None` says nothing of the text.
+/// The coordinate that the first word stands for, and the text behind the word. `None` says nothing about the text.
 #[inline(always)]
 pub(crate) fn behind_coordinate(bytes: &[u8], unit: Unit) -> Option<(i32, &[u8])>
     ensures read { IfSome result (λ found. coordinate_of unit (first_word bytes.now) ≡ Ok found.0) }

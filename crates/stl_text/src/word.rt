@@ -1,7 +1,16 @@
-//! What may be wanted at an offset of a text, with its text.
+//! What may be wanted at a byte offset of a text, and the table of keywords.
+ghost use Rattle.std.specs.Prelude.{◌≡◌};
+ghost use Rattle.stl_text.specs.Text.{HasOneKeyword, keyword_text};
+
 use std::fmt::{Display, Error, Formatter, Write};
 
-/// What is wanted at an offset of a text: a keyword, one of two keywords, or a number.
+/// The keyword that begins a facet, in lower case.
+pub(crate) const FACET: &[u8] = b"facet";
+
+/// The keyword that ends a solid, in lower case.
+pub(crate) const END_SOLID: &[u8] = b"endsolid";
+
+/// What is wanted at a byte offset of a text: a keyword, one of two keywords, or a number.
 #[derive(Clone, Copy, Debug, PartialEq, Eq)]
 pub enum Word {
     Solid,
@@ -15,10 +24,13 @@ pub enum Word {
     EndFacet,
 }
 
-impl Display for Word {
-    /// The keyword in lower case; `facet or endsolid`; `number`.
-    fn fmt<W: Write>(&self, f: &mut Formatter<W>) -> Result<(), Error> {
-        f.write_str(match self {
+impl Word {
+    /// What is wanted: the keyword in lower case, `facet or endsolid`, or `number`.
+    #[inline(always)]
+    pub(crate) fn text(self) -> &'static str
+        ensures { HasOneKeyword self → result.now ≡ keyword_text self }
+    {
+        match self {
             Word::Solid => "solid",
             Word::FacetOrEnd => "facet or endsolid",
             Word::Normal => "normal",
@@ -28,6 +40,13 @@ impl Display for Word {
             Word::Number => "number",
             Word::EndLoop => "endloop",
             Word::EndFacet => "endfacet",
-        })
+        }
+    }
+}
+
+impl Display for Word {
+    /// The keyword in lower case; `facet or endsolid`; `number`.
+    fn fmt<W: Write>(&self, f: &mut Formatter<W>) -> Result<(), Error> {
+        f.write_str(self.text())
     }
 }

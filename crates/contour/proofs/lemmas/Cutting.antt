@@ -4,7 +4,7 @@ use Rattle.std.specs.Prelude.{Some, None, ℤ, ◌≤ℤ◌, ◌<ℤ◌, find, s
 use Rattle.std.proofs.lemmas.Int.{ints}
 use Rattle.std.proofs.lemmas.List.{get_or-map}
 use Rattle.std.proofs.lemmas.Option.{get_or_from_slice_get}
-use Rattle.geometry.specs.Point.{Point, origin, doubled}
+use Rattle.geometry.specs.Point.{Point, origin, half_micrometres_of}
 use Rattle.geometry.specs.Facet.{Facet, facet_with, Edge, edge, half_edges, twice, corners}
 use Rattle.exact_cut.specs.Cut.{start, finish, Rises, IsCut, IsBetween}
 use Rattle.exact_cut.specs.declared.cut.Cut.{Cut}
@@ -55,18 +55,18 @@ none_found p t none =
     rw (none0, none1, none2)
 
 -- heights of corners, in half-micrometres
-rises_to : (u v : Point) (z : ℤ) → Rises (doubled u) (doubled v) z → rises_through (height u) (height v) z ≡ true
+rises_to : (u v : Point) (z : ℤ) → Rises (half_micrometres_of u) (half_micrometres_of v) z → rises_through (height u) (height v) z ≡ true
 rises_to u v z r = rises-true (height u) (height v) z r.low r.high
 
-to_rises : (u v : Point) (z : ℤ) → rises_through (height u) (height v) z ≡ true → Rises (doubled u) (doubled v) z
+to_rises : (u v : Point) (z : ℤ) → rises_through (height u) (height v) z ≡ true → Rises (half_micrometres_of u) (half_micrometres_of v) z
 to_rises u v z h = record { low = rises-low _ _ z h; high = rises-high _ _ z h }
 
-twice_start : (t : Facet) (e : ℕ) → start (twice t) e ≡ doubled (start t e)
+twice_start : (t : Facet) (e : ℕ) → start (twice t) e ≡ half_micrometres_of (start t e)
 twice_start t zero = refl
 twice_start t (suc zero) = refl
 twice_start t (suc (suc e)) = refl
 
-twice_finish : (t : Facet) (e : ℕ) → finish (twice t) e ≡ doubled (finish t e)
+twice_finish : (t : Facet) (e : ℕ) → finish (twice t) e ≡ half_micrometres_of (finish t e)
 twice_finish t zero = refl
 twice_finish t (suc zero) = refl
 twice_finish t (suc (suc e)) = refl

@@ -5,7 +5,7 @@ use Rattle.std.specs.List.{AllByRecursion, cons_option, enumerate_from}
 use Rattle.std.proofs.lemmas.Int.{ints}
 use Rattle.std.proofs.lemmas.List.Elements.{All-from_recursion}
 use Rattle.std.proofs.lemmas.Option.{get_or_from_slice_get, slice_get_within}
-use Rattle.geometry.specs.Point.{Point, doubled, origin}
+use Rattle.geometry.specs.Point.{Point, half_micrometres_of, origin}
 use Rattle.geometry.specs.Facet.{Facet, facet_with, Edge, edge, half_edges, twice}
 use Rattle.geometry.specs.Winding.{hit, neg_ray_back, ray, total, turn, turn_of, wind}
 use Rattle.mesh_weld.specs.Balance.{IsBalanced}
@@ -204,7 +204,7 @@ module _ (facets : List Facet) (numbers : List (List ℕ)) (count : ℕ) (number
   winds : total (λ t. wind (twice t) c.y c.z) (loop_facets facets list) ≡ pos 0
   unfolding wind
   winds =
-      cycle_cancels facets c.z (λ u v. turn (doubled u) (doubled v) c.y c.z) (λ u v. turn-opposite (doubled u) (doubled v) c.y c.z)
+      cycle_cancels facets c.z (λ u v. turn (half_micrometres_of u) (half_micrometres_of v) c.y c.z) (λ u v. turn-opposite (half_micrometres_of u) (half_micrometres_of v) c.y c.z)
       (λ u v e. turn_of-level (height u) (height v) c.z _ e) (segments facets c.z) list runs closes
 
   pub ray_from_back : neg_ray_back (loop_facets facets list) c ≡ ray (loop_facets facets list) c

@@ -14,7 +14,7 @@ less n s r x y z e b l f g = omega (arith, ints)
 next : (x y : ℤ) → x <ℤ y → (x +ℤ pos 1) ≤ℤ y
 next x y h = omega (arith, ints)
 
--- over q and r with n = q*d + r
+-- by a quotient q and a remainder r, with n = q*d + r
 up : (n d q r : ℤ) → pos 0 <ℤ d → q *ℤ d +ℤ r ≡ n → pos 0 <ℤ r → r <ℤ d → (k : ℤ) → ((q +ℤ pos 1) ≤ℤ k) ↔ (n ≤ℤ (k *ℤ d))
 up n d q r h e p b k = (
   λ l. above n (q *ℤ d) r d (d *ℤ (q +ℤ pos 1)) (d *ℤ k) (k *ℤ d) e b (mul_le_left d (q +ℤ pos 1) k (weak d h) l) (*ℤ_comm d k) (identity (d ∷ q ∷ []) (search reads depth 40) refl),

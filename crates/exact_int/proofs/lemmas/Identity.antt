@@ -1,5 +1,5 @@
--- Reading an integer as a polynomial in given variables, by `search reads`, and proving that two are equal by `refl`.
--- A number of the code that went to the bits of a width and was read again is read as itself, where its bound shows that it fits: list `sizes` and the variables' bounds too.
+-- Polynomial identities of integers: `search reads` reads both sides as polynomials in given variables, and `refl` shows that these are equal.
+-- A number that the code stores in the bits of a width and reads back is read as the number itself, where a bound shows that it fits: list `sizes` and the bounds of the variables too.
 use Rattle.std.proofs.Common.{◌≡◌, ℕ, suc, ◌^◌, ltb, List, ◌∷◌, ℤ, pos, negsuc, ◌+ℤ◌, ◌*ℤ◌, neg_ℤ, Bool, true, false, refl, sym, ◌∙◌, ap}
 use Rattle.std.proofs.lemmas.Int.{to_z-of_z}
 use mir.Syntax.{Width}
@@ -12,7 +12,7 @@ pub record Place (ρ : List ℤ) (z : ℤ) : Type 0 where
   pub number : ℕ
   pub is : at ρ number ≡ z
 
--- z is the value of `ex`, if all that went to bits fits
+-- z is the value of `ex`, if each number that is stored in bits fits its width
 pub record Read (ρ : List ℤ) (z : ℤ) : Type 0 where
   pub ex : Ex
   pub all_fit : Bool
@@ -78,7 +78,7 @@ read_sides p q = record { left = p; right = q }
 
 pub ruleset reads = (read_sides, read_add, read_mul, read_neg, read_back, read_pos, read_negsuc, read_var, here, there)
 
--- what comes of an identity: it holds; the sides differ by these terms; a number may not fit the type that it was cast to
+-- the verdict on an identity: it holds; the two sides differ by these terms; or a number may not fit the width that it is stored in
 pub data Verdict : Type 0 where
   holds : Verdict
   differs : Poly → Verdict

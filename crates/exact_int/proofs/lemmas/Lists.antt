@@ -1,4 +1,4 @@
--- What holds of lists: a weaker test of all elements.
+-- Lists: elements that all pass a test all pass a weaker test.
 use Rattle.std.proofs.Common.{◌≡◌, Bool, true, List, [], ◌∷◌, refl}
 use Rattle.std.specs.List.{list_all}
 use Rattle.std.proofs.lemmas.Bool.{and_parts}

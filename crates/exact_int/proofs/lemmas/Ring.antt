@@ -1,5 +1,5 @@
 -- Polynomial identities over ℤ, by computation.
--- An identity in the variables of `ρ` is written twice as an `Ex`; `ring` proves it where the normal form of the difference has no term left, which is checked by `refl`.
+-- Each side of an identity in the variables of `ρ` is an `Ex`; `ring` proves the identity where the normal form of the difference has no terms, which `refl` checks.
 use Rattle.std.proofs.Common.{◌≡◌, ℕ, Bool, true, false, T, leb, List, [], ◌∷◌, ℤ, pos, negsuc, ◌+ℤ◌, ◌-ℤ◌, ◌*ℤ◌, neg_ℤ, refl, sym, ◌∙◌, ap, subst}
 use Prim.Native.Nat.{zero, suc, compare, Ordering}
 use lib.Dec.{eqb→eq, compare_is_eq}
@@ -30,7 +30,7 @@ value ρ (a ⊖ b) = value ρ a -ℤ value ρ b
 value ρ (a ⊗ b) = value ρ a *ℤ value ρ b
 value ρ (opp a) = neg_ℤ (value ρ a)
 
--- ---- words: products of variables, the greatest number first
+-- ---- words: products of variables, by number, the greatest first
 abbrev pub word : List ℤ → List ℕ → ℤ
 word ρ [] = pos 1
 word ρ (x ∷ xs) = at ρ x *ℤ word ρ xs
@@ -92,12 +92,12 @@ is_nought (pos zero) = true
 is_nought (pos (suc n)) = false
 is_nought (negsuc n) = false
 
--- without the terms that are 0: what is left of a difference that should vanish
+-- a sum without its terms that are 0: none are left of a difference of equal polynomials
 abbrev pub left_over : Poly → Poly
 left_over none = none
 left_over (term c m p) = elim (is_nought c) [ true ↦ left_over p | false ↦ term c m (left_over p) ]
 
--- ---- what these mean
+-- ---- the values of words and polynomials
 put-word : (ρ : List ℤ) (x : ℕ) (ys : List ℕ) → word ρ (put x ys) ≡ at ρ x *ℤ word ρ ys
 put-word ρ x [] = refl
 put-word ρ x (y ∷ ys) = elim (leb y x) as (λ b. word ρ (elim b [ true ↦ x ∷ (y ∷ ys) | false ↦ y ∷ put x ys ]) ≡ at ρ x *ℤ (at ρ y *ℤ word ρ ys)) [
@@ -198,6 +198,6 @@ left_over-poly ρ (term c m p) = by (is_nought c) refl (left_over-poly ρ p)
     by true d i = i ∙ sym (ap (λ z. z *ℤ word ρ m +ℤ poly ρ p) (nought-is c d) ∙ ap (λ z. z +ℤ poly ρ p) (zero-*ℤ (word ρ m)) ∙ +ℤ_idl (poly ρ p))
     by false d i = ap (λ z. c *ℤ word ρ m +ℤ z) i
 
--- the identity `l ≡ r` at the variables' values, where nothing is left of the difference: pass `refl`
+-- the identity `l ≡ r` at the values of the variables, where no term of the difference is left: pass `refl`
 pub ring : (ρ : List ℤ) (l r : Ex) → left_over (norm (l ⊖ r)) ≡ none → value ρ l ≡ value ρ r
 ring ρ l r e = same_from_difference (value ρ l) (value ρ r) (sym (norm-value ρ (l ⊖ r)) ∙ sym (left_over-poly ρ (norm (l ⊖ r))) ∙ ap (poly ρ) e)

@@ -1,4 +1,4 @@
--- Bounds on the magnitude of what is computed, by `search sizes`, so that it fits its type.
+-- Bounds on the magnitudes of computed numbers, by `search sizes`: they show that a result fits its type.
 use Rattle.std.proofs.Common.{◌≡◌, ℕ, ◌+◌, ◌*◌, ◌^◌, ◌≤◌, ◌<◌, Bool, true, false, not, suc, ◌-◌, ltb, T, ℤ, pos, negsuc, ◌+ℤ◌, ◌*ℤ◌, neg_ℤ, unsigned_abs, FitsSigned, refl, sym, subst, arith}
 use Rattle.std.proofs.lemmas.Int.{ints, unsigned_abs-mul, fits_signed_from_abs}
 use Rattle.std.proofs.Math.Nat.{mul-le-mul}
@@ -7,7 +7,7 @@ use mir.Val.{hbits, bits, sel, to_z, of_z}
 use lib.Dec.{ltb→lt, nltb→le, lit≤}
 use Rattle.exact_int.specs.Bounds.{IsAtMost}
 
--- a bound on z, found from the way that z is computed
+-- a bound on the magnitude of z, found from how z is computed
 pub record Size (z : ℤ) : Type 0 where
   pub bound : ℕ
   pub ok : unsigned_abs z ≤ bound
@@ -46,7 +46,7 @@ fits w {z} s e = fits_signed_from_abs w z (below (unsigned_abs z) s.bound (2 ^ h
     below : (a b c : ℕ) → a ≤ b → b < c → a < c
     below a b c h k = omega arith
 
--- a number that went to the bits of a width, and was read again, is no longer than it was, whether it fits or not
+-- storing a number in the bits of a width and reading it back never raises its magnitude, whether it fits or not
 halves : (w : Width) → (2 ^ bits w ≡ 2 ^ hbits w + 2 ^ hbits w) × (0 < 2 ^ hbits w)
 halves w8 = (refl, lit≤ tt)
 halves w16 = (refl, lit≤ tt)
@@ -69,7 +69,7 @@ back_of w (negsuc n) = back_neg (2 ^ hbits w) (2 ^ bits w) n (halves w).0 (halve
 abbrev pub size_back : (w : Width) (z : ℤ) → Size z → Size (to_z w (of_z w z))
 size_back w z s = record { bound = s.bound; ok = within (unsigned_abs (to_z w (of_z w z))) (unsigned_abs z) s.bound (back_of w z) s.ok }
 
--- an unsigned number that was cast
+-- a cast of an unsigned number
 pub cast_of : (w : Width) (n : ℕ) → unsigned_abs (to_z w n) ≤ n
 cast_of w n = back_pos (2 ^ hbits w) (2 ^ bits w) n (halves w).0 (halves w).1 (ltb n (2 ^ hbits w)) refl
 
@@ -84,6 +84,6 @@ is_at_most m {z} s e = record { at_most = below (unsigned_abs z) s.bound m s.ok 
     below : (a b c : ℕ) → a ≤ b → b < c + 1 → a ≤ c
     below a b c h k = omega arith
 
--- the bound of a number that equals another
+-- equal numbers have the same bounds
 pub at_most_by : {m : ℕ} {a : ℤ} (b : ℤ) → a ≡ b → IsAtMost m b → IsAtMost m a
 at_most_by {m} b e h = subst (IsAtMost m) (sym e) h

@@ -1,4 +1,4 @@
--- The meshes of the worked rows, and how their files are written.
+-- The meshes of the worked examples, and the texts of their files.
 use Rattle.std.specs.Prelude.{ℕ, ◌+◌, ◌/◌, ◌%◌, List, [], ◌∷◌, ◌++◌, flat_map, map, ℤ, pos, negsuc, nat_abs, codes}
 use Rattle.std.specs.Int.{is_negative}
 use Rattle.std.specs.Prelude.{if◌then◌else◌}
@@ -67,7 +67,7 @@ octahedron =
     b : Point
     b = at (pos 0) (pos 0) (negsuc 1)
 
--- one box, with a facet that stands twice, once the other way round
+-- a box with two more facets: a triangle, and the same triangle turned over
 abbrev pub box_with_a_pair : List Facet
 box_with_a_pair =
     cube 0 2 ++ facet_with (at (pos 2) (pos 0) (pos 0)) (at (pos 2) (pos 2) (pos 0)) (at (pos 2) (pos 2) (pos 2))
@@ -79,7 +79,7 @@ two_boxes = cube 0 4 ++ cube 2 6
 abbrev pub digit : ℕ → List ℕ
 digit n = (48 + n) ∷ []
 
--- a number below 10 thousandths of a thousand: enough for these rows
+-- micrometres as a number of millimetres with three decimals, for magnitudes below 10 millimetres
 abbrev pub millimetres : ℤ → List ℕ
 millimetres z =
     (if is_negative z then codes "-" else [])

@@ -33,7 +33,7 @@ ray_east : ray octahedron (at (pos 4) (pos 0) (pos 0)) ≡ pos 0
 unfolding turn_of wind hit
 ray_east = refl
 
--- it is crossed four thirds of a half-micrometre from 0
+-- the line along x at y = z = 1 crosses this facet at x = 4/3, in half-micrometres
 abbrev slanted : Facet
 slanted = facet_with (at (pos 1) (pos 0) (pos 0)) (at (pos 0) (pos 3) (pos 0)) (at (pos 0) (pos 0) (pos 3))
 

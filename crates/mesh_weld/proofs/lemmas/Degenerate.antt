@@ -3,7 +3,7 @@ use Rattle.std.proofs.Common.{◌≡◌, ℕ, ◌+◌, Bool, true, false, cond, 
 use Rattle.std.specs.Prelude.{count_by, int_lt}
 use Rattle.std.proofs.lemmas.List.Sums.{sum_by-append}
 use Rattle.std.proofs.lemmas.Int.{ints}
-use Rattle.geometry.specs.Point.{Point, same, doubled}
+use Rattle.geometry.specs.Point.{Point, same, half_micrometres_of}
 use Rattle.geometry.specs.Facet.{Facet, edges, half_edges, twice}
 use Rattle.geometry.specs.Winding.{turn, turn_x, wind, hit, wind_y, hit_y, volume, total, ray, ray_y}
 use Rattle.mesh_weld.specs.Balance.{edge_count, IsBalanced}
@@ -58,12 +58,12 @@ degenerate_amount q opposite t (inr (inr e)) =
 pub degenerate_wind : (t : Facet) → HasEqualCorners t → (y z : ℤ) → wind (twice t) y z ≡ pos 0
 unfolding wind
 degenerate_wind t h y z =
-    degenerate_amount (λ u v. turn (doubled u) (doubled v) y z) (λ u v. turn-opposite (doubled u) (doubled v) y z) t h
+    degenerate_amount (λ u v. turn (half_micrometres_of u) (half_micrometres_of v) y z) (λ u v. turn-opposite (half_micrometres_of u) (half_micrometres_of v) y z) t h
 
 pub degenerate_wind_y : (t : Facet) → HasEqualCorners t → (x z : ℤ) → wind_y (twice t) x z ≡ pos 0
 unfolding wind_y
 degenerate_wind_y t h x z =
-    ap neg_ℤ (degenerate_amount (λ u v. turn_x (doubled u) (doubled v) x z) (λ u v. turn_x-opposite (doubled u) (doubled v) x z) t h)
+    ap neg_ℤ (degenerate_amount (λ u v. turn_x (half_micrometres_of u) (half_micrometres_of v) x z) (λ u v. turn_x-opposite (half_micrometres_of u) (half_micrometres_of v) x z) t h)
 
 unpassed : (w v : ℤ) → w ≡ pos 0 → cond (int_lt (pos 0) (w *ℤ v)) w (pos 0) ≡ pos 0
 unpassed w v e = by_test (int_lt (pos 0) (w *ℤ v))

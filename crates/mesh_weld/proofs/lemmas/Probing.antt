@@ -8,7 +8,7 @@ use Rattle.std.proofs.lemmas.List.Elements.{All-head, All-tail, All-weaker}
 use Rattle.exact_int.specs.Bounds.{IsAtMost}
 use Rattle.exact_int.proofs.lemmas.Sizes.{sum_of}
 use Rattle.exact_int.proofs.lemmas.Identity.{reads, identity}
-use Rattle.geometry.specs.Point.{Point, doubled}
+use Rattle.geometry.specs.Point.{Point, half_micrometres_of}
 use Rattle.geometry.specs.Facet.{Facet, twice}
 use Rattle.geometry.specs.Touch.{Touches, Between}
 use Rattle.geometry.specs.Winding.{total, hit, hit_y, ray, ray_y}
@@ -27,7 +27,7 @@ total-agree f g (x ∷ xs) h = λ i. All-head (λ y. f y ≡ g y) x xs h i +ℤ 
 
 -- ---- along x and along y
 abbrev corner_amount : Point → Point → Point → ℤ
-corner_amount c u v = corner_turn c (doubled u) (doubled v)
+corner_amount c u v = corner_turn c (half_micrometres_of u) (half_micrometres_of v)
 
 pub rays_agree : (facets : List Facet) → IsBalanced facets → (c : Point) → NoneTouches facets c → ray facets c ≡ ray_y facets c
 rays_agree facets balanced c free = same_rays _ _ _ (total-difference (λ t. hit (twice t) c) (λ t. hit_y (twice t) c) facets) nothing
@@ -40,7 +40,7 @@ rays_agree facets balanced c free = same_rays _ _ _ (total-difference (λ t. hit
         total-agree (λ t. hit (twice t) c -ℤ hit_y (twice t) c) (round (corner_amount c)) facets
         (All-weaker (λ t. ¬ Touches (twice t) c) (λ t. hit (twice t) c -ℤ hit_y (twice t) c ≡ round (corner_amount c) t)
         (λ t h. ray-difference (twice t) c h) facets free)
-        ∙ amounts_cancel (corner_amount c) (λ u v. corner_turn-opposite c (doubled u) (doubled v)) facets balanced
+        ∙ amounts_cancel (corner_amount c) (λ u v. corner_turn-opposite c (half_micrometres_of u) (half_micrometres_of v)) facets balanced
 
 -- ---- steps
 -- a facet that touches an end of a step has a point on the way

@@ -2,7 +2,7 @@
 use Rattle.std.proofs.Common.{◌≡◌, ℕ, ◌+◌, Bool, true, false, cond, ◌&&◌, List, [], ◌∷◌, ◌++◌, map, ◌⊎◌, ℤ, pos, ◌+ℤ◌, ◌-ℤ◌, neg_ℤ, refl, sym, ◌∙◌, ap, inl, inr, arith}
 use Rattle.std.specs.Prelude.{count_by}
 use Rattle.std.proofs.lemmas.Int.{ints}
-use Rattle.geometry.specs.Point.{Point, same, doubled}
+use Rattle.geometry.specs.Point.{Point, same, half_micrometres_of}
 use Rattle.geometry.specs.Facet.{Facet, Edge, edge, edges, half_edges, twice}
 use Rattle.geometry.specs.Winding.{total, turn, turn_x, wind, wind_y, hit, ray, neg_ray_back}
 use Rattle.mesh_weld.specs.Balance.{IsBalanced}
@@ -154,16 +154,16 @@ amounts_cancel amount opposite facets balanced = total-edges amount facets ∙ o
 pub winds_cancel : (facets : List Facet) → IsBalanced facets → (y z : ℤ) → total (λ t. wind (twice t) y z) facets ≡ pos 0
 unfolding wind
 winds_cancel facets balanced y z =
-    amounts_cancel (λ u v. turn (doubled u) (doubled v) y z) (λ u v. turn-opposite (doubled u) (doubled v) y z) facets balanced
+    amounts_cancel (λ u v. turn (half_micrometres_of u) (half_micrometres_of v) y z) (λ u v. turn-opposite (half_micrometres_of u) (half_micrometres_of v) y z) facets balanced
 
 abbrev side_turn : ℤ → ℤ → Point → Point → ℤ
-side_turn x z u v = turn_x (doubled u) (doubled v) x z
+side_turn x z u v = turn_x (half_micrometres_of u) (half_micrometres_of v) x z
 
 pub winds_along_y_cancel : (facets : List Facet) → IsBalanced facets → (x z : ℤ) → total (λ t. wind_y (twice t) x z) facets ≡ pos 0
 unfolding wind_y
 winds_along_y_cancel facets balanced x z =
     total-neg (λ t. wind_y (twice t) x z) (round (side_turn x z)) (λ t. refl) facets
-    ∙ ap neg_ℤ (amounts_cancel (side_turn x z) (λ u v. turn_x-opposite (doubled u) (doubled v) x z) facets balanced)
+    ∙ ap neg_ℤ (amounts_cancel (side_turn x z) (λ u v. turn_x-opposite (half_micrometres_of u) (half_micrometres_of v) x z) facets balanced)
 
 pub ray_from_left : (facets : List Facet) → IsBalanced facets → (c : Point) → neg_ray_back facets c ≡ ray facets c
 ray_from_left facets balanced c =

@@ -1,4 +1,4 @@
--- Texts and the coordinates that they stand for.
+-- Worked texts, and the coordinates that they stand for.
 use Rattle.std.proofs.Common.{◌≡◌, ◌++◌, replicate, refl, ap, lit≤, ◌+◌, ◌-◌, ◌^◌}
 use Rattle.std.specs.Prelude.{Ok, Err, pos, negsuc, codes}
 use Rattle.micro_num.specs.declared.unit.Unit.TheVariants.{Millimetre, Inch}
@@ -7,85 +7,85 @@ use Rattle.micro_num.specs.Micrometres.{coordinate_of, coordinate_or_fault, magn
 use Rattle.micro_num.proofs.lemmas.Magnitude.{magnitude-zero, magnitude_far, magnitude-near}
 use Rattle.geometry.specs.declared.limits.TheConstants.{COORDINATE_LIMIT}
 
-row_1 : coordinate_of Millimetre (codes "0.0005") ≡ Ok (pos 1)
+half_away_from_zero : coordinate_of Millimetre (codes "0.0005") ≡ Ok (pos 1)
 unfolding magnitude
-row_1 = refl
+half_away_from_zero = refl
 
-row_2 : coordinate_of Millimetre (codes "-0.0005") ≡ Ok (negsuc 0)
+negative_half : coordinate_of Millimetre (codes "-0.0005") ≡ Ok (negsuc 0)
 unfolding magnitude
-row_2 = refl
+negative_half = refl
 
-row_3 : coordinate_of Millimetre (codes "4.9999E-4") ≡ Ok (pos 0)
+below_half : coordinate_of Millimetre (codes "4.9999E-4") ≡ Ok (pos 0)
 unfolding magnitude
-row_3 = refl
+below_half = refl
 
-row_4 : coordinate_of Millimetre (codes "2.648000e-002") ≡ Ok (pos 26)
+printed_exponent : coordinate_of Millimetre (codes "2.648000e-002") ≡ Ok (pos 26)
 unfolding magnitude
-row_4 = refl
+printed_exponent = refl
 
-row_6 : coordinate_of Millimetre (codes "1.") ≡ Ok (pos 1000)
+point_last : coordinate_of Millimetre (codes "1.") ≡ Ok (pos 1000)
 unfolding magnitude
-row_6 = refl
+point_last = refl
 
-row_7 : coordinate_of Millimetre (codes "+.5") ≡ Ok (pos 500)
+point_first : coordinate_of Millimetre (codes "+.5") ≡ Ok (pos 500)
 unfolding magnitude
-row_7 = refl
+point_first = refl
 
-row_8 : coordinate_of Millimetre (codes "8000.0005") ≡ Ok (pos 8000001)
+half_of_many_digits : coordinate_of Millimetre (codes "8000.0005") ≡ Ok (pos 8000001)
 unfolding magnitude
-row_8 = refl
+half_of_many_digits = refl
 
-row_9 : coordinate_of Millimetre (codes "128000.0004") ≡ Ok (pos COORDINATE_LIMIT)
+rounded_to_the_limit : coordinate_of Millimetre (codes "128000.0004") ≡ Ok (pos COORDINATE_LIMIT)
 unfolding magnitude
-row_9 = refl
+rounded_to_the_limit = refl
 
-row_10 : coordinate_of Millimetre (codes "128000.0005") ≡ Err OutOfRange
+rounded_beyond_the_limit : coordinate_of Millimetre (codes "128000.0005") ≡ Err OutOfRange
 unfolding magnitude
-row_10 = refl
+rounded_beyond_the_limit = refl
 
-row_11 : coordinate_of Millimetre (codes ".") ≡ Err NotNumber
+point_alone : coordinate_of Millimetre (codes ".") ≡ Err NotNumber
 unfolding magnitude
-row_11 = refl
+point_alone = refl
 
-row_12 : coordinate_of Millimetre (codes "1e") ≡ Err NotNumber
+exponent_without_digits : coordinate_of Millimetre (codes "1e") ≡ Err NotNumber
 unfolding magnitude
-row_12 = refl
+exponent_without_digits = refl
 
-row_13 : coordinate_of Millimetre (codes "1,5") ≡ Err NotNumber
+comma : coordinate_of Millimetre (codes "1,5") ≡ Err NotNumber
 unfolding magnitude
-row_13 = refl
+comma = refl
 
-row_14 : coordinate_of Millimetre (codes "nan") ≡ Err NotNumber
+not_a_number : coordinate_of Millimetre (codes "nan") ≡ Err NotNumber
 unfolding magnitude
-row_14 = refl
+not_a_number = refl
 
-row_15 : coordinate_of Millimetre (codes "") ≡ Err NotNumber
+empty_word : coordinate_of Millimetre (codes "") ≡ Err NotNumber
 unfolding magnitude
-row_15 = refl
+empty_word = refl
 
-row_16 : coordinate_of Millimetre (replicate 255 48) ≡ Ok (pos 0)
+longest_word : coordinate_of Millimetre (replicate 255 48) ≡ Ok (pos 0)
 unfolding magnitude
-row_16 = refl
+longest_word = refl
 
-row_17 : coordinate_of Millimetre (replicate 256 48) ≡ Err TooLong
+word_too_long : coordinate_of Millimetre (replicate 256 48) ≡ Err TooLong
 unfolding magnitude
-row_17 = refl
+word_too_long = refl
 
-row_20 : coordinate_of Millimetre (codes "1" ++ replicate 240 48 ++ codes "e-240") ≡ Ok (pos 1000)
+zeros_before_a_low_exponent : coordinate_of Millimetre (codes "1" ++ replicate 240 48 ++ codes "e-240") ≡ Ok (pos 1000)
 unfolding magnitude
-row_20 = refl
+zeros_before_a_low_exponent = refl
 
-row_21 : coordinate_of Millimetre (codes "0." ++ replicate 240 48 ++ codes "1e241") ≡ Ok (pos 1000)
+zeros_before_a_high_exponent : coordinate_of Millimetre (codes "0." ++ replicate 240 48 ++ codes "1e241") ≡ Ok (pos 1000)
 unfolding magnitude
-row_21 = refl
+zeros_before_a_high_exponent = refl
 
-row_22 : coordinate_of Millimetre (codes "0." ++ replicate 240 48 ++ codes "5e237") ≡ Ok (pos 1)
+half_behind_many_zeros : coordinate_of Millimetre (codes "0." ++ replicate 240 48 ++ codes "5e237") ≡ Ok (pos 1)
 unfolding magnitude
-row_22 = refl
+half_behind_many_zeros = refl
 
-row_23 : coordinate_of Millimetre (codes "0.00049" ++ replicate 240 57) ≡ Ok (pos 0)
+many_nines_below_half : coordinate_of Millimetre (codes "0.00049" ++ replicate 240 57) ≡ Ok (pos 0)
 unfolding magnitude
-row_23 = refl
+many_nines_below_half = refl
 
 inch_1 : coordinate_of Inch (codes "1") ≡ Ok (pos 25400)
 unfolding magnitude

@@ -1,4 +1,4 @@
--- Magnitudes that stand for the same coordinate.
+-- Magnitudes that stand for the same coordinate: equal ones, and those out of range.
 use Rattle.std.proofs.Common.{◌≡◌, ◌⊎◌, inl, inr, ℕ, suc, ◌+◌, ◌*◌, ◌-◌, ◌^◌, ◌<◌, ◌≤◌, ℤ, pos, negsuc, ◌+ℤ◌, neg_ℤ, ◌≤ℤ◌, ◌<ℤ◌, arith, ap, subst, sym, ◌∙◌, lit≤}
 use Rattle.std.specs.Prelude.{unsigned_abs}
 use Rattle.std.proofs.lemmas.Int.{ints}
@@ -26,7 +26,7 @@ IsCapped-next a b c p q = by_cases (cases_lt COORDINATE_LIMIT a)
         let e : b ≡ a = p.within h in
         IsCapped-same a c (sym (q.within (omega arith) ∙ e))
 
--- a number that is not 0, far up
+-- a number that is not 0, with a high exponent
 pub grown_far : (m k : ℕ) → 0 < m → (9 ≤ k) ⊎ (COORDINATE_LIMIT < m) → COORDINATE_LIMIT < m * 10 ^ k
 grown_far m k some (inl far) =
     let high : 10 ^ 9 ≤ 10 ^ k = pow-le-pow_right {n = 10} (lit≤ tt) {i = 9} {j = k} far in
@@ -43,7 +43,7 @@ unfolding magnitude
 IsCapped-up m r a (pos k) above e is = subst (λ a. IsCapped (m * 10 ^ a) r) e is
 IsCapped-up m r a (negsuc k) above e is = absurd (omega (arith, ints))
 
--- The digits of n behind m are left out, and m is long where there are any.
+-- The digits of n behind those of m are dropped; if there are any, m is long.
 module _ (m n j : ℕ) (low : m * 10 ^ j ≤ n) (high : n < (m + 1) * 10 ^ j) (long : 0 < j → LEADING_ROOM ≤ m) where
   whole : j ≡ 0 → n ≡ m
   whole e =
@@ -67,7 +67,7 @@ module _ (m n j : ℕ) (low : m * 10 ^ j ≤ n) (high : n < (m + 1) * 10 ^ j) (l
           let e : j ≡ 0 = omega arith in
           IsCapped-same _ _ (ap (λ n. n * 10 ^ k) (whole e) ∙ ap (λ i. m * 10 ^ i) (omega arith))
 
-  -- the point stands among the digits that are left out, or right in front of them
+  -- the point is among the dropped digits, or right before them
   among : (k : ℕ) → suc k ≤ j → IsCapped (rounded_quotient n (suc k)) (m * 10 ^ (j - suc k))
   among k inside =
       let some : 0 < j = omega arith in
@@ -91,7 +91,7 @@ module _ (m n j : ℕ) (low : m * 10 ^ j ≤ n) (high : n < (m + 1) * 10 ^ j) (l
           let e : negsuc k +ℤ pos j ≡ pos (j - suc k) = omega (arith, ints) in
           subst (λ s. IsCapped (rounded_quotient n (suc k)) (magnitude m s)) (sym e) (among k inside)
 
--- far up, all but 0 is no coordinate, and far down all is 0
+-- with a high exponent every number but 0 is out of range, and with a low one every number is 0
 far_up : (m : ℕ) (s t : ℤ) → pos 9 ≤ℤ s → pos 9 ≤ℤ t → IsCapped (magnitude m s) (magnitude m t)
 unfolding magnitude
 far_up m (pos j) (pos k) hs ht = by_cases (cases_lt 0 m)
@@ -116,7 +116,7 @@ far_down m l (negsuc j) (pos k) below hs ht = absurd (omega (arith, ints))
 far_down m l (negsuc j) (negsuc k) below hs ht =
     IsCapped-same _ _ (down-zero m l (suc j) below (omega (arith, ints)) ∙ sym (down-zero m l (suc k) below (omega (arith, ints))))
 
--- powers that are the same, or both far out, with a shift that is small
+-- exponents that are the same, or both far out on one side, with a small shift
 pub IsCapped_near : (m : ℕ) (e z d : ℤ) → m < 10 ^ 300 → IsNear e z → neg_ℤ (pos 1000) ≤ℤ d → d ≤ℤ pos 1000
     → IsCapped (magnitude m (z +ℤ d)) (magnitude m (e +ℤ d))
 IsCapped_near m e z d below (inl same) low high = IsCapped-same _ _ (ap (λ z. magnitude m (z +ℤ d)) (sym same))

@@ -1,4 +1,4 @@
--- The coordinate that a word stands for, from the size that its text has.
+-- The coordinate that a word stands for, from the size of the text behind its sign.
 use Rattle.std.proofs.Common.{◌≡◌, ◌≢◌, ◌↔◌, ◌⊎◌, inl, inr, ℕ, zero, suc, ◌+◌, ◌*◌, ◌-◌, ◌<◌, ◌≤◌, Bool, true, false, List, [], ◌∷◌, ◌++◌, take, length, length-append, append_assoc, append-nil, ℤ, pos, negsuc, neg_ℤ, ◌+ℤ◌, ◌-ℤ◌, arith, ap, subst, sym, ◌∙◌, refl}
 use Rattle.std.specs.Prelude.{Option, Some, None, Result, Ok, Err, unsigned_abs, ◌&&◌, nat_lt, nat_le, if◌then◌else◌}
 use Rattle.std.specs.Char.{is_ascii_digit}
@@ -16,7 +16,7 @@ use Rattle.micro_num.proofs.lemmas.Grammar.{numeral_of-is, numeral_of-text, regr
 use Rattle.micro_num.proofs.lemmas.Scanning.{numeral_of-scanned, scanned_digits, scanned-text, behind-text, scanned-is, ended_take}
 use Rattle.geometry.specs.declared.limits.TheConstants.{COORDINATE_LIMIT}
 
--- what is read of a size
+-- the answer for a size
 module _ (unit : LengthUnit) (text : List ℕ) (r : ℕ) (is : is_numeral (scanned unsigned text) ≡ true)
     (capped : IsCapped (size unit (scanned unsigned text)) r) where
   m : ℕ
@@ -44,7 +44,7 @@ module _ (unit : LengthUnit) (text : List ℕ) (r : ℕ) (is : is_numeral (scann
           ap (λ r. Ok (pos r)) (capped.within near)
           ∙ sym (open_size ∙ ap (λ b. if b then Ok (pos m) else Err OutOfRange) (le-leb m COORDINATE_LIMIT near))
 
--- The three parts of a text are those that are met in it.
+-- The parts of a text are those that a scan from the left finds.
 module _ (text whole fraction behind : List ℕ) (whole_is : whole ≡ before_first is_other text)
     (fraction_is : fraction ≡ fraction_digits (digits_behind (from_first is_other text)))
     (behind_is : behind ≡ rest_behind (from_first is_other text)) where
@@ -80,7 +80,7 @@ unsigned_text n no_sign =
     let behind : List ℕ = n.whole ++ (fraction_text n.fraction ++ exponent_text n.exponent) in
     regrouped (sign_text n.sign) n.whole (fraction_text n.fraction) (exponent_text n.exponent) ∙ ap (λ s. sign_text s ++ behind) no_sign
 
--- a number at the front with nothing behind it is what is met in the text
+-- a number at the front with nothing behind it is the number that a scan finds in the text
 pub whole_front : (unit : LengthUnit) (text rest : List ℕ) (r : ℕ) → IsNumberFront unit text rest r → length rest ≡ 0
     → (is_numeral (scanned unsigned text) ≡ true) × IsCapped (size unit (scanned unsigned text)) r
 whole_front unit text rest r front none =
@@ -94,7 +94,7 @@ whole_front unit text rest r front none =
     nothing [] h = refl
     nothing (x ∷ xs) h = absurd (omega (arith, h))
 
--- a text that begins with no number that ends with it is none
+-- a text is no number if no number at its front ends with it
 pub unread : (unit : LengthUnit) (text : List ℕ) → ((n : Numeral) → IsNumeral n → n.sign ≡ unsigned → text ≡ numeral_text n ++ [] → ⊥)
     → Err NotNumber ≡ size_of unit text
 unread unit text none = by_test (is_numeral n) refl
@@ -152,7 +152,7 @@ coordinate-is unit word short =
     by_test true = sized (sign_of word) (size unit n)
     by_test false = refl
 
--- What the coordinate says of the word.
+-- What the coordinate says about the word.
 module _ (unit : LengthUnit) (word : List ℕ) where
   short_coordinate : length word ≤ 255 → coordinate_of unit word ≡ numeral_coordinate unit (numeral_of word)
   short_coordinate short = ap (λ b. if b then Err TooLong else numeral_coordinate unit (numeral_of word)) (le-ltb 255 (length word) short)
@@ -232,7 +232,7 @@ module _ (unit : LengthUnit) (word : List ℕ) where
           spelled_coordinate n is spelled short
           ∙ ap (λ b. if b then Ok (micro unit n) else Err OutOfRange) (lt-leb (unsigned_abs (micro unit n)) COORDINATE_LIMIT far)
 
--- A number at the front of a text, behind a sign or none, stands for its size with that sign.
+-- A number at the front of a text, behind an optional sign, stands for its size with that sign.
 module _ (unit : LengthUnit) (text rest : List ℕ) (r : ℕ) (front : IsNumberFront unit (after_sign text) rest r) (short : length text ≤ 255) where
   front_signed : coordinate_of unit (take (length text - length rest) text) ≡ signed (sign_of text) (size_or_fault (size unit front.number))
   front_signed =
@@ -267,8 +267,8 @@ module _ (unit : LengthUnit) (text rest : List ℕ) (r : ℕ) (front : IsNumberF
       by_cases (inl far) = ap (λ b. if b then Ok (pos (size unit front.number)) else Err OutOfRange) (lt-leb (size unit front.number) COORDINATE_LIMIT far)
       by_cases (inr within) = absurd (omega (arith, front.capped.within within))
 
--- Bytes begin with a number in range and go on with no byte of one, and so does the text, which is as many of them as a
--- number may have. Where what is read behind its sign reads every number with no sign, it reads this one.
+-- The bytes are a number in range, and then no byte of a number. The text is the front of the bytes, as long as a number
+-- may be, so it begins in the same way. A reader that finds every unsigned number finds this one behind its sign.
 pub reads_number : (unit : LengthUnit) (bytes word rest text digits : List ℕ) (limit : ℕ) (z : ℤ) (P : List ℕ → Type 0) → bytes ≡ word ++ rest
     → IsEnded rest → coordinate_of unit word ≡ Ok z → text ≡ take limit bytes → (length word ≤ 255 → length word ≤ limit) → digits ≡ after_sign text
     → ((n : Numeral) (left : List ℕ) → IsNumeral n → n.sign ≡ unsigned → digits ≡ numeral_text n ++ left → IsEnded left → P left)
@@ -286,7 +286,7 @@ reads_number unit bytes word rest text digits limit z P spelled ended is cut lon
     ∙ sym (front-text k left) in
     (left, reads k left number.2 refl digits_are (ended_take (limit - length word) rest ended), text_is)
 
--- What is read of as many bytes as the word has is the word's coordinate.
+-- The bytes that were counted are the word, so their coordinate is that of the word.
 module _ (unit : LengthUnit) (text word rest : List ℕ) (count : ℕ) (spelled : text ≡ word ++ rest) (long : length word ≡ count) where
   read_word : coordinate_of unit (take count text) ≡ coordinate_of unit word
   read_word = ap (coordinate_of unit) (ap (take count) spelled ∙ take_at word rest count long)

@@ -1,4 +1,4 @@
--- The number that digits write, cut in two.
+-- The value of a row of digits that is cut in two.
 use Rattle.std.proofs.Common.{◌≡◌, ◌⊎◌, inl, inr, ℕ, suc, ◌+◌, ◌*◌, ◌-◌, ◌/◌, ◌^◌, ◌<◌, ◌≤◌, true, List, [], ◌∷◌, ◌++◌, length, drop, get_or, arith, ap, subst, ◌∙◌, lit≤}
 use Rattle.std.specs.Char.{is_ascii_digit}
 use Rattle.std.specs.List.{list_all}
@@ -28,7 +28,7 @@ digits_after-append xs ys = fold-append (λ n d. 10 * n + (d - 48)) 0 xs ys ∙ 
 pub digits_after-cons : (d : ℕ) (ds : List ℕ) → digits_after 0 (d ∷ ds) ≡ (d - 48) * 10 ^ length ds + digits_after 0 ds
 digits_after-cons d ds = digits_after-more (10 * 0 + (d - 48)) ds ∙ omega arith
 
--- digits write less than a 1 with as many zeros
+-- a row of n digits is less than ten to the power n
 pub digits_below : (ds : List ℕ) → list_all is_ascii_digit ds ≡ true → digits_after 0 ds < 10 ^ length ds
 digits_below [] h = omega arith
 digits_below (d ∷ ds) h =
@@ -37,7 +37,7 @@ digits_below (d ∷ ds) h =
     let nine : d - 48 ≤ 9 = omega arith in
     omega (arith, digits_after-cons d ds, digits_below ds parts.1, pow-succ' 10 (length ds), mul-le-mul_right (10 ^ length ds) nine)
 
--- One more digit in front of those that are carried from.
+-- One more digit before those whose carry is known.
 pub IsCarry_more : (c t n e : ℕ) → IsCarry c t n → IsCarry ((254 * e + c) / 10) (suc t) (e * 10 ^ t + n)
 IsCarry_more c t n e h =
     let p : ℕ = 10 ^ t in
@@ -55,7 +55,7 @@ IsCarry_more c t n e h =
 pub IsCarry-none : IsCarry 0 0 0
 IsCarry-none = record { low = omega arith; high = omega arith }
 
--- one more digit, taken from a list from behind
+-- the list with one more digit, taken from its end
 pub IsCarry_step : (ds : List ℕ) (i c count n : ℕ) → i < length ds
     → IsCarry c (i + count) (digits_after 0 (drop (length ds - i) ds) * 10 ^ count + n)
     → IsCarry ((254 * (get_or ds (length ds - 1 - i) 0 - 48) + c) / 10) (i + 1 + count) (digits_after 0 (drop (length ds - (i + 1)) ds) * 10 ^ count + n)
@@ -79,7 +79,7 @@ IsCarry_step ds i c count n inside h =
     (subst (λ k. IsCarry ((254 * e + c) / 10) k (e * 10 ^ (i + count) + (digits_after 0 rest * 10 ^ count + n))) many
     (IsCarry_more c (i + count) (digits_after 0 rest * 10 ^ count + n) e h))
 
--- the leading digits and what is carried from the others make 254 times the number
+-- 254 times the leading digits, with the carry of the others, is 254 times the number
 pub IsCarry-all : (xs ys : List ℕ) (v c : ℕ) → IsLeading v (length ys) (digits_after 0 (xs ++ ys))
     → list_all is_ascii_digit ys ≡ true → IsCarry c (length ys) (digits_after 0 ys)
     → IsCarry (254 * v + c) (length ys) (digits_after 0 (xs ++ ys))
@@ -100,7 +100,7 @@ IsCarry-all xs ys v c leading digits carry =
       high = omega (arith, carry.high);
     }
 
--- the leading digits of a number, where there are few, are the number
+-- the leading digits of a number without dropped digits are the number
 pub near : (v j n : ℕ) → IsLeading v j n → (v ≡ n) ⊎ ((LEADING_ROOM ≤ v) × (LEADING_ROOM ≤ n))
 near v j n h = by_cases (cases_lt 0 j)
   where

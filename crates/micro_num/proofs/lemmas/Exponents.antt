@@ -1,4 +1,4 @@
--- An exponent as it is read.
+-- Reading an exponent.
 use Rattle.std.proofs.Common.{◌≡◌, ◌≢◌, ◌⊎◌, inl, inr, ℕ, zero, suc, ◌<◌, ◌≤◌, true, false, List, [], ◌∷◌, ◌++◌, length, take, drop, ℤ, pos, neg_ℤ, arith, ap, subst, sym, ◌∙◌, refl, append_assoc}
 use Rattle.std.specs.Prelude.{Option, Some, None, nat_lt}
 use Rattle.std.specs.Char.{is_ascii_digit}
@@ -14,8 +14,8 @@ use Rattle.micro_num.proofs.lemmas.Scanning.{front_digits, no_other, ended_other
 use Rattle.micro_num.proofs.lemmas.DigitRows.{near}
 use Rattle.micro_num.specs.declared.limits.TheConstants.{LEADING_ROOM}
 
--- Bytes begin with an exponent, or with none, and go on with no byte of a number. Where they begin with a mark, then
--- digits stand behind it, and a sign or none, and behind them what they go on with.
+-- The bytes are an exponent or none, and then no byte of a number. If they begin with a mark, an optional sign and digits
+-- follow it, and then the rest.
 pub marked_rest : (bytes : List ℕ) (x : Option Exponent) (rest : List ℕ) → is_exponent x ≡ true → bytes ≡ exponent_text x ++ rest → IsEnded rest
     → (mark : ℕ) (text ds : List ℕ) → bytes ≡ mark ∷ text → is_exponent_mark mark ≡ true → ds ≡ after_sign text
     → (0 < position_or_len is_other ds) × (from_first is_other ds ≡ rest)
@@ -45,7 +45,7 @@ marked_rest bytes x rest is spelled ended mark text ds begins marks behind = by_
         let some : 0 < position_or_len is_other ds = omega (arith, ltb-true 0 (length e.digits) parts.0) in
         (some, ap (from_first is_other) ds_is ∙ from-is is_other e.digits rest clear starts)
 
--- the digits behind a mark, as far as they go, are an exponent's
+-- all digits behind a mark belong to the exponent
 pub front_exponent : (bytes : List ℕ) (mark : ℕ) (text ds : List ℕ) (n : ℕ) (e : ℤ) → bytes ≡ mark ∷ text → ds ≡ after_sign text
     → is_exponent_mark mark ≡ true → n ≡ position_or_len is_other ds → 0 < n → IsNear e (with_sign (sign_of text) (digits_value (take n ds)))
     → IsExponentFront bytes (drop n ds) e

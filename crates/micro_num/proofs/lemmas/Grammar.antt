@@ -1,4 +1,4 @@
--- A number of the grammar has one spelling, and its parts are those that its text is cut into.
+-- A number of the grammar has one spelling, and cutting its text gives its parts.
 use Rattle.std.proofs.Common.{◌≡◌, ℕ, suc, ◌<◌, ◌≤◌, Bool, true, false, not, ◌&&◌, ◌||◌, List, [], ◌∷◌, ◌++◌, length, take, drop, refl, sym, ◌∙◌, ap, subst, inl, inr, arith, ◌⊎◌, append_assoc, lit≤}
 use Rattle.std.specs.Prelude.{Option, Some, None, ◌==◌, nat_lt, nat_le, if◌then◌else◌}
 use Rattle.std.specs.Char.{is_ascii_digit}
@@ -11,12 +11,12 @@ use Rattle.std.proofs.lemmas.Bool.{and_parts, eqb-true, leb-true, ne_eqb}
 use Rattle.exact_int.proofs.lemmas.Lists.{all-weaker}
 use Rattle.micro_num.specs.Numeral.{Sign, unsigned, plus, minus, Exponent, Numeral, is_exponent_mark, is_point, sign_text, fraction_text, exponent_text, numeral_text, fraction_digits, mantissa_digits, are_digits, is_exponent, IsNumeral, sign_of, after_sign, from_first, fraction_of, exponent_of, parts_of, numeral_of}
 
--- nothing, or what begins with a byte that passes
+-- empty, or the first byte passes the test
 abbrev pub Starts : (ℕ → Bool) → List ℕ → Type 0
 Starts p [] = Unit {0}
 Starts p (x ∷ xs) = p x ≡ true
 
--- the first byte that passes stands behind those that don't
+-- the first byte that passes a test is behind those that don't
 pub place : (p : ℕ → Bool) (xs ys : List ℕ) → list_all (λ x. not (p x)) xs ≡ true → Starts p ys
     → position_or_len p (xs ++ ys) ≡ length xs
 place p [] [] clear starts = refl
@@ -65,7 +65,7 @@ exponent-text (mark ∷ rest) = ap {B = List ℕ} (λ r. mark ∷ r) (sign-text 
 pub regrouped : (s w f e : List ℕ) → s ++ w ++ f ++ e ≡ s ++ (w ++ (f ++ e))
 regrouped s w f e = append_assoc (s ++ w) f e ∙ append_assoc s w (f ++ e)
 
--- two cuts of a text, at the first mark and in front of it at the first point
+-- two cuts of a text: at the first mark, and before that at the first point
 cut-text : (rest : List ℕ)
     → (let mantissa : List ℕ = before_first is_exponent_mark rest in
     before_first is_point mantissa
@@ -88,7 +88,7 @@ numeral_text-parts word =
     ∙ ap (λ r. sign_text (sign_of word) ++ r) (cut-text (after_sign word))
     ∙ sign-text word
 
--- what is read as a number is spelled as it
+-- a word that is read as a number is the text of that number
 pub numeral_of-is : (word : List ℕ) (n : Numeral) → numeral_of word ≡ Some n → IsNumeral n × (word ≡ numeral_text n)
 numeral_of-is word n read = by_test (are_digits (mantissa_digits (parts_of word))) (is_exponent (parts_of word).exponent) refl refl read
   where
@@ -100,7 +100,7 @@ numeral_of-is word n read = by_test (are_digits (mantissa_digits (parts_of word)
     by_test true false digits exponent e = cc
     by_test false b digits exponent e = cc
 
--- The other way: what is spelled is cut into the parts that it was spelled from.
+-- The other way: the text of a number is cut into the parts of the number.
 
 -- a digit is no sign, no point and no mark
 module _ (d : ℕ) (h : is_ascii_digit d ≡ true) where
@@ -119,7 +119,7 @@ module _ (d : ℕ) (h : is_ascii_digit d ≡ true) where
   digit-mark : not (is_exponent_mark d) ≡ true
   digit-mark = rw (other 69 (inr (lit≤ tt)), other 101 (inr (lit≤ tt))) refl
 
--- nothing, or what begins with no sign
+-- empty, or the first byte is no sign
 abbrev pub IsUnsigned : List ℕ → Type 0
 IsUnsigned [] = Unit {0}
 IsUnsigned (byte ∷ rest) = ((byte == 43) ≡ false) × ((byte == 45) ≡ false)
@@ -186,7 +186,7 @@ numeral_digits n is =
 pub numeral_unsigned : (n : Numeral) (rest : List ℕ) → IsNumeral n → IsUnsigned (n.whole ++ (fraction_text n.fraction ++ rest))
 numeral_unsigned n rest is = mantissa_unsigned n.whole n.fraction rest (numeral_digits n is).0 (and_parts _ _ is.0).0
 
--- what is cut from the text of a number are its parts
+-- the parts that the text of a number is cut into are those of the number
 pub parts_of-text : (n : Numeral) → IsNumeral n → parts_of (numeral_text n) ≡ n
 parts_of-text n (mantissa, exponent) =
     ap parts_of (regrouped (sign_text n.sign) n.whole f e)
@@ -243,7 +243,7 @@ parts_of-text n (mantissa, exponent) =
     back = ap (from_first is_exponent_mark) (sym (append_assoc n.whole f e))
         ∙ from-is is_exponent_mark (n.whole ++ f) e mantissa_clear (exponent_starts n.exponent exponent)
 
--- what is spelled as a number is read as it
+-- the text of a number is read as that number
 pub numeral_of-text : (n : Numeral) → IsNumeral n → numeral_of (numeral_text n) ≡ Some n
 numeral_of-text n is =
     ap (λ m. if are_digits (mantissa_digits m) && is_exponent m.exponent then Some m else None) (parts_of-text n is)

@@ -1,4 +1,4 @@
--- The first digits of a number, in a unit.
+-- The leading digits of a number, times the factor of a unit.
 use Rattle.std.proofs.Common.{◌≡◌, ◌⊎◌, inl, inr, ℕ, suc, ◌+◌, ◌*◌, ◌-◌, ◌^◌, ◌<◌, ◌≤◌, true, List, [], ◌++◌, length, take, drop, arith, ap, subst, sym, ◌∙◌, lit≤, length-append, append_assoc}
 use Rattle.std.specs.Prelude.{min}
 use Rattle.std.specs.Char.{is_ascii_digit}
@@ -10,12 +10,11 @@ use Rattle.std.proofs.Math.Nat.{pow-le-pow_right}
 use Rattle.micro_num.specs.declared.unit.Unit.{Unit as LengthUnit}
 use Rattle.micro_num.specs.declared.unit.Unit.TheVariants.{Millimetre, Inch}
 use Rattle.micro_num.specs.Micrometres.{unit_factor, unit_power}
-use Rattle.micro_num.specs.Scan.{IsLeading, IsCarry, IsCut, digits_after}
+use Rattle.micro_num.specs.Scan.{IsLeading, IsCarry, digits_after}
 use Rattle.micro_num.proofs.lemmas.Powers.{power_suc}
 use Rattle.micro_num.proofs.lemmas.DigitRows.{digits_after-append, IsCarry-none, IsCarry-all}
-use Rattle.micro_num.specs.declared.limits.TheConstants.{SCALE_LIMIT}
 
--- The last j digits of w and f, where b of them are in f.
+-- The last j digits of w ++ f, of which b are in f.
 module _ (w f : List ℕ) (j b : ℕ) (is : b ≡ min j (length f)) (few : j ≤ length w + length f) where
   last : List ℕ
   last = drop (length f - b) f
@@ -72,36 +71,6 @@ module _ (w f : List ℕ) (j b : ℕ) (is : b ≡ min j (length f)) (few : j ≤
       let leading' : IsLeading v (length ys) (digits_after 0 (xs ++ ys)) = subst (λ k. IsLeading v k (digits_after 0 (xs ++ ys))) (sym size) (subst (λ l. IsLeading v j (digits_after 0 l)) parted.1 leading) in
       subst (λ l. IsCarry (254 * v + e) j (digits_after 0 l)) (sym parted.1)
       (subst (λ k. IsCarry (254 * v + e) k (digits_after 0 (xs ++ ys))) size (IsCarry-all xs ys v e leading' digits' carry))
-
-pub IsCut-millimetre : (v j n : ℕ) → IsLeading v j n → IsCut v j (1 * n)
-IsCut-millimetre v j n h = record {
-  low = omega (arith, h.low);
-  high = omega (arith, h.high);
-  short = omega (arith, h.short);
-  long = h.long;
-}
-
-pub IsCut-inch : (v j n : ℕ) → IsLeading v j n → j ≡ 0 → IsCut (254 * v) j (254 * n)
-IsCut-inch v j n h none =
-    let one : 10 ^ j ≡ 1 = ap (λ j. 10 ^ j) none in
-    let low = ap (λ p. v * p) one in
-    let high = ap (λ p. (v + 1) * p) one in
-    let low' = ap (λ p. (254 * v) * p) one in
-    let high' = ap (λ p. (254 * v + 1) * p) one in
-    record {
-      low = omega (arith, h.low, h.high);
-      high = omega (arith, h.low, h.high);
-      short = omega (arith, h.short);
-      long = λ some. absurd (omega arith);
-    }
-
-pub IsCut-inches : (v r j n : ℕ) → IsLeading v j n → IsCarry r j n → r < SCALE_LIMIT → 254 * v ≤ r → IsCut r j (254 * n)
-IsCut-inches v r j n h carry short long = record {
-  low = carry.low;
-  high = carry.high;
-  short = short;
-  long = λ some. omega (arith, h.long some);
-}
 
 pub power_small : (unit : LengthUnit) → unit_power unit ≤ 3
 power_small Millimetre = lit≤ tt

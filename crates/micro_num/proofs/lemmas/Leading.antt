@@ -1,4 +1,4 @@
--- The first digits of a number.
+-- The leading digits of a number.
 use Rattle.std.proofs.Common.{◌≡◌, ℕ, ◌+◌, ◌*◌, ◌^◌, ◌<◌, ◌≤◌, arith, ap, ◌∙◌, add-one}
 use Rattle.std.proofs.Math.Nat.{pow-succ'}
 use Rattle.micro_num.specs.Scan.{IsLeading}
@@ -10,7 +10,7 @@ power_more j = ap (λ k. 10 ^ k) (add-one j) ∙ pow-succ' 10 j
 pub IsLeading-none : IsLeading 0 0 0
 IsLeading-none = record { low = omega arith; high = omega arith; short = omega arith; long = λ h. omega arith }
 
--- a digit that is left out
+-- a digit that is dropped
 pub IsLeading_dropped : (v j n d : ℕ) → IsLeading v j n → LEADING_ROOM ≤ v → d < 10 → IsLeading v (j + 1) (10 * n + d)
 IsLeading_dropped v j n d h long digit =
     let e : 10 ^ (j + 1) ≡ 10 * 10 ^ j = power_more j in

@@ -1,4 +1,4 @@
--- A magnitude number at its ends: nothing stays nothing, far up it is no coordinate, and far down it is 0.
+-- Magnitudes with extreme exponents: 0 stays 0, a high exponent gives no coordinate, and a low one gives 0.
 use Rattle.std.proofs.Common.{◌≡◌, ℕ, suc, ◌*◌, ◌^◌, ◌<◌, ◌≤◌, arith, refl, lit≤}
 use Rattle.std.specs.Prelude.{pos, negsuc, ℤ, Err, false}
 use Rattle.std.proofs.Math.Nat.{zero-mul, div-eq_of_lt, pow-le-pow_right, mul-le-mul_right}
@@ -16,7 +16,7 @@ unfolding magnitude
 magnitude-zero (pos k) = zero-mul (10 ^ k)
 magnitude-zero (negsuc k) = rounded_quotient-small 0 (suc k) (power_above (suc k))
 
--- m tenths to a power whose exponent has passed the number of its digits
+-- a number below 5, divided by 10 or a higher power of ten, rounds to 0
 pub magnitude-near : (m k : ℕ) → 2 * m < 10 → 1 ≤ suc k → magnitude m (negsuc k) ≡ 0
 unfolding magnitude
 magnitude-near m k below one =

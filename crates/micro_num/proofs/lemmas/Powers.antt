@@ -4,7 +4,7 @@ use Rattle.std.proofs.Math.Nat.{pow-succ', pow-le-pow_right, one-le-pow, mul-le-
 use Rattle.std.proofs.lemmas.Nat.{pow-add, le-div}
 use Rattle.micro_num.specs.Micrometres.{rounded_quotient}
 
--- n powers of ten, times p
+-- the first n powers of ten, each times p
 abbrev tens : ℕ → ℕ → List ℕ
 tens zero p = []
 tens (suc n) p = p ∷ tens n (10 * p)
@@ -21,7 +21,7 @@ table_is k h = get_or-tens 20 1 k h ∙ omega arith
 pub power_above : (k : ℕ) → 0 < 10 ^ k
 power_above k = one-le-pow k 10 (lit≤ tt)
 
--- half of a power of ten is whole
+-- half of a power of ten is a whole number
 pub half : (k : ℕ) → 0 < k → 10 ^ k ≡ 2 * (5 * 10 ^ (k - 1))
 half k some = ap (λ j. 10 ^ j) (omega arith) ∙ pow-succ' 10 (k - 1) ∙ omega arith
 
@@ -41,7 +41,7 @@ rounded_quotient-is m k some =
     let halves : 10 ^ k / 2 ≡ e = omega arith in
     ap (λ h. (m + h) / 10 ^ k) halves ∙ ap (λ d. (m + e) / d) even ∙ halved m e above ∙ ap (λ d. (2 * m + d) / (2 * d)) (sym even)
 
--- what is left out behind the first digits of m decides nothing
+-- the digits that are dropped behind the leading ones don't change the rounded quotient
 cut : (m n p e : ℕ) → m * p ≤ n → n < (m + 1) * p → 0 < p → 0 < e
     → (2 * n + p * (2 * e)) / (2 * (p * (2 * e))) ≡ (2 * m + 2 * e) / (2 * (2 * e))
 cut m n p e low high some above =
@@ -67,7 +67,7 @@ rounded_quotient-cut m n j k low high some =
 pub power_suc : (k : ℕ) → 10 ^ suc k ≡ 10 * 10 ^ k
 power_suc k = pow-succ' 10 k
 
--- a point among the digits that are left out leaves at least the others
+-- if the point is among the dropped digits, the value is at least the leading ones
 pub cut_above : (m n j k : ℕ) → m * 10 ^ j ≤ n → k ≤ j → m ≤ rounded_quotient n k
 cut_above m n j k low inside =
     let grown : m * 10 ^ k ≤ n = omega (arith, low, mul-le-mul_left m (pow-le-pow_right {n = 10} (lit≤ tt) {i = k} {j = j} inside)) in

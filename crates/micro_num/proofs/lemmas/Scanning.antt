@@ -1,4 +1,4 @@
--- The parts of a word as they are met one after another are those that its marks cut it into.
+-- A scan of a word from left to right finds the parts that its marks cut it into.
 use Rattle.std.proofs.Common.{◌≡◌, ℕ, zero, suc, ◌+◌, ◌<◌, Bool, true, false, not, List, [], ◌∷◌, ◌++◌, length, length-append, take, arith, refl, sym, ◌∙◌, ap, subst}
 use Rattle.std.specs.Prelude.{Option, Some, None, ◌==◌, if◌then◌else◌}
 use Rattle.std.specs.Char.{is_ascii_digit}
@@ -12,7 +12,7 @@ use Rattle.micro_num.specs.Scan.{is_other, digits_behind, rest_behind, scanned, 
 use Rattle.exact_int.proofs.lemmas.Lists.{all-weaker}
 use Rattle.micro_num.proofs.lemmas.Grammar.{Starts, before-is, from-is, sign-text, exponent-text, regrouped, IsUnsigned, sign-is, after_sign-is, exponent-is, numeral_digits, numeral_unsigned, numeral_of-is, numeral_of-text, front-text}
 
--- digits alone stand in front of what is none
+-- only digits stand before the first byte that is no digit
 pub front_digits : (xs : List ℕ) → list_all is_ascii_digit (before_first is_other xs) ≡ true
 front_digits [] = refl
 front_digits (x ∷ xs) = by_test (front_digits xs) (is_ascii_digit x) refl
@@ -35,7 +35,7 @@ scanned_digits s text =
     list_all-append is_ascii_digit (before_first is_other text) (fraction_digits (digits_behind (from_first is_other text)))
     ∙ rw (front_digits text) (behind_digits (from_first is_other text))
 
--- A text is what is met in it.
+-- A text consists of the parts that a scan finds.
 
 pub behind-text : (bytes : List ℕ) → fraction_text (digits_behind bytes) ++ rest_behind bytes ≡ bytes
 behind-text [] = refl
@@ -57,7 +57,7 @@ scanned-text s text =
     ∙ ap (λ b. sign_text s ++ (whole ++ b)) (behind-text behind)
     ∙ ap (λ t. sign_text s ++ t) (take-append-drop (position_or_len is_other text) text)
 
--- What is met in the text of a number are its parts.
+-- A scan of the text of a number finds the parts of the number.
 
 twice_not : (d : ℕ) → is_ascii_digit d ≡ true → not (is_other d) ≡ true
 twice_not d h = rw h refl
@@ -70,7 +70,7 @@ mark_other x h = by_tests (x == 69) (x == 101) refl refl h
     by_tests false true other is h = subst (λ x. (is_other x ≡ true) × (is_point x ≡ false)) (sym (eqb-true x 101 is)) (refl, refl)
     by_tests false false first second h = let h' = rw (first, second) at h in cc
 
--- nothing, or what begins with no digit and no point
+-- empty, or the first byte is no digit and no point
 abbrev Stops : List ℕ → Type 0
 Stops [] = Unit {0}
 Stops (x ∷ xs) = (is_other x ≡ true) × (is_point x ≡ false)
@@ -118,7 +118,7 @@ rest-is None [] digits stops = refl
 rest-is None (x ∷ xs) digits stops = rw stops.1 refl
 rest-is (Some ds) tail digits stops = from-is is_other ds tail (no_other ds digits) (stops_other tail stops)
 
--- the digits of a number, and behind them what goes on with no digit and no point
+-- the digits of a number, and then no digit and no point
 module _ (n : Numeral) (tail : List ℕ) (is : IsNumeral n) (stops : Stops tail) where
   met-whole : before_first is_other (n.whole ++ (fraction_text n.fraction ++ tail)) ≡ n.whole
   met-whole = before-is is_other n.whole _ (no_other n.whole (numeral_digits n is).0) (point_starts n.fraction tail stops)
@@ -146,7 +146,7 @@ scanned-is n is = λ i. record {
     stops : Stops e
     stops = exponent_stops n.exponent is.1
 
--- a text that begins with a number without a sign and goes on with no byte of one
+-- a text that is a number without a sign, and then no byte of a number
 module _ (text : List ℕ) (n : Numeral) (rest : List ℕ) (is : IsNumeral n) (no_sign : n.sign ≡ unsigned)
     (spelled : text ≡ numeral_text n ++ rest) (ended : IsEnded rest) where
   parts : text ≡ n.whole ++ (fraction_text n.fraction ++ (exponent_text n.exponent ++ rest))
@@ -168,7 +168,7 @@ module _ (text : List ℕ) (n : Numeral) (rest : List ℕ) (is : IsNumeral n) (n
   pub behind_met : rest_behind (from_first is_other text) ≡ exponent_text n.exponent ++ rest
   behind_met = ap (λ t. rest_behind (from_first is_other t)) parts ∙ met-tail n _ is stops_behind
 
--- a word that spells a number is met as that number
+-- a scan of the text of a number finds that number
 scanned_word : (word : List ℕ) (n : Numeral) → IsNumeral n → word ≡ numeral_text n → scanned (sign_of word) (after_sign word) ≡ n
 scanned_word word n is spelled =
     (λ i. scanned (sign_of (text i)) (after_sign (text i)))

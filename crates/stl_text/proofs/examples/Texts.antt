@@ -31,8 +31,8 @@ odd_name =
 empty_input : Text.IsFaultOf 12 Millimetre [] (fault.Ended Solid)
 empty_input =
     record {
-      token = Text.keyword Solid (codes "solid");
-      begun = 0;
+      token = Text.keyword_of Solid;
+      facets_before = 0;
       wants = record {
         solids = [] ∷ [];
         front = [];
@@ -49,7 +49,7 @@ empty_input =
       no_solid = λ _. refl;
     }
 
--- a triangle that stands for what was not read
+-- any triangle, for facets that were not read
 abbrev some_triangle : Facet
 some_triangle = facet_with (at (pos 0) (pos 0) (pos 0)) (at (pos 0) (pos 0) (pos 0)) (at (pos 0) (pos 0) (pos 0))
 
@@ -59,8 +59,8 @@ tokens = Text.solid_tokens (some_triangle ∷ [])
 misspelled : Text.IsFaultOf 12 Millimetre (codes "solid\nfacet normal 0 0 1\nouter lop") (fault.Expected Loop 31)
 misspelled =
     record {
-      token = Text.keyword Loop (codes "loop");
-      begun = 1;
+      token = Text.keyword_of Loop;
+      facets_before = 1;
       word = codes "lop";
       wants = record {
         solids = (some_triangle ∷ []) ∷ [];
@@ -80,18 +80,18 @@ misspelled =
       other = refl;
     }
 
-row_18 : List ℕ
-row_18 = codes "solid\nfacet normal 0 0 1\nouter loop\nvertex 1 x 3"
+wrong_vertex : List ℕ
+wrong_vertex = codes "solid\nfacet normal 0 0 1\nouter loop\nvertex 1 x 3"
 
 abbrev one_read : Facet
 one_read = facet_with (at (pos 1000) (pos 0) (pos 0)) (at (pos 0) (pos 0) (pos 0)) (at (pos 0) (pos 0) (pos 0))
 
-bad_number : Text.IsFaultOf 12 Millimetre row_18 (fault.Number NotNumber 45)
-unfolding magnitude row_18
+bad_number : Text.IsFaultOf 12 Millimetre wrong_vertex (fault.Number NotNumber 45)
+unfolding magnitude wrong_vertex
 bad_number =
     record {
       z = pos 0;
-      begun = 1;
+      facets_before = 1;
       word = codes "x";
       wants = record {
         solids = (one_read ∷ []) ∷ [];
@@ -109,7 +109,7 @@ bad_number =
       refused = refl;
     }
 
--- the third facet of the box's file, where two may stand
+-- the third facet of the box's file, with a limit of two facets
 too_many : Text.IsFaultOf 2 Millimetre (file_text (cube 0 2)) (fault.TooMany 252)
 unfolding magnitude
 too_many =
@@ -143,13 +143,13 @@ unfolding magnitude
 two_solids =
     record { solids = (small ∷ []) ∷ (small ∷ []) ∷ []; some = lit≤ tt; each = refl; few = lit≤ tt; rest = codes "\r\n"; spelled = refl; whole = refl }
 
--- another word in front of the first solid
+-- another word before the first solid
 no_solid_at : (bytes : List ℕ) → 0 < length (Text.first_word bytes) → Text.is_wanted Solid (Text.first_word bytes) ≡ false
     → length (Text.after_space bytes) ≡ length bytes → Text.IsFaultOf 12 Millimetre bytes (fault.Expected Solid 0)
 no_solid_at bytes some other front =
     record {
-      token = Text.keyword Solid (codes "solid");
-      begun = 0;
+      token = Text.keyword_of Solid;
+      facets_before = 0;
       word = Text.first_word bytes;
       wants = record {
         solids = [] ∷ [];
@@ -179,7 +179,7 @@ odd_byte : Text.IsFaultOf 12 Millimetre (codes "solid\n" ++ 255 ∷ []) (fault.E
 odd_byte =
     record {
       token = Text.end_word;
-      begun = 0;
+      facets_before = 0;
       word = 255 ∷ [];
       wants = record {
         solids = [] ∷ [];
@@ -204,8 +204,8 @@ cut_short : Text.IsFaultOf 12 Millimetre (take 120 (file_text (cube 0 2))) (faul
 unfolding magnitude
 cut_short =
     record {
-      token = Text.keyword EndFacet (codes "endfacet");
-      begun = 1;
+      token = Text.keyword_of EndFacet;
+      facets_before = 1;
       wants = record {
         solids = cube 0 2 ∷ [];
         front = take 22 (Text.solid_tokens (cube 0 2));
@@ -222,15 +222,15 @@ cut_short =
       no_solid = λ e. cc;
     }
 
-abbrev row_18_with : List ℕ → List ℕ
-row_18_with word = codes "solid\nfacet normal 0 0 1\nouter loop\nvertex 1 " ++ word ++ codes " 3"
+abbrev vertex_with : List ℕ → List ℕ
+vertex_with word = codes "solid\nfacet normal 0 0 1\nouter loop\nvertex 1 " ++ word ++ codes " 3"
 
-number_too_long : Text.IsFaultOf 12 Millimetre (row_18_with (replicate 256 48)) (fault.Number TooLong 45)
+number_too_long : Text.IsFaultOf 12 Millimetre (vertex_with (replicate 256 48)) (fault.Number TooLong 45)
 unfolding magnitude
 number_too_long =
     record {
       z = pos 0;
-      begun = 1;
+      facets_before = 1;
       word = replicate 256 48;
       wants = record {
         solids = (one_read ∷ []) ∷ [];
@@ -248,12 +248,12 @@ number_too_long =
       refused = refl;
     }
 
-number_out_of_range : Text.IsFaultOf 12 Millimetre (row_18_with (codes "1e9")) (fault.Number OutOfRange 45)
+number_out_of_range : Text.IsFaultOf 12 Millimetre (vertex_with (codes "1e9")) (fault.Number OutOfRange 45)
 unfolding magnitude
 number_out_of_range =
     record {
       z = pos 0;
-      begun = 1;
+      facets_before = 1;
       word = codes "1e9";
       wants = record {
         solids = (one_read ∷ []) ∷ [];

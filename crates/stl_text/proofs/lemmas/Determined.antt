@@ -1,7 +1,6 @@
--- What a text spells is determined: two beginnings of solids that it spells are one and the same, as far as the
--- shorter goes.
+-- The tokens of a text are determined: of two fronts of solids that a text begins with, one is a prefix of the other.
 use Rattle.std.proofs.Common.{◌≡◌, ℕ, Bool, true, false, ◌&&◌, List, [], ◌∷◌, ◌++◌, length, refl, sym, ◌∙◌, ap, subst, inl, inr, arith, ◌⊎◌, append_assoc}
-use Rattle.std.specs.Prelude.{Option, Some, None, Ok, Err, Result, ℤ, ◌==◌, if◌then◌else◌, codes, flat_map, slice_index_or}
+use Rattle.std.specs.Prelude.{Option, Some, None, Ok, Err, Result, ℤ, ◌==◌, if◌then◌else◌, flat_map, slice_index_or}
 use Rattle.std.specs.Str.{bytes_eq}
 use Rattle.std.specs.Ordering.{int_eq}
 use Rattle.std.proofs.lemmas.Slice.Eq.{bytes_eq-Decides}
@@ -13,9 +12,9 @@ use Rattle.micro_num.specs.Micrometres.{coordinate_of}
 use Rattle.stl_text.specs.declared.word.Word.{Word}
 use Rattle.stl_text.specs.declared.word.Word.TheVariants.{Solid, FacetOrEnd, Normal, Outer, Loop, Vertex, Number, EndLoop, EndFacet}
 use Rattle.geometry.specs.Facet.{Facet}
-use Rattle.stl_text.specs.Text.{Token, keyword, normal_part, coordinate, rest_of_line, end_word, facet_tokens, solid_tokens, is_keyword, is_read_as, begins_with, after_token, rest_behind, first_word}
+use Rattle.stl_text.specs.Text.{Token, keyword, normal_part, coordinate, rest_of_line, end_word, facet_tokens, solid_tokens, is_keyword, is_read_as, begins_with, after_token, rest_behind, first_word, keyword_text, facet_keyword, end_keyword}
 
--- What may stand in a place: a keyword, a word of a normal, a coordinate, a rest of a line.
+-- Slots are tokens without their values: a keyword, a word of a normal, a coordinate, a rest of a line.
 pub data Slot : Type 0 where
   fixed : Word → List ℕ → Slot
   any_word : Slot
@@ -105,7 +104,7 @@ read-is unit word z h = by_answer (coordinate_of unit word) refl h
     by_answer (Ok x) is e = is ∙ ap {B = Result ℤ NumFault} Ok ((Decides-int_eq x z).0 e)
     by_answer (Err cause) is e = cc
 
--- in one slot a text begins with one token at most
+-- a text begins with at most one token that fits a slot
 same_token : (unit : LengthUnit) (bytes : List ℕ) (slot : Slot) (p q : Token) → matches slot p ≡ true → matches slot q ≡ true
     → begins_with unit p bytes ≡ true → begins_with unit q bytes ≡ true → p ≡ q
 same_token unit bytes (fixed w text) p q h k _ _ = shape-is (fixed w text) p h ∙ sym (shape-is (fixed w text) q k)
@@ -122,64 +121,64 @@ same_token unit bytes any_coordinate p q h k begins begins' =
     let same_number : a.0 ≡ b.0 = cc in
     a.1 ∙ ap coordinate same_number ∙ sym b.1
 
--- The places of the grammar: the slots to come before the next facet or solid, and whether a solid is open then.
+-- States of the grammar: the slots that must come next, and whether a solid is open behind them.
 
 abbrev pub solid_slot : Slot
-solid_slot = fixed Solid (codes "solid")
+solid_slot = fixed Solid (keyword_text Solid)
 
 abbrev pub facet_slot : Slot
-facet_slot = fixed FacetOrEnd (codes "facet")
+facet_slot = fixed FacetOrEnd facet_keyword
 
 abbrev pub end_slot : Slot
-end_slot = fixed FacetOrEnd (codes "endsolid")
+end_slot = fixed FacetOrEnd end_keyword
 
 abbrev pub vertex_slots : List Slot
-vertex_slots = fixed Vertex (codes "vertex") ∷ any_coordinate ∷ any_coordinate ∷ any_coordinate ∷ []
+vertex_slots = fixed Vertex (keyword_text Vertex) ∷ any_coordinate ∷ any_coordinate ∷ any_coordinate ∷ []
 
 abbrev pub facet_slots : List Slot
 facet_slots =
-    (fixed Normal (codes "normal") ∷ any_word ∷ any_word ∷ any_word ∷ [])
-    ++ (fixed Outer (codes "outer") ∷ fixed Loop (codes "loop") ∷ []) ++ vertex_slots ++ vertex_slots ++ vertex_slots
-    ++ fixed EndLoop (codes "endloop") ∷ fixed EndFacet (codes "endfacet") ∷ []
+    (fixed Normal (keyword_text Normal) ∷ any_word ∷ any_word ∷ any_word ∷ [])
+    ++ (fixed Outer (keyword_text Outer) ∷ fixed Loop (keyword_text Loop) ∷ []) ++ vertex_slots ++ vertex_slots ++ vertex_slots
+    ++ fixed EndLoop (keyword_text EndLoop) ∷ fixed EndFacet (keyword_text EndFacet) ∷ []
 
-pub record Place : Type 0 where
+pub record State : Type 0 where
   pub slots : List Slot
   pub is_open : Bool
 
-abbrev pub outside : Place
+abbrev pub outside : State
 outside = record { slots = []; is_open = false }
 
-abbrev pub inside : Place
+abbrev pub inside : State
 inside = record { slots = []; is_open = true }
 
-abbrev pub next_in : List Slot → Bool → Token → Option Place
+abbrev pub next_in : List Slot → Bool → Token → Option State
 next_in [] false p = if matches solid_slot p then Some (record { slots = any_line ∷ []; is_open = true }) else None
 next_in [] true p =
     if matches facet_slot p then Some (record { slots = facet_slots; is_open = true })
     else (if matches end_slot p then Some (record { slots = any_line ∷ []; is_open = false }) else None)
 next_in (slot ∷ slots) is_open p = if matches slot p then Some (record { slots = slots; is_open = is_open }) else None
 
-abbrev pub next : Place → Token → Option Place
-next offset p = next_in offset.slots offset.is_open p
+abbrev pub next : State → Token → Option State
+next state p = next_in state.slots state.is_open p
 
-abbrev pub then_at : Option Place → (Place → Option Place) → Option Place
+abbrev pub then_at : Option State → (State → Option State) → Option State
 then_at None f = None
-then_at (Some offset) f = f offset
+then_at (Some state) f = f state
 
-abbrev pub run : Place → List Token → Option Place
-run offset [] = Some offset
-run offset (p ∷ ps) = then_at (next offset p) (λ after. run after ps)
+abbrev pub run : State → List Token → Option State
+run state [] = Some state
+run state (p ∷ ps) = then_at (next state p) (λ after. run after ps)
 
-pub run-append : (offset : Place) (ps qs : List Token) → run offset (ps ++ qs) ≡ then_at (run offset ps) (λ after. run after qs)
-run-append offset [] qs = refl
-run-append offset (p ∷ ps) qs = by_next (λ after. run-append after ps qs) (next offset p)
+pub run-append : (state : State) (ps qs : List Token) → run state (ps ++ qs) ≡ then_at (run state ps) (λ after. run after qs)
+run-append state [] qs = refl
+run-append state (p ∷ ps) qs = by_next (λ after. run-append after ps qs) (next state p)
   where
-    by_next : ((after : Place) → run after (ps ++ qs) ≡ then_at (run after ps) (λ later. run later qs))
-        → (o : Option Place) → then_at o (λ after. run after (ps ++ qs)) ≡ then_at (then_at o (λ after. run after ps)) (λ later. run later qs)
+    by_next : ((after : State) → run after (ps ++ qs) ≡ then_at (run after ps) (λ later. run later qs))
+        → (o : Option State) → then_at o (λ after. run after (ps ++ qs)) ≡ then_at (then_at o (λ after. run after ps)) (λ later. run later qs)
     by_next rest None = refl
     by_next rest (Some after) = rest after
 
--- Solids are a run from outside to outside.
+-- The tokens of solids are a run from outside a solid to outside.
 
 facet-run : (t : Facet) (rest : List Token) → run inside (facet_tokens t ++ rest) ≡ run inside rest
 facet-run t rest = refl
@@ -200,7 +199,7 @@ pub solids-run : (solids : List (List Facet)) → run outside (flat_map solid_to
 solids-run [] = refl
 solids-run (facets ∷ solids) = solid-run facets (flat_map solid_tokens solids) ∙ solids-run solids
 
--- what a test has chosen
+-- which branch a test took
 pub passed : {A : Type 0} (b : Bool) (x : A) (y : Option A) (t : A) → (if b then Some x else y) ≡ Some t
     → ((b ≡ true) × (x ≡ t)) ⊎ ((b ≡ false) × (y ≡ Some t))
 passed true x y t h = let same_value : x ≡ t = cc in inl (refl, same_value)
@@ -214,13 +213,13 @@ only false x t h = cc
 keyword_once : (text text' word : List ℕ) → is_keyword text word ≡ true → is_keyword text' word ≡ true → text ≡ text'
 keyword_once text text' word h k = sym ((bytes_eq-Decides _ text).0 h) ∙ (bytes_eq-Decides _ text').0 k
 
-pub facet-or-end : (word : List ℕ) → is_keyword (codes "facet") word ≡ true → is_keyword (codes "endsolid") word ≡ true → ⊥
+pub facet-or-end : (word : List ℕ) → is_keyword facet_keyword word ≡ true → is_keyword end_keyword word ≡ true → ⊥
 facet-or-end word h k =
-    let same_length : 5 ≡ 8 = ap {A = List ℕ} length (keyword_once (codes "facet") (codes "endsolid") word h k) in
+    let same_length : 5 ≡ 8 = ap {A = List ℕ} length (keyword_once facet_keyword end_keyword word h k) in
     omega (arith, same_length)
 
--- in one place a text begins with one token at most
-same_next_in : (unit : LengthUnit) (bytes : List ℕ) (slots : List Slot) (is_open : Bool) (p q : Token) (t u : Place)
+-- a text begins with at most one token that the grammar permits next
+same_next_in : (unit : LengthUnit) (bytes : List ℕ) (slots : List Slot) (is_open : Bool) (p q : Token) (t u : State)
     → next_in slots is_open p ≡ Some t → next_in slots is_open q ≡ Some u
     → begins_with unit p bytes ≡ true → begins_with unit q bytes ≡ true → p ≡ q
 same_next_in unit bytes (slot ∷ slots) is_open p q t u h k begins begins' =
@@ -232,16 +231,16 @@ same_next_in unit bytes [] true p q t u h k begins begins' = by_choice (passed _
     word : List ℕ
     word = first_word bytes
 
-    as_facet : (x : Token) → matches facet_slot x ≡ true → begins_with unit x bytes ≡ true → is_keyword (codes "facet") word ≡ true
+    as_facet : (x : Token) → matches facet_slot x ≡ true → begins_with unit x bytes ≡ true → is_keyword facet_keyword word ≡ true
     as_facet x m b = subst (λ y. begins_with unit y bytes ≡ true) (shape-is facet_slot x m) b
 
-    as_end : (x : Token) → matches end_slot x ≡ true → begins_with unit x bytes ≡ true → is_keyword (codes "endsolid") word ≡ true
+    as_end : (x : Token) → matches end_slot x ≡ true → begins_with unit x bytes ≡ true → is_keyword end_keyword word ≡ true
     as_end x m b = subst (λ y. begins_with unit y bytes ≡ true) (shape-is end_slot x m) b
 
-    Facet : Token → Place → Type 0
+    Facet : Token → State → Type 0
     Facet x v = (matches facet_slot x ≡ true) × (record { slots = facet_slots; is_open = true } ≡ v)
 
-    End : Token → Place → Type 0
+    End : Token → State → Type 0
     End x v = (matches facet_slot x ≡ false) × ((if matches end_slot x then Some (record { slots = any_line ∷ []; is_open = false }) else None) ≡ Some v)
 
     by_choice : Facet p t ⊎ End p t → Facet q u ⊎ End q u → p ≡ q
@@ -252,12 +251,12 @@ same_next_in unit bytes [] true p q t u h k begins begins' = by_choice (passed _
         absurd (facet-or-end word (as_facet q b.0 begins') (as_end p (only _ _ t a.1).0 begins))
     by_choice (inr a) (inr b) = same_token unit bytes end_slot p q (only _ _ t a.1).0 (only _ _ u b.1).0 begins begins'
 
-pub then-some : (o : Option Place) (f : Place → Option Place) (t : Place) → then_at o f ≡ Some t
-    → (after : Place) × (o ≡ Some after) × (f after ≡ Some t)
+pub then-some : (o : Option State) (f : State → Option State) (t : State) → then_at o f ≡ Some t
+    → (after : State) × (o ≡ Some after) × (f after ≡ Some t)
 then-some None f t h = cc
 then-some (Some after) f t h = (after, refl, h)
 
--- the one begins with the other
+-- one list is a prefix of the other
 pub data Prefixes (ps qs : List Token) : Type 0 where
   longer : (more : List Token) → qs ≡ ps ++ more → Prefixes ps qs
   shorter : (p : Token) (more : List Token) → ps ≡ qs ++ p ∷ more → Prefixes ps qs
@@ -266,18 +265,18 @@ with_head : (p : Token) (ps qs : List Token) → Prefixes ps qs → Prefixes (p 
 with_head p ps qs (longer more is) = longer more (ap {B = List Token} (λ r. p ∷ r) is)
 with_head p ps qs (shorter q more is) = shorter q more (ap {B = List Token} (λ r. p ∷ r) is)
 
-pub agree : (unit : LengthUnit) (offset : Place) (bytes : List ℕ) (ps qs : List Token) (s t : Place) (rest rest' : List ℕ)
-    → run offset ps ≡ Some s → run offset qs ≡ Some t
+pub agree : (unit : LengthUnit) (state : State) (bytes : List ℕ) (ps qs : List Token) (s t : State) (rest rest' : List ℕ)
+    → run state ps ≡ Some s → run state qs ≡ Some t
     → rest_behind unit ps bytes ≡ Some rest → rest_behind unit qs bytes ≡ Some rest' → Prefixes ps qs
-agree unit offset bytes [] qs s t rest rest' h k spelled spelled' = longer qs refl
-agree unit offset bytes (p ∷ ps) [] s t rest rest' h k spelled spelled' = shorter p ps refl
-agree unit offset bytes (p ∷ ps) (q ∷ qs) s t rest rest' h k spelled spelled' =
-    let a : (after : Place) × (next offset p ≡ Some after) × (run after ps ≡ Some s) = then-some _ _ s h in
-    let b : (after : Place) × (next offset q ≡ Some after) × (run after qs ≡ Some t) = then-some _ _ t k in
-    let c : (begins_with unit p bytes ≡ true) × (rest_behind unit ps (after_token p bytes) ≡ Some rest) = begun _ _ rest spelled in
-    let d : (begins_with unit q bytes ≡ true) × (rest_behind unit qs (after_token q bytes) ≡ Some rest') = begun _ _ rest' spelled' in
-    let same : p ≡ q = same_next_in unit bytes offset.slots offset.is_open p q a.0 b.0 a.1 b.1 c.0 d.0 in
-    let same_after : a.0 ≡ b.0 = some-is (sym a.1 ∙ ap (next offset) same ∙ b.1) in
+agree unit state bytes [] qs s t rest rest' h k spelled spelled' = longer qs refl
+agree unit state bytes (p ∷ ps) [] s t rest rest' h k spelled spelled' = shorter p ps refl
+agree unit state bytes (p ∷ ps) (q ∷ qs) s t rest rest' h k spelled spelled' =
+    let a : (after : State) × (next state p ≡ Some after) × (run after ps ≡ Some s) = then-some _ _ s h in
+    let b : (after : State) × (next state q ≡ Some after) × (run after qs ≡ Some t) = then-some _ _ t k in
+    let c : (begins_with unit p bytes ≡ true) × (rest_behind unit ps (after_token p bytes) ≡ Some rest) = first_begins _ _ rest spelled in
+    let d : (begins_with unit q bytes ≡ true) × (rest_behind unit qs (after_token q bytes) ≡ Some rest') = first_begins _ _ rest' spelled' in
+    let same : p ≡ q = same_next_in unit bytes state.slots state.is_open p q a.0 b.0 a.1 b.1 c.0 d.0 in
+    let same_after : a.0 ≡ b.0 = some-is (sym a.1 ∙ ap (next state) same ∙ b.1) in
     subst (λ x. Prefixes (p ∷ ps) (x ∷ qs)) same
     (with_head p ps qs
     (agree unit a.0 (after_token p bytes) ps qs s t rest rest' a.2
@@ -285,9 +284,9 @@ agree unit offset bytes (p ∷ ps) (q ∷ qs) s t rest rest' h k spelled spelled
     c.1
     (subst (λ x. rest_behind unit qs (after_token x bytes) ≡ Some rest') (sym same) d.1)))
   where
-    begun : (b : Bool) (o : Option (List ℕ)) (r : List ℕ) → (if b then o else None) ≡ Some r → (b ≡ true) × (o ≡ Some r)
-    begun true o r e = (refl, e)
-    begun false o r e = cc
+    first_begins : (b : Bool) (o : Option (List ℕ)) (r : List ℕ) → (if b then o else None) ≡ Some r → (b ≡ true) × (o ≡ Some r)
+    first_begins true o r e = (refl, e)
+    first_begins false o r e = cc
 
-    some-is : {x y : Place} → ◌≡◌ {A = Option Place} (Some x) (Some y) → x ≡ y
+    some-is : {x y : State} → ◌≡◌ {A = Option State} (Some x) (Some y) → x ≡ y
     some-is e = cc

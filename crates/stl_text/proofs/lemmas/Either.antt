@@ -1,6 +1,6 @@
--- Each text reads as facets, or has a fault.
+-- Each text reads as facets or has a fault.
 use Rattle.std.proofs.Common.{◌≡◌, ◌≢◌, ℕ, zero, suc, ◌+◌, ◌-◌, ◌<◌, ◌≤◌, Bool, true, false, cond, not, List, [], ◌∷◌, ◌++◌, length, take, drop, refl, sym, ◌∙◌, ap, subst, inl, inr, arith, ◌⊎◌, append_assoc, append-nil, length-append, length-drop}
-use Rattle.std.specs.Prelude.{Option, Some, None, Ok, Err, Result, ℤ, pos, if◌then◌else◌, codes, flat_map, nat_lt, ◌==◌}
+use Rattle.std.specs.Prelude.{Option, Some, None, Ok, Err, Result, ℤ, pos, if◌then◌else◌, flat_map, nat_lt, ◌==◌}
 use Rattle.std.specs.Str.{bytes_eq, str_to_ascii_lowercase}
 use Rattle.std.specs.List.{before_first, position_or_len, prefix_len}
 use Rattle.std.specs.Ordering.{int_eq}
@@ -10,8 +10,7 @@ use Rattle.std.proofs.lemmas.List.{take-append-drop}
 use Rattle.std.proofs.Math.Numerals.{one-add}
 use Rattle.std.proofs.lemmas.Grind.{flat_map-append}
 use Rattle.std.proofs.lemmas.List.Sums.{sum_by-append}
-use Rattle.stl_text.specs.Reader.{begun_in}
-use Rattle.stl_text.proofs.lemmas.OneFault.{begun-facets, begun-solids}
+use Rattle.stl_text.proofs.lemmas.OneFault.{facet_count-facets, facet_count-solids}
 use Rattle.micro_num.specs.declared.unit.Unit.{Unit as LengthUnit}
 use Rattle.micro_num.specs.declared.num_fault.NumFault.{NumFault}
 use Rattle.micro_num.specs.Numeral.{from_first}
@@ -22,11 +21,11 @@ use Rattle.stl_text.specs.declared.stl_fault.StlFault.{StlFault}
 use Rattle.stl_text.specs.declared.stl_fault.StlFault.TheVariants as fault
 use Rattle.geometry.specs.Point.{Point}
 use Rattle.geometry.specs.Facet.{Facet, facet_with}
-use Rattle.stl_text.specs.Text.{Token, keyword, normal_part, coordinate, rest_of_line, facet_word, end_word, facet_tokens, solid_tokens, is_keyword, is_text_of, is_wanted, is_read_as, is_facet_word, wanted, begins_with, after_token, rest_behind, first_word, after_word, after_line, after_space, is_white, is_line_end, facets_of, Reads, Wants, IsFaultOf}
+use Rattle.stl_text.specs.Text.{Token, keyword, normal_part, coordinate, rest_of_line, facet_word, end_word, facet_tokens, solid_tokens, is_keyword, is_text_of, is_wanted, is_read_as, is_facet_word, wanted, begins_with, after_token, rest_behind, first_word, after_word, after_line, after_space, is_white, is_line_end, facets_of, Reads, Wants, IsFaultOf, keyword_of, keyword_text, facet_keyword, end_keyword, facet_count}
 use Rattle.stl_text.proofs.lemmas.Determined.{Slot, fixed, any_word, any_coordinate, any_line, facet_slots}
 use Rattle.stl_text.proofs.lemmas.OneReading.{then_on, rest-append}
 
--- The tokens of slots, with the coordinates in order, and 0 where there are no more.
+-- The tokens that fill slots: coordinates are taken from a list in order, and are 0 when it is used up.
 
 abbrev first_of : List ℤ → ℤ
 first_of [] = pos 0
@@ -69,10 +68,7 @@ behind_three zs = others_of (others_of (others_of zs))
 abbrev from_nine : List ℤ → Facet
 from_nine zs = facet_with (from_three zs) (from_three (behind_three zs)) (from_three (behind_three (behind_three zs)))
 
-fill-facet : (zs : List ℤ) → facet_word ∷ fill facet_slots zs ≡ facet_tokens (from_nine zs)
-fill-facet zs = refl
-
--- What may stop a scan of slots.
+-- Scanning a text by slots, and what may stop a scan.
 
 abbrev Fails : LengthUnit → Slot → List ℕ → Type 0
 Fails unit (fixed w text) rest = is_keyword text (first_word rest) ≡ false
@@ -80,7 +76,7 @@ Fails unit any_word rest = first_word rest ≡ []
 Fails unit any_coordinate rest = (cause : NumFault) × (coordinate_of unit (first_word rest) ≡ Err cause)
 Fails unit any_line rest = ⊥
 
--- a keyword of a facet: the only one of its kind
+-- the keyword of a slot is the only one of its kind, and no `solid`
 abbrev IsPlain : Slot → Type 0
 IsPlain (fixed w text) = ((word : List ℕ) → is_text_of w word ≡ bytes_eq word text) × (w ≢ Solid) × (w ≢ Number)
 IsPlain any_word = Unit {0}
@@ -107,7 +103,7 @@ record Passed (unit : LengthUnit) (slots : List Slot) (bytes : List ℕ) : Type 
   rest : List ℕ
   spelled : rest_behind unit (fill slots values) bytes ≡ Some rest
 
--- the values, where the first slot takes z
+-- the list of values from which the slot takes z, if it takes one
 put : Slot → ℤ → List ℤ → List ℤ
 put (fixed w text) z zs = zs
 put any_word z zs = zs
@@ -121,7 +117,7 @@ left-put any_word z zs = refl
 left-put any_coordinate z zs = refl
 left-put any_line z zs = refl
 
--- a slot passes with some value, or fails
+-- the text begins with a token of the slot, or the slot fails
 one_slot : (unit : LengthUnit) (slot : Slot) (bytes : List ℕ)
     → ((z : ℤ) × ((zs : List ℤ) → begins_with unit (token_of slot (put slot z zs)) bytes ≡ true)) ⊎ Fails unit slot bytes
 unfolding put
@@ -145,7 +141,7 @@ one_slot unit any_coordinate bytes = by_answer (coordinate_of unit (first_word b
     by_answer (Err cause) e = inr (cause, e)
 one_slot unit any_line bytes = inl (pos 0, λ zs. refl)
 
--- what is behind a slot doesn't hang on its value
+-- the text behind a slot doesn't depend on the slot's value
 abbrev after_slot : Slot → List ℕ → List ℕ
 after_slot any_line bytes = after_line bytes
 after_slot (fixed w text) bytes = after_word bytes
@@ -158,7 +154,7 @@ after-slot any_word zs bytes = refl
 after-slot any_coordinate zs bytes = refl
 after-slot any_line zs bytes = refl
 
--- a first token, and the rest
+-- a token of a first slot, and then those of the other slots
 with_first : (unit : LengthUnit) (slot : Slot) (slots : List Slot) (z : ℤ) (values : List ℤ) (bytes rest : List ℕ)
     → begins_with unit (token_of slot (put slot z values)) bytes ≡ true
     → rest_behind unit (fill slots values) (after_slot slot bytes) ≡ Some rest
@@ -199,7 +195,7 @@ scan unit (slot ∷ slots) bytes plain = by_slot (scan unit slots (after_slot sl
           plain = on.plain;
         })
 
--- What is behind is never longer.
+-- The text behind a token is never longer than the text.
 
 from_first-le : (p : ℕ → Bool) (bytes : List ℕ) → length (from_first p bytes) ≤ length bytes
 from_first-le p bytes =
@@ -282,25 +278,25 @@ no_word-space bytes e = by_front (after_space bytes) refl (front_is bytes) e
 abbrev end_tokens : List Token
 end_tokens = end_word ∷ rest_of_line ∷ []
 
--- a solid as far as these facets
+-- a solid that is open behind these facets
 abbrev pub open_tokens : List Facet → List Token
-open_tokens facets = keyword Solid (codes "solid") ∷ rest_of_line ∷ flat_map facet_tokens facets
+open_tokens facets = keyword_of Solid ∷ rest_of_line ∷ flat_map facet_tokens facets
 
--- one more solid, open
+-- with one more solid, which is open
 cut_open : (solids : List (List Facet)) (facets : List Facet)
     → flat_map solid_tokens (solids ++ facets ∷ []) ≡ flat_map solid_tokens solids ++ (open_tokens facets ++ end_tokens)
 cut_open solids facets =
     flat_map-append solid_tokens solids (facets ∷ [])
     ∙ ap (λ r. flat_map solid_tokens solids ++ r) (append-nil (solid_tokens facets))
 
--- a part of its last facet, in front of a token of it
+-- cut before a token of the last facet
 cut_facet : (solids : List (List Facet)) (facets : List Facet) (t : Facet) (front : List Token) (p : Token) (more : List Token)
     → facet_tokens t ≡ front ++ p ∷ more
     → flat_map solid_tokens (solids ++ (facets ++ t ∷ []) ∷ [])
     ≡ ((flat_map solid_tokens solids ++ open_tokens facets) ++ front) ++ p ∷ (more ++ end_tokens)
 cut_facet solids facets t front p more is =
     cut_open solids (facets ++ t ∷ [])
-    ∙ ap (λ r. P ++ ((keyword Solid (codes "solid") ∷ rest_of_line ∷ r) ++ end_tokens)) last
+    ∙ ap (λ r. P ++ ((keyword_of Solid ∷ rest_of_line ∷ r) ++ end_tokens)) last
     ∙ ap (λ r. P ++ r) (append_assoc (open_tokens facets) (front ++ p ∷ more) end_tokens)
     ∙ sym (append_assoc P (open_tokens facets) ((front ++ p ∷ more) ++ end_tokens))
     ∙ ap (λ r. (P ++ open_tokens facets) ++ r) (append_assoc front (p ∷ more) end_tokens)
@@ -321,14 +317,14 @@ facets_of-open solids facets =
     ∙ length-append (facets_of solids) (facets ++ [])
     ∙ ap (λ r. length (facets_of solids) + length r) (append-nil facets)
 
-begun-open : (solids : List (List Facet)) (facets : List Facet)
-    → begun_in (flat_map solid_tokens solids ++ open_tokens facets) ≡ length (facets_of solids) + length facets
-begun-open solids facets =
+facet_count-open : (solids : List (List Facet)) (facets : List Facet)
+    → facet_count (flat_map solid_tokens solids ++ open_tokens facets) ≡ length (facets_of solids) + length facets
+facet_count-open solids facets =
     let f : Token → ℕ = λ x. cond (is_facet_word x) 1 0 in
-    let split : begun_in (flat_map solid_tokens solids ++ open_tokens facets) ≡ begun_in (flat_map solid_tokens solids) + begun_in (open_tokens facets) =
+    let split : facet_count (flat_map solid_tokens solids ++ open_tokens facets) ≡ facet_count (flat_map solid_tokens solids) + facet_count (open_tokens facets) =
     sum_by-append f (flat_map solid_tokens solids) (open_tokens facets) in
-    let inner : begun_in (open_tokens facets) ≡ length facets = begun-facets facets in
-    omega (arith, split, inner, begun-solids solids)
+    let inner : facet_count (open_tokens facets) ≡ length facets = facet_count-facets facets in
+    omega (arith, split, inner, facet_count-solids solids)
 
 module _ (limit : ℕ) (unit : LengthUnit) (bytes : List ℕ) where
   abbrev pub Outcome : Type 0
@@ -346,8 +342,8 @@ module _ (limit : ℕ) (unit : LengthUnit) (bytes : List ℕ) where
   rest_of (opened solids facets rest spelled few) = rest
 
   wants_at : (solids : List (List Facet)) (front : List Token) (token : Token) (more : List Token) (rest : List ℕ)
-      → flat_map solid_tokens solids ≡ front ++ token ∷ more → begun_in front ≤ limit → rest_behind unit front bytes ≡ Some rest
-      → Wants limit unit bytes (length bytes - length (after_space rest)) token (begun_in front) (first_word rest)
+      → flat_map solid_tokens solids ≡ front ++ token ∷ more → facet_count front ≤ limit → rest_behind unit front bytes ≡ Some rest
+      → Wants limit unit bytes (length bytes - length (after_space rest)) token (facet_count front) (first_word rest)
   wants_at solids front token more rest cut few spelled =
       record {
         solids = solids;
@@ -363,7 +359,7 @@ module _ (limit : ℕ) (unit : LengthUnit) (bytes : List ℕ) where
       }
 
   ended : (solids : List (List Facet)) (front : List Token) (token : Token) (more : List Token) (rest : List ℕ) (kind : Word)
-      → flat_map solid_tokens solids ≡ front ++ token ∷ more → begun_in front ≤ limit → rest_behind unit front bytes ≡ Some rest
+      → flat_map solid_tokens solids ≡ front ++ token ∷ more → facet_count front ≤ limit → rest_behind unit front bytes ≡ Some rest
       → first_word rest ≡ [] → wanted token ≡ Some kind → (kind ≡ Solid → after_space bytes ≡ []) → Outcome
   ended solids front token more rest kind cut few spelled none kind_is no_solid =
       let at_end : length (after_space rest) ≡ 0 = ap length (no_word-space rest none) in
@@ -371,7 +367,7 @@ module _ (limit : ℕ) (unit : LengthUnit) (bytes : List ℕ) where
         fault.Ended kind,
         record {
           token = token;
-          begun = begun_in front;
+          facets_before = facet_count front;
           wants = record {
             solids = solids;
             front = front;
@@ -390,14 +386,14 @@ module _ (limit : ℕ) (unit : LengthUnit) (bytes : List ℕ) where
       )
 
   unexpected : (solids : List (List Facet)) (front : List Token) (token : Token) (more : List Token) (rest : List ℕ) (kind : Word)
-      → flat_map solid_tokens solids ≡ front ++ token ∷ more → begun_in front ≤ limit → rest_behind unit front bytes ≡ Some rest
+      → flat_map solid_tokens solids ≡ front ++ token ∷ more → facet_count front ≤ limit → rest_behind unit front bytes ≡ Some rest
       → 0 < length (first_word rest) → wanted token ≡ Some kind → kind ≢ Number → is_wanted kind (first_word rest) ≡ false → Outcome
   unexpected solids front token more rest kind cut few spelled some kind_is no_number other =
       inr (
         fault.Expected kind (length bytes - length (after_space rest)),
         record {
           token = token;
-          begun = begun_in front;
+          facets_before = facet_count front;
           word = first_word rest;
           wants = wants_at solids front token more rest cut few spelled;
           kind_is = kind_is;
@@ -409,7 +405,7 @@ module _ (limit : ℕ) (unit : LengthUnit) (bytes : List ℕ) where
 
   -- a stopped scan is a fault
   stopped : (solids : List (List Facet)) (front : List Token) (slot : Slot) (zs : List ℤ) (more : List Token) (rest : List ℕ)
-      → flat_map solid_tokens solids ≡ front ++ token_of slot zs ∷ more → begun_in front ≤ limit → rest_behind unit front bytes ≡ Some rest
+      → flat_map solid_tokens solids ≡ front ++ token_of slot zs ∷ more → facet_count front ≤ limit → rest_behind unit front bytes ≡ Some rest
       → Fails unit slot rest → IsPlain slot → Outcome
   stopped solids front (fixed w text) zs more rest cut few spelled fails plain = by_word (first_word rest) refl
     where
@@ -431,7 +427,7 @@ module _ (limit : ℕ) (unit : LengthUnit) (bytes : List ℕ) where
             fault.Number fails.0 (length bytes - length (after_space rest)),
             record {
               z = first_of zs;
-              begun = begun_in front;
+              facets_before = facet_count front;
               word = first_word rest;
               wants = wants_at solids front (coordinate (first_of zs)) more rest cut few spelled;
               stands = omega (arith, some);
@@ -440,7 +436,7 @@ module _ (limit : ℕ) (unit : LengthUnit) (bytes : List ℕ) where
           )
   stopped solids front any_line zs more rest cut few spelled fails plain = absurd fails
 
-  -- an outcome, or a situation further on
+  -- an outcome, or a situation with less of the text left
   abbrev Step : Situation → Type 0
   Step s = Outcome ⊎ ((next : Situation) × (length (rest_of next) < length (rest_of s)))
 
@@ -448,7 +444,7 @@ module _ (limit : ℕ) (unit : LengthUnit) (bytes : List ℕ) where
       → length (facets_of solids) ≤ limit → first_word rest ≡ [] → Outcome
   at_end [] rest spelled few none =
       let whole : bytes ≡ rest = some-is spelled in
-      ended ([] ∷ []) [] (keyword Solid (codes "solid")) (rest_of_line ∷ end_tokens) rest Solid refl (omega arith) spelled none refl
+      ended ([] ∷ []) [] (keyword_of Solid) (rest_of_line ∷ end_tokens) rest Solid refl (omega arith) spelled none refl
       (λ _. no_word-space bytes (ap first_word whole ∙ none))
     where
       some-is : {x y : List ℕ} → ◌≡◌ {A = Option (List ℕ)} (Some x) (Some y) → x ≡ y
@@ -460,26 +456,26 @@ module _ (limit : ℕ) (unit : LengthUnit) (bytes : List ℕ) where
             { solids = facets ∷ solids; some = omega arith; each = refl; few = few; rest = rest; spelled = spelled; whole = no_word-space rest none },
       )
 
-  -- the text goes on behind a front
+  -- the text continues behind a front of solids
   on_behind : (front more : List Token) (rest last : List ℕ) → rest_behind unit front bytes ≡ Some rest
       → rest_behind unit more rest ≡ Some last → rest_behind unit (front ++ more) bytes ≡ Some last
   on_behind front more rest last spelled on =
       rest-append unit front more bytes ∙ ap (λ o. then_on o (λ r. rest_behind unit more r)) spelled ∙ on
 
-  few_solids : (solids : List (List Facet)) → length (facets_of solids) ≤ limit → begun_in (flat_map solid_tokens solids) ≤ limit
-  few_solids solids few = omega (arith, begun-solids solids, few)
+  few_solids : (solids : List (List Facet)) → length (facets_of solids) ≤ limit → facet_count (flat_map solid_tokens solids) ≤ limit
+  few_solids solids few = omega (arith, facet_count-solids solids, few)
 
   step_closed : (solids : List (List Facet)) (rest : List ℕ) (spelled : rest_behind unit (flat_map solid_tokens solids) bytes ≡ Some rest)
       (few : length (facets_of solids) ≤ limit) → Step (closed solids rest spelled few)
   step_closed solids rest spelled few = by_word (first_word rest) refl
     where
       solid_word : Token
-      solid_word = keyword Solid (codes "solid")
+      solid_word = keyword_of Solid
 
       next_rest : List ℕ
       next_rest = after_line (after_word rest)
 
-      by_test : 0 < length (first_word rest) → (b : Bool) → is_keyword (codes "solid") (first_word rest) ≡ b → Step (closed solids rest spelled few)
+      by_test : 0 < length (first_word rest) → (b : Bool) → is_keyword (keyword_text Solid) (first_word rest) ≡ b → Step (closed solids rest spelled few)
       by_test some true h =
           let on : rest_behind unit (solid_word ∷ rest_of_line ∷ []) rest ≡ Some next_rest = rw h refl in
           inr (
@@ -494,7 +490,7 @@ module _ (limit : ℕ) (unit : LengthUnit) (bytes : List ℕ) where
       by_word [] e = inl (at_end solids rest spelled few e)
       by_word (b ∷ bs) e =
           let some : length (first_word rest) ≡ suc (length bs) = ap length e in
-          by_test (omega (arith, some)) (is_keyword (codes "solid") (first_word rest)) refl
+          by_test (omega (arith, some)) (is_keyword (keyword_text Solid) (first_word rest)) refl
 
   abbrev zero_triangle : Facet
   zero_triangle = from_nine []
@@ -556,7 +552,7 @@ module _ (limit : ℕ) (unit : LengthUnit) (bytes : List ℕ) where
     ),
   )
     where
-      vertex : IsPlain (fixed Vertex (codes "vertex"))
+      vertex : IsPlain (fixed Vertex (keyword_text Vertex))
       vertex = (λ w. refl, λ e. cc, λ e. cc)
 
   step_opened : (solids : List (List Facet)) (facets : List Facet) (rest : List ℕ)
@@ -573,13 +569,13 @@ module _ (limit : ℕ) (unit : LengthUnit) (bytes : List ℕ) where
       cut_end : flat_map solid_tokens (solids ++ facets ∷ []) ≡ front ++ end_tokens
       cut_end = cut_open solids facets ∙ sym (append_assoc P (open_tokens facets) end_tokens)
 
-      few_front : begun_in front ≤ limit
-      few_front = omega (arith, begun-open solids facets, few)
+      few_front : facet_count front ≤ limit
+      few_front = omega (arith, facet_count-open solids facets, few)
 
       Here : Type 0
       Here = Step (opened solids facets rest spelled few)
 
-      by_scan : 0 < length (first_word rest) → length (facets_of solids) + length facets ≢ limit → is_keyword (codes "facet") (first_word rest) ≡ true
+      by_scan : 0 < length (first_word rest) → length (facets_of solids) + length facets ≢ limit → is_keyword facet_keyword (first_word rest) ≡ true
           → Passed unit facet_slots (after_word rest) ⊎ Stopped unit facet_slots (after_word rest) → Here
       by_scan some room h (inl on) =
           let t : Facet = from_nine on.values in
@@ -587,7 +583,7 @@ module _ (limit : ℕ) (unit : LengthUnit) (bytes : List ℕ) where
           flat_map-append facet_tokens facets (t ∷ []) ∙ ap (λ r. flat_map facet_tokens facets ++ r) (append-nil (facet_tokens t)) in
           let read : rest_behind unit (facet_word ∷ fill facet_slots on.values) rest ≡ Some on.rest = rw h on.spelled in
           let longer : rest_behind unit (P ++ open_tokens (facets ++ t ∷ [])) bytes ≡ Some on.rest =
-          ap (λ r. rest_behind unit (P ++ (keyword Solid (codes "solid") ∷ rest_of_line ∷ r)) bytes) whole
+          ap (λ r. rest_behind unit (P ++ (keyword_of Solid ∷ rest_of_line ∷ r)) bytes) whole
           ∙ ap (λ ps. rest_behind unit ps bytes) (sym (append_assoc P (open_tokens facets) (facet_tokens t)))
           ∙ on_behind front (facet_word ∷ fill facet_slots on.values) rest on.rest spelled read in
           let more : length (facets ++ t ∷ []) ≡ length facets + 1 = length-append facets (t ∷ []) in
@@ -602,22 +598,22 @@ module _ (limit : ℕ) (unit : LengthUnit) (bytes : List ℕ) where
           ap (λ s. facet_word ∷ fill s stop.values) stop.split
           ∙ ap {B = List Token} (λ r. facet_word ∷ r) (fill-append stop.before (stop.slot ∷ stop.after) stop.values) in
           let f : Token → ℕ = λ x. cond (is_facet_word x) 1 0 in
-          let split : begun_in (front ++ (facet_word ∷ before)) ≡ begun_in front + begun_in (facet_word ∷ before) = sum_by-append f front (facet_word ∷ before) in
-          let parts : begun_in (facet_tokens (from_nine stop.values)) ≡ begun_in (facet_word ∷ before) + begun_in (fill (stop.slot ∷ stop.after) left) =
-          ap begun_in tokens ∙ sum_by-append f (facet_word ∷ before) (fill (stop.slot ∷ stop.after) left) in
-          let one : begun_in (facet_tokens (from_nine stop.values)) ≡ 1 = refl in
+          let split : facet_count (front ++ (facet_word ∷ before)) ≡ facet_count front + facet_count (facet_word ∷ before) = sum_by-append f front (facet_word ∷ before) in
+          let parts : facet_count (facet_tokens (from_nine stop.values)) ≡ facet_count (facet_word ∷ before) + facet_count (fill (stop.slot ∷ stop.after) left) =
+          ap facet_count tokens ∙ sum_by-append f (facet_word ∷ before) (fill (stop.slot ∷ stop.after) left) in
+          let one : facet_count (facet_tokens (from_nine stop.values)) ≡ 1 = refl in
           let read : rest_behind unit (facet_word ∷ before) rest ≡ Some stop.rest = rw h stop.spelled in
           inl (stopped (solids ++ (facets ++ from_nine stop.values ∷ []) ∷ []) (front ++ (facet_word ∷ before)) stop.slot left
           (fill stop.after (left_by stop.slot left) ++ end_tokens) stop.rest
           (cut_facet solids facets (from_nine stop.values) (facet_word ∷ before) (token_of stop.slot left) (fill stop.after (left_by stop.slot left)) tokens)
-          (omega (arith, split, parts, one, begun-open solids facets, few, room))
+          (omega (arith, split, parts, one, facet_count-open solids facets, few, room))
           (on_behind front (facet_word ∷ before) rest stop.rest spelled read)
           stop.fails stop.plain)
 
-      by_room : 0 < length (first_word rest) → is_keyword (codes "facet") (first_word rest) ≡ true
+      by_room : 0 < length (first_word rest) → is_keyword facet_keyword (first_word rest) ≡ true
           → (b : Bool) → (length (facets_of solids) + length facets == limit) ≡ b → Here
       by_room some h true full =
-          let limit_is : begun_in front ≡ limit = begun-open solids facets ∙ eqb-true _ limit full in
+          let limit_is : facet_count front ≡ limit = facet_count-open solids facets ∙ eqb-true _ limit full in
           inl (inr (
             fault.TooMany (length bytes - length (after_space rest)),
             record {
@@ -632,8 +628,8 @@ module _ (limit : ℕ) (unit : LengthUnit) (bytes : List ℕ) where
           ))
       by_room some h false room = by_scan some (eqb-false _ limit room) h (scan unit facet_slots (after_word rest) plain_facet)
 
-      by_end : 0 < length (first_word rest) → is_keyword (codes "facet") (first_word rest) ≡ false
-          → (b : Bool) → is_keyword (codes "endsolid") (first_word rest) ≡ b → Here
+      by_end : 0 < length (first_word rest) → is_keyword facet_keyword (first_word rest) ≡ false
+          → (b : Bool) → is_keyword end_keyword (first_word rest) ≡ b → Here
       by_end some no_facet true h =
           let next_rest : List ℕ = after_line (after_word rest) in
           let on : rest_behind unit end_tokens rest ≡ Some next_rest = rw h refl in
@@ -647,16 +643,16 @@ module _ (limit : ℕ) (unit : LengthUnit) (bytes : List ℕ) where
           inl (unexpected (solids ++ facets ∷ []) front end_word (rest_of_line ∷ []) rest FacetOrEnd cut_end few_front spelled some refl (λ e. cc)
           (rw no_facet h))
 
-      by_test : 0 < length (first_word rest) → (b : Bool) → is_keyword (codes "facet") (first_word rest) ≡ b → Here
+      by_test : 0 < length (first_word rest) → (b : Bool) → is_keyword facet_keyword (first_word rest) ≡ b → Here
       by_test some true h = by_room some h (length (facets_of solids) + length facets == limit) refl
-      by_test some false h = by_end some h (is_keyword (codes "endsolid") (first_word rest)) refl
+      by_test some false h = by_end some h (is_keyword end_keyword (first_word rest)) refl
 
       by_word : (word : List ℕ) → first_word rest ≡ word → Here
       by_word [] e =
           inl (ended (solids ++ facets ∷ []) front end_word (rest_of_line ∷ []) rest FacetOrEnd cut_end few_front spelled e refl (λ h. cc))
       by_word (b ∷ bs) e =
           let some : length (first_word rest) ≡ suc (length bs) = ap length e in
-          by_test (omega (arith, some)) (is_keyword (codes "facet") (first_word rest)) refl
+          by_test (omega (arith, some)) (is_keyword facet_keyword (first_word rest)) refl
 
   step : (s : Situation) → Step s
   step (closed solids rest spelled few) = step_closed solids rest spelled few

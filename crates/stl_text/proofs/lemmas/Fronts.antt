@@ -1,4 +1,4 @@
--- The first word of a text that is cut in front of white space.
+-- The first word of a text, found by a cut before white space.
 use Rattle.std.proofs.Common.{◌≡◌, ◌⊎◌, inl, inr, ℕ, ◌<◌, ◌≤◌, Bool, true, false, not, ◌&&◌, List, [], ◌∷◌, ◌++◌, take, drop, length, refl, sym, ◌∙◌, ap, arith}
 use Rattle.std.specs.Prelude.{Option, Some, None, Ok, Err, ℤ, ◌==◌, nat_lt, nat_le, if◌then◌else◌}
 use Rattle.std.specs.Char.{is_ascii_digit, to_ascii_lowercase}
@@ -37,7 +37,7 @@ module _ (front : List ℕ) (n : ℕ) (clear : list_all (λ byte. not (is_white 
       ap (from_first is_white) (sym (take-append-drop n front))
       ∙ from-is is_white (take n front) (drop n front) clear (starts (drop n front) apart)
 
--- what stands above the space is not white
+-- a byte above 32 is not white
 above_black : (c : ℕ) → 32 < c → is_black c ≡ true
 above_black c h = rw (ne_eqb c 32 (λ e. omega (arith, h, e)), lt-leb c 13 (omega arith)) (last (nat_le 9 c))
   where

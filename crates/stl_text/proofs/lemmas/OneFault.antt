@@ -1,6 +1,6 @@
 -- A text has one fault at most, and none where it reads as facets.
 use Rattle.std.proofs.Common.{◌≡◌, ◌≢◌, ℕ, ◌+◌, ◌<◌, ◌≤◌, Bool, true, false, cond, ◌&&◌, List, [], ◌∷◌, ◌++◌, length, refl, sym, ◌∙◌, ap, subst, inl, inr, arith, ◌⊎◌, append-nil, lit≤, length-append}
-use Rattle.std.specs.Prelude.{Option, Some, None, Ok, Err, Result, ℤ, if◌then◌else◌, codes, flat_map, nat_lt}
+use Rattle.std.specs.Prelude.{Option, Some, None, Ok, Err, Result, ℤ, if◌then◌else◌, flat_map, nat_lt}
 use Rattle.std.specs.Str.{bytes_eq, str_to_ascii_lowercase}
 use Rattle.std.specs.List.{list_all, before_first}
 use Rattle.std.proofs.lemmas.List.Folds.{list_all-append}
@@ -15,9 +15,8 @@ use Rattle.stl_text.specs.declared.word.Word.TheVariants.{Solid, FacetOrEnd, Nor
 use Rattle.stl_text.specs.declared.stl_fault.StlFault.{StlFault}
 use Rattle.stl_text.specs.declared.stl_fault.StlFault.TheVariants as fault
 use Rattle.geometry.specs.Facet.{Facet}
-use Rattle.stl_text.specs.Text.{Token, keyword, normal_part, coordinate, rest_of_line, facet_word, end_word, facet_tokens, solid_tokens, is_keyword, is_text_of, is_wanted, is_facet_word, wanted, begins_with, rest_behind, first_word, after_space, is_white, facets_of, Reads, Wants, IsFaultOf}
-use Rattle.stl_text.specs.Reader.{begun_in}
-use Rattle.stl_text.proofs.lemmas.Determined.{Slot, fixed, any_word, any_coordinate, any_line, facet_slots, Place, Prefixes, Prefixes.longer, Prefixes.shorter, word_code, word_at, word_at-code, matches, outside, next, next_in, run, run-append, then-some, then_at, only, passed, shape-is, read-is, solid_slot, facet_slot, end_slot, solids-run, agree}
+use Rattle.stl_text.specs.Text.{Token, keyword, normal_part, coordinate, rest_of_line, facet_word, end_word, facet_tokens, solid_tokens, is_keyword, is_text_of, is_wanted, is_facet_word, wanted, begins_with, rest_behind, first_word, after_space, is_white, facets_of, Reads, Wants, IsFaultOf, keyword_of, facet_keyword, facet_count}
+use Rattle.stl_text.proofs.lemmas.Determined.{Slot, fixed, any_word, any_coordinate, any_line, facet_slots, State, Prefixes, Prefixes.longer, Prefixes.shorter, word_code, word_at, word_at-code, matches, outside, next, next_in, run, run-append, then-some, then_at, only, passed, shape-is, read-is, solid_slot, facet_slot, end_slot, solids-run, agree}
 use Rattle.stl_text.proofs.lemmas.OneReading.{GoesOn, goes_on, nothing_more}
 
 -- Tokens of one kind.
@@ -79,14 +78,14 @@ same_kind any_word p q h k = ap kind_of (shape-is any_word p h ∙ sym (shape-is
 same_kind any_line p q h k = ap kind_of (shape-is any_line p h ∙ sym (shape-is any_line q k))
 same_kind any_coordinate p q h k = ap kind_of (shape-is any_coordinate p h).1 ∙ sym (ap kind_of (shape-is any_coordinate q k).1)
 
--- what is permitted in one place is of one kind
-next_kind_in : (slots : List Slot) (is_open : Bool) (p q : Token) (t u : Place)
+-- the tokens that the grammar permits in one state are of one kind
+next_kind_in : (slots : List Slot) (is_open : Bool) (p q : Token) (t u : State)
     → next_in slots is_open p ≡ Some t → next_in slots is_open q ≡ Some u → kind_of p ≡ kind_of q
 next_kind_in (slot ∷ slots) is_open p q t u h k = same_kind slot p q (only _ _ t h).0 (only _ _ u k).0
 next_kind_in [] false p q t u h k = same_kind solid_slot p q (only _ _ t h).0 (only _ _ u k).0
 next_kind_in [] true p q t u h k = open_kind p t h ∙ sym (open_kind q u k)
   where
-    open_kind : (x : Token) (v : Place) → next_in [] true x ≡ Some v → kind_of x ≡ 1
+    open_kind : (x : Token) (v : State) → next_in [] true x ≡ Some v → kind_of x ≡ 1
     open_kind x v e = by_choice (passed _ _ _ v e)
       where
         by_choice : ((matches facet_slot x ≡ true) × (record { slots = facet_slots; is_open = true } ≡ v))
@@ -95,10 +94,10 @@ next_kind_in [] true p q t u h k = open_kind p t h ∙ sym (open_kind q u k)
         by_choice (inl a) = ap kind_of (shape-is facet_slot x a.0)
         by_choice (inr b) = ap kind_of (shape-is end_slot x (only _ _ v b.1).0)
 
-next_kind : (offset : Place) (p q : Token) (t u : Place) → next offset p ≡ Some t → next offset q ≡ Some u → kind_of p ≡ kind_of q
-next_kind offset p q t u h k = next_kind_in offset.slots offset.is_open p q t u h k
+next_kind : (state : State) (p q : Token) (t u : State) → next state p ≡ Some t → next state q ≡ Some u → kind_of p ≡ kind_of q
+next_kind state p q t u h k = next_kind_in state.slots state.is_open p q t u h k
 
--- A keyword of a solid is one that is wanted in its place, in lower case.
+-- Each keyword of a solid is one of the kind that is wanted there, in lower case.
 
 abbrev is_sound : Token → Bool
 is_sound (keyword kind text) = is_text_of kind text && bytes_eq (str_to_ascii_lowercase text) text
@@ -118,7 +117,7 @@ sound_solids [] = refl
 sound_solids (facets ∷ solids) =
     list_all-append is_sound (solid_tokens facets) (flat_map solid_tokens solids) ∙ rw (sound_solid facets) (sound_solids solids)
 
--- a token within sound ones
+-- each token of a sound list is sound
 sound_within : (front : List Token) (p : Token) (more : List Token) → list_all is_sound (front ++ p ∷ more) ≡ true → is_sound p ≡ true
 sound_within front p more h =
     (and_parts _ _ (and_parts _ _ (sym (list_all-append is_sound front (p ∷ more)) ∙ h)).1).0
@@ -127,80 +126,80 @@ wanted_word : (kind : Word) (text word : List ℕ) → is_sound (keyword kind te
 wanted_word kind text word sound h =
     ap (is_text_of kind) ((bytes_eq-Decides _ text).0 h) ∙ (and_parts _ _ sound).0
 
--- How many facets have begun.
+-- The number of facets that begin.
 
-begun-more : (front : List Token) (p : Token) (more : List Token) → is_facet_word p ≡ true → begun_in front < begun_in (front ++ p ∷ more)
-begun-more front p more h =
+facet_count-more : (front : List Token) (p : Token) (more : List Token) → is_facet_word p ≡ true → facet_count front < facet_count (front ++ p ∷ more)
+facet_count-more front p more h =
     let f : Token → ℕ = λ x. cond (is_facet_word x) 1 0 in
-    let split : begun_in (front ++ p ∷ more) ≡ begun_in front + begun_in (p ∷ more) = sum_by-append f front (p ∷ more) in
-    let head : begun_in (p ∷ more) ≡ cond (is_facet_word p) 1 0 + begun_in more = sum_by-cons f p more in
+    let split : facet_count (front ++ p ∷ more) ≡ facet_count front + facet_count (p ∷ more) = sum_by-append f front (p ∷ more) in
+    let head : facet_count (p ∷ more) ≡ cond (is_facet_word p) 1 0 + facet_count more = sum_by-cons f p more in
     let one : ◌≡◌ {A = ℕ} (cond (is_facet_word p) 1 0) 1 = rw h refl in
     omega (arith, split, head, one)
 
-pub begun-facets : (facets : List Facet) → begun_in (flat_map facet_tokens facets) ≡ length facets
-begun-facets [] = refl
-begun-facets (t ∷ facets) =
+pub facet_count-facets : (facets : List Facet) → facet_count (flat_map facet_tokens facets) ≡ length facets
+facet_count-facets [] = refl
+facet_count-facets (t ∷ facets) =
     let f : Token → ℕ = λ x. cond (is_facet_word x) 1 0 in
-    let split : begun_in (facet_tokens t ++ flat_map facet_tokens facets) ≡ begun_in (facet_tokens t) + begun_in (flat_map facet_tokens facets) =
+    let split : facet_count (facet_tokens t ++ flat_map facet_tokens facets) ≡ facet_count (facet_tokens t) + facet_count (flat_map facet_tokens facets) =
     sum_by-append f (facet_tokens t) (flat_map facet_tokens facets) in
-    let one : begun_in (facet_tokens t) ≡ 1 = refl in
-    let rest : begun_in (flat_map facet_tokens facets) ≡ length facets = begun-facets facets in
+    let one : facet_count (facet_tokens t) ≡ 1 = refl in
+    let rest : facet_count (flat_map facet_tokens facets) ≡ length facets = facet_count-facets facets in
     omega (arith, split, one, rest)
 
-pub begun-solids : (solids : List (List Facet)) → begun_in (flat_map solid_tokens solids) ≡ length (facets_of solids)
-begun-solids [] = refl
-begun-solids (facets ∷ solids) =
+pub facet_count-solids : (solids : List (List Facet)) → facet_count (flat_map solid_tokens solids) ≡ length (facets_of solids)
+facet_count-solids [] = refl
+facet_count-solids (facets ∷ solids) =
     let f : Token → ℕ = λ x. cond (is_facet_word x) 1 0 in
-    let split : begun_in (solid_tokens facets ++ flat_map solid_tokens solids) ≡ begun_in (solid_tokens facets) + begun_in (flat_map solid_tokens solids) =
+    let split : facet_count (solid_tokens facets ++ flat_map solid_tokens solids) ≡ facet_count (solid_tokens facets) + facet_count (flat_map solid_tokens solids) =
     sum_by-append f (solid_tokens facets) (flat_map solid_tokens solids) in
-    let inner : begun_in (solid_tokens facets) ≡ begun_in (flat_map facet_tokens facets) + 0 =
+    let inner : facet_count (solid_tokens facets) ≡ facet_count (flat_map facet_tokens facets) + 0 =
     sum_by-append f (flat_map facet_tokens facets) (end_word ∷ rest_of_line ∷ []) in
-    let each : begun_in (flat_map facet_tokens facets) ≡ length facets = begun-facets facets in
-    let rest : begun_in (flat_map solid_tokens solids) ≡ length (facets_of solids) = begun-solids solids in
+    let each : facet_count (flat_map facet_tokens facets) ≡ length facets = facet_count-facets facets in
+    let rest : facet_count (flat_map solid_tokens solids) ≡ length (facets_of solids) = facet_count-solids solids in
     let lengths : length (facets_of (facets ∷ solids)) ≡ length facets + length (facets_of solids) = length-append facets (facets_of solids) in
     omega (arith, split, inner, each, rest, lengths)
 
--- Where a fault stands, and what the grammar permits there.
+-- The tokens before a fault, and what the grammar permits next.
 
 pub record Halt (limit : ℕ) (unit : LengthUnit) (bytes : List ℕ) : Type 0 where
   pub at : ℕ
   pub token : Token
-  pub begun : ℕ
+  pub facets_before : ℕ
   pub word : List ℕ
-  pub wants : Wants limit unit bytes at token begun word
+  pub wants : Wants limit unit bytes at token facets_before word
 
--- no word stands there, or one that no token of the kind fits, save one facet too many
+-- the text has no word there, or one that fits no token of the kind, except a facet beyond the limit
 pub record Refuses (limit : ℕ) (unit : LengthUnit) (bytes : List ℕ) (h : Halt limit unit bytes) : Type 0 where
   pub stops : (p : Token) → is_sound p ≡ true → kind_of h.token ≡ kind_of p → begins_with unit p h.wants.rest ≡ true
-      → (is_facet_word p ≡ true) × (h.begun ≡ limit)
+      → (is_facet_word p ≡ true) × (h.facets_before ≡ limit)
 
 module _ (limit : ℕ) (unit : LengthUnit) (bytes : List ℕ) where
-  offset_of : (h : Halt limit unit bytes)
-      → (offset : Place) × (run outside h.wants.front ≡ Some offset) × (after : Place) × (next offset h.token ≡ Some after)
-  offset_of h =
-      let w : Wants limit unit bytes h.at h.token h.begun h.word = h.wants in
-      let whole : then_at (run outside w.front) (λ offset. run offset (h.token ∷ w.more)) ≡ Some outside =
+  state_of : (h : Halt limit unit bytes)
+      → (state : State) × (run outside h.wants.front ≡ Some state) × (after : State) × (next state h.token ≡ Some after)
+  state_of h =
+      let w : Wants limit unit bytes h.at h.token h.facets_before h.word = h.wants in
+      let whole : then_at (run outside w.front) (λ state. run state (h.token ∷ w.more)) ≡ Some outside =
       sym (run-append outside w.front (h.token ∷ w.more)) ∙ ap (run outside) (sym w.cut) ∙ solids-run w.solids in
-      let first : (offset : Place) × (run outside w.front ≡ Some offset) × (run offset (h.token ∷ w.more) ≡ Some outside) =
+      let first : (state : State) × (run outside w.front ≡ Some state) × (run state (h.token ∷ w.more) ≡ Some outside) =
       then-some _ _ outside whole in
-      let second : (after : Place) × (next first.0 h.token ≡ Some after) × (run after w.more ≡ Some outside) =
+      let second : (after : State) × (next first.0 h.token ≡ Some after) × (run after w.more ≡ Some outside) =
       then-some _ _ outside first.2 in
       (first.0, first.1, second.0, second.1)
 
-  -- nothing goes on behind a fault
-  no_more : (h : Halt limit unit bytes) → Refuses limit unit bytes h → (p : Token) (more : List Token) (end : Place) (last : List ℕ)
-      → list_all is_sound (h.wants.front ++ p ∷ more) ≡ true → begun_in (h.wants.front ++ p ∷ more) ≤ limit
+  -- no token follows where a fault is
+  no_more : (h : Halt limit unit bytes) → Refuses limit unit bytes h → (p : Token) (more : List Token) (end : State) (last : List ℕ)
+      → list_all is_sound (h.wants.front ++ p ∷ more) ≡ true → facet_count (h.wants.front ++ p ∷ more) ≤ limit
       → run outside (h.wants.front ++ p ∷ more) ≡ Some end → rest_behind unit (h.wants.front ++ p ∷ more) bytes ≡ Some last → ⊥
   no_more h refuses p more end last sound few ran spelled =
-      let offset : (offset : Place) × (run outside h.wants.front ≡ Some offset) × (after : Place) × (next offset h.token ≡ Some after) = offset_of h in
-      let on : GoesOn unit offset.0 p h.wants.rest =
-      goes_on unit bytes h.wants.front p more offset.0 end h.wants.rest last offset.1 h.wants.spelled ran spelled in
-      let stopped : (is_facet_word p ≡ true) × (h.begun ≡ limit) =
+      let state : (state : State) × (run outside h.wants.front ≡ Some state) × (after : State) × (next state h.token ≡ Some after) = state_of h in
+      let on : GoesOn unit state.0 p h.wants.rest =
+      goes_on unit bytes h.wants.front p more state.0 end h.wants.rest last state.1 h.wants.spelled ran spelled in
+      let stopped : (is_facet_word p ≡ true) × (h.facets_before ≡ limit) =
       refuses.stops p (sound_within h.wants.front p more sound)
-      (next_kind offset.0 h.token p offset.2 on.after offset.3 on.permitted) on.begins in
-      omega (arith, stopped.1, h.wants.count, begun-more h.wants.front p more stopped.0, few)
+      (next_kind state.0 h.token p state.2 on.after state.3 on.permitted) on.begins in
+      omega (arith, stopped.1, h.wants.count, facet_count-more h.wants.front p more stopped.0, few)
 
-  -- Each fault refuses what might stand in its place.
+  -- Each fault excludes the tokens that the grammar permits at it.
 
   no_word : (w : Word) → is_text_of w [] ≡ true → ⊥
   no_word Solid h = cc
@@ -214,10 +213,10 @@ module _ (limit : ℕ) (unit : LengthUnit) (bytes : List ℕ) where
   no_word EndFacet h = cc
 
   abbrev halt_of : (f : StlFault) → IsFaultOf limit unit bytes f → Halt limit unit bytes
-  halt_of (fault.Expected kind at) x = record { at = at; token = x.token; begun = x.begun; word = x.word; wants = x.wants }
-  halt_of (fault.Ended kind) x = record { at = length bytes; token = x.token; begun = x.begun; word = []; wants = x.wants }
-  halt_of (fault.Number cause at) x = record { at = at; token = coordinate x.z; begun = x.begun; word = x.word; wants = x.wants }
-  halt_of (fault.TooMany at) x = record { at = at; token = facet_word; begun = limit; word = x.word; wants = x.wants }
+  halt_of (fault.Expected kind at) x = record { at = at; token = x.token; facets_before = x.facets_before; word = x.word; wants = x.wants }
+  halt_of (fault.Ended kind) x = record { at = length bytes; token = x.token; facets_before = x.facets_before; word = []; wants = x.wants }
+  halt_of (fault.Number cause at) x = record { at = at; token = coordinate x.z; facets_before = x.facets_before; word = x.word; wants = x.wants }
+  halt_of (fault.TooMany at) x = record { at = at; token = facet_word; facets_before = limit; word = x.word; wants = x.wants }
   halt_of fault.Memory x = absurd x
 
   unexpected_stops : (kind : Word) (token p : Token) (word rest : List ℕ) → wanted token ≡ Some kind → kind ≢ Number
@@ -266,13 +265,13 @@ module _ (limit : ℕ) (unit : LengthUnit) (bytes : List ℕ) where
       let clash : ◌≡◌ {A = Result ℤ NumFault} (Err cause) (Ok other.0) = sym refused ∙ ap (coordinate_of unit) stands ∙ read in
       cc
 
-  many_stops : (p : Token) (word rest : List ℕ) → is_keyword (codes "facet") word ≡ true → word ≡ first_word rest
+  many_stops : (p : Token) (word rest : List ℕ) → is_keyword facet_keyword word ≡ true → word ≡ first_word rest
       → kind_of facet_word ≡ kind_of p → begins_with unit p rest ≡ true → is_facet_word p ≡ true
   many_stops p word rest facet stands same begins =
       let other : (text : List ℕ) × (p ≡ keyword FacetOrEnd text) = keyword-kind FacetOrEnd p (sym same) in
       let reads : is_keyword other.0 (first_word rest) ≡ true = subst (λ x. begins_with unit x rest ≡ true) other.1 begins in
-      let text_is : other.0 ≡ codes "facet" =
-      sym ((bytes_eq-Decides _ other.0).0 reads) ∙ ap str_to_ascii_lowercase (sym stands) ∙ (bytes_eq-Decides _ (codes "facet")).0 facet in
+      let text_is : other.0 ≡ facet_keyword =
+      sym ((bytes_eq-Decides _ other.0).0 reads) ∙ ap str_to_ascii_lowercase (sym stands) ∙ (bytes_eq-Decides _ facet_keyword).0 facet in
       ap is_facet_word (other.1 ∙ ap (keyword FacetOrEnd) text_is)
 
   refuses : (f : StlFault) (x : IsFaultOf limit unit bytes f) → Refuses limit unit bytes (halt_of f x)
@@ -296,39 +295,39 @@ module _ (limit : ℕ) (unit : LengthUnit) (bytes : List ℕ) where
 
   sound_front : (h : Halt limit unit bytes) → list_all is_sound h.wants.front ≡ true
   sound_front h =
-      let w : Wants limit unit bytes h.at h.token h.begun h.word = h.wants in
+      let w : Wants limit unit bytes h.at h.token h.facets_before h.word = h.wants in
       (and_parts _ _ (sym (list_all-append is_sound w.front (h.token ∷ w.more)) ∙ ap (list_all is_sound) (sym w.cut) ∙ sound_solids w.solids)).0
 
-  few_front : (h : Halt limit unit bytes) → begun_in h.wants.front ≤ limit
+  few_front : (h : Halt limit unit bytes) → facet_count h.wants.front ≤ limit
   few_front h = omega (arith, h.wants.count, h.wants.few)
 
-  -- a fault stands behind no other
+  -- a fault is never behind another one
   not_behind : (h : Halt limit unit bytes) → Refuses limit unit bytes h → (k : Halt limit unit bytes) (p : Token) (more : List Token)
       → k.wants.front ≡ h.wants.front ++ p ∷ more → ⊥
   not_behind h refusing k p more is =
-      let offset : (offset : Place) × (run outside k.wants.front ≡ Some offset) × (after : Place) × (next offset k.token ≡ Some after) = offset_of k in
-      no_more h refusing p more offset.0 k.wants.rest
+      let state : (state : State) × (run outside k.wants.front ≡ Some state) × (after : State) × (next state k.token ≡ Some after) = state_of k in
+      no_more h refusing p more state.0 k.wants.rest
       (ap (list_all is_sound) (sym is) ∙ sound_front k)
-      (subst (λ ps. begun_in ps ≤ limit) is (few_front k))
-      (ap (run outside) (sym is) ∙ offset.1)
+      (subst (λ ps. facet_count ps ≤ limit) is (few_front k))
+      (ap (run outside) (sym is) ∙ state.1)
       (ap (λ ps. rest_behind unit ps bytes) (sym is) ∙ k.wants.spelled)
 
   same_front : (h k : Halt limit unit bytes) → Refuses limit unit bytes h → Refuses limit unit bytes k → h.wants.front ≡ k.wants.front
-  same_front h k refusing refusing' = by_prefix (agree unit outside bytes h.wants.front k.wants.front offset.0 offset'.0
-      h.wants.rest k.wants.rest offset.1 offset'.1 h.wants.spelled k.wants.spelled)
+  same_front h k refusing refusing' = by_prefix (agree unit outside bytes h.wants.front k.wants.front state.0 state'.0
+      h.wants.rest k.wants.rest state.1 state'.1 h.wants.spelled k.wants.spelled)
     where
-      offset : (offset : Place) × (run outside h.wants.front ≡ Some offset) × (after : Place) × (next offset h.token ≡ Some after)
-      offset = offset_of h
+      state : (state : State) × (run outside h.wants.front ≡ Some state) × (after : State) × (next state h.token ≡ Some after)
+      state = state_of h
 
-      offset' : (offset : Place) × (run outside k.wants.front ≡ Some offset) × (after : Place) × (next offset k.token ≡ Some after)
-      offset' = offset_of k
+      state' : (state : State) × (run outside k.wants.front ≡ Some state) × (after : State) × (next state k.token ≡ Some after)
+      state' = state_of k
 
       by_prefix : Prefixes h.wants.front k.wants.front → h.wants.front ≡ k.wants.front
       by_prefix (longer [] is) = sym (append-nil _) ∙ sym is
       by_prefix (longer (p ∷ more) is) = absurd (not_behind h refusing k p more is)
       by_prefix (shorter p more is) = absurd (not_behind k refusing' h p more is)
 
-  -- two faults behind one front
+  -- two faults behind the same front
   record Same (h k : Halt limit unit bytes) : Type 0 where
     at : h.at ≡ k.at
     word : h.word ≡ k.word
@@ -337,21 +336,21 @@ module _ (limit : ℕ) (unit : LengthUnit) (bytes : List ℕ) where
   same_halt : (h k : Halt limit unit bytes) → h.wants.front ≡ k.wants.front → Same h k
   same_halt h k front =
       let rest : h.wants.rest ≡ k.wants.rest = some-is (sym h.wants.spelled ∙ ap (λ ps. rest_behind unit ps bytes) front ∙ k.wants.spelled) in
-      let offset : (offset : Place) × (run outside h.wants.front ≡ Some offset) × (after : Place) × (next offset h.token ≡ Some after) = offset_of h in
-      let offset' : (offset : Place) × (run outside k.wants.front ≡ Some offset) × (after : Place) × (next offset k.token ≡ Some after) = offset_of k in
-      let place_is : offset.0 ≡ offset'.0 = offset-is (sym offset.1 ∙ ap (run outside) front ∙ offset'.1) in
+      let state : (state : State) × (run outside h.wants.front ≡ Some state) × (after : State) × (next state h.token ≡ Some after) = state_of h in
+      let state' : (state : State) × (run outside k.wants.front ≡ Some state) × (after : State) × (next state k.token ≡ Some after) = state_of k in
+      let state_is : state.0 ≡ state'.0 = state-is (sym state.1 ∙ ap (run outside) front ∙ state'.1) in
       let left : length (after_space h.wants.rest) ≡ length (after_space k.wants.rest) = ap (λ r. length (after_space r)) rest in
       record {
         at = omega (arith, h.wants.offset, k.wants.offset, left);
         word = h.wants.stands ∙ ap first_word rest ∙ sym k.wants.stands;
-        kind = next_kind offset.0 h.token k.token offset.2 offset'.2 offset.3 (ap (λ x. next x k.token) place_is ∙ offset'.3);
+        kind = next_kind state.0 h.token k.token state.2 state'.2 state.3 (ap (λ x. next x k.token) state_is ∙ state'.3);
       }
     where
       some-is : {x y : List ℕ} → ◌≡◌ {A = Option (List ℕ)} (Some x) (Some y) → x ≡ y
       some-is e = cc
 
-      offset-is : {x y : Place} → ◌≡◌ {A = Option Place} (Some x) (Some y) → x ≡ y
-      offset-is e = cc
+      state-is : {x y : State} → ◌≡◌ {A = Option State} (Some x) (Some y) → x ≡ y
+      state-is e = cc
 
   wanted_same : (p q : Token) (v w : Word) → wanted p ≡ Some v → wanted q ≡ Some w → kind_of p ≡ kind_of q → v ≡ w
   wanted_same p q v w h k same =
@@ -363,12 +362,12 @@ module _ (limit : ℕ) (unit : LengthUnit) (bytes : List ℕ) where
       let none : length word ≡ 0 = ap length e in
       omega (arith, some, none)
 
-  facet_fits : (kind : Word) (word : List ℕ) → kind ≡ FacetOrEnd → is_keyword (codes "facet") word ≡ true → is_wanted kind word ≡ true
+  facet_fits : (kind : Word) (word : List ℕ) → kind ≡ FacetOrEnd → is_keyword facet_keyword word ≡ true → is_wanted kind word ≡ true
   facet_fits kind word e h = ap (λ k. is_wanted k word) e ∙ rw h refl
 
-  facet_some : (word : List ℕ) → is_keyword (codes "facet") word ≡ true → word ≡ [] → ⊥
+  facet_some : (word : List ℕ) → is_keyword facet_keyword word ≡ true → word ≡ [] → ⊥
   facet_some word h e =
-      let none : is_keyword (codes "facet") [] ≡ true = subst (λ x. is_keyword (codes "facet") x ≡ true) e h in
+      let none : is_keyword facet_keyword [] ≡ true = subst (λ x. is_keyword facet_keyword x ≡ true) e h in
       cc
 
   equal_faults : (f g : StlFault) (x : IsFaultOf limit unit bytes f) (y : IsFaultOf limit unit bytes g)
@@ -381,7 +380,7 @@ module _ (limit : ℕ) (unit : LengthUnit) (bytes : List ℕ) where
       absurd (x.keyword_wanted (wanted_same x.token (coordinate y.z) v Number x.kind_is refl same.kind))
   equal_faults (fault.Expected v at) (fault.TooMany at') x y same =
       let kind : v ≡ FacetOrEnd = wanted_same x.token facet_word v FacetOrEnd x.kind_is refl same.kind in
-      let fits : is_wanted v x.word ≡ true = facet_fits v x.word kind (ap (is_keyword (codes "facet")) same.word ∙ y.facet) in
+      let fits : is_wanted v x.word ≡ true = facet_fits v x.word kind (ap (is_keyword facet_keyword) same.word ∙ y.facet) in
       let clash : false ≡ true = sym x.other ∙ fits in
       cc
   equal_faults (fault.Ended v) (fault.Expected w at') x y same = absurd (no_length y.word y.stands (sym same.word))
@@ -399,7 +398,7 @@ module _ (limit : ℕ) (unit : LengthUnit) (bytes : List ℕ) where
   equal_faults (fault.Number cause at) (fault.TooMany at') x y same = absurd (omega (arith, same.kind))
   equal_faults (fault.TooMany at) (fault.Expected w at') x y same =
       let kind : w ≡ FacetOrEnd = wanted_same y.token facet_word w FacetOrEnd y.kind_is refl (sym same.kind) in
-      let fits : is_wanted w y.word ≡ true = facet_fits w y.word kind (ap (is_keyword (codes "facet")) (sym same.word) ∙ x.facet) in
+      let fits : is_wanted w y.word ≡ true = facet_fits w y.word kind (ap (is_keyword facet_keyword) (sym same.word) ∙ x.facet) in
       let clash : false ≡ true = sym y.other ∙ fits in
       cc
   equal_faults (fault.TooMany at) (fault.Ended w) x y same = absurd (facet_some x.word x.facet same.word)
@@ -416,11 +415,11 @@ module _ (limit : ℕ) (unit : LengthUnit) (bytes : List ℕ) where
   one_fault f g x y =
       equal_faults f g x y (same_halt (halt_of f x) (halt_of g y) (same_front (halt_of f x) (halt_of g y) (refuses f x) (refuses g y)))
 
-  -- no word stands behind the last solid
+  -- there is no word behind the last solid
   no_word_left : (rest : List ℕ) → after_space rest ≡ [] → first_word rest ≡ []
   no_word_left rest e = ap (before_first is_white) e
 
-  -- behind solids, in front of the end, there is no fault
+  -- a text that ends behind solids has no fault there
   no_fault_at_end : (f : StlFault) (x : IsFaultOf limit unit bytes f) → (halt_of f x).word ≡ []
       → ((kind : Word) → wanted (halt_of f x).token ≡ Some kind → kind ≡ Solid) → (after_space bytes ≡ [] → ⊥) → ⊥
   no_fault_at_end (fault.Expected kind at) x none solid some = no_length x.word x.stands none
@@ -429,7 +428,7 @@ module _ (limit : ℕ) (unit : LengthUnit) (bytes : List ℕ) where
   no_fault_at_end (fault.TooMany at) x none solid some = facet_some x.word x.facet none
   no_fault_at_end fault.Memory x none solid some = x
 
-  solid_wanted : (p : Token) (after : Place) → next outside p ≡ Some after → (kind : Word) → wanted p ≡ Some kind → kind ≡ Solid
+  solid_wanted : (p : Token) (after : State) → next outside p ≡ Some after → (kind : Word) → wanted p ≡ Some kind → kind ≡ Solid
   solid_wanted p after permitted kind wants =
       let is : ◌≡◌ {A = Option Word} (Some kind) (Some Solid) = sym wants ∙ ap wanted (shape-is solid_slot p (only _ _ after permitted).0) in
       cc
@@ -443,15 +442,15 @@ module _ (limit : ℕ) (unit : LengthUnit) (bytes : List ℕ) where
       (goes_on unit bytes [] solid_word more outside outside bytes rest refl refl (solids-run (facets ∷ solids)) spelled)
     where
       solid_word : Token
-      solid_word = keyword Solid (codes "solid")
+      solid_word = keyword_of Solid
 
       more : List Token
       more = rest_of_line ∷ (flat_map facet_tokens facets ++ end_word ∷ rest_of_line ∷ []) ++ flat_map solid_tokens solids
 
   -- a text that reads as facets has no fault
   pub not_both : (facets : List Facet) (f : StlFault) → Reads limit unit bytes facets → IsFaultOf limit unit bytes f → ⊥
-  not_both facets f r x = by_prefix (agree unit outside bytes whole h.wants.front outside offset.0
-      r.rest h.wants.rest (solids-run r.solids) offset.1 r.spelled h.wants.spelled)
+  not_both facets f r x = by_prefix (agree unit outside bytes whole h.wants.front outside state.0
+      r.rest h.wants.rest (solids-run r.solids) state.1 r.spelled h.wants.spelled)
     where
       h : Halt limit unit bytes
       h = halt_of f x
@@ -459,37 +458,37 @@ module _ (limit : ℕ) (unit : LengthUnit) (bytes : List ℕ) where
       whole : List Token
       whole = flat_map solid_tokens r.solids
 
-      offset : (offset : Place) × (run outside h.wants.front ≡ Some offset) × (after : Place) × (next offset h.token ≡ Some after)
-      offset = offset_of h
+      state : (state : State) × (run outside h.wants.front ≡ Some state) × (after : State) × (next state h.token ≡ Some after)
+      state = state_of h
 
       some-is : {x y : List ℕ} → ◌≡◌ {A = Option (List ℕ)} (Some x) (Some y) → x ≡ y
       some-is e = cc
 
-      offset-is : {x y : Place} → ◌≡◌ {A = Option Place} (Some x) (Some y) → x ≡ y
-      offset-is e = cc
+      state-is : {x y : State} → ◌≡◌ {A = Option State} (Some x) (Some y) → x ≡ y
+      state-is e = cc
 
       at_end : h.wants.front ≡ whole → ⊥
       at_end e =
           let rest : h.wants.rest ≡ r.rest = some-is (sym h.wants.spelled ∙ ap (λ ps. rest_behind unit ps bytes) e ∙ r.spelled) in
-          let there : offset.0 ≡ outside = offset-is (sym offset.1 ∙ ap (run outside) e ∙ solids-run r.solids) in
+          let there : state.0 ≡ outside = state-is (sym state.1 ∙ ap (run outside) e ∙ solids-run r.solids) in
           no_fault_at_end f x
           (h.wants.stands ∙ ap first_word rest ∙ no_word_left r.rest r.whole)
-          (solid_wanted h.token offset.2 (ap (λ p. next p h.token) (sym there) ∙ offset.3))
+          (solid_wanted h.token state.2 (ap (λ p. next p h.token) (sym there) ∙ state.3))
           (has_word r.solids r.rest r.some r.spelled)
 
-      few : begun_in whole ≤ limit
-      few = omega (arith, begun-solids r.solids, r.few, ap length r.each)
+      few : facet_count whole ≤ limit
+      few = omega (arith, facet_count-solids r.solids, r.few, ap length r.each)
 
       by_prefix : Prefixes whole h.wants.front → ⊥
       by_prefix (longer [] is) = at_end (is ∙ append-nil _)
       by_prefix (longer (p ∷ more) is) =
           nothing_more unit p r.rest r.whole
-          (goes_on unit bytes whole p more outside offset.0 r.rest h.wants.rest (solids-run r.solids) r.spelled
-          (ap (run outside) (sym is) ∙ offset.1)
+          (goes_on unit bytes whole p more outside state.0 r.rest h.wants.rest (solids-run r.solids) r.spelled
+          (ap (run outside) (sym is) ∙ state.1)
           (ap (λ ps. rest_behind unit ps bytes) (sym is) ∙ h.wants.spelled))
       by_prefix (shorter p more is) =
           no_more h (refuses f x) p more outside r.rest
           (ap (list_all is_sound) (sym is) ∙ sound_solids r.solids)
-          (subst (λ ps. begun_in ps ≤ limit) is few)
+          (subst (λ ps. facet_count ps ≤ limit) is few)
           (ap (run outside) (sym is) ∙ solids-run r.solids)
           (ap (λ ps. rest_behind unit ps bytes) (sym is) ∙ r.spelled)

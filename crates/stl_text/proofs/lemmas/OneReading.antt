@@ -1,15 +1,16 @@
--- A text reads as facets in one way.
+-- A text reads as at most one list of facets.
 use Rattle.std.proofs.Common.{◌≡◌, ℕ, Bool, true, false, List, [], ◌∷◌, ◌++◌, refl, sym, ◌∙◌, ap, subst, append_assoc, append-nil}
-use Rattle.std.specs.Prelude.{Option, Some, None, ℤ, if◌then◌else◌, codes, flat_map}
+use Rattle.std.specs.Prelude.{Option, Some, None, ℤ, if◌then◌else◌, flat_map}
 use Rattle.std.specs.List.{before_first}
 use Rattle.std.proofs.lemmas.Grind.{flat_map-append}
 use Rattle.micro_num.specs.declared.unit.Unit.{Unit as LengthUnit}
 use Rattle.geometry.specs.Point.{Point}
 use Rattle.geometry.specs.Facet.{Facet}
-use Rattle.stl_text.specs.Text.{Token, keyword, normal_part, coordinate, rest_of_line, facet_tokens, solid_tokens, is_keyword, begins_with, after_token, rest_behind, first_word, after_space, is_white, end_word, facets_of, Reads}
-use Rattle.stl_text.proofs.lemmas.Determined.{Place, Prefixes, Prefixes.longer, Prefixes.shorter, outside, next, run, run-append, then-some, then_at, only, shape-is, solid_slot, solids-run, agree}
+use Rattle.stl_text.specs.declared.word.Word.TheVariants.{Solid}
+use Rattle.stl_text.specs.Text.{Token, keyword, keyword_of, normal_part, coordinate, rest_of_line, facet_tokens, solid_tokens, is_keyword, begins_with, after_token, rest_behind, first_word, after_space, is_white, end_word, facets_of, Reads, keyword_text}
+use Rattle.stl_text.proofs.lemmas.Determined.{State, Prefixes, Prefixes.longer, Prefixes.shorter, outside, next, run, run-append, then-some, then_at, only, shape-is, solid_slot, solids-run, agree}
 
--- Lists of bytes, one after another.
+-- The rest of a text behind tokens, and behind further tokens.
 
 abbrev pub then_on : Option (List ℕ) → (List ℕ → Option (List ℕ)) → Option (List ℕ)
 then_on None f = None
@@ -26,21 +27,21 @@ rest-append unit (p ∷ ps) qs bytes = by_test (begins_with unit p bytes) (rest-
     by_test true e = e
     by_test false e = refl
 
--- a token that a text goes on with, and the grammar too
-pub record GoesOn (unit : LengthUnit) (offset : Place) (p : Token) (rest : List ℕ) : Type 0 where
-  pub after : Place
-  pub permitted : next offset p ≡ Some after
+-- a token that the text continues with, and that the grammar permits next
+pub record GoesOn (unit : LengthUnit) (state : State) (p : Token) (rest : List ℕ) : Type 0 where
+  pub after : State
+  pub permitted : next state p ≡ Some after
   pub begins : begins_with unit p rest ≡ true
 
-pub goes_on : (unit : LengthUnit) (bytes : List ℕ) (front : List Token) (p : Token) (more : List Token) (offset end : Place) (rest last : List ℕ)
-    → run outside front ≡ Some offset → rest_behind unit front bytes ≡ Some rest
-    → run outside (front ++ p ∷ more) ≡ Some end → rest_behind unit (front ++ p ∷ more) bytes ≡ Some last → GoesOn unit offset p rest
-goes_on unit bytes front p more offset end rest last ran spelled ran_on spelled_on =
-    let on : run offset (p ∷ more) ≡ Some end =
+pub goes_on : (unit : LengthUnit) (bytes : List ℕ) (front : List Token) (p : Token) (more : List Token) (state end : State) (rest last : List ℕ)
+    → run outside front ≡ Some state → rest_behind unit front bytes ≡ Some rest
+    → run outside (front ++ p ∷ more) ≡ Some end → rest_behind unit (front ++ p ∷ more) bytes ≡ Some last → GoesOn unit state p rest
+goes_on unit bytes front p more state end rest last ran spelled ran_on spelled_on =
+    let on : run state (p ∷ more) ≡ Some end =
     ap (λ o. then_at o (λ after. run after (p ∷ more))) (sym ran) ∙ sym (run-append outside front (p ∷ more)) ∙ ran_on in
     let text_on : rest_behind unit (p ∷ more) rest ≡ Some last =
     ap (λ o. then_on o (λ bs. rest_behind unit (p ∷ more) bs)) (sym spelled) ∙ sym (rest-append unit front (p ∷ more) bytes) ∙ spelled_on in
-    let step : (after : Place) × (next offset p ≡ Some after) × (run after more ≡ Some end) = then-some _ _ end on in
+    let step : (after : State) × (next state p ≡ Some after) × (run after more ≡ Some end) = then-some _ _ end on in
     record { after = step.0; permitted = step.1; begins = tested _ _ text_on }
   where
     tested : (b : Bool) (o : Option (List ℕ)) → (if b then o else None) ≡ Some last → b ≡ true
@@ -50,9 +51,9 @@ goes_on unit bytes front p more offset end rest last ran spelled ran_on spelled_
 -- behind the last word no solid begins
 pub nothing_more : (unit : LengthUnit) (p : Token) (rest : List ℕ) → after_space rest ≡ [] → GoesOn unit outside p rest → ⊥
 nothing_more unit p rest ended on =
-    let solid : p ≡ keyword _ (codes "solid") = shape-is solid_slot p (only _ _ on.after on.permitted).0 in
-    let begins : is_keyword (codes "solid") (first_word rest) ≡ true = subst (λ x. begins_with unit x rest ≡ true) solid on.begins in
-    let P : List ℕ → Type 0 = λ bs. is_keyword (codes "solid") (before_first is_white bs) ≡ true in
+    let solid : p ≡ keyword_of Solid = shape-is solid_slot p (only _ _ on.after on.permitted).0 in
+    let begins : is_keyword (keyword_text Solid) (first_word rest) ≡ true = subst (λ x. begins_with unit x rest ≡ true) solid on.begins in
+    let P : List ℕ → Type 0 = λ bs. is_keyword (keyword_text Solid) (before_first is_white bs) ≡ true in
     let none : P [] = subst P ended begins in
     cc
 
@@ -113,7 +114,7 @@ pub same_tokens : (solids others : List (List Facet)) → flat_map solid_tokens 
 same_tokens solids others same =
     nine-injective _ _ (sym (numbers_in-solids solids) ∙ ap numbers_in same ∙ numbers_in-solids others)
 
--- a text reads as facets in one way
+-- a text reads as at most one list of facets
 pub one_reading : (limit : ℕ) (unit : LengthUnit) (bytes : List ℕ) (facets others : List Facet)
     → Reads limit unit bytes facets → Reads limit unit bytes others → facets ≡ others
 one_reading limit unit bytes facets others r s =

@@ -1,6 +1,6 @@
--- Solids as they are read: facet after facet, solid after solid.
+-- Reading solids: one facet after another, and one solid after another.
 use Rattle.std.proofs.Common.{◌≡◌, ◌≢◌, ℕ, ◌+◌, ◌-◌, ◌<◌, ◌≤◌, Bool, true, false, ◌&&◌, ◌⊎◌, inl, inr, List, [], ◌∷◌, ◌++◌, length, refl, sym, ◌∙◌, ap, subst, arith, append_assoc, append-nil, length-append}
-use Rattle.std.specs.Prelude.{Some, None, codes, flat_map, if◌then◌else◌}
+use Rattle.std.specs.Prelude.{Some, None, flat_map, if◌then◌else◌}
 use Rattle.std.proofs.lemmas.Grind.{flat_map-append}
 use Rattle.stl_text.specs.declared.word.Word.{Word}
 use Rattle.stl_text.specs.declared.word.Word.TheVariants.{Solid, FacetOrEnd, Normal, Outer, Loop, Vertex, Number, EndLoop, EndFacet}
@@ -9,23 +9,23 @@ use Rattle.stl_text.specs.declared.stl_fault.StlFault.TheVariants as fault
 use Rattle.micro_num.specs.declared.unit.Unit.{Unit as LengthUnit}
 use Rattle.geometry.specs.Point.{origin}
 use Rattle.geometry.specs.Facet.{Facet, facet_with}
-use Rattle.stl_text.specs.Text.{Token, keyword, normal_part, coordinate, rest_of_line, wanted, facets_of, after_space, Reads, Wants, IsFaultOf, facet_word, end_word, facet_tokens, solid_tokens, is_keyword, first_word, after_word, after_line, rest_behind}
-use Rattle.stl_text.specs.Reader.{Reader, IsStop, start as begin, Spells, Stops, Breaks, begun_in, left_at, facet_tail}
-use Rattle.stl_text.proofs.lemmas.OneFault.{begun-facets, begun-solids, not_both}
+use Rattle.stl_text.specs.Text.{Token, keyword, normal_part, coordinate, rest_of_line, wanted, facets_of, after_space, Reads, Wants, IsFaultOf, facet_word, end_word, facet_tokens, solid_tokens, is_keyword, first_word, after_word, after_line, rest_behind, keyword_of, keyword_text, facet_keyword, facet_count}
+use Rattle.stl_text.specs.Reader.{Reader, IsStop, start as begin, Spells, Stops, Breaks, left_at, facet_tail}
+use Rattle.stl_text.proofs.lemmas.OneFault.{facet_count-facets, facet_count-solids, not_both}
 use Rattle.stl_text.proofs.lemmas.Either.{after_word-lt, open_tokens, rest-le, no_word-space}
 use Rattle.std.proofs.lemmas.Bool.{and_parts, false≢true}
-use Rattle.stl_text.proofs.lemmas.Steps.{begun-append, breaks_first, spells_then, stops_within_at}
+use Rattle.stl_text.proofs.lemmas.Steps.{facet_count-append, breaks_first, spells_then, stops_within_at}
 
 abbrev end_tokens : List Token
 end_tokens = end_word ∷ rest_of_line ∷ []
 
 abbrev solid_word : Token
-solid_word = keyword Solid (codes "solid")
+solid_word = keyword_of Solid
 
 abbrev zero_triangle : Facet
 zero_triangle = facet_with origin origin origin
 
--- the rest of a line is passed
+-- the rest of a line is read
 line_passed : (old new : Reader) → new ≡ left_at old (after_line old.rest) → Spells (rest_of_line ∷ []) old new
 line_passed old new e = record {
   spelled = ap (λ c. Some c.rest) (sym e);
@@ -33,7 +33,7 @@ line_passed old new e = record {
   same_whole = ap (λ c. c.whole) e;
 }
 
--- a solid in which the facets that are new are read
+-- an open solid whose facets were added to those that were read before
 pub record IsOpen (start : Reader) (had : List Facet) (now : Reader) (facets : List Facet) : Type 0 where
   pub added : List Facet
   pub items : facets ≡ had ++ added
@@ -71,7 +71,7 @@ closed start now mid last had facets is first line = (
   spells_then (open_tokens is.added) end_tokens is.spelled (spells_then (end_word ∷ []) (rest_of_line ∷ []) first (line_passed mid last line)),
 )
 
--- Where a solid breaks off.
+-- Where the reading of a solid stops.
 
 solid-more : (added : List Facet) (t : Facet)
     → solid_tokens (added ++ t ∷ []) ≡ open_tokens added ++ ((facet_word ∷ []) ++ (facet_tail t ++ end_tokens))
@@ -79,8 +79,8 @@ solid-more added t =
     ap (λ ps. ps ++ end_tokens) (open-more added t)
     ∙ append_assoc (open_tokens added) ((facet_word ∷ []) ++ facet_tail t) end_tokens
 
-begun-open : (added : List Facet) → begun_in (open_tokens added) ≡ length added
-begun-open added = begun-facets added
+facet_count-open : (added : List Facet) → facet_count (open_tokens added) ≡ length added
+facet_count-open added = facet_count-facets added
 
 lengths : (start now : Reader) (had facets : List Facet) (is : IsOpen start had now facets) → length facets ≡ length had + length is.added
 lengths start now had facets is = ap length is.items ∙ length-append had is.added
@@ -98,7 +98,7 @@ no_facet_begins limit start now had facets f is few stops = (
   is.added ++ zero_triangle ∷ [],
   subst (λ ps. Stops (limit - length had) ps start f) (sym (solid-more is.added zero_triangle))
       (stops_within_at (limit - length facets) (limit - length had) (open_tokens is.added) (facet_word ∷ []) (facet_tail zero_triangle ++ end_tokens)
-      (omega (arith, begun-open is.added, lengths start now had facets is, few)) is.spelled stops),
+      (omega (arith, facet_count-open is.added, lengths start now had facets is, few)) is.spelled stops),
 )
 
 pub no_facet : (limit : ℕ) (start now mid : Reader) (had facets : List Facet) (t : Facet) (f : StlFault) → IsOpen start had now facets
@@ -106,34 +106,34 @@ pub no_facet : (limit : ℕ) (start now mid : Reader) (had facets : List Facet) 
     → (added : List Facet) × Stops (limit - length had) (solid_tokens added) start f
 no_facet limit start now mid had facets t f is room first breaks =
     let before : List Token = open_tokens is.added ++ (facet_word ∷ []) in
-    let begun : begun_in before ≡ begun_in (open_tokens is.added) + 1 = begun-append (open_tokens is.added) (facet_word ∷ []) in (
+    let count_is : facet_count before ≡ facet_count (open_tokens is.added) + 1 = facet_count-append (open_tokens is.added) (facet_word ∷ []) in (
       is.added ++ t ∷ [],
       subst (λ ps. Stops (limit - length had) ps start f)
           (append_assoc (open_tokens is.added) (facet_word ∷ []) (facet_tail t ++ end_tokens) ∙ sym (solid-more is.added t))
           (stops_within_at (limit - length facets - 1) (limit - length had) before (facet_tail t) end_tokens
-          (omega (arith, begun, begun-open is.added, lengths start now had facets is, room))
+          (omega (arith, count_is, facet_count-open is.added, lengths start now had facets is, room))
           (spells_then (open_tokens is.added) (facet_word ∷ []) is.spelled first) (breaks.stops (limit - length facets - 1))),
     )
 
--- a facet is never empty
+-- the text of a facet is never empty
 pub facet_shorter : (t : Facet) (now mid next : Reader) → Spells (facet_word ∷ []) now mid → Spells (facet_tail t) mid next
     → length next.rest < length now.rest
 facet_shorter t now mid next first last =
-    let word : (0 < length (first_word now.rest)) × (after_word now.rest ≡ mid.rest) = by_test (is_keyword (codes "facet") (first_word now.rest)) refl first.spelled in
+    let word : (0 < length (first_word now.rest)) × (after_word now.rest ≡ mid.rest) = by_test (is_keyword facet_keyword (first_word now.rest)) refl first.spelled in
     omega (arith, after_word-lt now.rest word.0, ap length word.1, rest-le mid.unit (facet_tail t) mid.rest next.rest last.spelled)
   where
-    some_word : (w : List ℕ) → is_keyword (codes "facet") w ≡ true → 0 < length w
+    some_word : (w : List ℕ) → is_keyword facet_keyword w ≡ true → 0 < length w
     some_word [] h = cc
     some_word (b ∷ bs) h = omega arith
 
-    by_test : (b : Bool) → is_keyword (codes "facet") (first_word now.rest) ≡ b → (if b then Some (after_word now.rest) else None) ≡ Some mid.rest
+    by_test : (b : Bool) → is_keyword facet_keyword (first_word now.rest) ≡ b → (if b then Some (after_word now.rest) else None) ≡ Some mid.rest
         → (0 < length (first_word now.rest)) × (after_word now.rest ≡ mid.rest)
     by_test true h e = let same : after_word now.rest ≡ mid.rest = cc in (some_word (first_word now.rest) h, same)
     by_test false h e = cc
 
--- Solid after solid.
+-- One solid after another.
 
--- whole solids, one at least, whose facets are all that are read
+-- one whole solid at least, and all facets so far are those of these solids
 pub record AreWhole (start now : Reader) (facets : List Facet) : Type 0 where
   pub solids : List (List Facet)
   pub some : 0 < length solids
@@ -165,7 +165,7 @@ one_more_whole start now next had facets added are items spelled = record {
       (spells_then (flat_map solid_tokens are.solids) (solid_tokens added) are.spelled spelled);
 }
 
--- a first solid that breaks off
+-- a first solid in which the reading stops
 pub first_breaks : (limit room : ℕ) (start : Reader) (added : List Facet) (f : StlFault) → room ≡ limit → Stops room (solid_tokens added) start f
     → (solids : List (List Facet)) × Stops limit (flat_map solid_tokens solids) start f
 first_breaks limit room start added f same stops = (
@@ -178,13 +178,13 @@ pub later_breaks : (limit : ℕ) (start now : Reader) (facets added : List Facet
     → (solids : List (List Facet)) × Stops limit (flat_map solid_tokens solids) start f
 later_breaks limit start now facets added f are few stops =
     let before : List Token = flat_map solid_tokens are.solids in
-    let begun : begun_in before ≡ length facets = begun-solids are.solids ∙ ap length (sym are.items) in (
+    let count_is : facet_count before ≡ length facets = facet_count-solids are.solids ∙ ap length (sym are.items) in (
       are.solids ++ added ∷ [],
       subst (λ ps. Stops limit ps start f) (ap (λ ps. before ++ ps) (append-nil (solid_tokens added)) ∙ sym (tokens-more are.solids added))
-          (stops_within_at (limit - length facets) limit before (solid_tokens added) [] (omega (arith, begun, few)) are.spelled stops),
+          (stops_within_at (limit - length facets) limit before (solid_tokens added) [] (omega (arith, count_is, few)) are.spelled stops),
     )
 
--- Only in front of a solid `solid` is wanted.
+-- The keyword `solid` is wanted only before a solid.
 
 abbrev is_other_word : Word → Bool
 is_other_word Solid = false
@@ -224,7 +224,7 @@ wants_solid rest_of_line h = cc
 pub ended_solid : (room : ℕ) (added : List Facet) (c : Reader) (f : StlFault) → Stops room (solid_tokens added) c f → f ≡ fault.Ended Solid
     → after_space c.rest ≡ []
 ended_solid room added c f stops f_is =
-    by_front stops.front stops.cut stops.spelled (subst (IsStop room c stops.token (begun_in stops.front) stops.rest) f_is stops.stop)
+    by_front stops.front stops.cut stops.spelled (subst (IsStop room c stops.token (facet_count stops.front) stops.rest) f_is stops.stop)
   where
     by_front : (front : List Token) → solid_tokens added ≡ front ++ stops.token ∷ stops.more → rest_behind c.unit front c.rest ≡ Some stops.rest
         → (wanted stops.token ≡ Some Solid) × (first_word stops.rest ≡ []) → after_space c.rest ≡ []
@@ -237,7 +237,7 @@ ended_solid room added c f stops f_is =
         other_at front stops.token stops.more (ap are_other (sym tail) ∙ facets-other added end_tokens) in
         absurd (false≢true (sym (wants_solid stops.token stop.0) ∙ other))
 
--- What a whole reading says.
+-- The result of reading a whole text.
 
 pub reads : (limit : ℕ) (unit : LengthUnit) (bytes : List ℕ) (facets : List Facet) (now : Reader) → AreWhole (begin unit bytes) now facets
     → after_space now.rest ≡ [] → length facets ≤ limit → Reads limit unit bytes facets
@@ -257,7 +257,7 @@ pub fault_is : (limit : ℕ) (unit : LengthUnit) (bytes : List ℕ) (solids : Li
 fault_is limit unit bytes solids f stops no_solid = by_fault f stops.stop no_solid
   where
     wants : (at : ℕ) (word : List ℕ) → at + length (after_space stops.rest) ≡ length bytes → word ≡ first_word stops.rest
-        → Wants limit unit bytes at stops.token (begun_in stops.front) word
+        → Wants limit unit bytes at stops.token (facet_count stops.front) word
     wants at word offset stands = record {
       solids = solids;
       front = stops.front;
@@ -271,11 +271,11 @@ fault_is limit unit bytes solids f stops no_solid = by_fault f stops.stop no_sol
       stands = stands;
     }
 
-    by_fault : (g : StlFault) → IsStop limit (begin unit bytes) stops.token (begun_in stops.front) stops.rest g
+    by_fault : (g : StlFault) → IsStop limit (begin unit bytes) stops.token (facet_count stops.front) stops.rest g
         → (g ≡ fault.Ended Solid → after_space bytes ≡ []) → IsFaultOf limit unit bytes g
     by_fault (fault.Expected kind at) s h = record {
       token = stops.token;
-      begun = begun_in stops.front;
+      facets_before = facet_count stops.front;
       word = first_word stops.rest;
       wants = wants at (first_word stops.rest) s.4 refl;
       kind_is = s.0;
@@ -287,16 +287,16 @@ fault_is limit unit bytes solids f stops no_solid = by_fault f stops.stop no_sol
         let at_end : length (after_space stops.rest) ≡ 0 = ap length (no_word-space stops.rest s.1) in
         record {
           token = stops.token;
-          begun = begun_in stops.front;
+          facets_before = facet_count stops.front;
           wants = wants (length bytes) [] (omega (arith, at_end)) (sym s.1);
           kind_is = s.0;
           no_solid = λ e. h (ap fault.Ended e);
         }
     by_fault (fault.Number cause at) s h = record {
       z = s.0.0;
-      begun = begun_in stops.front;
+      facets_before = facet_count stops.front;
       word = first_word stops.rest;
-      wants = subst (λ p. Wants limit unit bytes at p (begun_in stops.front) (first_word stops.rest)) s.0.1
+      wants = subst (λ p. Wants limit unit bytes at p (facet_count stops.front) (first_word stops.rest)) s.0.1
           (wants at (first_word stops.rest) s.3 refl);
       stands = s.1;
       refused = s.2;
@@ -304,13 +304,13 @@ fault_is limit unit bytes solids f stops no_solid = by_fault f stops.stop no_sol
     by_fault (fault.TooMany at) s h = record {
       word = first_word stops.rest;
       wants = subst (λ n. Wants limit unit bytes at facet_word n (first_word stops.rest)) s.1
-          (subst (λ p. Wants limit unit bytes at p (begun_in stops.front) (first_word stops.rest)) s.0
+          (subst (λ p. Wants limit unit bytes at p (facet_count stops.front) (first_word stops.rest)) s.0
           (wants at (first_word stops.rest) s.3 refl));
       facet = s.2;
     }
     by_fault fault.Memory s h = s
 
--- a fault is memory or another
+-- a fault is `Memory` or another one
 pub memory_or_not : (f : StlFault) → (f ≡ fault.Memory) ⊎ (f ≢ fault.Memory)
 memory_or_not (fault.Expected kind at) = inr (λ e. cc)
 memory_or_not (fault.Ended kind) = inr (λ e. cc)
@@ -318,7 +318,7 @@ memory_or_not (fault.Number cause at) = inr (λ e. cc)
 memory_or_not (fault.TooMany at) = inr (λ e. cc)
 memory_or_not fault.Memory = inl refl
 
--- Where there is a reading, no fault but memory is answered.
+-- For a text that reads as facets, the only fault is `Memory`.
 pub only_memory : (limit : ℕ) (unit : LengthUnit) (bytes : List ℕ) (facets : List Facet) (f : StlFault) → Reads limit unit bytes facets
     → (f ≢ fault.Memory → IsFaultOf limit unit bytes f) → f ≡ fault.Memory
 only_memory limit unit bytes facets f reading is = by_case (memory_or_not f)
@@ -327,15 +327,15 @@ only_memory limit unit bytes facets f reading is = by_case (memory_or_not f)
     by_case (inl e) = e
     by_case (inr e) = absurd (not_both limit unit bytes facets f reading (is e))
 
--- a solid is never empty
+-- the text of a solid is never empty
 pub solid_shorter : (added : List Facet) (now next : Reader) → Spells (solid_tokens added) now next → length next.rest < length now.rest
-solid_shorter added now next spelled = by_test (is_keyword (codes "solid") (first_word now.rest)) refl spelled.spelled
+solid_shorter added now next spelled = by_test (is_keyword (keyword_text Solid) (first_word now.rest)) refl spelled.spelled
   where
-    some_word : (w : List ℕ) → is_keyword (codes "solid") w ≡ true → 0 < length w
+    some_word : (w : List ℕ) → is_keyword (keyword_text Solid) w ≡ true → 0 < length w
     some_word [] h = cc
     some_word (b ∷ bs) h = omega arith
 
-    by_test : (b : Bool) → is_keyword (codes "solid") (first_word now.rest) ≡ b
+    by_test : (b : Bool) → is_keyword (keyword_text Solid) (first_word now.rest) ≡ b
         → (if b then rest_behind now.unit (rest_of_line ∷ (flat_map facet_tokens added ++ end_tokens)) (after_word now.rest) else None) ≡ Some next.rest
         → length next.rest < length now.rest
     by_test true h e =

@@ -1,6 +1,6 @@
--- Steps of a reading, one after another.
+-- Reading tokens one after another: a whole reading, or its fault, from those of the parts.
 use Rattle.std.proofs.Common.{◌≡◌, ◌≢◌, ℕ, ◌+◌, ◌-◌, ◌≤◌, Bool, true, false, List, [], ◌∷◌, ◌++◌, length, refl, sym, ◌∙◌, ap, subst, arith, append_assoc}
-use Rattle.std.specs.Prelude.{Option, Some, None, Ok, Err, Result, ℤ, pos, codes, nat_lt, ◌==◌, if◌then◌else◌}
+use Rattle.std.specs.Prelude.{Option, Some, None, Ok, Err, Result, ℤ, pos, nat_lt, ◌==◌, if◌then◌else◌}
 use Rattle.micro_num.specs.declared.unit.Unit.{Unit as LengthUnit}
 use Rattle.micro_num.specs.declared.num_fault.NumFault.{NumFault}
 use Rattle.micro_num.specs.declared.num_fault.NumFault.TheVariants.{TooLong, OutOfRange}
@@ -12,8 +12,8 @@ use Rattle.stl_text.specs.declared.word.Word.{Word}
 use Rattle.stl_text.specs.declared.word.Word.TheVariants.{Solid, FacetOrEnd, Normal, Outer, Loop, Vertex, Number, EndLoop, EndFacet}
 use Rattle.stl_text.specs.declared.stl_fault.StlFault.{StlFault}
 use Rattle.stl_text.specs.declared.stl_fault.StlFault.TheVariants as fault
-use Rattle.stl_text.specs.Text.{Token, keyword, coordinate, normal_part, is_facet_word, is_keyword, is_wanted, keyword_text, wanted, rest_behind, first_word, after_space, after_word}
-use Rattle.stl_text.specs.Reader.{Reader, Spells, Stops, Breaks, IsStop, begun_in, left_at, unfitting, unread}
+use Rattle.stl_text.specs.Text.{Token, keyword_of, coordinate, normal_part, is_facet_word, is_keyword, is_wanted, keyword_text, HasOneKeyword, wanted, rest_behind, first_word, after_space, after_word, facet_count}
+use Rattle.stl_text.specs.Reader.{Reader, Spells, Stops, Breaks, IsStop, left_at, unfitting, unread}
 use Rattle.std.proofs.lemmas.List.Sums.{sum_by-append}
 use Rattle.std.proofs.Common.{cond}
 use Rattle.std.proofs.lemmas.Bool.{eqb-true, leb-true}
@@ -36,21 +36,21 @@ spells_then ps qs {old} {mid} {new} first last =
       same_whole = last.same_whole ∙ first.same_whole;
     }
 
-pub begun-append : (ps qs : List Token) → begun_in (ps ++ qs) ≡ begun_in ps + begun_in qs
-begun-append ps qs = sum_by-append (λ x. cond (is_facet_word x) 1 0) ps qs
+pub facet_count-append : (ps qs : List Token) → facet_count (ps ++ qs) ≡ facet_count ps + facet_count qs
+facet_count-append ps qs = sum_by-append (λ x. cond (is_facet_word x) 1 0) ps qs
 
--- a stop, seen from further left
-stop_before : (room k : ℕ) (old mid : Reader) (token : Token) (begun : ℕ) (rest : List ℕ) (f : StlFault) → mid.unit ≡ old.unit → mid.whole ≡ old.whole
-    → IsStop room mid token begun rest f → IsStop (k + room) old token (k + begun) rest f
-stop_before room k old mid token begun rest (fault.Expected kind at) unit whole s = (s.0, s.1, s.2, s.3, s.4 ∙ whole)
-stop_before room k old mid token begun rest (fault.Ended kind) unit whole s = s
-stop_before room k old mid token begun rest (fault.Number cause at) unit whole s =
+-- a stop, for a reader that began earlier in the text
+stop_before : (room k : ℕ) (old mid : Reader) (token : Token) (facets_before : ℕ) (rest : List ℕ) (f : StlFault) → mid.unit ≡ old.unit → mid.whole ≡ old.whole
+    → IsStop room mid token facets_before rest f → IsStop (k + room) old token (k + facets_before) rest f
+stop_before room k old mid token facets_before rest (fault.Expected kind at) unit whole s = (s.0, s.1, s.2, s.3, s.4 ∙ whole)
+stop_before room k old mid token facets_before rest (fault.Ended kind) unit whole s = s
+stop_before room k old mid token facets_before rest (fault.Number cause at) unit whole s =
     (s.0, s.1, subst (λ u. coordinate_of u (first_word rest) ≡ Err cause) unit s.2, s.3 ∙ whole)
-stop_before room k old mid token begun rest (fault.TooMany at) unit whole s = (s.0, ap (λ n. k + n) s.1, s.2, s.3 ∙ whole)
-stop_before room k old mid token begun rest fault.Memory unit whole s = s
+stop_before room k old mid token facets_before rest (fault.TooMany at) unit whole s = (s.0, ap (λ n. k + n) s.1, s.2, s.3 ∙ whole)
+stop_before room k old mid token facets_before rest fault.Memory unit whole s = s
 
 pub stops_within : (room : ℕ) (before inner after : List Token) {old mid : Reader} {f : StlFault} → Spells before old mid
-    → Stops room inner mid f → Stops (begun_in before + room) (before ++ (inner ++ after)) old f
+    → Stops room inner mid f → Stops (facet_count before + room) (before ++ (inner ++ after)) old f
 stops_within room before inner after {old} {mid} {f} first stops =
     record {
       front = before ++ stops.front;
@@ -62,28 +62,28 @@ stops_within room before inner after {old} {mid} {f} first stops =
       rest = stops.rest;
       spelled = spelled-append old.unit before stops.front old.rest mid.rest stops.rest first.spelled
           (subst (λ u. rest_behind u stops.front mid.rest ≡ Some stops.rest) first.same_unit stops.spelled);
-      few = omega (arith, begun-append before stops.front, stops.few);
-      stop = subst (λ n. IsStop (begun_in before + room) old stops.token n stops.rest f) (sym (begun-append before stops.front))
-          (stop_before room (begun_in before) old mid stops.token (begun_in stops.front) stops.rest f first.same_unit first.same_whole stops.stop);
+      few = omega (arith, facet_count-append before stops.front, stops.few);
+      stop = subst (λ n. IsStop (facet_count before + room) old stops.token n stops.rest f) (sym (facet_count-append before stops.front))
+          (stop_before room (facet_count before) old mid stops.token (facet_count stops.front) stops.rest f first.same_unit first.same_whole stops.stop);
     }
 
--- the same, where the room is known
-pub stops_within_at : (room all : ℕ) (before inner after : List Token) {old mid : Reader} {f : StlFault} → begun_in before + room ≡ all
+-- the same, where the sum is given by an equation
+pub stops_within_at : (room all : ℕ) (before inner after : List Token) {old mid : Reader} {f : StlFault} → facet_count before + room ≡ all
     → Spells before old mid → Stops room inner mid f → Stops all (before ++ (inner ++ after)) old f
 stops_within_at room all before inner after {old} {mid} {f} e first stops =
     subst (λ n. Stops n (before ++ (inner ++ after)) old f) e (stops_within room before inner after first stops)
 
-pub breaks_within : (before inner after : List Token) {old mid : Reader} {f : StlFault} → begun_in before ≡ 0
+pub breaks_within : (before inner after : List Token) {old mid : Reader} {f : StlFault} → facet_count before ≡ 0
     → Spells before old mid → Breaks inner mid f → Breaks (before ++ (inner ++ after)) old f
 breaks_within before inner after none first breaks =
     record { stops = λ room. stops_within_at room room before inner after (omega (arith, none)) first (breaks.stops room) }
 
--- at the very token that is wanted
+-- a reading that stops at its first token
 pub stops_at : (room : ℕ) (token : Token) (more : List Token) (c : Reader) (f : StlFault) → IsStop room c token 0 c.rest f → Stops room (token ∷ more) c f
 stops_at room token more c f stop =
     record { front = []; token = token; more = more; cut = refl; rest = c.rest; spelled = refl; few = omega arith; stop = stop }
 
--- another word, or none, in place of a keyword
+-- the fault where a keyword is wanted
 pub unfitting-stop : (room : ℕ) (c : Reader) (token : Token) (kind : Word) (at : ℕ) → wanted token ≡ Some kind → kind ≢ Number
     → is_wanted kind (first_word c.rest) ≡ false → at + length (after_space c.rest) ≡ c.whole
     → IsStop room c token 0 c.rest (unfitting kind (first_word c.rest) at)
@@ -95,25 +95,27 @@ unfitting-stop room c token kind at wants keyword_wanted other offset = by_word 
         let some : length (first_word c.rest) ≡ length (b ∷ bs) = ap length e in
         (wants, keyword_wanted, omega (arith, some), other, offset)
 
--- a word that names one keyword
-pub record NamesKeyword (kind : Word) (text : List ℕ) : Type 0 where
+-- Keywords.
+
+-- only one keyword fits this kind of word
+pub record NamesKeyword (kind : Word) : Type 0 where
   pub no_number : kind ≢ Number
-  pub only : (word : List ℕ) → is_wanted kind word ≡ is_keyword text word
+  pub only : (word : List ℕ) → is_wanted kind word ≡ is_keyword (keyword_text kind) word
 
-pub names_keyword : (kind : Word) (text : List ℕ) → keyword_text kind ≡ Some text → NamesKeyword kind text
-names_keyword Solid text e = let is : codes "solid" ≡ text = cc in record { no_number = λ h. cc; only = λ word. ap (λ t. is_keyword t word) is }
-names_keyword FacetOrEnd text e = cc
-names_keyword Normal text e = let is : codes "normal" ≡ text = cc in record { no_number = λ h. cc; only = λ word. ap (λ t. is_keyword t word) is }
-names_keyword Outer text e = let is : codes "outer" ≡ text = cc in record { no_number = λ h. cc; only = λ word. ap (λ t. is_keyword t word) is }
-names_keyword Loop text e = let is : codes "loop" ≡ text = cc in record { no_number = λ h. cc; only = λ word. ap (λ t. is_keyword t word) is }
-names_keyword Vertex text e = let is : codes "vertex" ≡ text = cc in record { no_number = λ h. cc; only = λ word. ap (λ t. is_keyword t word) is }
-names_keyword Number text e = cc
-names_keyword EndLoop text e = let is : codes "endloop" ≡ text = cc in record { no_number = λ h. cc; only = λ word. ap (λ t. is_keyword t word) is }
-names_keyword EndFacet text e = let is : codes "endfacet" ≡ text = cc in record { no_number = λ h. cc; only = λ word. ap (λ t. is_keyword t word) is }
+pub names_keyword : (kind : Word) → HasOneKeyword kind → NamesKeyword kind
+names_keyword Solid one = record { no_number = λ h. cc; only = λ word. refl }
+names_keyword FacetOrEnd one = absurd (omega (arith, one))
+names_keyword Normal one = record { no_number = λ h. cc; only = λ word. refl }
+names_keyword Outer one = record { no_number = λ h. cc; only = λ word. refl }
+names_keyword Loop one = record { no_number = λ h. cc; only = λ word. refl }
+names_keyword Vertex one = record { no_number = λ h. cc; only = λ word. refl }
+names_keyword Number one = absurd (omega (arith, one))
+names_keyword EndLoop one = record { no_number = λ h. cc; only = λ word. refl }
+names_keyword EndFacet one = record { no_number = λ h. cc; only = λ word. refl }
 
--- Faults at the word that was passed last.
+-- Faults at the word that was read last.
 
--- where that word begins
+-- the byte offset of that word
 pub taken_offset : (old new : Reader) (word : List ℕ) (at : ℕ) → new ≡ left_at old (after_word old.rest)
     → length word + length (after_word old.rest) ≡ length (after_space old.rest) → length (after_space old.rest) ≤ old.whole
     → at ≡ new.whole - (length word + length new.rest) → at + length (after_space old.rest) ≡ old.whole
@@ -133,17 +135,17 @@ unfit room old new token kind word f wants no_number word_is other moved offset 
     let same : unfitting kind (first_word old.rest) at ≡ f = ap (λ w. unfitting kind w at) (sym word_is) ∙ sym f_is in
     stops_at room token [] old f (subst (IsStop room old token 0 old.rest) same stop)
 
-pub keyword_breaks : (old new : Reader) (kind : Word) (text word : List ℕ) (f : StlFault) → keyword_text kind ≡ Some text
-    → word ≡ first_word old.rest → is_keyword text word ≡ false → new ≡ left_at old (after_word old.rest)
+pub keyword_breaks : (old new : Reader) (kind : Word) (word : List ℕ) (f : StlFault) → HasOneKeyword kind
+    → word ≡ first_word old.rest → is_keyword (keyword_text kind) word ≡ false → new ≡ left_at old (after_word old.rest)
     → length word + length (after_word old.rest) ≡ length (after_space old.rest) → length (after_space old.rest) ≤ old.whole
-    → f ≡ unfitting kind word (new.whole - (length word + length new.rest)) → Breaks (keyword kind text ∷ []) old f
-keyword_breaks old new kind text word f text_is word_is other moved offset within f_is =
-    let names : NamesKeyword kind text = names_keyword kind text text_is in
+    → f ≡ unfitting kind word (new.whole - (length word + length new.rest)) → Breaks (keyword_of kind ∷ []) old f
+keyword_breaks old new kind word f one word_is other moved offset within f_is =
+    let names : NamesKeyword kind = names_keyword kind one in
     record {
-      stops = λ room. unfit room old new (keyword kind text) kind word f refl names.no_number word_is (names.only word ∙ other) moved offset within f_is;
+      stops = λ room. unfit room old new (keyword_of kind) kind word f refl names.no_number word_is (names.only word ∙ other) moved offset within f_is;
     }
 
--- no word where one is wanted
+-- the text ends where a word is wanted
 pub normal_part_breaks : (old : Reader) → first_word old.rest ≡ [] → Breaks (normal_part ∷ []) old (fault.Ended Number)
 normal_part_breaks old none = record { stops = λ room. stops_at room normal_part [] old (fault.Ended Number) (refl, none) }
 
@@ -188,13 +190,13 @@ coordinate-within unit word z e = by_length (nat_lt WORD_LIMIT (length word)) e
     by_length true h = cc
     by_length false h = by_numeral (numeral_of word) h
 
--- the same, as the code passes it
+-- the same for the number in the bits of its type
 pub coordinate-within-bits : (unit : LengthUnit) (word : List ℕ) (z : ℤ) → coordinate_of unit word ≡ Ok z → IsAtMost COORDINATE_LIMIT (to_z w32 (of_z w32 z))
 coordinate-within-bits unit word z e =
     let within : IsAtMost COORDINATE_LIMIT z = coordinate-within unit word z e in
     record { at_most = omega (arith, back_of w32 z, within.at_most) }
 
--- at the first of several steps
+-- a fault in the first of several steps
 pub breaks_first : (inner after : List Token) {c : Reader} {f : StlFault} → Breaks inner c f → Breaks (inner ++ after) c f
 breaks_first inner after {c} breaks =
     breaks_within [] inner after refl (record { spelled = refl; same_unit = refl; same_whole = refl }) breaks

@@ -1,6 +1,6 @@
--- What is written is read back.
+-- Facets that are written as a text are read back.
 use Rattle.std.proofs.Common.{◌≡◌, ℕ, ◌≤◌, Bool, true, false, ◌&&◌, not, List, [], ◌∷◌, ◌++◌, length, refl, sym, ◌∙◌, ap, arith, append_assoc}
-use Rattle.std.specs.Prelude.{Some, Ok, Err, codes, flat_map, nat_lt}
+use Rattle.std.specs.Prelude.{Some, Ok, Err, flat_map, nat_lt}
 use Rattle.std.specs.Str.{str_to_ascii_lowercase}
 use Rattle.std.specs.Char.{to_ascii_lowercase}
 use Rattle.std.specs.List.{before_first, list_all}
@@ -14,11 +14,11 @@ use Rattle.micro_num.specs.Numeral.{from_first}
 use Rattle.stl_text.specs.declared.word.Word.{Word}
 use Rattle.stl_text.specs.declared.word.Word.TheVariants.{FacetOrEnd, Solid}
 use Rattle.geometry.specs.Facet.{Facet}
-use Rattle.stl_text.specs.Text.{Token, keyword, normal_part, coordinate, rest_of_line, end_word, facet_tokens, solid_tokens, is_white, is_line_end, is_read_as, begins_with, after_space, first_word, after_word, after_token, rest_behind, Reads}
+use Rattle.stl_text.specs.Text.{Token, keyword, normal_part, coordinate, rest_of_line, end_word, facet_tokens, solid_tokens, is_white, is_line_end, is_read_as, begins_with, after_space, first_word, after_word, after_token, rest_behind, Reads, keyword_of, keyword_text, end_keyword}
 use Rattle.stl_text.specs.Written.{SpacedWord, is_word, are_white, laid_out, IsWordOf, AreWordsOf, IsApart, IsRemark, WrittenSolid, AreWrittenSolids, Written}
 use Rattle.stl_text.proofs.lemmas.Steps.{spelled-append}
 
--- white space in front is passed
+-- white space in front is skipped
 skip_white : (space more : List ℕ) → are_white space ≡ true → after_space (space ++ more) ≡ after_space more
 skip_white [] more h = refl
 skip_white (b ∷ space) more h =
@@ -29,7 +29,7 @@ not_not : (b : Bool) → not b ≡ true → b ≡ false
 not_not true h = cc
 not_not false h = refl
 
--- what stands in front of the first byte that passes, and what from it on
+-- the bytes before the first one that passes a test, and those from it on
 ApartBy : (ℕ → Bool) → List ℕ → Type 0
 ApartBy p [] = Unit {0}
 ApartBy p (b ∷ bs) = p b ≡ true
@@ -53,7 +53,7 @@ behind_is p (b ∷ front) more h apart =
 all_black : (word : List ℕ) → is_word word ≡ true → list_all (λ b. not (is_white b)) word ≡ true
 all_black word h = (and_parts _ _ h).1
 
--- a word behind white space, and what stands behind it
+-- a word behind white space, and the text behind the word
 word_first : (word more : List ℕ) → is_word word ≡ true → after_space (word ++ more) ≡ word ++ more
 word_first [] more h = cc
 word_first (b ∷ word) more h =
@@ -102,7 +102,7 @@ unfolding ApartBy
 apart_white [] more h white = cc
 apart_white (b ∷ space) more h white = (and_parts _ _ white).0
 
--- white space is left, and then more
+-- behind the tokens there is white space, and then more text
 record Leaves (unit : LengthUnit) (ps : List Token) (bytes more : List ℕ) : Type 0 where
   space : List ℕ
   white : are_white space ≡ true
@@ -129,7 +129,7 @@ words_read unit (p ∷ ps) (t ∷ words) space more are white =
           ∙ step_on unit p ps (space ++ (t.word ++ behind)) behind (on.space ++ more) read on.spelled;
     }
 
--- case changes nothing about white space
+-- white space is the same in upper and lower case
 white-lower : (b : ℕ) → is_white (to_ascii_lowercase b) ≡ is_white b
 white-lower b = grind (arith, nat_tests)
 
@@ -157,7 +157,7 @@ unfolding ApartBy
 apart_remark [] e more apart ends = line_end_white e ends
 apart_remark (b ∷ remark) e more apart ends = apart
 
--- a keyword, what stands behind it on its line, and the line's end
+-- a keyword, the rest of its line, and the line's end
 line_read : (unit : LengthUnit) (kind : Word) (text space word remark : List ℕ) (e : ℕ) (more : List ℕ) → are_white space ≡ true
     → str_to_ascii_lowercase word ≡ text → is_word text ≡ true → IsRemark remark → is_line_end e ≡ true
     → rest_behind unit (keyword kind text ∷ rest_of_line ∷ []) (space ++ (word ++ (remark ++ (e ∷ more)))) ≡ Some (e ∷ more)
@@ -181,19 +181,19 @@ solid_read unit facets text space more w white =
     let closing : List ℕ = w.closing ++ (w.remark ++ (w.remark_end ∷ last)) in
     let body : List ℕ = w.space ++ (laid_out w.body ++ closing) in
     let whole : text ++ more ≡ w.opening ++ (w.name ++ (w.name_end ∷ body)) = ap (λ t. t ++ more) w.text_is ∙ simp append_assoc in
-    let opened : rest_behind unit (keyword Solid (codes "solid") ∷ rest_of_line ∷ []) (space ++ (w.opening ++ (w.name ++ (w.name_end ∷ body)))) ≡ Some (w.name_end ∷ body) =
-    line_read unit Solid (codes "solid") space w.opening w.name w.name_end body white w.opening_is refl w.name_is w.name_ends in
+    let opened : rest_behind unit (keyword_of Solid ∷ rest_of_line ∷ []) (space ++ (w.opening ++ (w.name ++ (w.name_end ∷ body)))) ≡ Some (w.name_end ∷ body) =
+    line_read unit Solid (keyword_text Solid) space w.opening w.name w.name_end body white w.opening_is refl w.name_is w.name_ends in
     let read : Leaves unit (flat_map facet_tokens facets) ((w.name_end ∷ w.space) ++ (laid_out w.body ++ closing)) closing =
     words_read unit (flat_map facet_tokens facets) w.body (w.name_end ∷ w.space) closing w.body_is (white_behind w.name_end w.space w.name_ends w.space_is) in
     let closed : rest_behind unit (end_word ∷ rest_of_line ∷ []) (read.space ++ closing) ≡ Some (w.remark_end ∷ last) =
-    line_read unit FacetOrEnd (codes "endsolid") read.space w.closing w.remark w.remark_end last read.white w.closing_is refl w.remark_is w.remark_ends in
+    line_read unit FacetOrEnd end_keyword read.space w.closing w.remark w.remark_end last read.white w.closing_is refl w.remark_is w.remark_ends in
     record {
       space = w.remark_end ∷ w.behind;
       white = white_behind w.remark_end w.behind w.remark_ends w.behind_is;
       spelled = ap (λ bs. rest_behind unit (solid_tokens facets) (space ++ bs)) whole
-          ∙ spelled-append unit ((keyword Solid (codes "solid") ∷ rest_of_line ∷ []) ++ flat_map facet_tokens facets) (end_word ∷ rest_of_line ∷ [])
+          ∙ spelled-append unit ((keyword_of Solid ∷ rest_of_line ∷ []) ++ flat_map facet_tokens facets) (end_word ∷ rest_of_line ∷ [])
           (space ++ (w.opening ++ (w.name ++ (w.name_end ∷ body)))) (read.space ++ closing) (w.remark_end ∷ last)
-          (spelled-append unit (keyword Solid (codes "solid") ∷ rest_of_line ∷ []) (flat_map facet_tokens facets)
+          (spelled-append unit (keyword_of Solid ∷ rest_of_line ∷ []) (flat_map facet_tokens facets)
           (space ++ (w.opening ++ (w.name ++ (w.name_end ∷ body)))) (w.name_end ∷ body) (read.space ++ closing) opened read.spelled)
           closed;
     }
@@ -214,7 +214,7 @@ solids_read unit (facets ∷ solids) (text ∷ texts) space are white =
           (first.space ++ flat_map (λ t. t) texts) (on.space ++ []) first.spelled on.spelled;
     }
 
--- a text that is written of facets reads as these
+-- a text in which facets are written reads as these facets
 pub written_reads : (limit : ℕ) (unit : LengthUnit) (facets : List Facet) (text : List ℕ) → length facets ≤ limit → Written unit facets text
     → Reads limit unit text facets
 written_reads limit unit facets text few w =

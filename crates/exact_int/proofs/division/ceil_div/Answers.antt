@@ -4,7 +4,6 @@ use mir.Syntax.{w128}
 use Rattle.exact_int.proofs.lemmas.Ceilings.{ceiling-up, ceiling-same}
 use Rattle.exact_int.proofs.division.ceil_div.Goals as goal
 
--- src/lib.rt:7:1
 pub returns-then-n-d-gt0 : goal.returns-then-n-d-gt0
 returns-then-n-d-gt0 c =
     let n = c.args.n in
@@ -15,7 +14,6 @@ returns-then-n-d-gt0 c =
     let big : pos 0 <ℤ int_rem n d = rw (← r) (omega (arith, ints)) in
     λ k. rw (to_z-of_z w128 _ more, q) (ceiling-up n d c.requires big k)
 
--- src/lib.rt:7:1
 pub returns-else-n-d-gt0 : goal.returns-else-n-d-gt0
 returns-else-n-d-gt0 c =
     let n = c.args.n in

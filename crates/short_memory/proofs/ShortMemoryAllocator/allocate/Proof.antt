@@ -1,4 +1,4 @@
--- It refuses where the turn has come, and else answers what the inner allocator answers. Assumes `Logic`.
+-- It fails at its turn, and otherwise answers what the inner allocator answers. Assumes `Logic`.
 use Rattle.std.proofs.Common.{◌≡◌, ℕ, ◌+◌, ◌^◌, ◌<◌, true, false, Bool, List, [], ◌∷◌, Ok, Err, refl, w64, Bor}
 use seplogic.Ra.Ura.{Ura}
 use mir.Syntax.{Ty, Args, Fn, a_type, dnil, dcons}

@@ -1,7 +1,6 @@
 use Rattle.std.proofs.Common.{refl, sym, ◌∙◌, ap, []}
-use Rattle.std.specs.Prelude.{codes}
 use Rattle.stl_text.specs.declared.word.Word.TheVariants.{FacetOrEnd}
-use Rattle.stl_text.specs.Text.{facet_word, is_keyword}
+use Rattle.stl_text.specs.Text.{facet_word, is_keyword, facet_keyword}
 use Rattle.stl_text.proofs.lemmas.Steps.{stops_at, taken_offset, unfit}
 use Rattle.stl_text.proofs.reader.Reader.begins_word.Goals as goal
 
@@ -11,7 +10,7 @@ returns-then-room-eq0-clause-fault c =
     stops_at c.args.room facet_word [] c.args.self.now _ (
       refl,
       sym c.if-room-eq0.true,
-      ap (is_keyword (codes "facet")) (sym passed.word) ∙ sym c.is_keyword.ensures ∙ c.if-is_keyword.true,
+      ap (is_keyword facet_keyword) (sym passed.word) ∙ sym c.is_keyword.ensures ∙ c.if-is_keyword.true,
       taken_offset c.args.self.now c.next_word-word.new.self c.next_word-word.result.now _ passed.rest passed.offset passed.within
           c.offset_of.ensures,
     )
