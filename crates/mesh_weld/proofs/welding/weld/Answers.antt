@@ -72,7 +72,7 @@ numbering_is g c =
 pub invariant_of-result : goal.invariant_of-result
 invariant_of-result g c =
     let few : length c.drop_degenerate.new.facets.items ≤ FACET_LIMIT = omega (arith, ap length c.drop_degenerate.ensures, kept_few c.args.facets.items, c.args.facets.ok.0) in (
-      numbering_is g c,
+      numbering_is g (goal.at.invariant_of-result g c).After-len-dropped,
       few,
       rw c.drop_degenerate.ensures (filter_passes is_kept c.args.facets.items),
     )
