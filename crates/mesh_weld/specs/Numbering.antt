@@ -6,7 +6,7 @@ use Rattle.mesh_weld.specs.Balance.{IsBalanced}
 use Rattle.mesh_weld.specs.EdgeNumbers.{AreEdgeNumbers}
 use Rattle.mesh_weld.specs.Solid.{IsByHeight, triples, vertices}
 
--- a list in parts of three
+-- a list in groups of three
 abbrev pub threes : List ℕ → List (List ℕ)
 threes [] = []
 threes (a ∷ []) = []

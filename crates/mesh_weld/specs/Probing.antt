@@ -1,4 +1,4 @@
--- Which centres and steps between centres the facets leave free. Centres are in half-micrometres.
+-- Centres that no facet touches, and steps from centre to centre that no facet meets. Centres are in half-micrometres.
 use Rattle.std.specs.Prelude.{List, All}
 use Rattle.geometry.specs.Point.{Point}
 use Rattle.geometry.specs.Facet.{Facet, twice}

@@ -2,7 +2,7 @@
 use Rattle.std.specs.Prelude.{◌≡◌, ℕ, Bool, true, not, ◌&&◌, ◌||◌, List, [], ◌∷◌, length, map, filter, flat_map, count_by, IsPermutation, ℤ, if◌then◌else◌, slice_index_or, nat_lt, int_lt}
 use Rattle.std.specs.Ordering.{int_eq}
 use Rattle.std.specs.Int.{int_min}
-use Rattle.std.specs.List.{position_or_len, range_with_len, AllPairs}
+use Rattle.std.specs.List.{All, position_or_len, range_with_len, AllPairs}
 use Rattle.geometry.specs.Point.{Point, origin, same, is_before}
 use Rattle.geometry.specs.Facet.{Facet, facet_with, corners}
 
@@ -14,10 +14,14 @@ pub record Solid : Type 0 where
 abbrev pub is_kept : Facet → Bool
 is_kept t = not (same t.a t.b || same t.b t.c || same t.c t.a)
 
+-- none of the facets is degenerate
+abbrev pub HaveDistinctCorners : List Facet → Type 0
+HaveDistinctCorners facets = All (λ t. is_kept t ≡ true) facets
+
 abbrev pub kept_facets : List Facet → List Facet
 kept_facets facets = filter is_kept facets
 
--- the mesh of facets
+-- the solid that facets make, if they are closed
 abbrev pub solid_of : List Facet → Solid
 solid_of facets = record { facets = kept_facets facets; dropped = count_by (λ t. not (is_kept t)) facets }
 
@@ -44,7 +48,7 @@ number_of points p = position_or_len (same p) points
 abbrev pub triples : List Facet → List (List ℕ)
 triples facets = map (λ t. map (number_of (vertices facets)) (corners t)) facets
 
--- the least height of its corners
+-- the least height of a facet's corners
 abbrev pub least_z : Facet → ℤ
 least_z t = int_min (int_min t.a.z t.b.z) t.c.z
 

@@ -1,7 +1,7 @@
 -- What each fault of welding says of the facets.
 use Rattle.std.specs.Prelude.{◌≡◌, ◌+◌, List}
 use Rattle.geometry.specs.Facet.{Facet}
-use Rattle.mesh_weld.specs.Balance.{IsLeastOpen, edge_count}
+use Rattle.mesh_weld.specs.Balance.{IsLeastOpen, half_edge_count}
 use Rattle.mesh_weld.specs.declared.weld_fault.WeldFault.{WeldFault}
 use Rattle.mesh_weld.specs.declared.weld_fault.WeldFault.TheVariants as fault
 
@@ -13,7 +13,7 @@ IsWeldFault facets fault.Memory = Unit {0}
 -- the fault of kept facets: their own least open edge, with the edges of dropped facets counted too
 abbrev pub IsKeptFault : List Facet → List Facet → WeldFault → Type 0
 IsKeptFault kept degenerate (fault.Open from to there back) =
-    IsLeastOpen kept from to (edge_count kept from to) (edge_count kept to from)
-    × (there ≡ edge_count kept from to + edge_count degenerate from to)
-    × (back ≡ edge_count kept to from + edge_count degenerate to from)
+    IsLeastOpen kept from to (half_edge_count kept from to) (half_edge_count kept to from)
+    × (there ≡ half_edge_count kept from to + half_edge_count degenerate from to)
+    × (back ≡ half_edge_count kept to from + half_edge_count degenerate to from)
 IsKeptFault kept degenerate fault.Memory = Unit {0}

@@ -2,7 +2,7 @@
 ghost use Rattle.std.specs.Prelude.{◌≡◌, ◌≤◌, ◌+◌, ◌&&◌, cond, count_by, not, filter, IfOk, length};
 ghost use Rattle.geometry.specs.Point.{same};
 ghost use Rattle.geometry.specs.Facet.{half_edges};
-ghost use Rattle.mesh_weld.specs.Balance.{edge_count};
+ghost use Rattle.mesh_weld.specs.Balance.{half_edge_count};
 ghost use Rattle.mesh_weld.specs.Solid.{is_kept};
 ghost use Rattle.mesh_weld.specs.declared.weld_fault.WeldFault.TheVariants.{Open};
 ghost use Rattle.geometry.specs.declared.limits.TheConstants.{CORNER_LIMIT, FACET_LIMIT};
@@ -51,10 +51,10 @@ pub(crate) fn drop_degenerate<A: Allocator>(facets: &mut Vec<Facet, A>, dropped:
     }
 }
 
-/// The number of edges from one point to the other.
+/// The number of half-edges from one point to the other.
 fn count_edges(facets: &[Facet], from: Point, to: Point) -> u32
     requires { length facets.now ≤ FACET_LIMIT }
-    ensures count { result ≡ edge_count facets.now from to }
+    ensures count { result ≡ half_edge_count facets.now from to }
     ensures limit { result ≤ CORNER_LIMIT }
 {
     let mut count = 0;
@@ -64,7 +64,7 @@ fn count_edges(facets: &[Facet], from: Point, to: Point) -> u32
     count
 }
 
-/// The number of a facet's edges from one point to the other.
+/// The number of a facet's half-edges from one point to the other.
 fn count_own(facet: &Facet, from: Point, to: Point) -> u32
     ensures count { result ≡ count_by (λ e. same e.from from && same e.to to) (half_edges facet.now) }
     ensures limit { result ≤ 3 }
@@ -85,8 +85,8 @@ fn runs(first: Point, second: Point, from: Point, to: Point) -> u32
 pub(crate) fn open_edge(kept: &[Facet], degenerate: &[Facet], from: Point, to: Point) -> WeldFault
     requires kept { length kept.now ≤ FACET_LIMIT }
     requires degenerate { length degenerate.now ≤ FACET_LIMIT }
-    ensures { result ≡ Open from to (edge_count kept.now from to + edge_count degenerate.now from to)
-        (edge_count kept.now to from + edge_count degenerate.now to from) }
+    ensures { result ≡ Open from to (half_edge_count kept.now from to + half_edge_count degenerate.now from to)
+        (half_edge_count kept.now to from + half_edge_count degenerate.now to from) }
 {
     WeldFault::Open {
         from,

@@ -1,4 +1,4 @@
-//! Half-edges by the numbers of their ends, and the numbers that they give to edges.
+//! Half-edges by the numbers of their ends, and the numbers of their edges.
 ghost use Rattle.std.specs.Prelude.{◌≡◌};
 ghost use Rattle.mesh_weld.specs.HalfEdge.{pair_key};
 
@@ -14,8 +14,8 @@ pub(crate) struct HalfEdge {
 }
 
 impl HalfEdge {
-    /// A key of the two ends in either order. It ascends with the lesser end, and then with the greater one.
-    pub fn pair(&self) -> u64
+    /// A key of the two ends, the same in both directions. It ascends with the lesser end, and then with the greater.
+    pub(crate) fn pair(&self) -> u64
         ensures { result ≡ pair_key self.now }
     {
         packed(self.from.min(self.to), self.from.max(self.to))

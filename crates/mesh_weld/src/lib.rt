@@ -1,4 +1,4 @@
-//! Closed meshes: facets welded at equal corners, where each directed edge is balanced by the edge back.
+//! Closed meshes: facets welded at equal corners, where as many half-edges run from any point to another as back.
 //!
 //! ```
 //! let solid = weld(alloc, facets)?;
@@ -10,11 +10,11 @@
 //! the numbers of corners and edges of each facet, and the order of the facets by height. Where the half-edges of a
 //! mesh don't balance it answers [`WeldFault::Open`] with the least pair of points between which they don't.
 //! [`probe`] and [`step`] count the signed crossings of a solid by rays. [`hold_mesh_laws`] states what holds of every
-//! closed mesh, as that crossings cancel.
+//! closed mesh: for example, its signed crossings by a whole line sum to 0.
 //!
 //! Points are in micrometres, centres of rays in half-micrometres.
 //!
-//! Solids are numbered in one of two ways with the same contract: `by_sort`, and `by_hash` for large meshes.
+//! Corners and edges are numbered by hashes in large meshes (`by_hash`), and otherwise by sorts (`by_sort`).
 #![tactic(auto)]
 
 mod by_hash;

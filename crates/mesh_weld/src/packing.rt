@@ -1,10 +1,10 @@
-//! Two numbers packed into one word. Lists are sorted by such words, since a sort of words is faster than one of pairs.
+//! Two numbers packed into one word. Lists are sorted by such words, since words sort faster than pairs.
 ghost use Rattle.std.specs.Prelude.{◌≡◌, ◌+◌, ◌*◌, ◌^◌};
 
 /// One more than the greatest number in half a word: a word modulo this is its lower half.
 pub(crate) const HALF_WORD: u64 = 1 << 32;
 
-/// A word that ascends with the upper number, and then with the lower one.
+/// The word of two halves. It ascends with the upper one, and then with the lower one.
 #[inline(always)]
 pub(crate) fn packed(upper: u32, lower: u32) -> u64
     ensures { result ≡ upper * 2 ^ 32 + lower }

@@ -1,4 +1,4 @@
-//! Runs of half-edges with the same two ends, by which both ways see whether edges balance.
+//! Runs of half-edges with the same two ends. Both ways of numbering tell by them whether the half-edges balance.
 ghost use Rattle.std.specs.Prelude.{◌≡◌, ◌↔◌, ◌<◌, ◌*◌, ◌+◌, ◌-◌, ◌^◌, IsTrue, min, max};
 ghost use Rattle.mesh_weld.specs.Run.{started, counted};
 
@@ -16,7 +16,7 @@ pub(crate) struct Run {
 }
 
 impl Run {
-    pub const NONE: Run = Run {
+    pub(crate) const NONE: Run = Run {
         low: 0,
         high: 0,
         there: 0,
@@ -24,7 +24,7 @@ impl Run {
     };
 
     /// The run of a half-edge's ends, before any half-edge is counted.
-    pub fn started(half_edge: &HalfEdge) -> Run
+    pub(crate) fn started(half_edge: &HalfEdge) -> Run
         ensures { result ≡ started half_edge.now }
     {
         Run {
@@ -35,14 +35,14 @@ impl Run {
     }
 
     /// The key that a half-edge with these ends has.
-    pub fn pair(&self) -> u64
+    pub(crate) fn pair(&self) -> u64
         ensures { result ≡ self.now.low * 2 ^ 32 + self.now.high }
     {
         packed(self.low, self.high)
     }
 
     /// Whether a half-edge has the run's ends.
-    pub fn has_ends_of(&self, half_edge: &HalfEdge) -> bool
+    pub(crate) fn has_ends_of(&self, half_edge: &HalfEdge) -> bool
         ensures in_range { (self.now.high < 2 ^ 32) × (half_edge.now.from < 2 ^ 32) × (half_edge.now.to < 2 ^ 32) }
         ensures value { IsTrue result ↔ (self.now.low ≡ min half_edge.now.from half_edge.now.to) × (self.now.high ≡ max half_edge.now.from half_edge.now.to) }
     {
@@ -51,7 +51,7 @@ impl Run {
     }
 
     /// The run with one more half-edge between its ends.
-    pub fn counted(self, half_edge: &HalfEdge) -> Run
+    pub(crate) fn counted(self, half_edge: &HalfEdge) -> Run
         requires there { self.there < 2 ^ 32 - 1 }
         requires back { self.back < 2 ^ 32 - 1 }
         ensures { result ≡ counted self half_edge.now }

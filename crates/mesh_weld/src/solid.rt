@@ -1,9 +1,12 @@
 //! The closed mesh that the crates above slice.
-ghost use Rattle.std.specs.Prelude.{◌≡◌, ◌<◌, ◌≤◌, ◌↔◌, ℕ, IsTrue, List, Some, length, option_map, slice_get};
+ghost use Rattle.std.specs.Prelude.{◌≡◌, ◌<◌, ◌≤◌, ◌↔◌, ℕ, IsTrue, List, Some, flat_map, length, option_map, slice_get, true};
+ghost use Rattle.std.specs.List.{AllPairs, Contains};
 ghost use Rattle.geometry.specs.BoundingBox.{bounds};
+ghost use Rattle.geometry.specs.Facet.{corners};
+ghost use Rattle.geometry.specs.Point.{Point, is_before};
 ghost use Rattle.mesh_weld.specs.Balance.{IsBalanced};
 ghost use Rattle.mesh_weld.specs.EdgeNumbers.{AreEdgeNumbers};
-ghost use Rattle.mesh_weld.specs.Solid.{IsByHeight, triples, vertices};
+ghost use Rattle.mesh_weld.specs.Solid.{HaveDistinctCorners, IsByHeight, triples, vertices};
 ghost use Rattle.geometry.specs.declared.limits.TheConstants.{FACET_LIMIT};
 
 use geometry::{Facet, Point, extent};
@@ -27,14 +30,14 @@ impl<A: Allocator> Model for Solid<A> {
     ghost use Rattle.geometry.specs.declared.limits.TheConstants.{FACET_LIMIT};
     ghost use Rattle.std.specs.Prelude.{◌≤◌, length};
     ghost use Rattle.mesh_weld.specs.Numbering.{IsNumberingOf};
-    ghost use Rattle.mesh_weld.specs.Solid.{Solid};
+    ghost use Rattle.mesh_weld.specs.Solid.{HaveDistinctCorners, Solid};
 
     ghost Value = { Solid };
 
     ghost view = { λ s. record { facets = s.facets.items; dropped = s.dropped } };
 
     ghost invariant = { λ s. IsNumberingOf s.facets.items s.points.items s.numbers.items s.edges.items s.edge_count s.order.items
-        × (length s.facets.items ≤ FACET_LIMIT) };
+        × (length s.facets.items ≤ FACET_LIMIT) × HaveDistinctCorners s.facets.items };
 }
 
 impl<A: Allocator> Solid<A> {
@@ -47,7 +50,9 @@ impl<A: Allocator> Solid<A> {
 
     /// The distinct corners of the kept facets, in ascending order.
     pub fn vertices(&self) -> &[Point]
-        ensures { result.now ≡ vertices self.now.facets }
+        ensures value { result.now ≡ vertices self.now.facets }
+        ensures ascending { AllPairs (λ p q. is_before p q ≡ true) result.now }
+        ensures members { (p : Point) → Contains result.now p ↔ Contains (flat_map corners self.now.facets) p }
     {
         self.points.as_slice()
     }
@@ -95,11 +100,12 @@ impl<A: Allocator> Solid<A> {
         self.order.as_slice()
     }
 
-    /// The number of kept facets. Each solid is closed.
+    /// The number of kept facets. Each solid is closed, and none of its facets is degenerate.
     pub fn count(&self) -> usize
         ensures count { result ≡ length self.now.facets }
         ensures few { length self.now.facets ≤ FACET_LIMIT }
         ensures closed { IsBalanced self.now.facets }
+        ensures distinct { HaveDistinctCorners self.now.facets }
     {
         self.facets.len()
     }

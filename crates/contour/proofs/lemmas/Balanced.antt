@@ -6,7 +6,7 @@ use Rattle.std.proofs.lemmas.Int.{ints}
 use Rattle.std.proofs.lemmas.Bool.{and_from, and_parts, eqb-true, eq-eqb, or_cases, or_left, or_right}
 use Rattle.geometry.specs.Point.{Point, origin, same}
 use Rattle.geometry.specs.Facet.{Facet, facet_with, Edge, edge, edges, half_edges}
-use Rattle.mesh_weld.specs.Balance.{IsBalanced, edge_count}
+use Rattle.mesh_weld.specs.Balance.{IsBalanced, half_edge_count}
 use Rattle.mesh_weld.specs.Solid.{vertices, number_of, facet_at}
 use Rattle.mesh_weld.specs.EdgeNumbers.{AreEdgeNumbers, HaveSameEnds, edge_of, edge_number}
 use Rattle.mesh_weld.proofs.lemmas.InOrder.{is_in}
@@ -356,7 +356,7 @@ module _ (facets : List Facet) (numbers : List (List ℕ)) (count : ℕ) (number
     even_at balanced =
         starts_count
         ∙ (λ i. cond (is_downward z d) (balanced d.from d.to i) 0 + cond (is_upward z d) (balanced d.to d.from i) 0)
-        ∙ swapped (cond (is_downward z d) (edge_count facets d.to d.from) 0) (cond (is_upward z d) (edge_count facets d.from d.to) 0)
+        ∙ swapped (cond (is_downward z d) (half_edge_count facets d.to d.from) 0) (cond (is_upward z d) (half_edge_count facets d.from d.to) 0)
         ∙ sym finishes_count
       where
         swapped : (a b : ℕ) → a + b ≡ b + a

@@ -1,4 +1,5 @@
--- A facet with two equal corners: its edges balance one another, and no ray passes it. So a mesh may do without it.
+-- Degenerate facets: their edges balance one another, and no ray crosses them. So a mesh without them has the same rays,
+-- and is closed exactly where the whole mesh is.
 use Rattle.std.proofs.Common.{◌≡◌, ℕ, ◌+◌, Bool, true, false, cond, not, ◌&&◌, ◌||◌, List, [], ◌∷◌, ◌⊎◌, ℤ, pos, ◌+ℤ◌, ◌*ℤ◌, neg_ℤ, refl, sym, ◌∙◌, ap, inl, inr, arith}
 use Rattle.std.specs.Prelude.{count_by, int_lt}
 use Rattle.std.proofs.lemmas.List.Sums.{sum_by-append}
@@ -6,7 +7,7 @@ use Rattle.std.proofs.lemmas.Int.{ints}
 use Rattle.geometry.specs.Point.{Point, same, half_micrometres_of}
 use Rattle.geometry.specs.Facet.{Facet, edges, half_edges, twice}
 use Rattle.geometry.specs.Winding.{turn, turn_x, wind, hit, wind_y, hit_y, volume, total, ray, ray_y}
-use Rattle.mesh_weld.specs.Balance.{edge_count, IsBalanced}
+use Rattle.mesh_weld.specs.Balance.{half_edge_count, IsBalanced}
 use Rattle.mesh_weld.specs.Solid.{is_kept, kept_facets}
 use Rattle.mesh_weld.proofs.lemmas.Edges.{same-is}
 use Rattle.exact_cut.proofs.lemmas.Turns.{turn-opposite, turn_x-opposite}
@@ -54,7 +55,7 @@ degenerate_amount q opposite t (inr (inr e)) =
     cancels-third _ _ _ (ap (q t.c) (sym e) ∙ own_opposite (q t.c t.c) (opposite t.c t.c))
     (ap (q t.b) e ∙ opposite t.a t.b)
 
--- ---- no ray passes it
+-- ---- no ray crosses them
 pub degenerate_wind : (t : Facet) → HasEqualCorners t → (y z : ℤ) → wind (twice t) y z ≡ pos 0
 unfolding wind
 degenerate_wind t h y z =
@@ -80,7 +81,7 @@ pub degenerate_hit_y : (t : Facet) → HasEqualCorners t → (c : Point) → hit
 unfolding hit_y
 degenerate_hit_y t h c = unpassed (wind_y (twice t) c.x c.z) (volume (twice t) c) (degenerate_wind_y t h c.x c.z)
 
--- ---- its edges balance one another
+-- ---- their edges balance one another
 abbrev pub own_count : Facet → Point → Point → ℕ
 own_count t u v = count_by (λ e. same e.from u && same e.to v) (half_edges t)
 
@@ -126,14 +127,14 @@ degenerate_balance t h u v = own_count-is t u v ∙ by_corners h ∙ sym (own_co
     by_corners (inr (inr e)) = third _ _ _ _ _ _ (λ i. n (e i) (sym e i)) (ap (λ p. n p t.b) (sym e)) (ap (n t.b) e)
 
 -- ---- the mesh without them
-pub edge_count-cons : (t : Facet) (ts : List Facet) (u v : Point) → edge_count (t ∷ ts) u v ≡ own_count t u v + edge_count ts u v
-edge_count-cons t ts u v = sum_by-append (λ e. cond (same e.from u && same e.to v) 1 0) (half_edges t) (edges ts)
+pub half_edge_count-cons : (t : Facet) (ts : List Facet) (u v : Point) → half_edge_count (t ∷ ts) u v ≡ own_count t u v + half_edge_count ts u v
+half_edge_count-cons t ts u v = sum_by-append (λ e. cond (same e.from u && same e.to v) 1 0) (half_edges t) (edges ts)
 
 -- equal numbers of edges of dropped facets run from u to v and back
 pub record Dropped (facets : List Facet) (u v : Point) : Type 0 where
   pub many : ℕ
-  pub there : edge_count facets u v ≡ edge_count (kept_facets facets) u v + many
-  pub back : edge_count facets v u ≡ edge_count (kept_facets facets) v u + many
+  pub there : half_edge_count facets u v ≡ half_edge_count (kept_facets facets) u v + many
+  pub back : half_edge_count facets v u ≡ half_edge_count (kept_facets facets) v u + many
 
 pub dropped : (facets : List Facet) (u v : Point) → Dropped facets u v
 dropped [] u v = record { many = 0; there = refl; back = refl }
@@ -150,22 +151,22 @@ dropped (t ∷ ts) u v = by_test (dropped ts u v) (is_kept t) refl
         let same_list : kept_facets (t ∷ ts) ≡ t ∷ kept_facets ts = ap (λ b. cond b (t ∷ kept_facets ts) (kept_facets ts)) h in
         record {
           many = rest.many;
-          there = kept _ _ _ _ _ (edge_count-cons t ts u v) rest.there
-              ∙ ap (λ n. n + rest.many) (sym (edge_count-cons t (kept_facets ts) u v))
-              ∙ ap (λ list. edge_count list u v + rest.many) (sym same_list);
-          back = kept _ _ _ _ _ (edge_count-cons t ts v u) rest.back
-              ∙ ap (λ n. n + rest.many) (sym (edge_count-cons t (kept_facets ts) v u))
-              ∙ ap (λ list. edge_count list v u + rest.many) (sym same_list);
+          there = kept _ _ _ _ _ (half_edge_count-cons t ts u v) rest.there
+              ∙ ap (λ n. n + rest.many) (sym (half_edge_count-cons t (kept_facets ts) u v))
+              ∙ ap (λ list. half_edge_count list u v + rest.many) (sym same_list);
+          back = kept _ _ _ _ _ (half_edge_count-cons t ts v u) rest.back
+              ∙ ap (λ n. n + rest.many) (sym (half_edge_count-cons t (kept_facets ts) v u))
+              ∙ ap (λ list. half_edge_count list v u + rest.many) (sym same_list);
         }
     by_test rest false h =
         let same_list : kept_facets (t ∷ ts) ≡ kept_facets ts = ap (λ b. cond b (t ∷ kept_facets ts) (kept_facets ts)) h in
         record {
           many = own_count t u v + rest.many;
-          there = kept_out _ _ _ _ _ (edge_count-cons t ts u v) rest.there
-              ∙ ap (λ list. edge_count list u v + (own_count t u v + rest.many)) (sym same_list);
-          back = kept_out _ _ _ _ _ (edge_count-cons t ts v u) rest.back
-              ∙ ap (λ n. edge_count (kept_facets ts) v u + (n + rest.many)) (sym (degenerate_balance t (dropped-is t h) u v))
-              ∙ ap (λ list. edge_count list v u + (own_count t u v + rest.many)) (sym same_list);
+          there = kept_out _ _ _ _ _ (half_edge_count-cons t ts u v) rest.there
+              ∙ ap (λ list. half_edge_count list u v + (own_count t u v + rest.many)) (sym same_list);
+          back = kept_out _ _ _ _ _ (half_edge_count-cons t ts v u) rest.back
+              ∙ ap (λ n. half_edge_count (kept_facets ts) v u + (n + rest.many)) (sym (degenerate_balance t (dropped-is t h) u v))
+              ∙ ap (λ list. half_edge_count list v u + (own_count t u v + rest.many)) (sym same_list);
         }
 
 same_without : (k l m n o : ℕ) → k ≡ m + o → l ≡ n + o → k ≡ l → m ≡ n

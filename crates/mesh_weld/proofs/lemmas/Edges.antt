@@ -9,7 +9,7 @@ use Rattle.std.proofs.lemmas.Bool.{and_parts, eqb-true}
 use Rattle.geometry.specs.Point.{Point, same, is_before}
 use Rattle.geometry.specs.Facet.{Facet, Edge, edge}
 use Rattle.geometry.specs.Facet.{edges}
-use Rattle.mesh_weld.specs.Balance.{edge_count, IsBalanced, is_edge_before}
+use Rattle.mesh_weld.specs.Balance.{half_edge_count, IsBalanced, is_edge_before}
 
 pub count_by-cons : {X : Type 0} (p : X → Bool) (x : X) (xs : List X) → count_by p (x ∷ xs) ≡ cond (p x) 1 0 + count_by p xs
 count_by-cons p x xs = sum_by-cons (λ y. cond (p y) 1 0) x xs
@@ -24,7 +24,7 @@ same-is p q h =
       z = (Decides-int_eq p.z q.z).0 outer.1 i;
     }
 
--- of a list that passes q throughout, either none passes p, or some element passes both
+-- where all elements of a list pass q, none passes p, or some element passes both
 pub none-or_some : {X : Type 0} (p q : X → Bool) (xs : List X) → list_all q xs ≡ true
     → (count_by p xs ≡ 0) ⊎ ((x : X) × (p x ≡ true) × (q x ≡ true))
 none-or_some p q [] h = inl refl
@@ -52,35 +52,35 @@ runs-is u v e h =
     let parts : (same e.from u ≡ true) × (same e.to v ≡ true) = and_parts _ _ h in
     λ i. record { from = same-is e.from u parts.0 i; to = same-is e.to v parts.1 i }
 
--- what a test of each edge and of the edge back says of each pair, if it passes a pair with no edges
+-- what a test shows of each edge and of its reverse holds of each pair of points, if it holds of pairs with no edges
 module _ (facets : List Facet) (P : Edge → Type 0) (test : Edge → Bool)
     (there : (e : Edge) → test e ≡ true → P e × P (edge e.to e.from))
-    (nowhere : (u v : Point) → edge_count facets u v ≡ 0 → edge_count facets v u ≡ 0 → P (edge u v))
+    (nowhere : (u v : Point) → half_edge_count facets u v ≡ 0 → half_edge_count facets v u ≡ 0 → P (edge u v))
     (tested : list_all test (edges facets) ≡ true) where
   pub each_pair : (u v : Point) → P (edge u v)
   each_pair u v = first (none-or_some (runs u v) test (edges facets) tested)
     where
-      back : edge_count facets u v ≡ 0
-          → (edge_count facets v u ≡ 0) ⊎ ((e : Edge) × (runs v u e ≡ true) × (test e ≡ true)) → P (edge u v)
+      back : half_edge_count facets u v ≡ 0
+          → (half_edge_count facets v u ≡ 0) ⊎ ((e : Edge) × (runs v u e ≡ true) × (test e ≡ true)) → P (edge u v)
       back none (inl none') = nowhere u v none none'
       back none (inr some) =
           let at : some.0 ≡ edge v u = runs-is v u some.0 some.1 in
           subst (λ e. P (edge e.to e.from)) at (there some.0 some.2).1
 
-      first : (edge_count facets u v ≡ 0) ⊎ ((e : Edge) × (runs u v e ≡ true) × (test e ≡ true)) → P (edge u v)
+      first : (half_edge_count facets u v ≡ 0) ⊎ ((e : Edge) × (runs u v e ≡ true) × (test e ≡ true)) → P (edge u v)
       first (inl none) = back none (none-or_some (runs v u) test (edges facets) tested)
       first (inr some) = subst P (runs-is u v some.0 some.1) (there some.0 some.2).0
 
 abbrev pub is_even : List Facet → Edge → Bool
-is_even facets e = edge_count facets e.from e.to == edge_count facets e.to e.from
+is_even facets e = half_edge_count facets e.from e.to == half_edge_count facets e.to e.from
 
 pub IsBalanced-by_edges : (facets : List Facet) → list_all (is_even facets) (edges facets) ≡ true → IsBalanced facets
 IsBalanced-by_edges facets tested =
-    each_pair facets (λ e. edge_count facets e.from e.to ≡ edge_count facets e.to e.from) (is_even facets)
-    (λ e h. let even : edge_count facets e.from e.to ≡ edge_count facets e.to e.from = eqb-true _ _ h in (even, sym even))
+    each_pair facets (λ e. half_edge_count facets e.from e.to ≡ half_edge_count facets e.to e.from) (is_even facets)
+    (λ e h. let even : half_edge_count facets e.from e.to ≡ half_edge_count facets e.to e.from = eqb-true _ _ h in (even, sym even))
     (λ u v none none'. none ∙ sym none') tested
 
--- no upward edge before the target is uneven
+-- an edge is even, or doesn't run to a later point, or isn't before the target
 abbrev is_past : List Facet → Edge → Edge → Bool
 is_past facets target e = is_even facets e || (not (is_before e.from e.to) || not (is_edge_before e target))
 
@@ -88,7 +88,7 @@ abbrev pub is_past_both : List Facet → Edge → Edge → Bool
 is_past_both facets target e = is_past facets target e && is_past facets target (edge e.to e.from)
 
 abbrev IsPast : List Facet → Edge → Edge → Type 0
-IsPast facets target e = is_before e.from e.to ≡ true → edge_count facets e.from e.to ≢ edge_count facets e.to e.from
+IsPast facets target e = is_before e.from e.to ≡ true → half_edge_count facets e.from e.to ≢ half_edge_count facets e.to e.from
     → is_edge_before e target ≡ false
 
 past : (a b c : Bool) → (a || (not b || not c)) ≡ true → (a ≡ true) ⊎ (b ≡ true → c ≡ false)

@@ -1,4 +1,5 @@
--- The edges of a closed mesh are, but for their order, its edges taken back: so what is opposite there sums up to nothing.
+-- The edges of a closed mesh, all reversed, are the same edges in another order: so what changes its sign with an edge's
+-- direction sums to 0.
 use Rattle.std.proofs.Common.{◌≡◌, ℕ, ◌+◌, Bool, true, false, cond, ◌&&◌, List, [], ◌∷◌, ◌++◌, map, ◌⊎◌, ℤ, pos, ◌+ℤ◌, ◌-ℤ◌, neg_ℤ, refl, sym, ◌∙◌, ap, inl, inr, arith}
 use Rattle.std.specs.Prelude.{count_by}
 use Rattle.std.proofs.lemmas.Int.{ints}
@@ -114,7 +115,7 @@ same_edges-sum (x ∷ xs) ys h f = by_place (λ zs g. same_edges-sum xs zs g f) 
         (rest taken.rest (λ u v. fewer _ _ _ _ _ (count_by-cons (runs u v) x xs) (taken.counts (runs u v)) (h u v)))
         ∙ sym (taken.sums f)
 
--- ---- the edges taken back
+-- ---- the edges reversed
 abbrev back : Edge → Edge
 back e = edge e.to e.from
 
@@ -150,7 +151,7 @@ amounts_cancel amount opposite facets balanced = total-edges amount facets ∙ o
         total-map (λ e. amount e.from e.to) back (edges facets)
         ∙ total-neg (λ e. amount e.to e.from) (λ e. amount e.from e.to) (λ e. opposite e.from e.to) (edges facets)
 
--- ---- winds
+-- ---- windings
 pub winds_cancel : (facets : List Facet) → IsBalanced facets → (y z : ℤ) → total (λ t. wind (twice t) y z) facets ≡ pos 0
 unfolding wind
 winds_cancel facets balanced y z =

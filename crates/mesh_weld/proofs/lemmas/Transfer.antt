@@ -10,7 +10,7 @@ use Rattle.std.proofs.lemmas.List.Sums.{sum_by-cons, position_or_len_is}
 use Rattle.geometry.specs.Point.{Point, origin, same, is_before}
 use Rattle.geometry.specs.Facet.{Facet, Edge, edge, corners, edges}
 use Rattle.mesh_weld.specs.declared.half_edge.HalfEdge.{HalfEdge}
-use Rattle.mesh_weld.specs.Balance.{edge_count, IsBalanced, IsLeastOpen, is_edge_before}
+use Rattle.mesh_weld.specs.Balance.{half_edge_count, IsBalanced, IsLeastOpen, is_edge_before}
 use Rattle.mesh_weld.specs.HalfEdge.{half_edges_from, between, IsEven, IsLeastUneven}
 use Rattle.mesh_weld.specs.Solid.{vertices, number_of, triples}
 use Rattle.mesh_weld.proofs.lemmas.Edges.{same-is}
@@ -18,7 +18,7 @@ use Rattle.mesh_weld.proofs.lemmas.Order.{before-not_same, before-not_back, befo
 use Rattle.mesh_weld.proofs.lemmas.InOrder.{is_in, Ascends, Up, Above, Up-in_order, in_order-members}
 use Rattle.mesh_weld.proofs.lemmas.HalfEdges.{count_none}
 
--- in order, by index
+-- in order, by indices
 Above-at : (p : Point) (qs : List Point) (k : ℕ) (d : Point) → Above p qs → k < length qs → is_before p (get_or qs k d) ≡ true
 Above-at p [] k d a l = absurd (omega (arith, l))
 Above-at p (q ∷ qs) zero d a l = a.0
@@ -63,7 +63,7 @@ module _ (ps : List Point) (up : Ascends ps) where
       (λ k less. same-sym p (get_or ps k origin) ∙ before-not_same (get_or ps k origin) p (up k i origin less l))
       (λ _. same-self p)
 
-  -- a number is a place's exactly where the point is
+  -- a point has number i exactly where it equals the point at index i
   number_tells : (p : Point) (i : ℕ) → is_in p ps ≡ true → i < length ps → (number_of ps p == i) ≡ same p (get_or ps i origin)
   number_tells p i h l = by_test (cases_Bool (same p (get_or ps i origin)))
     where
@@ -73,7 +73,7 @@ module _ (ps : List Point) (up : Ascends ps) where
       by_test (inr f) =
           equal_false (number_of ps p) i (λ e. let here : get_or ps i origin ≡ p = ap (λ n. get_or ps n origin) (sym e) ∙ (number_found p ps h).1 in let s : same p (get_or ps i origin) ≡ true = ap (same p) here ∙ same-self p in cc) ∙ sym f
 
-  -- which of two places is before tells which number is less
+  -- of two vertices the one before the other has the lesser number
   pub index_less : (i j : ℕ) → i < length ps → j < length ps → is_before (get_or ps i origin) (get_or ps j origin) ≡ true → i < j
   index_less i j l m b = by_order (cases_order i j)
     where
@@ -158,7 +158,7 @@ module _ (fs : List Facet) where
   vs = vertices fs
 
   edges_between : (i j : ℕ) → i < length (vertices fs) → j < length (vertices fs)
-      → between i j (half_edges_from 0 (triples fs)) ≡ edge_count fs (get_or (vertices fs) i origin) (get_or (vertices fs) j origin)
+      → between i j (half_edges_from 0 (triples fs)) ≡ half_edge_count fs (get_or (vertices fs) i origin) (get_or (vertices fs) j origin)
   edges_between i j l m =
       between_numbers (number_of (vertices fs)) i j 0 fs
       ∙ count_alike (λ (e : Edge). number_of (vertices fs) e.from == i && number_of (vertices fs) e.to == j) (λ (e : Edge). same e.from (get_or (vertices fs) i origin) && same e.to (get_or (vertices fs) j origin)) (edges fs)
@@ -173,12 +173,12 @@ module _ (fs : List Facet) where
       by_test (inr f) = f
 
   -- no edge leaves or reaches a point that is no vertex
-  none_from : (u v : Point) → is_in u (vertices fs) ≡ false → edge_count fs u v ≡ 0
+  none_from : (u v : Point) → is_in u (vertices fs) ≡ false → half_edge_count fs u v ≡ 0
   none_from u v h =
       count_none (λ (e : Edge). same e.from u && same e.to v) (edges fs)
       (All-weaker (HasEnds (vertices fs)) (λ (e : Edge). (same e.from u && same e.to v) ≡ false) (λ e k. and_false_left (same e.from u) (same e.to v) (apart_from e.from u k.0 h)) (edges fs) (ends_are_vertices fs))
 
-  none_to : (u v : Point) → is_in v (vertices fs) ≡ false → edge_count fs u v ≡ 0
+  none_to : (u v : Point) → is_in v (vertices fs) ≡ false → half_edge_count fs u v ≡ 0
   none_to u v h =
       count_none (λ (e : Edge). same e.from u && same e.to v) (edges fs)
       (All-weaker (HasEnds (vertices fs)) (λ (e : Edge). (same e.from u && same e.to v) ≡ false) (λ e k. and_false_right (same e.from u) (same e.to v) (apart_from e.to v k.1 h)) (edges fs) (ends_are_vertices fs))
@@ -187,14 +187,14 @@ module _ (fs : List Facet) where
   Both u v = (is_in u (vertices fs) ≡ true) × (is_in v (vertices fs) ≡ true)
 
   -- a pair of points has no edges either way, or both are vertices
-  idle_or_both : (u v : Point) → ((edge_count fs u v ≡ 0) × (edge_count fs v u ≡ 0)) ⊎ Both u v
+  idle_or_both : (u v : Point) → ((half_edge_count fs u v ≡ 0) × (half_edge_count fs v u ≡ 0)) ⊎ Both u v
   idle_or_both u v = by_u (cases_Bool (is_in u (vertices fs)))
     where
-      by_u : (is_in u (vertices fs) ≡ true) ⊎ (is_in u (vertices fs) ≡ false) → ((edge_count fs u v ≡ 0) × (edge_count fs v u ≡ 0)) ⊎ Both u v
+      by_u : (is_in u (vertices fs) ≡ true) ⊎ (is_in u (vertices fs) ≡ false) → ((half_edge_count fs u v ≡ 0) × (half_edge_count fs v u ≡ 0)) ⊎ Both u v
       by_u (inr f) = inl (none_from u v f, none_to v u f)
       by_u (inl t) = by_v (cases_Bool (is_in v (vertices fs)))
         where
-          by_v : (is_in v (vertices fs) ≡ true) ⊎ (is_in v (vertices fs) ≡ false) → ((edge_count fs u v ≡ 0) × (edge_count fs v u ≡ 0)) ⊎ Both u v
+          by_v : (is_in v (vertices fs) ≡ true) ⊎ (is_in v (vertices fs) ≡ false) → ((half_edge_count fs u v ≡ 0) × (half_edge_count fs v u ≡ 0)) ⊎ Both u v
           by_v (inl s) = inr (t, s)
           by_v (inr f) = inl (none_to u v f, none_from v u f)
 
@@ -211,23 +211,23 @@ module _ (fs : List Facet) where
           by_test (inr s) =
               equal_false (f p) (f q) (λ e. let here : same p q ≡ true = ap (same p) (sym (apart p q k l e)) ∙ same-self p in cc) ∙ sym s
 
-      numbering : (p q : Point) → Both p q → between (f p) (f q) (half_edges_from 0 (map (numbered f) fs)) ≡ edge_count fs p q
+      numbering : (p q : Point) → Both p q → between (f p) (f q) (half_edges_from 0 (map (numbered f) fs)) ≡ half_edge_count fs p q
       numbering p q h =
           between_numbers f (f p) (f q) 0 fs
           ∙ count_alike (λ (e : Edge). f e.from == f p && f e.to == f q) (λ (e : Edge). same e.from p && same e.to q) (edges fs)
           (All-weaker (HasEnds (vertices fs)) (λ (e : Edge). (f e.from == f p && f e.to == f q) ≡ (same e.from p && same e.to q))
           (λ e k. λ i. tells e.from p k.0 h.0 i && tells e.to q k.1 h.1 i) (edges fs) (ends_are_vertices fs))
 
-      by_cases : ((edge_count fs u v ≡ 0) × (edge_count fs v u ≡ 0)) ⊎ Both u v → edge_count fs u v ≡ edge_count fs v u
+      by_cases : ((half_edge_count fs u v ≡ 0) × (half_edge_count fs v u ≡ 0)) ⊎ Both u v → half_edge_count fs u v ≡ half_edge_count fs v u
       by_cases (inl h) = h.0 ∙ sym h.1
       by_cases (inr h) = sym (numbering u v h) ∙ even (f u) (f v) ∙ numbering v u (h.1, h.0)
 
-  between_of : (u v : Point) → Both u v → between (number_of (vertices fs) u) (number_of (vertices fs) v) (half_edges_from 0 (triples fs)) ≡ edge_count fs u v
+  between_of : (u v : Point) → Both u v → between (number_of (vertices fs) u) (number_of (vertices fs) v) (half_edges_from 0 (triples fs)) ≡ half_edge_count fs u v
   between_of u v h =
       let a : (number_of (vertices fs) u < length (vertices fs)) × (get_or (vertices fs) (number_of (vertices fs) u) origin ≡ u) = number_found u (vertices fs) h.0 in
       let b : (number_of (vertices fs) v < length (vertices fs)) × (get_or (vertices fs) (number_of (vertices fs) v) origin ≡ v) = number_found v (vertices fs) h.1 in
       edges_between (number_of (vertices fs) u) (number_of (vertices fs) v) a.0 b.0
-      ∙ (λ i. edge_count fs (a.1 i) (b.1 i))
+      ∙ (λ i. half_edge_count fs (a.1 i) (b.1 i))
 
   module _ (es : List HalfEdge) (all : IsPermutation (half_edges_from 0 (triples fs)) es) where
     sorted_between : (i j : ℕ) → between i j es ≡ between i j (half_edges_from 0 (triples fs))
@@ -236,7 +236,7 @@ module _ (fs : List Facet) where
     pub balanced_from_even : IsEven es → IsBalanced fs
     balanced_from_even even u v = by_cases (idle_or_both u v)
       where
-        by_cases : ((edge_count fs u v ≡ 0) × (edge_count fs v u ≡ 0)) ⊎ Both u v → edge_count fs u v ≡ edge_count fs v u
+        by_cases : ((half_edge_count fs u v ≡ 0) × (half_edge_count fs v u ≡ 0)) ⊎ Both u v → half_edge_count fs u v ≡ half_edge_count fs v u
         by_cases (inl h) = h.0 ∙ sym h.1
         by_cases (inr h) =
             let i : ℕ = number_of (vertices fs) u in let j : ℕ = number_of (vertices fs) v in
@@ -273,7 +273,7 @@ module _ (fs : List Facet) where
       low_inside = omega (arith, high_inside, h.in_order)
 
       pub least_open : length (vertices fs) ≤ 2 ^ 32
-          → IsLeastOpen fs (get_or (vertices fs) low origin) (get_or (vertices fs) high origin) (edge_count fs (get_or (vertices fs) low origin) (get_or (vertices fs) high origin)) (edge_count fs (get_or (vertices fs) high origin) (get_or (vertices fs) low origin))
+          → IsLeastOpen fs (get_or (vertices fs) low origin) (get_or (vertices fs) high origin) (half_edge_count fs (get_or (vertices fs) low origin) (get_or (vertices fs) high origin)) (half_edge_count fs (get_or (vertices fs) high origin) (get_or (vertices fs) low origin))
       least_open few =
           record {
             in_order = vertices-ascend fs low high origin h.in_order high_inside;
@@ -288,11 +288,11 @@ module _ (fs : List Facet) where
           by_test (inr f) n = f
 
           -- an edge before the least uneven pair is even
-          settled : (e : Edge) → is_before e.from e.to ≡ true → edge_count fs e.from e.to ≢ edge_count fs e.to e.from
+          settled : (e : Edge) → is_before e.from e.to ≡ true → half_edge_count fs e.from e.to ≢ half_edge_count fs e.to e.from
               → is_edge_before e (edge (get_or (vertices fs) low origin) (get_or (vertices fs) high origin)) ≡ true → ⊥
           settled e up apart before = by_cases (idle_or_both e.from e.to)
             where
-              by_cases : ((edge_count fs e.from e.to ≡ 0) × (edge_count fs e.to e.from ≡ 0)) ⊎ Both e.from e.to → ⊥
+              by_cases : ((half_edge_count fs e.from e.to ≡ 0) × (half_edge_count fs e.to e.from ≡ 0)) ⊎ Both e.from e.to → ⊥
               by_cases (inl k) = apart (k.0 ∙ sym k.1)
               by_cases (inr k) =
                   let i : ℕ = number_of (vertices fs) e.from in let j : ℕ = number_of (vertices fs) e.to in

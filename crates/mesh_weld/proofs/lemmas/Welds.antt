@@ -1,17 +1,17 @@
--- What welding has at its end, from what its steps give.
+-- What welding ensures, from what its steps ensure.
 use Rattle.std.proofs.Common.{◌≡◌, ℕ, ◌≤◌, ◌+◌, ◌*◌, Bool, true, false, cond, not, List, [], ◌∷◌, length, map, count_by, refl, sym, ap, ◌∙◌, subst, arith}
 use Rattle.std.specs.List.{filter, flat_map}
 use Rattle.std.proofs.lemmas.List.{length-map}
 use Rattle.std.proofs.lemmas.List.Sums.{sum_by-cons, length-filter, count_by-le-length}
 use Rattle.geometry.specs.Point.{Point}
 use Rattle.geometry.specs.Facet.{Facet, corners}
-use Rattle.mesh_weld.specs.Balance.{edge_count, IsBalanced, IsLeastOpen}
+use Rattle.mesh_weld.specs.Balance.{half_edge_count, IsBalanced, IsLeastOpen}
 use Rattle.mesh_weld.specs.Solid.{is_kept, kept_facets, vertices, number_of, triples}
 use Rattle.mesh_weld.specs.HalfEdge.{half_edges_from}
 use Rattle.mesh_weld.specs.Welding.{IsKeptFault, IsWeldFault}
 use Rattle.mesh_weld.specs.declared.weld_fault.WeldFault.{WeldFault}
 use Rattle.mesh_weld.specs.declared.weld_fault.WeldFault.TheVariants as fault
-use Rattle.mesh_weld.proofs.lemmas.Degenerate.{edge_count-cons, dropped, own_count}
+use Rattle.mesh_weld.proofs.lemmas.Degenerate.{half_edge_count-cons, dropped, own_count}
 use Rattle.mesh_weld.proofs.lemmas.InOrder.{length-in_order}
 use Rattle.mesh_weld.proofs.lemmas.Points.{length-corners}
 use Rattle.mesh_weld.proofs.lemmas.HalfEdges.{half_edges_from-length}
@@ -25,8 +25,8 @@ few_half_edges fs = half_edges_from-length 0 (triples fs) ∙ ap (λ n. 3 * n) (
 abbrev pub degenerate_facets : List Facet → List Facet
 degenerate_facets fs = filter (λ t. not (is_kept t)) fs
 
--- edges of kept and of dropped facets are all edges
-pub split_count : (fs : List Facet) (u v : Point) → edge_count fs u v ≡ edge_count (kept_facets fs) u v + edge_count (degenerate_facets fs) u v
+-- the half-edges of kept facets and those of dropped ones are all half-edges
+pub split_count : (fs : List Facet) (u v : Point) → half_edge_count fs u v ≡ half_edge_count (kept_facets fs) u v + half_edge_count (degenerate_facets fs) u v
 split_count [] u v = refl
 split_count (t ∷ ts) u v = by_test (is_kept t) refl (split_count ts u v)
   where
@@ -36,18 +36,18 @@ split_count (t ∷ ts) u v = by_test (is_kept t) refl (split_count ts u v)
     to_right : (k l m n : ℕ) → k ≡ m + n → l + k ≡ m + (l + n)
     to_right k l m n e = omega arith
 
-    by_test : (b : Bool) → is_kept t ≡ b → edge_count ts u v ≡ edge_count (kept_facets ts) u v + edge_count (degenerate_facets ts) u v
-        → edge_count (t ∷ ts) u v ≡ edge_count (cond (is_kept t) (t ∷ kept_facets ts) (kept_facets ts)) u v + edge_count (cond (not (is_kept t)) (t ∷ degenerate_facets ts) (degenerate_facets ts)) u v
+    by_test : (b : Bool) → is_kept t ≡ b → half_edge_count ts u v ≡ half_edge_count (kept_facets ts) u v + half_edge_count (degenerate_facets ts) u v
+        → half_edge_count (t ∷ ts) u v ≡ half_edge_count (cond (is_kept t) (t ∷ kept_facets ts) (kept_facets ts)) u v + half_edge_count (cond (not (is_kept t)) (t ∷ degenerate_facets ts) (degenerate_facets ts)) u v
     by_test true h rest =
-        edge_count-cons t ts u v
-        ∙ to_left (edge_count ts u v) (own_count t u v) (edge_count (kept_facets ts) u v) (edge_count (degenerate_facets ts) u v) rest
-        ∙ ap (λ n. n + edge_count (degenerate_facets ts) u v) (sym (edge_count-cons t (kept_facets ts) u v))
-        ∙ ap (λ b. edge_count (cond b (t ∷ kept_facets ts) (kept_facets ts)) u v + edge_count (cond (not b) (t ∷ degenerate_facets ts) (degenerate_facets ts)) u v) (sym h)
+        half_edge_count-cons t ts u v
+        ∙ to_left (half_edge_count ts u v) (own_count t u v) (half_edge_count (kept_facets ts) u v) (half_edge_count (degenerate_facets ts) u v) rest
+        ∙ ap (λ n. n + half_edge_count (degenerate_facets ts) u v) (sym (half_edge_count-cons t (kept_facets ts) u v))
+        ∙ ap (λ b. half_edge_count (cond b (t ∷ kept_facets ts) (kept_facets ts)) u v + half_edge_count (cond (not b) (t ∷ degenerate_facets ts) (degenerate_facets ts)) u v) (sym h)
     by_test false h rest =
-        edge_count-cons t ts u v
-        ∙ to_right (edge_count ts u v) (own_count t u v) (edge_count (kept_facets ts) u v) (edge_count (degenerate_facets ts) u v) rest
-        ∙ ap (λ n. edge_count (kept_facets ts) u v + n) (sym (edge_count-cons t (degenerate_facets ts) u v))
-        ∙ ap (λ b. edge_count (cond b (t ∷ kept_facets ts) (kept_facets ts)) u v + edge_count (cond (not b) (t ∷ degenerate_facets ts) (degenerate_facets ts)) u v) (sym h)
+        half_edge_count-cons t ts u v
+        ∙ to_right (half_edge_count ts u v) (own_count t u v) (half_edge_count (kept_facets ts) u v) (half_edge_count (degenerate_facets ts) u v) rest
+        ∙ ap (λ n. half_edge_count (kept_facets ts) u v + n) (sym (half_edge_count-cons t (degenerate_facets ts) u v))
+        ∙ ap (λ b. half_edge_count (cond b (t ∷ kept_facets ts) (kept_facets ts)) u v + half_edge_count (cond (not b) (t ∷ degenerate_facets ts) (degenerate_facets ts)) u v) (sym h)
 
 pub kept_few : (fs : List Facet) → length (kept_facets fs) ≤ length fs
 kept_few fs = omega (arith, length-filter is_kept fs, count_by-le-length is_kept fs)
@@ -77,9 +77,9 @@ all_kept (t ∷ ts) h = by_test (is_kept t) refl (all_kept ts)
 
 -- the least open edge of kept facets is that of all, with the edges of dropped facets counted
 pub open_of_all : (fs : List Facet) (from to : Point) (there back : ℕ)
-    → IsLeastOpen (kept_facets fs) from to (edge_count (kept_facets fs) from to) (edge_count (kept_facets fs) to from)
-    → there ≡ edge_count (kept_facets fs) from to + edge_count (degenerate_facets fs) from to
-    → back ≡ edge_count (kept_facets fs) to from + edge_count (degenerate_facets fs) to from
+    → IsLeastOpen (kept_facets fs) from to (half_edge_count (kept_facets fs) from to) (half_edge_count (kept_facets fs) to from)
+    → there ≡ half_edge_count (kept_facets fs) from to + half_edge_count (degenerate_facets fs) from to
+    → back ≡ half_edge_count (kept_facets fs) to from + half_edge_count (degenerate_facets fs) to from
     → IsLeastOpen fs from to there back
 open_of_all fs from to there back h t b =
     record {
@@ -90,10 +90,10 @@ open_of_all fs from to there back h t b =
       least = λ e up apart. h.least e up (λ same. apart (same_with _ _ _ _ _ (dropped fs e.from e.to).there (dropped fs e.from e.to).back same));
     }
   where
-    at_there : there ≡ edge_count fs from to
+    at_there : there ≡ half_edge_count fs from to
     at_there = t ∙ sym (split_count fs from to)
 
-    at_back : back ≡ edge_count fs to from
+    at_back : back ≡ half_edge_count fs to from
     at_back = b ∙ sym (split_count fs to from)
 
     same_without : (k l m n o : ℕ) → k ≡ m + o → l ≡ n + o → k ≡ l → m ≡ n
@@ -103,12 +103,12 @@ open_of_all fs from to there back h t b =
     same_with k l m n o e f h = omega arith
 
 pub kept_fault : (kept degenerate : List Facet) (a b : Point) (result : WeldFault) (p q : Point) → a ≡ p → b ≡ q
-    → IsLeastOpen kept p q (edge_count kept p q) (edge_count kept q p)
-    → result ≡ fault.Open a b (edge_count kept a b + edge_count degenerate a b) (edge_count kept b a + edge_count degenerate b a)
+    → IsLeastOpen kept p q (half_edge_count kept p q) (half_edge_count kept q p)
+    → result ≡ fault.Open a b (half_edge_count kept a b + half_edge_count degenerate a b) (half_edge_count kept b a + half_edge_count degenerate b a)
     → IsKeptFault kept degenerate result
 kept_fault kept degenerate a b result p q at_a at_b h is =
-    let first : IsLeastOpen kept a q (edge_count kept a q) (edge_count kept q a) = subst (λ r. IsLeastOpen kept r q (edge_count kept r q) (edge_count kept q r)) (sym at_a) h in
-    let both : IsLeastOpen kept a b (edge_count kept a b) (edge_count kept b a) = subst (λ r. IsLeastOpen kept a r (edge_count kept a r) (edge_count kept r a)) (sym at_b) first in
+    let first : IsLeastOpen kept a q (half_edge_count kept a q) (half_edge_count kept q a) = subst (λ r. IsLeastOpen kept r q (half_edge_count kept r q) (half_edge_count kept q r)) (sym at_a) h in
+    let both : IsLeastOpen kept a b (half_edge_count kept a b) (half_edge_count kept b a) = subst (λ r. IsLeastOpen kept a r (half_edge_count kept a r) (half_edge_count kept r a)) (sym at_b) first in
     subst (IsKeptFault kept degenerate) (sym is) (both, refl, refl)
 
 pub weld_fault : (fs kept degenerate : List Facet) (f : WeldFault) → kept ≡ kept_facets fs → degenerate ≡ degenerate_facets fs → IsKeptFault kept degenerate f → IsWeldFault fs f

@@ -1,4 +1,4 @@
-//! The check of the corners: facets by the numbers of their corners, once each id is seen to lead to its corner.
+//! Facets by the numbers of their corners. That each id leads to its corner is checked.
 ghost use Rattle.std.specs.Prelude.{◌≡◌, ◌≤◌, ◌<◌, IfOk, IfSome, length, map, flat_map, slice_index, slice_index_or};
 ghost use Rattle.std.specs.List.{All, Contains};
 ghost use Rattle.geometry.specs.Point.{origin};
@@ -75,7 +75,7 @@ pub(crate) struct FacetNumbers<A: Allocator> {
     pub ids: Vec<[u32; 3], A>,
 }
 
-/// The corners of facets by ids; `None` where the table was too small, or two corners' hashes too much alike.
+/// The vertices of facets and the numbers of all corners, by ids; `None` where a corner found no slot in the table.
 pub(crate) fn corners_by_id<A: Allocator + Copy>(
     alloc: A,
     facets: &[Facet],

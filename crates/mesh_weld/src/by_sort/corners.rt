@@ -1,4 +1,4 @@
-//! Corners in sorted order: each distinct one is a vertex, and its place among these is its number.
+//! Corners sorted by their points: each distinct point is a vertex, and its index among these is its number.
 ghost use Rattle.std.specs.Prelude.{◌≡◌, ◌≤◌, ◌<◌, ◌*◌, IfOk, OnOk, ◌++◌, ◌∷◌, [], length, vec_len, map, flat_map};
 ghost use Rattle.std.specs.List.Sorted.{IsPermutation};
 ghost use Rattle.geometry.specs.Facet.{corners};
@@ -59,7 +59,7 @@ pub(crate) struct CornerNumbers<A: Allocator> {
     pub numbers: Vec<u32, A>,
 }
 
-/// Numbers the distinct points of sorted corners from 0 up, and each corner by its point.
+/// Numbers the distinct points of sorted corners from 0 up, and gives each corner the number of its point.
 fn number_sorted<A: Allocator + Copy>(
     alloc: A,
     facets: &[Facet],
@@ -106,7 +106,7 @@ pub(crate) fn number_corners<A: Allocator + Copy>(
     number_sorted(alloc, facets, sorted.as_slice())
 }
 
-/// A list in groups of three, as each facet has three corners.
+/// Numbers in groups of three, one group for each facet.
 pub(crate) fn in_threes<A: Allocator + Copy>(
     alloc: A,
     numbers: &[u32],

@@ -1,4 +1,4 @@
-//! Half-edges in sorted order: those with the same two ends stand beside one another, so that one pass finds the least
+//! Half-edges sorted by their two ends: those with the same ends stand side by side, so that one pass finds the least
 //! open edge, and another numbers the edges.
 ghost use Rattle.std.specs.Prelude.{◌≡◌, ◌≤◌, IfOk, OnOk, MatchOption, ◌++◌, ◌∷◌, [], length, vec_len};
 ghost use Rattle.std.specs.List.Sorted.{IsPermutation, IsNonDecreasingBy};
@@ -40,7 +40,7 @@ fn push_half_edge<A: Allocator>(
     Ok(())
 }
 
-/// Sorts half-edges by their ends, in either order.
+/// Sorts half-edges by their two ends, whatever their direction.
 fn sort_half_edges<A: Allocator>(list: &mut Vec<HalfEdge, A>)
     ensures permuted { IsPermutation list.old.items list.new.items }
     ensures ascending { IsNonDecreasingBy pair_key list.new.items }
@@ -48,7 +48,7 @@ fn sort_half_edges<A: Allocator>(list: &mut Vec<HalfEdge, A>)
     list.sort_unstable_by_key(|half_edge| half_edge.pair());
 }
 
-/// The half-edges of the facets, sorted by their ends in either order.
+/// The half-edges of the facets, sorted by their two ends, whatever their direction.
 pub(crate) fn sorted_half_edges<A: Allocator + Copy>(
     alloc: A,
     triples: &[[u32; 3]],
@@ -85,7 +85,7 @@ pub(crate) fn least_uneven(sorted: &[HalfEdge]) -> Option<(u32, u32)>
     }
 }
 
-/// Numbers the pairs of ends from 0 up, and each half-edge by its ends.
+/// Numbers the distinct pairs of ends from 0 up, and gives each half-edge the number of its pair.
 pub(crate) fn number_sorted<A: Allocator + Copy>(
     alloc: A,
     triples: &[[u32; 3]],
