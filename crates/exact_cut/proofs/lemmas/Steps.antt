@@ -1,4 +1,4 @@
--- A step along x past no point of a facet: the facet's hit stays.
+-- Where no point of a facet lies between two points of a line along x, or along y, the rays along it from both hit the facet alike.
 use Rattle.std.proofs.Common.{◌+◌, ◌≡◌, ◌⊎◌, inl, inr, ℕ, [], ◌∷◌, ℤ, pos, negsuc, ◌+ℤ◌, ◌-ℤ◌, ◌*ℤ◌, neg_ℤ, ◌≤ℤ◌, ◌<ℤ◌, refl, sym, ◌∙◌, ap, subst, arith}
 use Rattle.std.proofs.lemmas.Int.{ints}
 use Rattle.exact_int.proofs.lemmas.Identity.{reads, identity}
