@@ -1,6 +1,6 @@
 -- The edges that pass a height are those that a search of the three edges finds.
-use Rattle.std.proofs.Common.{◌≡◌, ℕ, zero, suc, ◌<◌, Bool, true, false, List, [], refl, sym, ◌∙◌, ap, arith, inl, inr, map, get_or, length}
-use Rattle.std.specs.Prelude.{Some, None, ℤ, ◌≤ℤ◌, ◌<ℤ◌, find, slice_get}
+use Rattle.std.proofs.Common.{◌≡◌, ℕ, zero, suc, ◌<◌, Bool, true, false, List, [], refl, sym, ◌∙◌, ap, subst, arith, inl, inr, map, get_or, length}
+use Rattle.std.specs.Prelude.{Option, Some, None, IsSome, is_some, ◌↔◌, ℤ, ◌≤ℤ◌, ◌<ℤ◌, find, slice_get}
 use Rattle.std.proofs.lemmas.Int.{ints}
 use Rattle.std.proofs.lemmas.List.{get_or-map}
 use Rattle.std.proofs.lemmas.Option.{get_or_from_slice_get}
@@ -94,6 +94,24 @@ not_found_down t z not_between =
     none_found (is_downward z) t
     (λ d h p. not_between (between-by_edge t z d (rw (twice_start t d, twice_finish t d) (to_rises (finish t d) (start t d) z p))))
 
+pub facet_at-is : (facets : List Facet) (n : ℕ) (t : Facet) → slice_get facets n ≡ Some t → facet_at facets n ≡ t
+facet_at-is facets n t e = get_or_from_slice_get facets n t (facet_with origin origin origin) e
+
+-- the same of the facet with a number
+pub between-by_cut : (facets : List Facet) (z : ℤ) (n : ℕ) (t : Facet) (c : Cut) → slice_get facets n ≡ Some t → IsCut (twice t) z c
+    → IsBetween (twice (facet_at facets n)) z
+between-by_cut facets z n t c e cut = subst (λ u. IsBetween (twice u) z) (sym (facet_at-is facets n t e)) (between-by_edge t z c.down cut.falls)
+
+pub none-only : {X : Type 0} (o : Option X) (facets : List Facet) (z : ℤ) (n : ℕ) (t : Facet) → o ≡ None → slice_get facets n ≡ Some t
+    → (IsBetween (twice t) z → ⊥) → IsSome o ↔ IsBetween (twice (facet_at facets n)) z
+none-only o facets z n t e f not_between = (
+  λ h. absurd (apart (sym (ap is_some e) ∙ h)),
+  λ b. absurd (not_between (subst (λ u. IsBetween (twice u) z) (facet_at-is facets n t f) b)),
+)
+  where
+    apart : false ≡ true → ⊥
+    apart e = cc
+
 -- the node of edge 0, 1 or 2, by the numbers of the corners
 pub edge_node-is : (points : List Point) (t : Facet) (e : ℕ) → e < 3
     → edge_node (map (number_of points) (corners t)) e ≡ node_of points (edge_at t e)
@@ -110,9 +128,6 @@ segment-some points z n t c cut = rw (found_down t z c cut, found_up t z c cut)
 pub segment-none : (points : List Point) (z : ℤ) (n : ℕ) (t : Facet) → (IsBetween (twice t) z → ⊥)
     → segment_of points z (n, t) ≡ None
 segment-none points z n t not_between = rw (not_found_down t z not_between)
-
-pub facet_at-is : (facets : List Facet) (n : ℕ) (t : Facet) → slice_get facets n ≡ Some t → facet_at facets n ≡ t
-facet_at-is facets n t e = get_or_from_slice_get facets n t (facet_with origin origin origin) e
 
 pub triples_at : (facets : List Facet) (n : ℕ) → n < length facets
     → get_or (triples facets) n [] ≡ map (number_of (vertices facets)) (corners (facet_at facets n))
