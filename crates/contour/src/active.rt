@@ -57,6 +57,7 @@ impl<A: Allocator + Copy + Send + Sync> ActiveFacets<A> {
         Ok(())
     }
 
+    /// Appends the facets with these numbers.
     fn push_all(&mut self, s: &Solid<A>, numbers: &[u32]) -> Result<(), AllocError>
         requires { All (λ n. n < length s.now.facets) numbers.now }
         ensures numbers { OnOk result (self.new.numbers.items ≡ self.old.numbers.items ++ numbers.now) }
@@ -68,8 +69,8 @@ impl<A: Allocator + Copy + Send + Sync> ActiveFacets<A> {
         Ok(())
     }
 
-    /// One step of the merge: pushes the numbers of `rest` that come before `number`, and then it; answers those that
-    /// are left of `rest`.
+    /// One step of the merge: pushes the numbers of `rest` that are below `number`, and then `number`; returns what is
+    /// left of `rest`.
     fn push_in_order<'r>(
         &mut self,
         s: &Solid<A>,
@@ -141,8 +142,8 @@ impl<A: Allocator + Copy + Send + Sync> ActiveFacets<A> {
     }
 }
 
-/// What a plane reaches on its way up to a height: of facets in order of their least heights, the number of those
-/// that start at most at the height, and which of these also end above it.
+/// What a plane reaches on its way up to a height: of facets in the order of their least heights, the number of those
+/// that start at or below the height, and which of these also end above it.
 #[derive(Drop)]
 pub(crate) struct Arrivals<A: Allocator> {
     pub(crate) count: usize,

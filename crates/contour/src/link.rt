@@ -87,7 +87,7 @@ fn make_room<A: Allocator + Copy + Send + Sync>(
     Ok(())
 }
 
-/// The number of segments: at most one a kept facet, so that their slots fit `u32`.
+/// The number of segments. There is at most one for each kept facet, so that slots fit `u32`.
 fn slot_count<A: Allocator>(s: &Solid<A>, list: &[Segment]) -> u32
     requires { (z : ℤ) × (list.now ≡ segments s.now.facets z) }
     ensures count { result ≡ length list.now }
@@ -229,8 +229,9 @@ fn slot_at(list: &[u32], slot: u32) -> u32
     list.get(slot as usize).copied().unwrap_or(NONE)
 }
 
-/// The loops, each from its first segment, in order of these; `next` has the slot of each one's follower. What is in
-/// `visited` and `ends` before doesn't count; the result has no spare capacity.
+/// Traces the loops, each from its first segment, in the order of their first segments; `next` has for each slot that
+/// of its follower. `visited` and `ends` are overwritten: the caller keeps them for their memory. The result has no
+/// spare capacity.
 fn trace_loops<A: Allocator + Copy + Send + Sync>(
     alloc: A,
     list: &[Segment],

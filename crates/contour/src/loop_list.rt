@@ -48,7 +48,8 @@ impl<A: Allocator> Loops<A> {
         self.ends.len()
     }
 
-    /// The loop with this number, from its segment of least facet; `None` where there is none.
+    /// The loop with this number, starting with the segment whose facet has the least number; `None` where there is no
+    /// such loop.
     pub fn get(&self, number: usize) -> Option<&[Segment]>
         ensures { option_map (λ part. part.now) result ≡ slice_get self.now number }
     {

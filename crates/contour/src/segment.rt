@@ -1,7 +1,9 @@
 //! A segment is where a plane cuts a facet. It runs between edges of the mesh and not between points, so that it is
 //! exact, and so that two segments meet exactly where they name the same edge.
-ghost use Rattle.std.specs.Prelude.{◌≡◌, ◌<◌, IfOk, length};
+ghost use Rattle.std.specs.Prelude.{◌≡◌, ◌<◌, ◌↔◌, IfOk, IsSome, length};
 ghost use Rattle.exact_int.specs.Bounds.{IsAtMost};
+ghost use Rattle.geometry.specs.Facet.{twice};
+ghost use Rattle.exact_cut.specs.Cut.{IsBetween};
 ghost use Rattle.mesh_weld.specs.Solid.{facet_at, vertices};
 ghost use Rattle.contour.specs.Segment.{between, edge_node, segment_of, segments};
 ghost use Rattle.geometry.specs.declared.limits.TheConstants.{CENTRE_LIMIT};
@@ -44,7 +46,8 @@ pub struct Segment {
 pub fn segment_at<A: Allocator>(s: &Solid<A>, facet: u32, z2: i64) -> Option<Segment>
     requires facet { facet < length s.now.facets }
     requires height { IsAtMost CENTRE_LIMIT z2 }
-    ensures { result ≡ segment_of (vertices s.now.facets) z2 (record { 0 = facet; 1 = facet_at s.now.facets facet }) }
+    ensures segment { result ≡ segment_of (vertices s.now.facets) z2 (record { 0 = facet; 1 = facet_at s.now.facets facet }) }
+    ensures some { IsSome result ↔ IsBetween (twice (facet_at s.now.facets facet)) z2 }
 {
     let cut = cuts(&s.facet(facet), z2)?;
     let corners = s.triples()[facet as usize];

@@ -11,15 +11,20 @@ pub record Crossing : Type 0 where
   pub num : ℤ
   pub den : ℤ
 
--- the denominator is above 0, and both numbers are within their bounds
+-- 1 or -1
+abbrev pub IsUnit : ℤ → Type 0
+IsUnit s = (s ≡ pos 1) ⊎ (s ≡ negsuc 0)
+
+-- the sign is 1 or -1, the denominator is above 0, and both numbers of the fraction are within their bounds
 pub record IsCrossing (c : Crossing) : Type 0 where
+  pub unit : IsUnit c.sign
   pub den_positive : pos 0 <ℤ c.den
   pub num_in : IsAtMost numerator_limit c.num
   pub den_in : IsAtMost denominator_limit c.den
 
 -- a winding that isn't 0: it is 1 or -1, and has the sign of the normal's x part
 pub record Winding (t : Facet) (w : ℤ) : Type 0 where
-  pub unit : (w ≡ pos 1) ⊎ (w ≡ negsuc 0)
+  pub unit : IsUnit w
   pub normal : pos 0 <ℤ (w *ℤ normal_x t)
 
 -- sign, numerator and denominator say where the facet is crossed

@@ -1,9 +1,9 @@
 -- Crossings of one facet with rows that follow one another.
-use Rattle.std.specs.Prelude.{◌≡◌, ◌⊎◌, ℕ, List, ◌+◌, ◌-◌, ◌<◌, ◌≤◌, ◌&&◌, nat_lt, nat_le, if◌then◌else◌, length, slice_index, ℤ, pos, negsuc}
+use Rattle.std.specs.Prelude.{◌≡◌, ℕ, List, ◌+◌, ◌-◌, ◌<◌, ◌≤◌, ◌&&◌, nat_lt, nat_le, if◌then◌else◌, length, slice_index, ℤ, pos}
 use Rattle.geometry.specs.Facet.{Facet}
 use Rattle.geometry.specs.Winding.{wind, hit}
 use Rattle.exact_cut.specs.Column.{IsLeastColumn}
-use Rattle.exact_cut.specs.Crossing.{Crosses}
+use Rattle.exact_cut.specs.Crossing.{Crosses, IsUnit}
 use Rattle.exact_cut.specs.Lattice.{pixel, row_y}
 use Rattle.exact_cut.specs.declared.dda.lattice.Lattice.{Lattice}
 
@@ -26,7 +26,7 @@ pub record IsCrossedAt (t : Facet) (z : ℤ) (l : Lattice) (sign : ℤ) (j colum
 pub record IsWalkOf (t : Facet) (z : ℤ) (l : Lattice) (w : Walk) : Type 0 where
   pub some : 0 < length w.columns
   pub in_rows : w.row + length w.columns ≤ l.rows
-  pub unit : (w.sign ≡ pos 1) ⊎ (w.sign ≡ negsuc 0)
+  pub unit : IsUnit w.sign
   pub before : (j : ℕ) → j < w.row → wind t (row_y l j) z ≡ pos 0
   pub after : (j : ℕ) → w.row + length w.columns ≤ j → j < l.rows → wind t (row_y l j) z ≡ pos 0
   pub crossed : (n : ℕ) → n < length w.columns → IsCrossedAt t z l w.sign (w.row + n) (slice_index w.columns n)

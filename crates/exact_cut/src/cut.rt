@@ -11,7 +11,7 @@ ghost use Rattle.geometry.specs.declared.limits.TheConstants.{CENTRE_LIMIT};
 pub(crate) mod half_point;
 
 use crate::cut::half_point::HalfPoint;
-use geometry::{Facet, Point, is_below as tie_rule};
+use geometry::{Facet, Point, is_below};
 
 /// The edges of a facet that pass a height, by number: edge 0 runs from corner 0 to 1, edge 1 from 1 to 2, edge 2 from
 /// 2 to 0.
@@ -31,9 +31,9 @@ pub fn cuts(f: &Facet, z2: i64) -> Option<Cut>
     ensures { MatchOption result (IsBetween (twice f.now) z2 → ⊥)
         (λ c. IsCut (twice f.now) z2 c) }
 {
-    let a = is_below(f, 0, z2);
-    let b = is_below(f, 1, z2);
-    let c = is_below(f, 2, z2);
+    let a = is_corner_below(f, 0, z2);
+    let b = is_corner_below(f, 1, z2);
+    let c = is_corner_below(f, 2, z2);
     match (a, b, c) {
         (true, true, true) | (false, false, false) => None,
         (true, true, false) => Some(Cut { down: 2, up: 1 }),
@@ -45,14 +45,15 @@ pub fn cuts(f: &Facet, z2: i64) -> Option<Cut>
     }
 }
 
-/// Whether a corner counts as below the height `z2`.
-fn is_below(f: &Facet, number: usize, z2: i64) -> bool
+/// Whether the corner with this number counts as below the height `z2`, by the tie rule.
+fn is_corner_below(f: &Facet, number: usize, z2: i64) -> bool
     requires { number < 3 }
     ensures { IsTrue result ↔ IsBelow (corner (twice f.now) number).z z2 }
 {
-    tie_rule(corner_at(f, number).z, z2)
+    is_below(corner_at(f, number).z, z2)
 }
 
+/// A point of a mesh, in half-micrometres.
 fn in_half_micrometres(p: Point) -> HalfPoint
     ensures { point_of result ≡ half_micrometres_of p }
 {

@@ -27,7 +27,8 @@ pub(crate) struct Dda {
     pub increment_remainder: i128,
 }
 
-/// A number over a unit: the quotient is rounded up, and the remainder is what the number misses to that many units.
+/// A division that rounds up: the number is `quotient * unit - remainder`, and the remainder is at least 0 and below the
+/// unit.
 #[derive(Clone, Copy)]
 pub(crate) struct Division {
     pub quotient: i128,
@@ -70,9 +71,9 @@ fn divide_increment(n: i128, unit: i128, rows: u32) -> Division
     }
 }
 
-/// The DDA of the line through two cut points along `rows` rows from `row` on. Its position is where the line crosses
-/// the row, less the x of the first column's centres; its unit is the step from a column to the next; its increment is
-/// what the line goes along x from a row to the next. All three are numerators over the line's denominator.
+/// The DDA of the line through two cut points, for `rows` rows from `row` on. Its position is how far right of the
+/// centres of column 0 the line crosses the row, its unit is the distance from one column to the next, and its increment
+/// is how far right the line goes from one row to the next. Each is in half-micrometres, times the line's denominator.
 fn dda_between(near: &CutPoint, far: &CutPoint, lattice: &Lattice, row: u32, rows: u32) -> Dda
     requires row_in { row < lattice.now.rows }
     requires den_positive { pos 0 <ℤ den_between near.now far.now }

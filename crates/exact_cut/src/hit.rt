@@ -34,7 +34,7 @@ pub fn ray_hit_y(f: &Facet, c: &Centre) -> i32
     wind_if_ahead(wind_about_y(&g), determinant(&g))
 }
 
-/// A corner less a centre.
+/// The vector from a centre to a corner.
 fn offset_of(p: HalfPoint, c: &Centre) -> Offset
     ensures { corner_of result ≡ minus (point_of p) c.now }
 {
@@ -45,7 +45,7 @@ fn offset_of(p: HalfPoint, c: &Centre) -> Offset
     }
 }
 
-/// A facet relative to a centre.
+/// A facet in coordinates whose origin is a centre.
 fn relative(f: &Facet, c: &Centre) -> RelativeFacet
     ensures { facet_of result ≡ relative_to (twice f.now) c.now }
 {

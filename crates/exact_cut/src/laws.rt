@@ -1,4 +1,5 @@
-//! The laws that the crate's functions stand on. No code runs them: a clause of a public function is what is proved.
+//! The laws that the crate's functions rely on. [`hold_laws`] does nothing when it runs: it is there for its clauses,
+//! since only what a public function promises is proved.
 ghost use Rattle.exact_cut.specs.Laws.{AheadIsAbove, CornerTurnsAreOpposite, CrossingsSplitRows, RaysDifferByEdges, StepsAlongXKeepHits, StepsAlongYKeepHits, TurnsAreOpposite, UncrossedRowsHaveNoHits, WalksTellHits, WindsAreUnits};
 
 /// What holds of every facet's winding and of every ray: an edge and its opposite turn oppositely, a winding is 1, -1

@@ -1,10 +1,10 @@
-//! Where heights cut facets, and where scanlines and rays cross them: exactly, in whole numbers.
+//! Where planes cut facets, and where scanlines and rays cross them, computed exactly in whole numbers.
 //!
 //! ```text
 //! let f = Facet::of(Point::new(0, 0, 0)?, Point::new(10, 10, 0)?, Point::new(0, 0, 10)?);
 //! cuts(&f, 10)                            // at the height 5 µm: Some(Cut { down: 2, up: 1 })
 //! let c = crossing(&f, 10, 4)?;           // there, on the scanline y = 2 µm: num / den is 4, so x = 2 µm
-//! column(&c, 1, 1, 8)                     // 2: of the pixel centres 0.5, 1.5, 2.5 .. µm, the first not left of it
+//! column(&c, 1, 1, 8)                     // 2: of the pixel centres 0.5, 1.5, 2.5 .. µm, the first that isn't left of the crossing
 //! ray_hit(&f, &Centre::new(1, 4, 10)?)    // 1: the ray from (0.5, 2, 5) µm along x crosses the facet
 //! ray_hit(&f, &Centre::new(5, 4, 10)?)    // 0: the facet lies behind
 //! ```
@@ -12,7 +12,7 @@
 //! The types: [`Centre`], a point that a ray starts from; [`Cut`], the two edges that pass a height; [`Crossing`], where
 //! a scanline crosses a facet, as a fraction, and [`column`], the first pixel that is not left of it; [`Lattice`], the
 //! pixel centres of a layer, and [`Walk`], a facet's crossings with all of their rows, by a digital differential
-//! analyser (DDA) in place of a division a row. [`hold_laws`] states what holds of all facets.
+//! analyser (DDA) in place of a division a row. [`hold_laws`] states the laws that hold for every facet.
 //!
 //! Coordinates are half-micrometres, so that the centres between whole micrometres are whole; names of such numbers end
 //! in `2`. Facets and steps between pixels are in micrometres.

@@ -11,7 +11,7 @@ pub(crate) mod section;
 use crate::scanline::crossing::Crossing;
 use exact_int::ceil_div;
 
-/// The least column whose centre is not left of the crossing, or `columns` where there is none.
+/// The first column whose centre is not left of the crossing, or `columns` where there is none.
 ///
 /// Column i has its centre at x = `first2 + 2 * step * i`, in half-micrometres. `first2` is -256,200,000 to
 /// 256,200,000; `step` is in micrometres, 1 to 100,000; there are at most 16,384 columns.

@@ -31,11 +31,8 @@ one_if b = cond b 1 0
 eqb-own : (n : ℕ) → eqb n n ≡ true
 eqb-own n = grind (arith, nat_tests)
 
-eqb-other : (m n : ℕ) → m < n → eqb m n ≡ false
+eqb-other : (m n : ℕ) → n < m → eqb m n ≡ false
 eqb-other m n h = grind (arith, nat_tests)
-
-eqb-other' : (m n : ℕ) → n < m → eqb m n ≡ false
-eqb-other' m n h = grind (arith, nat_tests)
 
 pub times-own : (x : ℕ) (xs : List ℕ) → times x (x ∷ xs) ≡ 1 + times x xs
 times-own x xs = count_by-cons (λ m. m == x) x xs ∙ ap (λ b. cond b 1 0 + times x xs) (eqb-own x)
@@ -95,7 +92,7 @@ NotBelow-lower m x (y ∷ ys) h k = let le = k.0 in (omega arith, NotBelow-lower
 times-below : (n x : ℕ) (ys : List ℕ) → n < x → NotBelow x ys → times n ys ≡ 0
 times-below n x [] h k = refl
 times-below n x (y ∷ ys) h k =
-    let le = k.0 in times-other n y ys (eqb-other' y n (omega arith)) ∙ times-below n x ys h k.1
+    let le = k.0 in times-other n y ys (eqb-other y n (omega arith)) ∙ times-below n x ys h k.1
 
 none_or_more : (n : ℕ) → 0 ≡ 1 + n → ⊥
 none_or_more n e = omega arith
@@ -103,7 +100,7 @@ none_or_more n e = omega arith
 not_before : (x : ℕ) (xs : List ℕ) (y : ℕ) (ys : List ℕ) → NotBelow y ys → times x (x ∷ xs) ≡ times x (y ∷ ys) → x < y → ⊥
 not_before x xs y ys up e l =
     none_or_more (times x xs)
-    (sym (times-other x y ys (eqb-other' y x l) ∙ times-below x y ys l up) ∙ sym e ∙ times-own x xs)
+    (sym (times-other x y ys (eqb-other y x l) ∙ times-below x y ys l up) ∙ sym e ∙ times-own x xs)
 
 heads_agree : (x : ℕ) (xs : List ℕ) (y : ℕ) (ys : List ℕ) → NotBelow x xs → NotBelow y ys
     → ((n : ℕ) → times n (x ∷ xs) ≡ times n (y ∷ ys)) → x ≡ y

@@ -1,6 +1,6 @@
 -- The edges that pass a height are those that a search of the three edges finds.
-use Rattle.std.proofs.Common.{◌≡◌, ℕ, zero, suc, ◌<◌, Bool, true, false, List, [], refl, sym, ◌∙◌, ap, arith, inl, inr, map, get_or, length}
-use Rattle.std.specs.Prelude.{Some, None, ℤ, ◌≤ℤ◌, ◌<ℤ◌, find, slice_get}
+use Rattle.std.proofs.Common.{◌≡◌, ℕ, zero, suc, ◌<◌, Bool, true, false, List, [], refl, sym, ◌∙◌, ap, subst, arith, inl, inr, map, get_or, length}
+use Rattle.std.specs.Prelude.{Option, Some, None, IsSome, is_some, ◌↔◌, ℤ, ◌≤ℤ◌, ◌<ℤ◌, find, slice_get}
 use Rattle.std.proofs.lemmas.Int.{ints}
 use Rattle.std.proofs.lemmas.List.{get_or-map}
 use Rattle.std.proofs.lemmas.Option.{get_or_from_slice_get}
@@ -22,8 +22,8 @@ pub rises-high : (a b z : ℤ) → rises_through a b z ≡ true → z <ℤ b
 rises-high a b z h = grind (arith, ints)
 
 -- edge 0, 1 or 2
-abbrev pub side : Facet → ℕ → Edge
-side t e = edge (start t e) (finish t e)
+abbrev pub edge_at : Facet → ℕ → Edge
+edge_at t e = edge (start t e) (finish t e)
 
 not_true : (b : Bool) → (b ≡ true → ⊥) → b ≡ false
 not_true true h = absurd (h refl)
@@ -33,8 +33,8 @@ differ : (m n : ℕ) → m < n → m ≡ n → ⊥
 differ m n h e = omega arith
 
 -- a search of three things that finds the one with this number
-only_found : (p : Edge → Bool) (t : Facet) (e : ℕ) → e < 3 → p (side t e) ≡ true
-    → ((d : ℕ) → d < 3 → p (side t d) ≡ true → d ≡ e) → find p (half_edges t) ≡ Some (side t e)
+only_found : (p : Edge → Bool) (t : Facet) (e : ℕ) → e < 3 → p (edge_at t e) ≡ true
+    → ((d : ℕ) → d < 3 → p (edge_at t d) ≡ true → d ≡ e) → find p (half_edges t) ≡ Some (edge_at t e)
 only_found p t zero h holds only = let e : p (edge t.a t.b) ≡ true = holds in rw e
 only_found p t (suc zero) h holds only =
     let none : p (edge t.a t.b) ≡ false = not_true _ (λ q. differ 0 1 (omega arith) (only 0 (omega arith) q)) in
@@ -47,7 +47,7 @@ only_found p t (suc (suc zero)) h holds only =
     rw (none, none', e)
 only_found p t (suc (suc (suc n))) h holds only = absurd (omega arith)
 
-none_found : (p : Edge → Bool) (t : Facet) → ((d : ℕ) → d < 3 → p (side t d) ≡ true → ⊥) → find p (half_edges t) ≡ None
+none_found : (p : Edge → Bool) (t : Facet) → ((d : ℕ) → d < 3 → p (edge_at t d) ≡ true → ⊥) → find p (half_edges t) ≡ None
 none_found p t none =
     let none0 : p (edge t.a t.b) ≡ false = not_true _ (none 0 (omega arith)) in
     let none1 : p (edge t.b t.c) ≡ false = not_true _ (none 1 (omega arith)) in
@@ -71,13 +71,13 @@ twice_finish t zero = refl
 twice_finish t (suc zero) = refl
 twice_finish t (suc (suc e)) = refl
 
-pub found_down : (t : Facet) (z : ℤ) (c : Cut) → IsCut (twice t) z c → find (is_downward z) (half_edges t) ≡ Some (side t c.down)
+pub found_down : (t : Facet) (z : ℤ) (c : Cut) → IsCut (twice t) z c → find (is_downward z) (half_edges t) ≡ Some (edge_at t c.down)
 found_down t z c cut =
     only_found (is_downward z) t c.down cut.down_in
     (rises_to (finish t c.down) (start t c.down) z (rw (← twice_start t c.down, ← twice_finish t c.down) cut.falls))
     (λ d h p. cut.one_down d h (rw (twice_start t d, twice_finish t d) (to_rises (finish t d) (start t d) z p)))
 
-pub found_up : (t : Facet) (z : ℤ) (c : Cut) → IsCut (twice t) z c → find (is_upward z) (half_edges t) ≡ Some (side t c.up)
+pub found_up : (t : Facet) (z : ℤ) (c : Cut) → IsCut (twice t) z c → find (is_upward z) (half_edges t) ≡ Some (edge_at t c.up)
 found_up t z c cut =
     only_found (is_upward z) t c.up cut.up_in
     (rises_to (start t c.up) (finish t c.up) z (rw (← twice_start t c.up, ← twice_finish t c.up) cut.rises))
@@ -94,9 +94,27 @@ not_found_down t z not_between =
     none_found (is_downward z) t
     (λ d h p. not_between (between-by_edge t z d (rw (twice_start t d, twice_finish t d) (to_rises (finish t d) (start t d) z p))))
 
+pub facet_at-is : (facets : List Facet) (n : ℕ) (t : Facet) → slice_get facets n ≡ Some t → facet_at facets n ≡ t
+facet_at-is facets n t e = get_or_from_slice_get facets n t (facet_with origin origin origin) e
+
+-- the same of the facet with a number
+pub between-by_cut : (facets : List Facet) (z : ℤ) (n : ℕ) (t : Facet) (c : Cut) → slice_get facets n ≡ Some t → IsCut (twice t) z c
+    → IsBetween (twice (facet_at facets n)) z
+between-by_cut facets z n t c e cut = subst (λ u. IsBetween (twice u) z) (sym (facet_at-is facets n t e)) (between-by_edge t z c.down cut.falls)
+
+pub none-only : {X : Type 0} (o : Option X) (facets : List Facet) (z : ℤ) (n : ℕ) (t : Facet) → o ≡ None → slice_get facets n ≡ Some t
+    → (IsBetween (twice t) z → ⊥) → IsSome o ↔ IsBetween (twice (facet_at facets n)) z
+none-only o facets z n t e f not_between = (
+  λ h. absurd (apart (sym (ap is_some e) ∙ h)),
+  λ b. absurd (not_between (subst (λ u. IsBetween (twice u) z) (facet_at-is facets n t f) b)),
+)
+  where
+    apart : false ≡ true → ⊥
+    apart e = cc
+
 -- the node of edge 0, 1 or 2, by the numbers of the corners
 pub edge_node-is : (points : List Point) (t : Facet) (e : ℕ) → e < 3
-    → edge_node (map (number_of points) (corners t)) e ≡ node_of points (side t e)
+    → edge_node (map (number_of points) (corners t)) e ≡ node_of points (edge_at t e)
 edge_node-is points t zero h = refl
 edge_node-is points t (suc zero) h = refl
 edge_node-is points t (suc (suc zero)) h = refl
@@ -104,15 +122,12 @@ edge_node-is points t (suc (suc (suc e))) h = absurd (omega arith)
 
 -- the segment of a facet that is cut, and of one that is not
 pub segment-some : (points : List Point) (z : ℤ) (n : ℕ) (t : Facet) (c : Cut) → IsCut (twice t) z c
-    → segment_of points z (n, t) ≡ Some (record { facet = n; from = node_of points (side t c.down); to = node_of points (side t c.up) })
+    → segment_of points z (n, t) ≡ Some (record { facet = n; from = node_of points (edge_at t c.down); to = node_of points (edge_at t c.up) })
 segment-some points z n t c cut = rw (found_down t z c cut, found_up t z c cut)
 
 pub segment-none : (points : List Point) (z : ℤ) (n : ℕ) (t : Facet) → (IsBetween (twice t) z → ⊥)
     → segment_of points z (n, t) ≡ None
 segment-none points z n t not_between = rw (not_found_down t z not_between)
-
-pub facet_at-is : (facets : List Facet) (n : ℕ) (t : Facet) → slice_get facets n ≡ Some t → facet_at facets n ≡ t
-facet_at-is facets n t e = get_or_from_slice_get facets n t (facet_with origin origin origin) e
 
 pub triples_at : (facets : List Facet) (n : ℕ) → n < length facets
     → get_or (triples facets) n [] ≡ map (number_of (vertices facets)) (corners (facet_at facets n))

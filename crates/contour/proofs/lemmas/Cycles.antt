@@ -1,4 +1,4 @@
--- What closes is the cycle of its first segment.
+-- A list of segments in which each one's follower is the next, and the last one's the first, is the cycle of its first segment.
 use Rattle.std.proofs.Common.{◌≡◌, ℕ, zero, suc, ◌≤◌, false, eqb, cond, List, [], ◌∷◌, refl, ◌∙◌, ap, length, arith, Some, None}
 use Rattle.std.specs.Prelude.{Option}
 use Rattle.std.proofs.lemmas.Bool.{eq-eqb}

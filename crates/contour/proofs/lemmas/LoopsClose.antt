@@ -1,4 +1,4 @@
--- The loops of a height are what they should be: tracing from each segment that no earlier loop visited finds them.
+-- Tracing from each segment that no earlier loop visited finds the loops of a height.
 use Rattle.std.proofs.Common.{◌≡◌, ℕ, zero, suc, ◌+◌, ◌<◌, ◌≤◌, Bool, true, false, cond, List, [], ◌∷◌, ◌++◌, ◌⊎◌, inl, inr, refl, ◌∙◌, ap, subst, length, get_or, set, replicate, map, arith}
 use Rattle.std.specs.Prelude.{ℤ, slice_index}
 use Rattle.std.specs.List.{range_with_len}

@@ -1,13 +1,13 @@
 -- Lists with their positions: one more element, and what a search, a filter and a map of them give there.
-use Rattle.std.proofs.Common.{◌≡◌, ℕ, suc, ◌+◌, ◌<◌, ◌≤◌, List, [], ◌∷◌, ◌++◌, sym, ◌∙◌, ap, length, take, get_or, arith}
+use Rattle.std.proofs.Common.{◌≡◌, ℕ, suc, ◌+◌, ◌<◌, List, [], ◌∷◌, ◌++◌, sym, ◌∙◌, ap, length, take, get_or, arith}
 use Rattle.std.specs.Prelude.{Some, None, ℤ, filter_map}
 use Rattle.std.specs.List.{enumerate_from, cons_option}
-use Rattle.std.proofs.lemmas.List.{take_more, length-take, append-nil, take_all}
+use Rattle.std.proofs.lemmas.List.{take_more, length-take, append-nil}
 use Rattle.std.proofs.lemmas.List.Elements.{filter_map-append}
 use Rattle.geometry.specs.Point.{origin}
 use Rattle.geometry.specs.Facet.{Facet, facet_with}
 use Rattle.mesh_weld.specs.Solid.{vertices, facet_at}
-use Rattle.contour.specs.Segment.{segment_of, segments}
+use Rattle.contour.specs.Segment.{segment_of}
 use Rattle.contour.specs.declared.segment.Segment.{Segment}
 
 enumerate_from-append : {X : Type 0} (n : ℕ) (xs ys : List X)
@@ -45,6 +45,3 @@ pub segments_to-none : (facets : List Facet) (z : ℤ) (n m : ℕ) → n < lengt
 segments_to-none facets z n m h e f =
     ap (segments_to facets z) e ∙ segments_to-more facets z n h
     ∙ ap (λ o. segments_to facets z n ++ cons_option o []) (sym f) ∙ append-nil (segments_to facets z n)
-
-pub segments_to-all : (facets : List Facet) (z : ℤ) (n : ℕ) → length facets ≤ n → segments_to facets z n ≡ segments facets z
-segments_to-all facets z n h = ap (λ ts. filter_map (segment_of (vertices facets) z) (enumerate_from 0 ts)) (take_all n facets h)

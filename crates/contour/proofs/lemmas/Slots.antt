@@ -2,7 +2,7 @@
 -- from the first on.
 use Rattle.std.proofs.Common.{◌≡◌, ℕ, zero, suc, ◌+◌, ◌<◌, ◌≤◌, Bool, true, false, cond, eqb, List, [], ◌∷◌, ◌⊎◌, inl, inr, refl, sym, ◌∙◌, ap, subst, length, take, drop, get_or, set, replicate, arith, get_or-set_same, get_or-set_other}
 use Rattle.std.specs.Prelude.{◌==◌}
-use Rattle.std.proofs.lemmas.List.{drop_more, get_or_default, get_or_past, get_or-drop, drop_all, take_all}
+use Rattle.std.proofs.lemmas.List.{drop_more, get_or_default, get_or_past, get_or-drop, take_all}
 use Rattle.std.proofs.lemmas.List.Sums.{count_by_more_yes, count_by_more_no}
 use Rattle.std.proofs.lemmas.Bool.{eqb-true, eqb-false, eq-eqb, ne_eqb}
 use Rattle.contour.specs.Link.{ArePopped, HasFirsts, HasLeft, HasNexts, IsClear, slot_after, slots}
@@ -104,9 +104,6 @@ module _ (heads starts : List ℕ) (i : ℕ) (l : i < length starts) (edge : get
           (get_or-set_same after i v NONE inside ∙ is ∙ get_or_default heads (get_or starts i 0) 0 NONE edge ∙ h (get_or starts i 0))
       by_test (inr s) = get_or-set_other after i j v NONE s ∙ rest j (omega (arith, low, s)) high
 
-pub push-none : (heads starts : List ℕ) (n : ℕ) → length starts ≤ n → IsClear heads → HasFirsts heads n starts
-push-none heads starts n l h e = h e ∙ ap (λ ps. get_or (slots n e ps) 0 NONE) (sym (drop_all n starts l))
-
 -- ---- popping
 module _ (heads starts finishes : List ℕ) (i : ℕ) (l : i < length finishes) (edge : get_or finishes i 0 < length heads)
     (left : HasLeft heads starts finishes i) where
@@ -167,9 +164,6 @@ module _ (heads starts finishes : List ℕ) (i : ℕ) (l : i < length finishes) 
         by_test (inr s) =
             get_or-set_other heads (get_or finishes i 0) e v NONE (λ r. s (sym r)) ∙ left e
             ∙ ap (λ k. get_or (slots 0 e starts) k NONE) (sym (count_by_more_no (λ f. f == e) finishes i 0 l (ne_eqb (get_or finishes i 0) e s)))
-
-pub pop-none : (heads starts finishes : List ℕ) → HasFirsts heads 0 starts → HasLeft heads starts finishes 0
-pop-none heads starts finishes h e = h e
 
 pub pop-clear : (heads starts finishes : List ℕ) (n : ℕ) → length finishes ≤ n → AreEven starts finishes → HasLeft heads starts finishes n → IsClear heads
 pop-clear heads starts finishes n l even left e =

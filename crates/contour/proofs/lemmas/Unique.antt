@@ -1,4 +1,4 @@
--- AreLoops leaves no choice: the loops of a list are its cycles, each from its leader, in order of these.
+-- Only one list of loops meets `AreLoops`: the cycles, each from its leader, in the order of the leaders.
 use Rattle.std.proofs.Common.{◌≡◌, ℕ, zero, suc, ◌+◌, ◌<◌, ◌≤◌, Bool, true, false, eqb, cond, List, [], ◌∷◌, ◌⊎◌, inl, inr, refl, sym, ◌∙◌, ap, subst, length, get_or, map, arith, Some}
 use Rattle.std.specs.Prelude.{ℤ, filter, flat_map, nat_le, slice_get, ◌==◌}
 use Rattle.std.specs.List.{list_all, AllByRecursion}

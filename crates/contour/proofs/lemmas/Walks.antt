@@ -1,4 +1,4 @@
--- A walk from follower to follower over segments that are not visited: it ends where it began.
+-- Walking along a loop, as `trace_loop` does: from follower to follower, past segments that are not visited, until the first comes again.
 use Rattle.std.proofs.Common.{◌≡◌, ℕ, zero, suc, ◌+◌, ◌<◌, ◌≤◌, Bool, true, false, cond, eqb, ◌&&◌, List, [], ◌∷◌, ◌++◌, ◌⊎◌, inl, inr, refl, sym, ◌∙◌, ap, subst, length, get_or, set, arith, Some, get_or-set_same, get_or-set_other}
 use Rattle.std.specs.Prelude.{nat_le, ◌==◌}
 use Rattle.std.specs.List.{list_all}
@@ -51,7 +51,7 @@ unvisited-pass n (false ∷ visited) (x ∷ list) (suc at) e l h =
     let b = count_by-cons (λ (s : Segment). s.facet == n) x (unvisited visited list) in
     omega (arith, rest, a, b)
 
--- where a walk stands
+-- where a walk stands: at its first slot, with no segment passed, or at the follower of the slot `prev`
 abbrev Way : List Segment → List ℕ → ℕ → List Bool → ℕ → List Segment → Type 0
 Way list next first visited at part =
     ((at ≡ first) × (part ≡ []) × (is_visited visited at ≡ false))
@@ -72,10 +72,6 @@ pub record IsWalk (list : List Segment) (next : List ℕ) (first : ℕ) (before 
 not_both : (b : Bool) → b ≡ true → b ≡ false → ⊥
 not_both true h k = absurd (cc)
 not_both false h k = absurd (cc)
-
-true_or_false : (b : Bool) → (b ≡ true) ⊎ (b ≡ false)
-true_or_false true = inl refl
-true_or_false false = inr refl
 
 pub walk-begins : (list : List Segment) (next : List ℕ) (first : ℕ) (visited : List Bool) → first < length list → length visited ≡ length list
     → is_visited visited first ≡ false → KeepsLoopsWhole list next visited → IsWalk list next first visited visited first []

@@ -1,4 +1,4 @@
--- What a facet's wind says of its normal and of where the line along x passes its plane.
+-- A facet's winding has the sign of its normal's x part, and tells on which side of a point the line along x meets the facet's plane.
 use Rattle.std.proofs.Common.{◌≡◌, ℕ, zero, suc, ◌⊎◌, ◌↔◌, [], ◌∷◌, ℤ, pos, negsuc, ◌+ℤ◌, ◌-ℤ◌, ◌*ℤ◌, neg_ℤ, ◌≤ℤ◌, ◌<ℤ◌, refl, sym, ◌∙◌, ap, subst, arith, inl, inr}
 use Rattle.std.proofs.lemmas.Int.{ints}
 use Rattle.exact_int.proofs.lemmas.Identity.{reads, identity}
@@ -238,9 +238,6 @@ turn-ahead_down r s y z x c d h k = by (turn_of-down s.z r.z z (left s r y z) h.
 -- the same fraction under other names
 pub crosses_by : (t : Facet) (y z s n d s' n' d' : ℤ) → s ≡ s' → n ≡ n' → d ≡ d' → Crosses t y z s n d → Crosses t y z s' n' d'
 crosses_by t y z s n d s' n' d' e f g h = subst (λ a. Crosses t y z a n' d') e (subst (λ a. Crosses t y z s a d') f (subst (λ a. Crosses t y z s n a) g h))
-
-not_zero : (w n : ℤ) → w ≡ n → (n ≡ pos 0 → ⊥) → w ≡ pos 0 → ⊥
-not_zero w n e h f = h (sym e ∙ f)
 
 -- the two cut points, on which side of the scanline they lie, and the fraction, before the sign is chosen
 module _ (t : Facet) (r s p q : Point) (y z : ℤ) (h : Passes t r s p q z) (ax ay ad bx by bd num den : ℤ)

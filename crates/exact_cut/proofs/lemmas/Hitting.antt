@@ -1,4 +1,4 @@
--- Hits, by the sign of wind times volume.
+-- A facet's hit, by the sign of its winding times its volume.
 use Rattle.std.proofs.Common.{◌≡◌, ℤ, pos, ◌+ℤ◌, ◌*ℤ◌, ◌≤ℤ◌, ◌<ℤ◌, int_lt, true, false, if◌then◌else◌, ◌∙◌, arith}
 use Rattle.std.proofs.lemmas.Int.{ints}
 use Rattle.geometry.specs.Point.{Point}

@@ -1,4 +1,4 @@
--- Which way a step from one point to another passes two half lines from the origin: from (xd, yd) to (xu, yu), by quadrants.
+-- How the segment from (xd, yd) to (xu, yu) passes the half lines from the origin along x and along y, by the quadrants of its ends.
 use Rattle.std.proofs.Common.{◌≡◌, [], ◌∷◌, ℤ, pos, negsuc, ◌+ℤ◌, ◌-ℤ◌, ◌*ℤ◌, neg_ℤ, ◌≤ℤ◌, ◌<ℤ◌, int_lt, if◌then◌else◌, refl, sym, ◌∙◌, ap, subst, arith}
 use Rattle.std.proofs.lemmas.Int.{ints}
 use Rattle.exact_int.proofs.lemmas.Identity.{reads, identity}

@@ -41,9 +41,6 @@ down-turn u v z l m c h k e = by (turn_of-down u v z l h k)
     by (inr a) = down_no a.0 (not_below l m c e a.1)
 
 -- ---- quiet edges
-pub turn-quiet : (y z : ℤ) → Quiet (λ u v. turn u v y z) z
-turn-quiet y z = record { below = λ u v h k. turn_of-below u.z v.z z _ h k; above = λ u v h k. turn_of-above u.z v.z z _ h k }
-
 pub turn_x-quiet : (x z : ℤ) → Quiet (λ u v. turn_x u v x z) z
 turn_x-quiet x z = record { below = λ u v h k. turn_of-below u.z v.z z _ h k; above = λ u v h k. turn_of-above u.z v.z z _ h k }
 

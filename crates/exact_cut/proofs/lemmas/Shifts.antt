@@ -5,7 +5,7 @@ use Rattle.exact_int.specs.Bounds.{IsAtMost}
 use Rattle.exact_int.proofs.lemmas.Identity.{reads, identity}
 use Rattle.geometry.specs.Point.{Point, origin}
 use Rattle.geometry.specs.Facet.{Facet}
-use Rattle.geometry.specs.Winding.{left, left_x, turn, turn_x, turn_of, wind, wind_y, volume, hit, hit_y}
+use Rattle.geometry.specs.Winding.{left, left_x, turn, turn_x, turn_of, wind, wind_y, determinant, volume, hit, hit_y}
 use Rattle.exact_cut.specs.Crossing.{Winding}
 use Rattle.exact_cut.specs.RelativeFacet.{minus, relative_to}
 use Rattle.exact_cut.proofs.lemmas.Ahead.{wind_values}
@@ -47,8 +47,14 @@ pub wind_y-shift : (t : Facet) (c : Point) → wind_y (relative_to t c) (pos 0) 
 unfolding wind_y
 wind_y-shift t c = λ i. neg_ℤ (turn_x-shift t.a t.b c i +ℤ turn_x-shift t.b t.c c i +ℤ turn_x-shift t.c t.a c i)
 
+less_nothing : (a : ℤ) → a -ℤ pos 0 ≡ a
+less_nothing a = omega (arith, ints)
+
 pub volume-shift : (t : Facet) (c : Point) → volume (relative_to t c) origin ≡ volume t c
-volume-shift t c = identity (t.a.x ∷ t.a.y ∷ t.a.z ∷ t.b.x ∷ t.b.y ∷ t.b.z ∷ t.c.x ∷ t.c.y ∷ t.c.z ∷ c.x ∷ c.y ∷ c.z ∷ []) (search reads depth 40 fits 20000) refl
+volume-shift t c = λ i.
+    determinant (less_nothing (t.a.x -ℤ c.x) i) (less_nothing (t.a.y -ℤ c.y) i) (less_nothing (t.a.z -ℤ c.z) i)
+    (less_nothing (t.b.x -ℤ c.x) i) (less_nothing (t.b.y -ℤ c.y) i) (less_nothing (t.b.z -ℤ c.z) i)
+    (less_nothing (t.c.x -ℤ c.x) i) (less_nothing (t.c.y -ℤ c.y) i) (less_nothing (t.c.z -ℤ c.z) i)
 
 -- the wind where it and the volume say that the facet is ahead
 abbrev pub ahead_only : ℤ → ℤ → ℤ

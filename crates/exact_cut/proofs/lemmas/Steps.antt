@@ -1,4 +1,4 @@
--- A step along x past no point of a facet: the facet's hit stays.
+-- Where no point of a facet lies between two points of a line along x, or along y, the rays along it from both hit the facet alike.
 use Rattle.std.proofs.Common.{◌+◌, ◌≡◌, ◌⊎◌, inl, inr, ℕ, [], ◌∷◌, ℤ, pos, negsuc, ◌+ℤ◌, ◌-ℤ◌, ◌*ℤ◌, neg_ℤ, ◌≤ℤ◌, ◌<ℤ◌, refl, sym, ◌∙◌, ap, subst, arith}
 use Rattle.std.proofs.lemmas.Int.{ints}
 use Rattle.exact_int.proofs.lemmas.Identity.{reads, identity}
@@ -68,10 +68,16 @@ mean-between t num den y z x1 x2 h k a b =
     along-y i j den y = identity (i ∷ j ∷ den ∷ y ∷ []) (search reads depth 40) refl
 
 -- ---- the point where the facet's plane is crossed
+down-sum : (k s1 r1 s r z : ℤ) → (k *ℤ (z -ℤ r1)) *ℤ s +ℤ (k *ℤ (s1 -ℤ z)) *ℤ r ≡ k *ℤ (r *ℤ (s1 -ℤ z) +ℤ s *ℤ (z -ℤ r1))
+down-sum k s1 r1 s r z = identity (k ∷ s1 ∷ r1 ∷ s ∷ r ∷ z ∷ []) (search reads depth 40 fits 5000) refl
+
+up-sum : (k p1 q1 p q z : ℤ) → (k *ℤ (q1 -ℤ z)) *ℤ p +ℤ (k *ℤ (z -ℤ p1)) *ℤ q ≡ k *ℤ (p *ℤ (q1 -ℤ z) +ℤ q *ℤ (z -ℤ p1))
+up-sum k p1 q1 p q z = identity (k ∷ p1 ∷ q1 ∷ p ∷ q ∷ z ∷ []) (search reads depth 40 fits 5000) refl
+
 cuts-sum : (k1 k2 s1 r1 s r p1 q1 p q z : ℤ)
     → ((k1 *ℤ (z -ℤ r1)) *ℤ s +ℤ (k1 *ℤ (s1 -ℤ z)) *ℤ r) +ℤ ((k2 *ℤ (q1 -ℤ z)) *ℤ p +ℤ (k2 *ℤ (z -ℤ p1)) *ℤ q)
     ≡ k1 *ℤ (r *ℤ (s1 -ℤ z) +ℤ s *ℤ (z -ℤ r1)) +ℤ k2 *ℤ (p *ℤ (q1 -ℤ z) +ℤ q *ℤ (z -ℤ p1))
-cuts-sum k1 k2 s1 r1 s r p1 q1 p q z = identity (k1 ∷ k2 ∷ s1 ∷ r1 ∷ s ∷ r ∷ p1 ∷ q1 ∷ p ∷ q ∷ z ∷ []) (search reads depth 40 fits 20000) refl
+cuts-sum k1 k2 s1 r1 s r p1 q1 p q z = λ i. down-sum k1 s1 r1 s r z i +ℤ up-sum k2 p1 q1 p q z i
 
 spans-sum : (k1 k2 s1 r1 p1 q1 z : ℤ) → ((k1 *ℤ (z -ℤ r1)) +ℤ (k1 *ℤ (s1 -ℤ z))) +ℤ ((k2 *ℤ (q1 -ℤ z)) +ℤ (k2 *ℤ (z -ℤ p1))) ≡ k1 *ℤ (s1 -ℤ r1) +ℤ k2 *ℤ (q1 -ℤ p1)
 spans-sum k1 k2 s1 r1 p1 q1 z = identity (k1 ∷ k2 ∷ s1 ∷ r1 ∷ p1 ∷ q1 ∷ z ∷ []) (search reads depth 40 fits 5000) refl

@@ -1,4 +1,4 @@
--- Two cut points of a facet on opposite sides of a point: the facet touches the point.
+-- Where the two cut points of a facet lie on opposite sides of a point, the facet touches the point.
 use Rattle.std.proofs.Common.{◌≡◌, ℕ, zero, suc, [], ◌∷◌, ℤ, pos, negsuc, ◌+ℤ◌, ◌-ℤ◌, ◌*ℤ◌, neg_ℤ, ◌≤ℤ◌, ◌<ℤ◌, refl, sym, ◌∙◌, ap, subst, arith}
 use Rattle.std.proofs.lemmas.Int.{ints}
 use Rattle.exact_int.proofs.lemmas.Identity.{reads, identity}
@@ -86,6 +86,18 @@ regroup la lb lc ma mb mc a b c = identity (la ∷ lb ∷ lc ∷ ma ∷ mb ∷ m
 pub regroup-sum : (la lb lc ma mb mc : ℤ) → (la +ℤ ma) +ℤ (lb +ℤ mb) +ℤ (lc +ℤ mc) ≡ (la +ℤ lb +ℤ lc) +ℤ (ma +ℤ mb +ℤ mc)
 regroup-sum la lb lc ma mb mc = identity (la ∷ lb ∷ lc ∷ ma ∷ mb ∷ mc ∷ []) (search reads depth 40 fits 5000) refl
 
+-- k times the cut point of the edge down, along one axis, as it lies from the coordinate g, and the same of the edge up
+down-split : (k s1 r1 s r z g : ℤ) → (k *ℤ (z -ℤ r1)) *ℤ s +ℤ (k *ℤ (s1 -ℤ z)) *ℤ r
+    ≡ (k *ℤ (z -ℤ r1) +ℤ k *ℤ (s1 -ℤ z)) *ℤ g +ℤ k *ℤ ((r *ℤ (s1 -ℤ z) +ℤ s *ℤ (z -ℤ r1)) -ℤ g *ℤ (s1 -ℤ r1))
+down-split k s1 r1 s r z g = identity (k ∷ s1 ∷ r1 ∷ s ∷ r ∷ z ∷ g ∷ []) (search reads depth 40 fits 5000) refl
+
+up-split : (k p1 q1 p q z g : ℤ) → (k *ℤ (q1 -ℤ z)) *ℤ p +ℤ (k *ℤ (z -ℤ p1)) *ℤ q
+    ≡ (k *ℤ (q1 -ℤ z) +ℤ k *ℤ (z -ℤ p1)) *ℤ g +ℤ k *ℤ ((p *ℤ (q1 -ℤ z) +ℤ q *ℤ (z -ℤ p1)) -ℤ g *ℤ (q1 -ℤ p1))
+up-split k p1 q1 p q z g = identity (k ∷ p1 ∷ q1 ∷ p ∷ q ∷ z ∷ g ∷ []) (search reads depth 40 fits 5000) refl
+
+gathered : (a b g m n : ℤ) → (a *ℤ g +ℤ m) +ℤ (b *ℤ g +ℤ n) ≡ (a +ℤ b) *ℤ g +ℤ (m +ℤ n)
+gathered a b g m n = identity (a ∷ b ∷ g ∷ m ∷ n ∷ []) (search reads depth 40) refl
+
 -- k1 times the cut point of the edge down and k2 times that of the edge up, along one axis, where they cancel from the point's coordinate g
 balanced : (k1 k2 s1 r1 s r p1 q1 p q z g : ℤ) → k1 *ℤ ((r *ℤ (s1 -ℤ z) +ℤ s *ℤ (z -ℤ r1)) -ℤ g *ℤ (s1 -ℤ r1)) +ℤ k2 *ℤ ((p *ℤ (q1 -ℤ z) +ℤ q *ℤ (z -ℤ p1)) -ℤ g *ℤ (q1 -ℤ p1)) ≡ pos 0
     → ((k1 *ℤ (z -ℤ r1)) *ℤ s +ℤ (k1 *ℤ (s1 -ℤ z)) *ℤ r) +ℤ ((k2 *ℤ (q1 -ℤ z)) *ℤ p +ℤ (k2 *ℤ (z -ℤ p1)) *ℤ q)
@@ -102,7 +114,10 @@ balanced k1 k2 s1 r1 s r p1 q1 p q z g e = by e
     rest = k1 *ℤ ((r *ℤ (s1 -ℤ z) +ℤ s *ℤ (z -ℤ r1)) -ℤ g *ℤ (s1 -ℤ r1)) +ℤ k2 *ℤ ((p *ℤ (q1 -ℤ z) +ℤ q *ℤ (z -ℤ p1)) -ℤ g *ℤ (q1 -ℤ p1))
 
     split : left ≡ right +ℤ rest
-    split = identity (k1 ∷ k2 ∷ s1 ∷ r1 ∷ s ∷ r ∷ p1 ∷ q1 ∷ p ∷ q ∷ z ∷ g ∷ []) (search reads depth 40 fits 20000) refl
+    split =
+        (λ i. down-split k1 s1 r1 s r z g i +ℤ up-split k2 p1 q1 p q z g i)
+        ∙ gathered (k1 *ℤ (z -ℤ r1) +ℤ k1 *ℤ (s1 -ℤ z)) (k2 *ℤ (q1 -ℤ z) +ℤ k2 *ℤ (z -ℤ p1)) g
+        (k1 *ℤ ((r *ℤ (s1 -ℤ z) +ℤ s *ℤ (z -ℤ r1)) -ℤ g *ℤ (s1 -ℤ r1))) (k2 *ℤ ((p *ℤ (q1 -ℤ z) +ℤ q *ℤ (z -ℤ p1)) -ℤ g *ℤ (q1 -ℤ p1)))
 
     drop : (a b : ℤ) → b ≡ pos 0 → a +ℤ b ≡ a
     drop a b e = omega (arith, ints)

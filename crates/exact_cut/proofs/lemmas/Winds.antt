@@ -1,10 +1,10 @@
--- A facet's wind, its normal's x part and the crossing.
-use Rattle.std.proofs.Common.{◌≡◌, ℕ, zero, suc, [], ◌∷◌, ℤ, pos, ◌+ℤ◌, ◌-ℤ◌, ◌*ℤ◌, neg_ℤ, ◌≤ℤ◌, ◌<ℤ◌, refl, ◌∙◌, arith}
+-- A facet's one edge down and one edge up at a height: they make up its winding, and the line through their cut points is in the facet's plane.
+use Rattle.std.proofs.Common.{◌≡◌, ℕ, zero, suc, [], ◌∷◌, ℤ, pos, ◌+ℤ◌, ◌-ℤ◌, ◌*ℤ◌, neg_ℤ, ◌≤ℤ◌, ◌<ℤ◌, refl, ◌∙◌, ap, arith}
 use Rattle.std.proofs.lemmas.Int.{ints}
 use Rattle.exact_int.proofs.lemmas.Identity.{reads, identity}
 use Rattle.geometry.specs.Point.{Point}
-use Rattle.geometry.specs.Facet.{Facet}
-use Rattle.geometry.specs.Winding.{left, turn, wind, volume, normal_x, normal_y}
+use Rattle.geometry.specs.Facet.{Facet, facet_with}
+use Rattle.geometry.specs.Winding.{left, turn, wind, determinant, volume, normal_x, normal_y}
 use Rattle.exact_cut.specs.Cut.{start, finish, Rises}
 use Rattle.exact_cut.specs.CutPoint.{cut_y, cut_x, cut_d}
 use Rattle.exact_cut.proofs.lemmas.Turns.{turn_of-below, turn_of-above}
@@ -37,12 +37,6 @@ pub record Passes (t : Facet) (r s p q : Point) (z : ℤ) : Type 0 where
 
 add_zero_mid : (a b c : ℤ) → b ≡ pos 0 → a +ℤ b +ℤ c ≡ a +ℤ c
 add_zero_mid a b c e = omega (arith, ints)
-
-add_zero_first : (a b c : ℤ) → a ≡ pos 0 → a +ℤ b +ℤ c ≡ b +ℤ c
-add_zero_first a b c e = omega (arith, ints)
-
-swap_two : (a b : ℤ) → a +ℤ b ≡ b +ℤ a
-swap_two a b = omega (arith, ints)
 
 add_zero_last : (a b c : ℤ) → c ≡ pos 0 → a +ℤ b +ℤ c ≡ a +ℤ b
 add_zero_last a b c e = omega (arith, ints)
@@ -77,65 +71,54 @@ passes-ab-ca t z u d = record {
   num_is = λ x y. identity (t.a.x ∷ t.a.y ∷ t.a.z ∷ t.b.x ∷ t.b.y ∷ t.b.z ∷ t.c.x ∷ t.c.y ∷ t.c.z ∷ x ∷ y ∷ z ∷ []) (search reads depth 40 fits 5000) refl;
 }
 
+-- ---- the same facet, from its second corner on
+abbrev from_second : Facet → Facet
+from_second t = facet_with t.b t.c t.a
+
+last_first : (a b c : ℤ) → a +ℤ b +ℤ c ≡ b +ℤ c +ℤ a
+last_first a b c = omega (arith, ints)
+
+normal_x-turned : (t : Facet) → normal_x (from_second t) ≡ normal_x t
+normal_x-turned t = identity (t.a.y ∷ t.a.z ∷ t.b.y ∷ t.b.z ∷ t.c.y ∷ t.c.z ∷ []) (search reads depth 40 fits 5000) refl
+
+normal_y-turned : (t : Facet) → normal_y (from_second t) ≡ normal_y t
+normal_y-turned t = identity (t.a.x ∷ t.a.z ∷ t.b.x ∷ t.b.z ∷ t.c.x ∷ t.c.z ∷ []) (search reads depth 40 fits 5000) refl
+
+-- of three rows, the last one first
+determinant-turned : (a b c d e f g h i : ℤ) → determinant d e f g h i a b c ≡ determinant a b c d e f g h i
+determinant-turned a b c d e f g h i = identity (a ∷ b ∷ c ∷ d ∷ e ∷ f ∷ g ∷ h ∷ i ∷ []) (search reads depth 40 fits 5000) refl
+
+passes-turned : (t : Facet) (r s p q : Point) (z : ℤ) → Passes (from_second t) r s p q z → Passes t r s p q z
+unfolding wind
+passes-turned t r s p q z h = record {
+  up = h.up;
+  down = h.down;
+  height = h.height;
+  not_negative = h.not_negative;
+  sums = λ f k. last_first (f t.a t.b) (f t.b t.c) (f t.c t.a) ∙ h.sums f k;
+  winds = λ y. last_first (turn t.a t.b y z) (turn t.b t.c y z) (turn t.c t.a y z) ∙ h.winds y;
+  den_is = h.den_is ∙ ap (λ n. h.height *ℤ n) (normal_x-turned t);
+  den_x_is = h.den_x_is ∙ ap (λ n. neg_ℤ (h.height *ℤ n)) (normal_y-turned t);
+  num_is = λ x y.
+      h.num_is x y
+      ∙ ap (λ v. h.height *ℤ v) (determinant-turned (t.a.x -ℤ x) (t.a.y -ℤ y) (t.a.z -ℤ z) (t.b.x -ℤ x) (t.b.y -ℤ y) (t.b.z -ℤ z) (t.c.x -ℤ x) (t.c.y -ℤ y) (t.c.z -ℤ z));
+}
+
 -- b up to c, a down to b: b alone is below
 passes-bc-ab : (t : Facet) (z : ℤ) → Rises t.b t.c z → Rises t.b t.a z → Passes t t.b t.a t.b t.c z
-unfolding wind
-passes-bc-ab t z u d = record {
-  up = u;
-  down = d;
-  height = z -ℤ t.b.z;
-  not_negative = omega (arith, ints);
-  sums = λ f k. add_zero_last (f t.a t.b) (f t.b t.c) (f t.c t.a) (k.above t.c t.a u.high d.high) ∙ swap_two (f t.a t.b) (f t.b t.c);
-  winds = λ y. add_zero_last (turn t.a t.b y z) (turn t.b t.c y z) (turn t.c t.a y z) (turn_of-above t.c.z t.a.z z (left t.c t.a y z) u.high d.high) ∙ swap_two (turn t.a t.b y z) (turn t.b t.c y z);
-  den_is = identity (t.a.y ∷ t.a.z ∷ t.b.y ∷ t.b.z ∷ t.c.y ∷ t.c.z ∷ z ∷ []) (search reads depth 40 fits 5000) refl;
-  den_x_is = identity (t.a.x ∷ t.a.z ∷ t.b.x ∷ t.b.z ∷ t.c.x ∷ t.c.z ∷ z ∷ []) (search reads depth 40 fits 5000) refl;
-  num_is = λ x y. identity (t.a.x ∷ t.a.y ∷ t.a.z ∷ t.b.x ∷ t.b.y ∷ t.b.z ∷ t.c.x ∷ t.c.y ∷ t.c.z ∷ x ∷ y ∷ z ∷ []) (search reads depth 40 fits 5000) refl;
-}
+passes-bc-ab t z u d = passes-turned t t.b t.a t.b t.c z (passes-ab-ca (from_second t) z u d)
 
 -- b up to c, c down to a: c alone is above
 passes-bc-ca : (t : Facet) (z : ℤ) → Rises t.b t.c z → Rises t.a t.c z → Passes t t.a t.c t.b t.c z
-unfolding wind
-passes-bc-ca t z u d = record {
-  up = u;
-  down = d;
-  height = t.c.z -ℤ z;
-  not_negative = omega (arith, ints);
-  sums = λ f k. add_zero_first (f t.a t.b) (f t.b t.c) (f t.c t.a) (k.below t.a t.b d.low u.low);
-  winds = λ y. add_zero_first (turn t.a t.b y z) (turn t.b t.c y z) (turn t.c t.a y z) (turn_of-below t.a.z t.b.z z (left t.a t.b y z) d.low u.low);
-  den_is = identity (t.a.y ∷ t.a.z ∷ t.b.y ∷ t.b.z ∷ t.c.y ∷ t.c.z ∷ z ∷ []) (search reads depth 40 fits 5000) refl;
-  den_x_is = identity (t.a.x ∷ t.a.z ∷ t.b.x ∷ t.b.z ∷ t.c.x ∷ t.c.z ∷ z ∷ []) (search reads depth 40 fits 5000) refl;
-  num_is = λ x y. identity (t.a.x ∷ t.a.y ∷ t.a.z ∷ t.b.x ∷ t.b.y ∷ t.b.z ∷ t.c.x ∷ t.c.y ∷ t.c.z ∷ x ∷ y ∷ z ∷ []) (search reads depth 40 fits 5000) refl;
-}
+passes-bc-ca t z u d = passes-turned t t.a t.c t.b t.c z (passes-ab-bc (from_second t) z u d)
 
 -- c up to a, a down to b: a alone is above
 passes-ca-ab : (t : Facet) (z : ℤ) → Rises t.c t.a z → Rises t.b t.a z → Passes t t.b t.a t.c t.a z
-unfolding wind
-passes-ca-ab t z u d = record {
-  up = u;
-  down = d;
-  height = t.a.z -ℤ z;
-  not_negative = omega (arith, ints);
-  sums = λ f k. add_zero_mid (f t.a t.b) (f t.b t.c) (f t.c t.a) (k.below t.b t.c d.low u.low) ∙ swap_two (f t.a t.b) (f t.c t.a);
-  winds = λ y. add_zero_mid (turn t.a t.b y z) (turn t.b t.c y z) (turn t.c t.a y z) (turn_of-below t.b.z t.c.z z (left t.b t.c y z) d.low u.low) ∙ swap_two (turn t.a t.b y z) (turn t.c t.a y z);
-  den_is = identity (t.a.y ∷ t.a.z ∷ t.b.y ∷ t.b.z ∷ t.c.y ∷ t.c.z ∷ z ∷ []) (search reads depth 40 fits 5000) refl;
-  den_x_is = identity (t.a.x ∷ t.a.z ∷ t.b.x ∷ t.b.z ∷ t.c.x ∷ t.c.z ∷ z ∷ []) (search reads depth 40 fits 5000) refl;
-  num_is = λ x y. identity (t.a.x ∷ t.a.y ∷ t.a.z ∷ t.b.x ∷ t.b.y ∷ t.b.z ∷ t.c.x ∷ t.c.y ∷ t.c.z ∷ x ∷ y ∷ z ∷ []) (search reads depth 40 fits 5000) refl;
-}
+passes-ca-ab t z u d = passes-turned t t.b t.a t.c t.a z (passes-bc-ca (from_second t) z u d)
 
 -- c up to a, b down to c: c alone is below
 passes-ca-bc : (t : Facet) (z : ℤ) → Rises t.c t.a z → Rises t.c t.b z → Passes t t.c t.b t.c t.a z
-unfolding wind
-passes-ca-bc t z u d = record {
-  up = u;
-  down = d;
-  height = z -ℤ t.c.z;
-  not_negative = omega (arith, ints);
-  sums = λ f k. add_zero_first (f t.a t.b) (f t.b t.c) (f t.c t.a) (k.above t.a t.b u.high d.high) ∙ swap_two (f t.b t.c) (f t.c t.a);
-  winds = λ y. add_zero_first (turn t.a t.b y z) (turn t.b t.c y z) (turn t.c t.a y z) (turn_of-above t.a.z t.b.z z (left t.a t.b y z) u.high d.high) ∙ swap_two (turn t.b t.c y z) (turn t.c t.a y z);
-  den_is = identity (t.a.y ∷ t.a.z ∷ t.b.y ∷ t.b.z ∷ t.c.y ∷ t.c.z ∷ z ∷ []) (search reads depth 40 fits 5000) refl;
-  den_x_is = identity (t.a.x ∷ t.a.z ∷ t.b.x ∷ t.b.z ∷ t.c.x ∷ t.c.z ∷ z ∷ []) (search reads depth 40 fits 5000) refl;
-  num_is = λ x y. identity (t.a.x ∷ t.a.y ∷ t.a.z ∷ t.b.x ∷ t.b.y ∷ t.b.z ∷ t.c.x ∷ t.c.y ∷ t.c.z ∷ x ∷ y ∷ z ∷ []) (search reads depth 40 fits 5000) refl;
-}
+passes-ca-bc t z u d = passes-turned t t.c t.b t.c t.a z (passes-bc-ab (from_second t) z u d)
 
 not_both : (u v : Point) (z : ℤ) → Rises u v z → Rises v u z → ⊥
 not_both u v z h k = omega (arith, ints)

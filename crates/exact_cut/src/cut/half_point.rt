@@ -1,4 +1,4 @@
-//! The corners of a facet in half-micrometres, in a file of its own, since its definitions cite it.
+//! The corners of a facet in half-micrometres. The type has a file of its own because definitions in `specs/` cite it.
 ghost use Rattle.exact_int.specs.Bounds.{IsAtMost};
 ghost use Rattle.exact_cut.specs.Bounds.{half_point_limit};
 

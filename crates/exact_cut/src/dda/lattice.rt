@@ -1,4 +1,4 @@
-//! The pixel centres of a layer: the rows that a walk passes, and the columns that it answers.
+//! The pixel centres of a layer: a walk follows its rows, and gives a column for each.
 ghost use Rattle.std.specs.Prelude.{◌≡◌, ◌*ℤ◌, ◌+ℤ◌, ◌<◌, ◌≤ℤ◌, ◌≤◌, pos, ℤ};
 ghost use Rattle.exact_int.specs.Bounds.{IsAtMost};
 ghost use Rattle.geometry.specs.declared.limits.TheConstants.{CENTRE_LIMIT, COLUMN_LIMIT, STEP_LIMIT};
@@ -15,11 +15,11 @@ pub struct Lattice {
     pub x2: i64,
     /// The y of the first row's centres in half-micrometres, -256,200,000 to 256,200,000.
     pub y2: i64,
-    /// From a pixel to the next in micrometres, 1 to 100,000.
+    /// The distance from one pixel centre to the next in micrometres, 1 to 100,000.
     pub step: u32,
-    /// At most 16,384.
+    /// The number of columns, at most 16,384.
     pub columns: u32,
-    /// At most 16,384. The last row's centre is at most 256,200,000.
+    /// The number of rows, at most 16,384. The y of the last row's centres is at most 256,200,000.
     pub rows: u32,
     pub ghost x_in: { IsAtMost CENTRE_LIMIT x2 },
     pub ghost y_in: { IsAtMost CENTRE_LIMIT y2 },
@@ -35,7 +35,7 @@ impl Lattice {
     ghost use Rattle.exact_cut.specs.Column.{IsLeastRow};
     ghost use Rattle.exact_cut.specs.Lattice.{row_y};
 
-    /// The least row whose centres are not before a cut point, or the count of rows where there is none.
+    /// The first row whose y is not below that of a cut point, or the number of rows where there is none.
     pub(crate) fn first_row(&self, p: &CutPoint) -> u32
         ensures { IsLeastRow p.now.y p.now.d self.now.y2 self.now.step self.now.rows result }
     {

@@ -107,8 +107,8 @@ impl Walk {
         self.sign
     }
 
-    /// The column of the next crossing: the least one whose centre is not left of it, or the count of columns. Steps to
-    /// the next row. The condition: a crossing is left.
+    /// The column of the next crossing: the first one whose centre is not left of it, or the number of columns where
+    /// there is none. Steps to the next row. A crossing must be left: `row` is below `end`.
     pub fn next_column(&mut self) -> u32
         requires { 0 < length self.old.columns }
         ensures column { self.old.columns ≡ result ∷ self.new.columns }

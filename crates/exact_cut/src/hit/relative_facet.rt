@@ -1,8 +1,8 @@
-//! A facet relative to a centre, in a file of its own, since its definitions cite it.
+//! A facet relative to a centre. The types have a file of their own because definitions in `specs/` cite them.
 ghost use Rattle.exact_int.specs.Bounds.{IsAtMost};
 ghost use Rattle.exact_cut.specs.Bounds.{offset_limit};
 
-/// A corner less a centre, in half-micrometres.
+/// The vector from a centre to a corner, in half-micrometres.
 #[derive(Clone, Copy)]
 pub(crate) struct Offset {
     pub x: i64,
@@ -13,7 +13,7 @@ pub(crate) struct Offset {
     ghost z_in: { IsAtMost offset_limit z },
 }
 
-/// A facet relative to a centre, which is then the origin.
+/// A facet in coordinates whose origin is a centre.
 #[derive(Clone, Copy)]
 pub(crate) struct RelativeFacet {
     pub a: Offset,

@@ -2,6 +2,7 @@
 ghost use Rattle.std.specs.Prelude.{◌≡◌, ℤ, pos, ◌<ℤ◌};
 ghost use Rattle.exact_int.specs.Bounds.{IsAtMost};
 ghost use Rattle.exact_cut.specs.Bounds.{denominator_limit, numerator_limit};
+ghost use Rattle.exact_cut.specs.Crossing.{IsUnit};
 
 use std::marker::Model;
 
@@ -29,6 +30,7 @@ impl Model for Crossing {
 impl Crossing {
     /// The crossing with this sign at `num / den`.
     pub(crate) fn of(sign: i32, num: i128, den: i128) -> Crossing
+        requires unit { IsUnit sign }
         requires den_positive { pos 0 <ℤ den }
         requires num_in { IsAtMost numerator_limit num }
         requires den_in { IsAtMost denominator_limit den }
@@ -39,7 +41,8 @@ impl Crossing {
 
     /// The facet's winding round the scanline, 1 or -1.
     pub fn sign(&self) -> i32
-        ensures { result ≡ self.now.sign }
+        ensures value { result ≡ self.now.sign }
+        ensures unit { IsUnit result }
     {
         self.sign
     }

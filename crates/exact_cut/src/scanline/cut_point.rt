@@ -1,4 +1,4 @@
-//! Where an edge passes a height, as a fraction, in a file of its own, since its definitions cite it.
+//! Where an edge passes a height, as a fraction. The type has a file of its own because definitions in `specs/` cite it.
 ghost use Rattle.std.specs.Prelude.{◌≡◌, ℤ, pos, ◌*ℤ◌, ◌<ℤ◌, ◌↔◌, IsTrue};
 ghost use Rattle.exact_int.specs.Bounds.{IsAtMost};
 ghost use Rattle.exact_cut.specs.Bounds.{cut_denominator_limit, cut_numerator_limit};

@@ -1,4 +1,4 @@
-//! The segment in which a height cuts a facet, and where a scanline crosses the line through its ends.
+//! The segment in which the plane at a height cuts a facet, and where a scanline crosses the line through its ends.
 ghost use Rattle.std.specs.Prelude.{◌≡◌, ℤ, pos, MatchOption};
 ghost use Rattle.exact_int.specs.Bounds.{IsAtMost};
 ghost use Rattle.geometry.specs.Facet.{twice};
@@ -13,7 +13,8 @@ use crate::scanline::crossing::Crossing;
 use crate::scanline::cut_point::CutPoint;
 use geometry::Facet;
 
-/// The segment in which a height cuts a facet, by its ends: where the edge down and the edge up pass the height.
+/// The segment in which the plane at a height cuts a facet, by its ends: where the edge down and the edge up pass the
+/// height.
 #[derive(Clone, Copy)]
 pub(crate) struct Section {
     pub down: CutPoint,
@@ -21,7 +22,7 @@ pub(crate) struct Section {
 }
 
 impl Section {
-    /// The segment in which the height `z2` cuts a facet, or `None` where it cuts none.
+    /// The segment in which the plane at the height `z2` cuts a facet, or `None` where it doesn't cut the facet.
     pub(crate) fn at_height(f: &Facet, z2: i64) -> Option<Section>
         requires { IsAtMost CENTRE_LIMIT z2 }
         ensures { MatchOption result ((y : ℤ) → wind (twice f.now) y z2 ≡ pos 0)

@@ -1,10 +1,24 @@
-use Rattle.std.proofs.Common.{arith}
+use Rattle.std.proofs.Common.{refl, arith}
 use Rattle.std.proofs.lemmas.Int.{to_z-of_z}
-use Rattle.contour.proofs.lemmas.Cutting.{segment_at-some, segment_at-none}
+use Rattle.contour.proofs.lemmas.Cutting.{segment_at-some, segment_at-none, between-by_cut, none-only}
 use Rattle.contour.proofs.segment.segment_at.Goals as goal
 
-pub returns-in_err-cut : goal.returns-in_err-cut
-returns-in_err-cut g c = grind (arith, to_z-of_z, segment_at-none, c.in_err-cut.ensures)
+pub returns-in_err-cut-clause-segment : goal.returns-in_err-cut-clause-segment
+returns-in_err-cut-clause-segment g c = grind (arith, to_z-of_z, segment_at-none, c.in_err-cut.ensures)
 
-pub returns : goal.returns
-returns g c = grind (arith, to_z-of_z, segment_at-some, c.in_ok-cut.ensures)
+pub returns-in_err-cut-clause-some : goal.returns-in_err-cut-clause-some
+returns-in_err-cut-clause-some g c =
+    let fits = c.ranges.z2 in
+    none-only c.from_residual.result c.args.s.now.facets c.args.z2 c.args.facet c.facet.result c.from_residual.ensures c.facet.ensures
+    (simp to_z-of_z at c.in_err-cut.ensures)
+
+pub returns-clause-segment : goal.returns-clause-segment
+returns-clause-segment g c = grind (arith, to_z-of_z, segment_at-some, c.in_ok-cut.ensures)
+
+pub returns-clause-some : goal.returns-clause-some
+returns-clause-some g c =
+    let fits = c.ranges.z2 in (
+      λ _. between-by_cut c.args.s.now.facets c.args.z2 c.args.facet c.facet.result c.in_ok-cut.cut c.facet.ensures
+          (simp to_z-of_z at c.in_ok-cut.ensures),
+      λ _. refl,
+    )

@@ -8,16 +8,19 @@ use Rattle.exact_int.proofs.lemmas.Identity.{reads, identity}
 use Rattle.exact_cut.specs.Bounds.{distance_limit, increment_limit, quotient_limit, unit_limit}
 use Rattle.exact_cut.specs.Dda.{IsDivisionOf}
 use Rattle.exact_cut.specs.Section.{num_between}
+use Rattle.exact_cut.specs.declared.dda.lattice.Lattice.{Lattice}
 use Rattle.exact_cut.proofs.lemmas.Least.{positive_by, unit_positive}
 use Rattle.exact_cut.proofs.lemmas.Divisions.{IsDda-of, quotient_within}
 use Rattle.exact_cut.proofs.lemmas.DdaSteps.{remainder_in}
 use Rattle.exact_cut.proofs.dda.dda_between.Goals as goal
 use Rattle.geometry.specs.declared.limits.TheConstants.{STEP_LIMIT}
 
+-- the step from a pixel to the next, as the machine word holds it
+step_in : (l : Lattice) → IsAtMost STEP_LIMIT (to_z w128 l.step)
+step_in l = cast_in w128 l.step STEP_LIMIT l.step_in
+
 pub overflow_mul-unit : goal.overflow_mul-unit
-overflow_mul-unit c =
-    let s_in = cast_in w128 c.args.lattice.now.step STEP_LIMIT c.args.lattice.now.step_in in
-    fits w128 (search (sizes, s_in, c.meet-num.ensures.den_in) depth 40) refl
+overflow_mul-unit c = fits w128 (search (sizes, step_in c.args.lattice.now, c.meet-num.ensures.den_in) depth 40) refl
 
 pub overflow_mul-lattice : goal.overflow_mul-lattice
 overflow_mul-lattice c = fits w128 (search (sizes, c.args.lattice.now.x_in, c.meet-num.ensures.den_in) depth 40) refl
@@ -31,33 +34,28 @@ divide-position-requires-clause-n_in c =
 
 pub divide-position-requires-clause-unit_in : goal.divide-position-requires-clause-unit_in
 divide-position-requires-clause-unit_in c =
-    let s_in = cast_in w128 c.args.lattice.now.step STEP_LIMIT c.args.lattice.now.step_in in
-    is_at_most unit_limit (search (sizes, s_in, c.meet-num.ensures.den_in) depth 40) refl
+    is_at_most unit_limit (search (sizes, step_in c.args.lattice.now, c.meet-num.ensures.den_in) depth 40) refl
 
 pub divide-position-requires-clause-unit_positive : goal.divide-position-requires-clause-unit_positive
 divide-position-requires-clause-unit_positive c =
     let l = c.args.lattice.now in
     let m = c.meet-num in
     let s = to_z w128 l.step in
-    let s_in = cast_in w128 l.step STEP_LIMIT l.step_in in
+    let s_in = step_in l in
     positive_by (pos 2 *ℤ s *ℤ m.result.1)
     (identity (s ∷ m.result.1 ∷ []) (search (reads, sizes, s_in, m.ensures.den_in) depth 40 fits 5000) refl)
     (unit_positive s m.result.1 l.step (to_z_pos w128 l.step (let h = l.step_in in omega arith)) l.step_above (subst (λ d. pos 0 <ℤ d) (sym m.ensures.den) c.requires.den_positive))
 
 pub overflow_mul-step2-2 : goal.overflow_mul-step2-2
-overflow_mul-step2-2 c =
-    let s_in = cast_in w128 c.args.lattice.now.step STEP_LIMIT c.args.lattice.now.step_in in
-    fits w128 (search (sizes, s_in, c.slope.ensures.within) depth 40) refl
+overflow_mul-step2-2 c = fits w128 (search (sizes, step_in c.args.lattice.now, c.slope.ensures.within) depth 40) refl
 
 pub divide_increment-increment-requires-clause-n_in : goal.divide_increment-increment-requires-clause-n_in
 divide_increment-increment-requires-clause-n_in c =
-    let s_in = cast_in w128 c.args.lattice.now.step STEP_LIMIT c.args.lattice.now.step_in in
-    is_at_most distance_limit (search (sizes, s_in, c.slope.ensures.within) depth 40) refl
+    is_at_most distance_limit (search (sizes, step_in c.args.lattice.now, c.slope.ensures.within) depth 40) refl
 
 pub divide_increment-increment-requires-clause-unit_in : goal.divide_increment-increment-requires-clause-unit_in
 divide_increment-increment-requires-clause-unit_in c =
-    let s_in = cast_in w128 c.args.lattice.now.step STEP_LIMIT c.args.lattice.now.step_in in
-    is_at_most unit_limit (search (sizes, s_in, c.meet-num.ensures.den_in) depth 40) refl
+    is_at_most unit_limit (search (sizes, step_in c.args.lattice.now, c.meet-num.ensures.den_in) depth 40) refl
 
 pub returns : goal.returns
 returns c =
@@ -69,7 +67,7 @@ returns c =
     let slope = c.slope.result in
     let slope_in = c.slope.ensures.within in
     let s = to_z w128 l.step in
-    let s_in = cast_in w128 l.step STEP_LIMIT l.step_in in
+    let s_in = step_in l in
     let step = to_z_pos w128 l.step (let h = l.step_in in omega arith) in
     let p = c.divide-position.result in
     let q = c.divide_increment-increment.result in
