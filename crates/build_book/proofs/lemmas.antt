@@ -4,3 +4,4 @@ pub mod Stripes
 pub mod Places
 pub mod Alike
 pub mod Totals
+pub mod Promise

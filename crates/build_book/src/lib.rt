@@ -34,7 +34,7 @@ pub use book::Book;
 pub use build::Build;
 pub use file_fault::FileFault;
 pub use job::Job;
-pub use laws::one_layer;
+pub use laws::{headline, one_layer};
 pub use layer::Layer;
 pub use piece::Piece;
 pub use slicer::{Slicer, slice_stripe};
