@@ -5,3 +5,5 @@ pub mod Places
 pub mod Alike
 pub mod Totals
 pub mod Promise
+pub mod SomeSpans
+pub mod SomeBuild

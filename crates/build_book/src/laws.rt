@@ -1,6 +1,8 @@
 //! What follows from the definition of a lawful layer alone: there is just one, and it is what a slicer promises.
-ghost use Rattle.std.specs.Prelude.{◌≡◌, ◌<◌, ℕ, List, Some, slice_get};
+ghost use Rattle.std.specs.Prelude.{◌≡◌, ◌<◌, ◌≤◌, ℕ, List, Some, length, slice_get};
 ghost use Rattle.geometry.specs.Facet.{Facet};
+ghost use Rattle.geometry.specs.declared.limits.TheConstants.{FACET_LIMIT};
+ghost use Rattle.mesh_weld.specs.Balance.{IsBalanced};
 ghost use Rattle.raster.specs.Grid.{Grid};
 ghost use Rattle.raster.specs.declared.rule.Rule.{Rule};
 ghost use Rattle.build_book.specs.Job.{Job};
@@ -20,8 +22,9 @@ pub fn one_layer()
 ///   of its filled pixels, and a pixel is filled exactly where the signed crossings of the facets by the ray from its
 ///   voxel's centre are odd, or not zero, or above zero, by the rule.
 /// - `build`: so is each layer of a complete build, and `whole`: it has one for each number below the grid's count.
-/// - `only`: the promise leaves no choice of a layer, and `one_build`: there is one list of layers for a job, so it is
-///   the same for every number of workers.
+/// - `only`: the promise leaves no choice of a layer.
+/// - `some_build`: a closed mesh of at most 1,048,576 facets has a complete build, and `one_build`: a job has one at most,
+///   so it is the same for every number of workers.
 pub fn headline()
     ensures book { (facets : List Facet) (grid : Grid) (rule : Rule) (book : Book) (k : ℕ) (layer : Layer)
         → IsLawfulBook book → book.job ≡ job_of facets grid rule → slice_get book.places k ≡ Some (Some layer)
@@ -34,5 +37,8 @@ pub fn headline()
         → (layer : Layer) × (slice_get layers k ≡ Some layer) }
     ensures only { (facets : List Facet) (grid : Grid) (rule : Rule) (k : ℕ) (a b : Layer)
         → IsPromised facets grid rule k a → IsPromised facets grid rule k b → a ≡ b }
+    ensures some_build { (facets : List Facet) (grid : Grid) (rule : Rule)
+        → length facets ≤ FACET_LIMIT → IsBalanced facets
+        → (layers : List Layer) × IsComplete (job_of facets grid rule) layers }
     ensures one_build { (job : Job) (a b : List Layer) → IsComplete job a → IsComplete job b → a ≡ b }
 {}
