@@ -4,3 +4,6 @@ pub mod Stripes
 pub mod Places
 pub mod Alike
 pub mod Totals
+pub mod Promise
+pub mod SomeSpans
+pub mod SomeBuild

@@ -4,3 +4,4 @@ pub mod Piece
 pub mod Places
 pub mod Book
 pub mod Build
+pub mod Promise

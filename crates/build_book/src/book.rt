@@ -1,6 +1,6 @@
 //! Books: where the pieces of a job are filed, in any order.
 ghost use Rattle.std.specs.Prelude.{◌≡◌, ◌≢◌, ◌+◌, ℕ, IfErr, IfNone, IfOk, IfSome, None, OnErr, OnOk, Some, replicate, slice_get};
-ghost use Rattle.build_book.specs.Layer.{Layer as LayerModel};
+ghost use Rattle.build_book.specs.Layer.{IsLawful, Layer as LayerModel};
 ghost use Rattle.build_book.specs.Piece.{IsPlaceOf};
 ghost use Rattle.build_book.specs.Places.{filed_count, total_area};
 ghost use Rattle.build_book.specs.Book.{Files, IsFileFault, IsLawfulBook};
@@ -116,6 +116,7 @@ impl<'m, A: Allocator + Copy + Send + Sync> Book<'m, A> {
     pub fn layer(&self, k: u32) -> Option<&Layer<A>>
         ensures some { IfSome result (λ layer. slice_get self.now.places k ≡ Some (Some layer.now)) }
         ensures none { result ≡ None → (layer : LayerModel) → slice_get self.now.places k ≢ Some (Some layer) }
+        ensures lawful { IfSome result (λ layer. IsLawful self.now.job k layer.now) }
     {
         self.places.get(k as usize)?.as_ref()
     }

@@ -1,6 +1,6 @@
 //! Builds: all layers of a job.
 ghost use Rattle.std.specs.Prelude.{◌≡◌, ◌<◌, ◌≤◌, IfNone, IfSome, Some, slice_get};
-ghost use Rattle.build_book.specs.Layer.{layers_area};
+ghost use Rattle.build_book.specs.Layer.{IsLawful, layers_area};
 ghost use Rattle.build_book.specs.Build.{IsComplete};
 
 use crate::job::Job;
@@ -45,6 +45,7 @@ impl<'m, A: Allocator> Build<'m, A> {
     /// The layer with this number, or `None` exactly where that isn't in the grid.
     pub fn layer(&self, k: u32) -> Option<&Layer<A>>
         ensures some { IfSome result (λ layer. slice_get self.now.layers k ≡ Some layer.now) }
+        ensures lawful { IfSome result (λ layer. IsLawful self.now.job k layer.now) }
         ensures within { IfSome result (λ layer. k < self.now.job.grid.layers) }
         ensures none { IfNone result (self.now.job.grid.layers ≤ k) }
     {

@@ -16,7 +16,8 @@
 //! - [`Build`]: all layers. `Book::finish` makes what isn't filed; these layers are `late`.
 //!
 //! Each layer of a piece, a book or a build is lawful: it is what `specs/Layer` says that the job makes there, and by
-//! [`one_layer`] there is just one such layer.
+//! [`one_layer`] there is just one such layer. [`headline`] says what that comes to for the facets that were read: closed
+//! loops, just the pixels that the rule fills, and their number.
 #![tactic(auto)]
 
 mod book;
@@ -34,7 +35,7 @@ pub use book::Book;
 pub use build::Build;
 pub use file_fault::FileFault;
 pub use job::Job;
-pub use laws::one_layer;
+pub use laws::{headline, one_layer};
 pub use layer::Layer;
 pub use piece::Piece;
 pub use slicer::{Slicer, slice_stripe};

@@ -116,7 +116,7 @@ one_span s ss i j apart = by_test (holds i j s) refl
     by_test false e = omega arith
 
 -- the pixels of all spans
-spans_sum : (columns rows : ℕ) (spans : List Span) → list_all (is_span_within columns rows) spans ≡ true → are_apart spans ≡ true
+pub spans_sum : (columns rows : ℕ) (spans : List Span) → list_all (is_span_within columns rows) spans ≡ true → are_apart spans ≡ true
     → sum_by (λ j. count_by (λ i. covers spans i j) (below columns)) (below rows) ≡ span_area spans
 spans_sum columns rows [] within apart = no_sum (λ j. count_by (λ i. false) (below columns)) 0 rows (λ j l. no_sum (λ i. 0) 0 columns (λ i m. refl))
 spans_sum columns rows (s ∷ ss) within apart =
