@@ -22,6 +22,6 @@ stripe_count g = div_ceil g.layers STRIPE
 abbrev pub stripe_length : Grid → ℕ → ℕ
 stripe_length g s = min STRIPE (g.layers - STRIPE * s)
 
--- a job that nobody slices, for a place in which some job has to be named
+-- an empty job, for where a type asks for a job and any will do
 abbrev pub no_job : Job
 no_job = record { solid = record { facets = []; dropped = 0 }; grid = grid_with origin 0 0 0 0 0; rule = EvenOdd }

@@ -1,6 +1,6 @@
 //! Books: where the pieces of a job are filed, in any order.
 ghost use Rattle.std.specs.Prelude.{◌≡◌, ◌≢◌, ◌+◌, ℕ, IfErr, IfNone, IfOk, IfSome, None, OnErr, OnOk, Some, replicate, slice_get};
-ghost use Rattle.build_book.specs.Layer.{IsLawful, Layer as LayerModel};
+ghost use Rattle.build_book.specs.Layer.{IsLawful};
 ghost use Rattle.build_book.specs.Piece.{IsPlaceOf};
 ghost use Rattle.build_book.specs.Places.{filed_count, total_area};
 ghost use Rattle.build_book.specs.Book.{Files, IsFileFault, IsLawfulBook};
@@ -55,7 +55,7 @@ impl<'m, A: Allocator + Copy + Send + Sync> Book<'m, A> {
     ///
     /// `Stranger` where the content of the piece's job isn't that of the book's. `Double` where it is and a place of
     /// the piece is taken; its `layer` is the least such. On an error the book is unchanged, and the piece comes back.
-    /// Comparing the jobs takes a pass over their facets; `file_own` does without.
+    /// It compares the jobs, which takes a pass over their facets; `file_own` doesn't.
     pub fn file(&mut self, piece: Piece<'m, A>) -> Result<(), (FileFault, Piece<'m, A>)>
         ensures ok { OnOk result (Files self.old piece.entry self.new) }
         ensures fault { IfErr result (λ refusal. IsFileFault self.old piece.entry refusal.0) }
@@ -115,13 +115,13 @@ impl<'m, A: Allocator + Copy + Send + Sync> Book<'m, A> {
     /// The layer in place k, or `None` where the place is empty or isn't in the grid.
     pub fn layer(&self, k: u32) -> Option<&Layer<A>>
         ensures some { IfSome result (λ layer. slice_get self.now.places k ≡ Some (Some layer.now)) }
-        ensures none { result ≡ None → (layer : LayerModel) → slice_get self.now.places k ≢ Some (Some layer) }
+        ensures none { result ≡ None → (layer : _) → slice_get self.now.places k ≢ Some (Some layer) }
         ensures lawful { IfSome result (λ layer. IsLawful self.now.job k layer.now) }
     {
         self.places.get(k as usize)?.as_ref()
     }
 
-    /// The number of places that are taken. Each book is lawful.
+    /// The number of places that are taken. That a book is lawful is a clause here, since every book is.
     pub fn filed(&self) -> u32
         ensures count { result ≡ filed_count self.now.places }
         ensures lawful { IsLawfulBook self.now }

@@ -71,7 +71,7 @@ impl<'m, A: Allocator> Build<'m, A> {
         layers_area(self.layers.as_slice())
     }
 
-    /// The number of layers that weren't filed, so that `Book::finish` made them.
+    /// The number of layers that `Book::finish` made, since they weren't filed.
     pub fn late(&self) -> u32
         ensures { result ≡ self.now.late }
     {

@@ -1,4 +1,4 @@
-//! Why a book refuses a piece.
+//! The fault of a filing.
 use thiserror::Error;
 
 /// Why a book refuses a piece.

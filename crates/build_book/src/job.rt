@@ -1,7 +1,7 @@
 //! Jobs of slicing, and the stripes that they are cut into.
 ghost use Rattle.std.specs.Prelude.{◌≡◌, ◌↔◌, ◌+◌, ◌*◌, ◌<◌, ◌≤◌, IsTrue};
 ghost use Rattle.build_book.specs.Job.{stripe_count, stripe_length};
-ghost use Rattle.build_book.specs.declared.limits.TheConstants.{STRIPE, STRIPE_LIMIT};
+ghost use Rattle.build_book.specs.declared.limits.TheConstants.{MOST_STRIPES, STRIPE};
 ghost use Rattle.geometry.specs.declared.limits.TheConstants.{LAYER_LIMIT};
 
 use crate::limits::STRIPE;
@@ -10,7 +10,7 @@ use raster::{Grid, Rule};
 use std::alloc::Allocator;
 use std::marker::Model;
 
-/// What is to be sliced, in which grid, by which rule.
+/// What is to be sliced (a solid), in which grid, by which rule.
 #[derive(Drop)]
 pub struct Job<A: Allocator> {
     solid: Solid<A>,
@@ -72,7 +72,7 @@ impl<A: Allocator> Job<A> {
     /// The number of stripes, at most 8,192. Stripe s is the layers from 8 s to 8 s + 7, as far as the grid has them.
     pub fn stripes(&self) -> u64
         ensures value { result ≡ stripe_count self.now.grid }
-        ensures few { result ≤ STRIPE_LIMIT }
+        ensures few { result ≤ MOST_STRIPES }
     {
         u64::from(self.grid.layers().div_ceil(STRIPE))
     }

@@ -1,4 +1,4 @@
-//! Layers: what is made at one plane of a job.
+//! Layers: what a job has at one plane, its loops and its filled pixels.
 ghost use Rattle.std.specs.Prelude.{◌≡◌, ◌<◌, ◌^◌};
 ghost use Rattle.build_book.specs.Layer.{layers_area};
 
@@ -17,9 +17,9 @@ pub struct Layer<A: Allocator> {
 }
 
 impl<A: Allocator> Model for Layer<A> {
-    ghost use Rattle.build_book.specs.Layer.{Layer as LayerModel};
+    ghost use Rattle.build_book.specs.Layer.{Layer};
 
-    ghost Value = { LayerModel };
+    ghost Value = { Layer };
 
     ghost view = { λ l. record { number = l.number; loops = l.loops; spans = l.spans.items; area = l.area } };
 }

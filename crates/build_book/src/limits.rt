@@ -4,5 +4,5 @@ use geometry::LAYER_LIMIT;
 /// How many layers a stripe has; the last one may have fewer.
 pub(crate) const STRIPE: u32 = 8;
 
-/// The greatest count of stripes.
-pub(crate) const STRIPE_LIMIT: u32 = (LAYER_LIMIT + STRIPE - 1) / STRIPE;
+/// The count of stripes of a job with the most layers.
+pub(crate) const MOST_STRIPES: u32 = (LAYER_LIMIT + STRIPE - 1) / STRIPE;

@@ -15,9 +15,9 @@ use raster::{Filler, Span, area};
 use std::alloc::{AllocError, Allocator};
 use std::marker::Model;
 
-/// Slices stripes of one job, in any order; it costs least from the lowest up. It keeps the sweep where the last stripe
-/// ended, so that a higher stripe looks only at the facets on the way, and the memory in which planes are linked and
-/// filled.
+/// Slices stripes of one job, in any order; from the lowest up it takes the least time. It keeps the sweep where the last
+/// stripe ended, so that a higher stripe looks only at the facets in between, and it keeps the memory in which layers
+/// are linked and filled.
 #[derive(Drop)]
 pub struct Slicer<'m, A: Allocator> {
     alloc: A,
@@ -77,7 +77,7 @@ impl<'m, A: Allocator + Copy + Send + Sync> Slicer<'m, A> {
         Ok(Piece::of(self.job, s, layers))
     }
 
-    /// A sweep at the plane of layer k: the kept one raised, or a new one where there is none or it stands above.
+    /// A sweep at the plane of layer k: the kept one, raised, or a new one where none is kept or it stands higher.
     fn sweep_at(&mut self, k: u32) -> Result<Sweep<'m, A>, AllocError>
         requires { k < self.old.grid.layers }
         ensures solid { IfOk result (λ sweep. sweep.facets ≡ self.old.solid.facets) }
@@ -150,7 +150,7 @@ fn rise<A: Allocator + Copy + Send + Sync>(
     sweep.advance(job.grid().plane(k))
 }
 
-/// Slices the layer at whose plane the sweep stands.
+/// Slices layer k, at whose plane the sweep stands.
 fn slice_layer<A: Allocator + Copy + Send + Sync>(
     job: &Job<A>,
     k: u32,

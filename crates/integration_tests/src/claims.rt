@@ -9,7 +9,7 @@ use std::alloc::{AllocError, Global};
 use std::test::Fail;
 use std::thread;
 use std::thread::Threads;
-use stripe_claims::{Claims, Pass};
+use stripe_claims::{Claims, PASS_LIMIT, Pass};
 
 fn draw_at(claims: &Claims<Global>, passes: &mut Vec<Pass>, k: usize) -> Option<u64>
     requires { All (IsOwned claims.now) passes.old.items }
@@ -158,13 +158,13 @@ struct Opened;
 
 impl Count for Opened {
     fn count(memory: &ShortMemory<Global>) -> Option<usize> {
-        let (_claims, passes) = Claims::open(memory, 3, 64).ok()?;
+        let (_claims, passes) = Claims::open(memory, 3, PASS_LIMIT).ok()?;
         Some(passes.len())
     }
 }
 
 #[test]
 fn each_growth_refused_in_turn(rt: HostRuntime) -> Result<(), Fail> {
-    assert!(rt; first_free_turn::<Opened>(rt.alloc(), 100, 64) > Some(1));
+    assert!(rt; first_free_turn::<Opened>(rt.alloc(), 100, PASS_LIMIT as usize) > Some(1));
     Ok(())
 }

@@ -1,12 +1,13 @@
 //! What no clause of the pool says: that workers run at the same time, that no layer is late, and what happens where an
 //! allocation fails.
 ghost use Rattle.std.specs.Prelude.{◌≤◌};
+ghost use Rattle.stripe_claims.specs.declared.limits.TheConstants.{PASS_LIMIT};
 
 use crate::book::{FILINGS, is_filed};
 use crate::jobs::job_of;
 use crate::meshes::{COLUMN, CUBE};
 use build_book::{Book, Build, Job, Piece};
-use layer_pool::{Gate, OpenGate, build};
+use layer_pool::{Gate, OpenGate, PASS_LIMIT, build};
 use raster::{Rule, Span};
 use short_memory::ShortMemory;
 use std::alloc::{AllocError, Allocator, Global};
@@ -46,7 +47,7 @@ fn built<A: Allocator + Copy + Send + Sync, R: Threads + Wait + Sync, G: Gate<A>
     gate: &G,
 ) -> Result<(bool, u32), AllocError>
     requires some { 1 ≤ workers }
-    requires few { workers ≤ 64 }
+    requires few { workers ≤ PASS_LIMIT }
 {
     let build = build(rt, alloc, job, workers, gate)?;
     Ok((is_column(&build), build.late()))
@@ -56,7 +57,7 @@ fn built<A: Allocator + Copy + Send + Sync, R: Threads + Wait + Sync, G: Gate<A>
 fn any_number_of_workers(rt: HostRuntime) -> Result<(), Fail> {
     let job = job_of(rt.alloc(), COLUMN, 1, Rule::EvenOdd)?;
     assert_eq!(rt; job.stripes(), 3);
-    for workers in [1, 2, 64] {
+    for workers in [1, 2, PASS_LIMIT] {
         let found = built(&rt, rt.alloc(), &job, workers, &OpenGate)?;
         assert_eq!(rt; found, (true, 0));
     }
@@ -164,7 +165,7 @@ fn column_in<R: Threads + Wait + Sync>(
     workers: u32,
 ) -> Result<(bool, u32), AllocError>
     requires some { 1 ≤ workers }
-    requires few { workers ≤ 64 }
+    requires few { workers ≤ PASS_LIMIT }
 {
     let job = job_of(memory, COLUMN, 1, Rule::EvenOdd)?;
     built(rt, memory, &job, workers, &OpenGate)
@@ -177,7 +178,7 @@ const GROWTHS: u64 = 2000;
 // answer was neither the column nor a failed allocation, or where a build without a refusal fails, or has such layers.
 fn refuse_each<R: Threads + Wait + Sync>(rt: &R, alloc: Global, workers: u32) -> Option<u32>
     requires some { 1 ≤ workers }
-    requires few { workers ≤ 64 }
+    requires few { workers ≤ PASS_LIMIT }
 {
     let mut made_up = 0u32;
     for turn in 1..GROWTHS {

@@ -1,18 +1,18 @@
-//! Gates: observers of the workers, so that a test can see, and hold up, who does what.
+//! Gates: observers of the workers. By one a test sees what each worker does, and can make a worker wait.
 use build_book::Piece;
 use std::alloc::Allocator;
 
-/// An observer of the workers. A worker calls it outside the lock round the book, so a gate that waits holds up only
-/// the worker that calls it. Workers are numbered from 0.
+/// An observer of the workers, which count from 0. A worker calls it while it doesn't hold the lock on the book, so a
+/// gate that waits delays only the worker that calls it.
 pub trait Gate<A: Allocator> {
-    /// A worker has drawn a stripe.
+    /// A worker has drawn a stripe and is about to slice it.
     fn arrived(&self, worker: u32, stripe: u64);
 
-    /// A worker has made the piece of a stripe, and hasn't filed it yet.
+    /// A worker has made the piece of a stripe and is about to file it.
     fn made(&self, worker: u32, piece: &Piece<'_, A>);
 }
 
-/// The gate that lets everybody pass: it ignores what it is told.
+/// The gate that lets every worker pass: it ignores what it is told.
 pub struct OpenGate;
 
 impl<A: Allocator> Gate<A> for OpenGate {

@@ -5,8 +5,9 @@
 //! build.total_area()
 //! ```
 //!
-//! [`build`] answers the complete build of a job, the same for 1 to 64 workers. A [`Gate`] observes what the workers
-//! do; [`OpenGate`] is the one that ignores it. `Claims`, `Pass` and `claims_laws` are handed on from `stripe_claims`.
+//! [`build`] answers the complete build of a job, the same for 1 to [`PASS_LIMIT`] workers. A [`Gate`] observes what
+//! the workers do; [`OpenGate`] is the one that ignores it. `Claims`, `Pass`, `PASS_LIMIT` and `claims_laws` are handed on
+//! from `stripe_claims`.
 #![tactic(auto)]
 
 mod gate;
@@ -15,4 +16,4 @@ mod pool;
 
 pub use crate::gate::{Gate, OpenGate};
 pub use crate::pool::build;
-pub use stripe_claims::{Claims, Pass, claims_laws};
+pub use stripe_claims::{Claims, PASS_LIMIT, Pass, claims_laws};

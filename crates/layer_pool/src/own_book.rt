@@ -1,4 +1,4 @@
-//! The book that the workers of a build share. Its type says of which job it is, so that nobody compares jobs while
+//! The book that the workers of a build share. Its type says of which job it is, so that no worker compares jobs while
 //! others wait for the lock.
 ghost use Rattle.std.specs.Prelude.{◌≡◌};
 ghost use Rattle.build_book.specs.Job.{Job, no_job};
@@ -7,7 +7,7 @@ use build_book::{Book, Piece};
 use std::alloc::Allocator;
 use std::marker::{Brand, PhantomData};
 
-/// The job of a build, as a member of a type parameter. What the workers share cites it in its type.
+/// The job of a build, as a ghost member of a type parameter. The types of what the workers share cite it.
 pub(crate) trait OfJob {
     ghost job: { Job };
 }
@@ -36,14 +36,14 @@ impl<'m, A: Allocator + Copy + Send + Sync, J: OfJob> OwnBook<'m, A, J> {
         }
     }
 
-    /// Files a piece of the build's job. A layer that isn't filed is made at the end.
+    /// Files a piece of the build's job. If the book refuses it, `finish` makes its layers.
     pub(crate) fn file(&mut self, piece: Piece<'m, A>)
         requires { piece.job ≡ J.job }
     {
         let _ = self.book.file_own(piece);
     }
 
-    /// The book.
+    /// Gives the book back.
     pub(crate) fn into_book(self) -> Book<'m, A>
         ensures { result ≡ self.entry.book }
     {

@@ -3,6 +3,7 @@ ghost use Rattle.std.specs.Prelude.{◌≡◌, ◌≤◌, ◌<◌, All, IfOk, le
 ghost use Rattle.build_book.specs.Build.{IsComplete};
 ghost use Rattle.build_book.specs.Job.{stripe_count};
 ghost use Rattle.stripe_claims.specs.Claims.{IsOwned};
+ghost use Rattle.stripe_claims.specs.declared.limits.TheConstants.{PASS_LIMIT};
 
 use crate::gate::Gate;
 use crate::own_book::{OfJob, OwnBook};
@@ -14,11 +15,11 @@ use std::thread;
 use std::thread::Threads;
 use stripe_claims::{Claims, Pass};
 
-/// The complete build of a job, for 1 to 64 workers and every gate.
+/// The complete build of a job, for 1 to `PASS_LIMIT` workers and every gate.
 ///
-/// Each worker draws stripes from claims without a lock. It takes the lock round the book to file one piece, and for
-/// nothing else. A stripe for which a worker gets no memory, and the share of a worker that can't be started, fall to
-/// the other workers and to the caller's thread at the end. `Err` comes only where an allocation failed there.
+/// Each worker draws stripes from claims without a lock. It takes the lock on the book to file one piece, and for nothing
+/// else. A stripe for which a worker gets no memory is made at the end, on the caller's thread. Where a worker can't be
+/// started, the others draw its share. `Err` comes only where an allocation failed on the caller's thread.
 pub fn build<'m, R: Threads + Wait + Sync, A: Allocator + Copy + Send + Sync, G: Gate<A> + Sync>(
     rt: &R,
     alloc: A,
@@ -27,7 +28,7 @@ pub fn build<'m, R: Threads + Wait + Sync, A: Allocator + Copy + Send + Sync, G:
     gate: &G,
 ) -> Result<Build<'m, A>, AllocError>
     requires some { 1 ≤ workers }
-    requires few { workers ≤ 64 }
+    requires few { workers ≤ PASS_LIMIT }
     ensures job { IfOk result (λ build. build.job ≡ job.now) }
     ensures complete { IfOk result (λ build. IsComplete build.job build.layers) }
 {
@@ -43,7 +44,7 @@ fn build_of<
     G: Gate<A> + Sync,
 >(rt: &R, alloc: A, job: &'m Job<A>, workers: u32, gate: &G) -> Result<Build<'m, A>, AllocError>
     requires some { 1 ≤ workers }
-    requires few { workers ≤ 64 }
+    requires few { workers ≤ PASS_LIMIT }
     requires of { job.now ≡ J.job }
     ensures job { IfOk result (λ build. build.job ≡ job.now) }
     ensures complete { IfOk result (λ build. IsComplete build.job build.layers) }
@@ -51,8 +52,29 @@ fn build_of<
     let (claims, passes) = Claims::open(alloc, job.stripes(), workers)?;
     let own: OwnBook<'m, A, J> = OwnBook::of(Book::open(alloc, job)?);
     let book = Mutex::new(own);
-    run_workers(rt, alloc, job, &claims, &book, gate, passes);
+    let shared = Shared {
+        rt,
+        alloc,
+        job,
+        claims: &claims,
+        book: &book,
+        gate,
+    };
+    run_workers(&shared, passes);
     book.into_inner().into_book().finish(job)
+}
+
+/// What the workers of a build share.
+#[derive(Drop)]
+struct Shared<'a, 'm, J: OfJob, R, A: Allocator, G> {
+    rt: &'a R,
+    alloc: A,
+    job: &'m Job<A>,
+    claims: &'a Claims<A>,
+    book: &'a Mutex<OwnBook<'m, A, J>>,
+    gate: &'a G,
+    ghost stripes: { claims.now.stripes ≡ stripe_count job.now.grid },
+    ghost of: { job.now ≡ J.job },
 }
 
 /// Runs a worker for each pass, and returns when all have ended.
@@ -62,32 +84,22 @@ fn run_workers<
     R: Threads + Wait + Sync,
     A: Allocator + Copy + Send + Sync,
     G: Gate<A> + Sync,
->(
-    rt: &R,
-    alloc: A,
-    job: &'m Job<A>,
-    claims: &Claims<A>,
-    book: &Mutex<OwnBook<'m, A, J>>,
-    gate: &G,
-    mut passes: Vec<Pass, A>,
-)
-    requires owned { All (IsOwned claims.now) passes.items }
-    requires count { length passes.items ≤ 64 }
-    requires stripes { claims.now.stripes ≡ stripe_count job.now.grid }
-    requires of { job.now ≡ J.job }
+>(shared: &Shared<'_, 'm, J, R, A, G>, mut passes: Vec<Pass, A>)
+    requires owned { All (IsOwned shared.now.claims.now) passes.items }
+    requires count { length passes.items ≤ PASS_LIMIT }
 {
     thread::scope(
         thread::scope_env(),
-        rt,
+        shared.rt,
         |scope|
-            requires { All (IsOwned claims.now) passes.items × (length passes.items ≤ 64) × (claims.now.stripes ≡ stripe_count job.now.grid) × (job.now ≡ J.job) }
+            requires { All (IsOwned shared.now.claims.now) passes.items × (length passes.items ≤ PASS_LIMIT) }
         {
             while let Some(pass) = passes.pop() {
                 let worker = passes.len() as u32;
                 let started = scope.spawn(
                     move ||
-                        requires { IsOwned claims.now pass × (claims.now.stripes ≡ stripe_count job.now.grid) × (job.now ≡ J.job) }
-                    { run_worker(rt, alloc, job, claims, book, gate, worker, pass) },
+                        requires { IsOwned shared.now.claims.now pass }
+                    { run_worker(shared, worker, pass) },
                 );
                 drop(started);
             }
@@ -95,35 +107,28 @@ fn run_workers<
     );
 }
 
-/// Slices and files the stripes that one worker draws with its pass. Where it gets no memory to begin with, its share
-/// falls to the others.
+/// Slices and files the stripes that one worker draws with its pass. Where the worker gets no memory for its slicer, it
+/// draws nothing, and the others draw its share.
 fn run_worker<'m, J: OfJob, R: Wait, A: Allocator + Copy + Send + Sync, G: Gate<A>>(
-    rt: &R,
-    alloc: A,
-    job: &'m Job<A>,
-    claims: &Claims<A>,
-    book: &Mutex<OwnBook<'m, A, J>>,
-    gate: &G,
+    shared: &Shared<'_, 'm, J, R, A, G>,
     worker: u32,
     mut pass: Pass,
 )
-    requires owned { IsOwned claims.now pass }
-    requires stripes { claims.now.stripes ≡ stripe_count job.now.grid }
-    requires of { job.now ≡ J.job }
+    requires { IsOwned shared.now.claims.now pass }
 {
-    let Ok(mut slicer) = Slicer::new(alloc, job) else {
+    let Ok(mut slicer) = Slicer::new(shared.alloc, shared.job) else {
         return;
     };
     // A bound on the turns of the loop, so that it ends: a pass draws at most all stripes, and then nothing.
-    for _ in 0..=job.stripes() {
-        let Some(stripe) = claims.draw(&mut pass) else {
+    for _ in 0..=shared.job.stripes() {
+        let Some(stripe) = shared.claims.draw(&mut pass) else {
             return;
         };
-        gate.arrived(worker, stripe);
+        shared.gate.arrived(worker, stripe);
         // Where there is no memory for a piece, `finish` makes its layers.
         if let Ok(piece) = slicer.slice(stripe) {
-            gate.made(worker, &piece);
-            book.lock(rt).file(piece);
+            shared.gate.made(worker, &piece);
+            shared.book.lock(shared.rt).file(piece);
         }
     }
 }

@@ -20,7 +20,7 @@ use mesh_weld::Solid;
 use std::alloc::{AllocError, Allocator};
 use std::marker::Model;
 
-/// Where a scanline crosses the mesh.
+/// Where a scanline crosses the mesh: the column of the crossing, and its sign.
 #[derive(Clone, Copy, Debug, PartialEq, Eq)]
 pub(crate) struct RowCrossing {
     /// The least column whose centre isn't left of the crossing; at most 16,384.
@@ -29,7 +29,7 @@ pub(crate) struct RowCrossing {
     pub(crate) is_up: bool,
 }
 
-/// The greatest capacity that a row keeps from one layer to the next, in crossings.
+/// The greatest capacity that a row keeps from one layer to the next, in crossings. A row with more gives its memory back.
 const KEPT: usize = 512;
 
 /// The crossings of a layer's rows, those of each row in the order in which they were added.
@@ -48,14 +48,14 @@ impl<A: Allocator> Model for RowCrossings<A> {
 }
 
 impl<A: Allocator + Copy> RowCrossings<A> {
-    /// An empty set of rows. It allocates no memory.
+    /// No rows. It allocates no memory.
     pub(crate) fn new(alloc: A) -> RowCrossings<A> {
         RowCrossings {
             rows: Vec::new(alloc),
         }
     }
 
-    /// Removes all crossings, and adds rows up to the number `rows`.
+    /// Removes all crossings, and adds rows until there are at least `rows`.
     pub(crate) fn start(&mut self, alloc: A, rows: u32) -> Result<(), AllocError>
         ensures empty { OnOk result ((j : ℕ) → crossings_in self.new j ≡ []) }
         ensures rows { OnOk result (rows ≤ length self.new) }
@@ -183,7 +183,7 @@ fn push_facet<A: Allocator>(
     }
 }
 
-/// Adds the crossings of a walk, one a row. On an error `out` may have some of them.
+/// Adds the crossings of a walk, one in each of its rows. On an error `out` may have some of them.
 fn push_walk<A: Allocator>(mut walk: Walk, out: &mut RowCrossings<A>) -> Result<(), AllocError>
     requires few_rows { walk.row + length walk.columns ≤ COLUMN_LIMIT }
     requires few_columns { All (λ column. column ≤ COLUMN_LIMIT) walk.columns }

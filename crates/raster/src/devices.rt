@@ -17,7 +17,7 @@ pub struct Failed;
 #[derive(Clone, Copy, Debug, PartialEq, Eq, Error)]
 #[error("write failed after {written} bytes")]
 pub struct WriteFault {
-    /// The number of bytes that went out before that.
+    /// The number of bytes that went out before the failure.
     pub written: u64,
 }
 
@@ -25,7 +25,7 @@ pub struct WriteFault {
 pub trait Failures {
     ghost failure_count: { Self → ℕ };
 
-    /// The number of calls of this device that answered an error. A count of 2^64 - 1 stays.
+    /// The number of calls of this device that answered an error. It stops counting at 2^64 - 1.
     fn failures(&self) -> u64
         ensures { result ≡ failure_count self.now };
 }
@@ -71,8 +71,8 @@ pub trait Sink: Failures {
         ensures err { OnErr result (Fails (Self.Failures.failure_count self.old) (Self.Failures.failure_count self.new)) };
 }
 
-/// A source over any reader, and a sink over any writer, which counts the calls that answered an error. A writer that
-/// takes 0 bytes of a chunk that isn't empty has failed.
+/// A source over any reader, and a sink over any writer. It counts the calls that answered an error. A writer that takes
+/// 0 bytes of a chunk that isn't empty counts as failed.
 #[derive(Drop)]
 pub struct Counted<T> {
     inner: T,
@@ -107,7 +107,7 @@ impl<T> Counted<T> {
         &self.inner
     }
 
-    /// The reader or writer, given back.
+    /// Gives the reader or writer back.
     pub fn into_inner(self) -> T
         ensures { result ≡ self.device }
     {

@@ -1,23 +1,23 @@
-//! The voxels that a mesh is looked at in: how many there are, and where their centres lie.
+//! The voxels that a mesh is sliced into: how many there are, and where their centres lie.
 ghost use Rattle.std.specs.Prelude.{◌≡◌, ◌<◌, ◌≤◌, ◌≤ℤ◌, IfSome, Some, option_map, ◌-◌, int_lt, pos};
 ghost use Rattle.exact_int.specs.Bounds.{IsAtMost};
 ghost use Rattle.raster.specs.Grid.{IsBox, cell_count, centre, exceeds, fitted_grid, given_grid, grid_of_box, grid_with, middle, plane, reaches_too_far};
 ghost use Rattle.geometry.specs.declared.limits.TheConstants.{CENTRE_LIMIT, COLUMN_LIMIT, COORDINATE_LIMIT, LAYER_LIMIT, STEP_LIMIT};
 
-use exact_cut::{Centre, Lattice as Pixels};
+use exact_cut::{Centre, Lattice};
 use geometry::{CENTRE_LIMIT, COLUMN_LIMIT, LAYER_LIMIT, Point};
 use mesh_weld::Solid;
 use std::alloc::Allocator;
 use std::marker::Model;
 use thiserror::Error;
 
-/// Why there is no grid, of [`Grid::fit`] or [`Grid::given`].
+/// Why [`Grid::fit`] or [`Grid::given`] answers no grid.
 #[derive(Clone, Copy, Debug, PartialEq, Eq, Error)]
 pub enum GridFault {
     /// The mesh that the grid is to fit has no facet with three distinct corners.
     #[error("no facet is left")]
     EmptyMesh,
-    /// More than 16,384 columns, 16,384 rows or 65,535 layers; all three counts are those that were asked for.
+    /// There are more than 16,384 columns, 16,384 rows or 65,535 layers. These are all three counts, as asked for.
     #[error("grid too large: {columns} columns, {rows} rows, {layers} layers")]
     TooLarge {
         columns: u32,
@@ -32,7 +32,7 @@ pub enum GridFault {
     FarCentre,
 }
 
-/// The voxels that a mesh is looked at in: columns along x, rows along y and layers along z, from an origin on. Lengths are
+/// The voxels that a mesh is sliced into: columns along x, rows along y and layers along z, from an origin on. Lengths are
 /// in micrometres. Each coordinate of a voxel's centre lies within 128,100,000 micrometres of 0.
 #[derive(Clone, Copy, Debug, PartialEq, Eq)]
 pub struct Grid {
@@ -190,14 +190,14 @@ impl Grid {
     }
 
     /// The centres of a layer's pixels.
-    pub(crate) fn pixels(&self) -> Pixels
+    pub(crate) fn pixels(&self) -> Lattice
         ensures columns { result.columns ≡ self.now.columns }
         ensures rows { result.rows ≡ self.now.rows }
         ensures x2 { result.x2 ≡ middle self.now.origin.x self.now.pitch 0 }
         ensures y2 { result.y2 ≡ middle self.now.origin.y self.now.pitch 0 }
         ensures step { result.step ≡ self.now.pitch }
     {
-        Pixels {
+        Lattice {
             x2: middle_before(self.origin.x(), self.pitch, 0, self.columns),
             y2: middle_before(self.origin.y(), self.pitch, 0, self.rows),
             step: self.pitch,
@@ -250,7 +250,7 @@ fn fit_box(low: Point, high: Point, pitch: u32, layer_height: u32) -> Result<Gri
     Grid::given(low, pitch, layer_height, columns, rows, layers)
 }
 
-/// The number of steps that cover a stretch, at least one.
+/// The number of cells of length `step` that cover the range from `low` to `high`; at least one.
 fn cell_count(low: i32, high: i32, step: u32) -> u32
     requires low { IsAtMost COORDINATE_LIMIT low }
     requires high { IsAtMost COORDINATE_LIMIT high }
@@ -264,14 +264,15 @@ fn cell_count(low: i32, high: i32, step: u32) -> u32
     high.abs_diff(low).div_ceil(step).max(1)
 }
 
-/// Whether a count passes its limit.
+/// Whether one of these counts is above its limit.
 fn is_too_large(columns: u32, rows: u32, layers: u32) -> bool
     ensures { result ≡ exceeds columns rows layers }
 {
     columns > COLUMN_LIMIT || rows > COLUMN_LIMIT || layers > LAYER_LIMIT
 }
 
-/// Whether the centre of the last column, row or layer lies beyond the limit of centres.
+/// Whether the centre of the last column, row or layer lies beyond `CENTRE_LIMIT`. The first centres can't: the origin is
+/// a point of a mesh.
 fn reaches_too_far(
     origin: Point,
     columns: u32,
@@ -295,7 +296,8 @@ fn reaches_too_far(
         || is_beyond(origin.z(), layer_height, layers)
 }
 
-/// Whether the middle of the last of `count` cells lies beyond the limit of centres.
+/// Whether the middle of the last of `count` cells lies beyond `CENTRE_LIMIT`. The cells have length `step`, and the
+/// first begins at `start`.
 fn is_beyond(start: i32, step: u32, count: u32) -> bool
     requires start { IsAtMost COORDINATE_LIMIT start }
     requires step { step ≤ STEP_LIMIT }
@@ -306,7 +308,7 @@ fn is_beyond(start: i32, step: u32, count: u32) -> bool
     middle(start, step, count - 1) > CENTRE_LIMIT as i64
 }
 
-/// The middle of the cell with this number, from a start on, in half-micrometres.
+/// The middle of a cell, in half-micrometres. Cells have length `step` and count from 0, which begins at `start`.
 fn middle(start: i32, step: u32, number: u32) -> i64
     requires start { IsAtMost COORDINATE_LIMIT start }
     requires step { step ≤ STEP_LIMIT }
@@ -317,7 +319,7 @@ fn middle(start: i32, step: u32, number: u32) -> i64
     2 * i64::from(start) + reach as i64
 }
 
-/// The middle of one of `count` cells, the last of which has its middle within the limit of centres, in half-micrometres.
+/// The middle of one of `count` cells, in half-micrometres. It is within `CENTRE_LIMIT`, as that of the last one is.
 fn middle_before(start: i32, step: u32, number: u32, count: u32) -> i64
     requires start { IsAtMost COORDINATE_LIMIT start }
     requires step { step ≤ STEP_LIMIT }

@@ -9,10 +9,12 @@
 //! write_layer(&g, spans.as_slice(), &mut sink)?;                // their image, in raw PBM
 //! ```
 //!
-//! The types: [`Grid`], the voxels that a mesh is looked at in, and [`GridFault`], why there is none; [`Rule`], which sums
-//! of signed crossings are inside; [`Span`], a run of filled pixels in a row; [`Filler`], which fills layer after layer in
-//! memory that is kept. [`Source`] and [`Sink`] are the devices that are read and written, [`Counted`] makes one of any
-//! reader or writer, and [`put_all`] writes a whole chunk of bytes.
+//! - [`Grid`]: the voxels that a mesh is sliced into; [`GridFault`] says why there is none.
+//! - [`Rule`]: which sums of signed crossings count as inside.
+//! - [`Span`]: a run of filled pixels in a row.
+//! - [`Filler`]: fills one layer after another, and keeps its memory.
+//! - [`Source`], [`Sink`]: the devices that are read and written. [`Counted`] makes one of any reader or writer, and
+//!   [`put_all`] writes a whole chunk of bytes.
 //!
 //! Lengths are in micrometres, and coordinates of centres and planes in half-micrometres, so that they are whole; names of
 //! such numbers end in `2`. Columns, rows and layers count from 0 along x, y and z.

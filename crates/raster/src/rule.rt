@@ -3,8 +3,8 @@
 ghost use Rattle.std.specs.Prelude.{◌≡◌};
 ghost use Rattle.raster.specs.Rule.{is_inside};
 
-/// Which pixels are filled, by the sum of the signed crossings of the mesh with the ray from a pixel's centre: the
-/// winding rules of the field.
+/// Which pixels are filled, by the sum of the signed crossings of the mesh with the ray from a pixel's centre. These are
+/// the winding rules of two-dimensional filling.
 #[derive(Clone, Copy, Debug, PartialEq, Eq)]
 pub enum Rule {
     /// Where the sum is odd.

@@ -1,4 +1,4 @@
-//! Runs of filled pixels in a row, as which a filled layer is handed on.
+//! Spans, the runs of filled pixels in a row. A filled layer is handed on as a list of them.
 ghost use Rattle.std.specs.Prelude.{◌≡◌};
 ghost use Rattle.raster.specs.Span.{IsLayerOfSpans, span_area};
 
@@ -10,8 +10,8 @@ pub struct Span {
     pub to: u32,
 }
 
-/// The number of pixels in the spans of one layer: in order, not empty and not touching, within 16,384 columns and
-/// rows.
+/// The number of pixels in the spans of one layer. The spans are in order, neither empty nor touching, and within 16,384
+/// columns and rows.
 pub fn area(spans: &[Span]) -> u64
     requires { IsLayerOfSpans spans.now }
     ensures { result ≡ span_area spans.now }

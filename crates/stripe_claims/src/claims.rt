@@ -9,7 +9,7 @@ use atomic_table::{Seat, Table};
 use std::alloc::{AllocError, Allocator};
 use std::marker::Model;
 
-/// The numbers below `stripes`, each of which is given out once. Threads share them by reference.
+/// The numbers below `stripes`, which draws give out, each once. Threads share the claims by reference.
 #[derive(Drop)]
 pub struct Claims<A: Allocator> {
     table: Table<(), Hand, Plan, Machine, A>,
@@ -49,8 +49,8 @@ impl Model for Pass {
 }
 
 impl<A: Allocator + Copy> Claims<A> {
-    /// Claims to the numbers below `stripes`, of which there are at most 8,192, and 1 to 64 passes, none of which has
-    /// drawn. `Err` comes only where an allocation failed; nothing is left behind then.
+    /// Claims to the numbers below `stripes`, of which there are at most 8,192, and 1 to `PASS_LIMIT` passes, none of
+    /// which has drawn. `Err` comes only where an allocation failed; nothing is left behind then.
     pub fn open(
         alloc: A,
         stripes: u64,
@@ -79,7 +79,7 @@ impl<A: Allocator + Copy> Claims<A> {
         Ok((Claims { table, stripes }, rest))
     }
 
-    /// Deals out the passes for which a seat stands that has found nothing.
+    /// Cuts a seat that stands for all passes, and has found nothing, into these passes.
     fn deal(
         &self,
         alloc: A,
@@ -118,7 +118,7 @@ impl<A: Allocator + Copy> Claims<A> {
 
     /// A number below `stripes` that no other draw gives, or `None` where all of them have been drawn. After a `None`
     /// the pass has ended, and further draws with it answer `None` without an atomic step. The pass must be of these
-    /// claims. A draw waits for nobody and allocates nothing.
+    /// claims. A draw never waits for another thread, and allocates nothing.
     pub fn draw(&self, pass: &mut Pass) -> Option<u64>
         requires { IsOwned self.now pass.old }
         ensures owned { IsOwned self.now pass.new }
@@ -139,9 +139,9 @@ impl<A: Allocator + Copy> Claims<A> {
         }
     }
 
-    /// The last word, which is the number of draws that made an atomic step. The passes must be of these claims. Where
-    /// all that were opened are handed in, they have found the numbers below the word, each once; where all of these
-    /// have ended, they were given all numbers below `stripes`, each once.
+    /// Closes the claims and answers the last word: how many draws made an atomic step. The passes must be of these
+    /// claims. Where all passes that were opened are handed in, they have found the numbers below the word, each once;
+    /// where all of them have ended too, they were given all numbers below `stripes`, each once.
     pub fn close(self, passes: Vec<Pass, A>) -> u64
         requires { All (IsOwned self) passes.items }
         ensures machine { IsEnd self passes.items result }
@@ -159,7 +159,7 @@ impl<A: Allocator + Copy> Claims<A> {
         }
     }
 
-    /// Joins the passes: one seat that stands for all of them, or `None` where there is none.
+    /// Joins the passes: one seat that stands for all of them, or `None` where there are no passes.
     fn gather(&self, mut passes: Vec<Pass, A>) -> Option<Seat<(), Hand>>
         requires { All (IsOwned self.now) passes.items }
         ensures none { IfNone result (passes.items ≡ []) }
@@ -178,7 +178,7 @@ impl<A: Allocator + Copy> Claims<A> {
         Some(all)
     }
 
-    /// The last word, and what a seat of the table has found of the numbers below it.
+    /// Closes the claims with a seat of their table, and answers the last word: the seat's numbers are below it.
     fn word_with(self, seat: Seat<(), Hand>) -> u64
         requires { seat.table_id ≡ self.name }
         ensures machine { HasReached self seat.me.0 result }
@@ -195,7 +195,7 @@ impl<A: Allocator + Copy> Claims<A> {
         word
     }
 
-    /// The last word, where no pass was handed in.
+    /// Closes the claims without a seat, and answers the last word.
     fn word(self) -> u64
         ensures machine { IsEnd self [] result }
         ensures most { result ≤ self.stripes + self.passes }

@@ -8,10 +8,11 @@
 //! }
 //! ```
 //!
-//! - [`Claims`]: the numbers of the stripes that nobody has yet. It is one word in memory, the next number.
+//! - [`Claims`]: the stripes that no thread has drawn yet, from a number on. In memory it is one word, that number.
 //! - [`Pass`]: what one thread draws with. A **draw** takes the next number by one `fetch_add` on the word. A pass has
 //!   **ended** once it has found a number for which there is no stripe.
-//! - [`claims_laws`]: what follows for any number of passes in any order.
+//! - [`claims_laws`]: what holds after any number of draws, by any number of passes in any order.
+//! - [`PASS_LIMIT`]: the greatest count of passes.
 //!
 //! The definitions in `specs/Machine` speak of **hands**. A hand stands for one pass or for several: opening claims
 //! cuts the first hand, which stands for all passes, into passes (they are **dealt**), and closing joins them again.
@@ -24,3 +25,4 @@ mod machine;
 
 pub use crate::claims::{Claims, Pass};
 pub use crate::laws::claims_laws;
+pub use crate::limits::PASS_LIMIT;

@@ -2,6 +2,7 @@
 use clap::{Arg, ArgAction, Command, value_parser};
 use geometry::STEP_LIMIT;
 use std::alloc::{AllocError, Global};
+use stripe_claims::PASS_LIMIT;
 
 /// The ids of the options, which are also their long names.
 pub(crate) const PITCH: &str = "pitch";
@@ -21,9 +22,6 @@ pub(crate) const UNIT: &str = "unit";
 pub(crate) const GRID: &str = "grid";
 
 pub(crate) const PROBE: &str = "probe";
-
-/// The greatest count of workers.
-pub(crate) const WORKER_LIMIT: u32 = 64;
 
 /// What `--version` prints behind the program's name: the version, and the toolchain that proved it.
 const VERSION: &str = "1.0.0 (proved with rattle-kit-13b logic dac8208d650f15bf)";
@@ -57,7 +55,8 @@ Exit status:
   6  out of memory
   7  the input or the output failed";
 
-/// The command, of the words after the program's name. None of its options is required and none excludes another.
+/// The command. It takes the words after the program's name. It requires no option, and no option excludes another: `words`
+/// looks for what is missing.
 pub(crate) fn command<'a>(alloc: Global) -> Result<Command<'a>, AllocError> {
     Command::new(alloc, "stlslice")
         .version(VERSION)
@@ -137,7 +136,7 @@ fn workers<'a>(alloc: Global) -> Arg<'a> {
         .long(WORKERS)
         .value_name("N")
         .default_value("1")
-        .value_parser(value_parser!(u32).range(1..=i64::from(WORKER_LIMIT)))
+        .value_parser(value_parser!(u32).range(1..=i64::from(PASS_LIMIT)))
         .help("Number of threads, 1 to 64, as in --workers 4;\nthe output is the same for each")
 }
 

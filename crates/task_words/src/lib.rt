@@ -4,7 +4,8 @@
 //! [`Task`], or a [`WordFault`] whose `Display` is the line on standard error and whose `status` the exit status.
 //! `--help` and `--version` come as the fault `Refused` with status 0.
 //!
-//! Pitch, layer height and the origin of a [`Given`] grid are in micrometres.
+//! Pitch, layer height and the origin of a [`Given`] grid are in micrometres. [`PASS_LIMIT`] is the greatest count of
+//! workers; it is handed on from `stripe_claims`.
 #![tactic(auto)]
 
 mod command;
@@ -13,6 +14,7 @@ mod texts;
 mod word_fault;
 mod words;
 
+pub use stripe_claims::PASS_LIMIT;
 pub use task::{Given, Task};
 pub use word_fault::{Wanted, WordFault};
 pub use words::read_words;

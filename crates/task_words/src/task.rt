@@ -14,7 +14,7 @@ pub struct Given {
 }
 
 /// What the program is to do with the mesh on its input, whose numbers are in `unit`. Pitch and layer height are 1
-/// to 100,000 micrometres, and there are 1 to 64 workers.
+/// to 100,000 micrometres, and there are 1 to `PASS_LIMIT` workers.
 #[derive(Clone, Copy, Debug, PartialEq, Eq)]
 pub enum Task {
     /// Write how many facets there are, and their box.
@@ -31,7 +31,7 @@ pub enum Task {
         report: bool,
         grid: Option<Given>,
     },
-    /// Write the signed crossings at column `i`, row `j` and layer `k`, by a ray along x and one along y.
+    /// Write the sums of signed crossings at column `i`, row `j` and layer `k`, by a ray along x and one along y.
     Probe {
         unit: Unit,
         pitch: u32,

@@ -38,7 +38,7 @@ pub(crate) fn read_grid(text: &str) -> Option<Given> {
     parts.next().is_none().then_some(given)
 }
 
-/// A place in a grid, by its column, row and layer; or how many of these there are.
+/// Three counts along x, y and z: the column, row and layer of a voxel, or how many of each a grid has.
 #[derive(Clone, Copy)]
 pub(crate) struct Voxel {
     pub(crate) i: u32,
@@ -78,7 +78,7 @@ fn read_count(text: &str) -> Option<u32> {
     }
 }
 
-/// A number of 1 to 9 digits, perhaps behind a minus.
+/// A number of 1 to 9 digits, with or without a minus before them.
 fn read_coordinate(text: &str) -> Option<i32> {
     if is_digits(text.strip_prefix('-').unwrap_or(text)) {
         text.parse().ok()

@@ -11,7 +11,7 @@ use std::alloc::AllocError;
 use std::fmt::{self, Display, Formatter, Write};
 use thiserror::Error;
 
-/// An option that a task cannot go without.
+/// A wanted option: one that every task but the box needs. [`WordFault::Missing`] names the one that isn't there.
 #[derive(Clone, Copy, Debug, PartialEq, Eq)]
 pub enum Wanted {
     Pitch,
@@ -19,7 +19,7 @@ pub enum Wanted {
 }
 
 impl Display for Wanted {
-    /// As it is written.
+    /// The option as it is written in the command.
     fn fmt<W: Write>(&self, f: &mut Formatter<W>) -> fmt::Result {
         f.write_str(match self {
             Wanted::Pitch => "--pitch",
@@ -28,11 +28,11 @@ impl Display for Wanted {
     }
 }
 
-/// Why words are no task. Its `Display` is the program's line on standard error, but for `Refused`, which is a text
-/// of several lines.
+/// Why words are no task. Its `Display` is the program's line on standard error; that of `Refused` is a text of several
+/// lines.
 #[derive(Debug, Drop, Error)]
 pub enum WordFault {
-    /// The words are not of the form of the command, or ask for its help or its version.
+    /// The words don't fit the command, or ask for its help or its version.
     #[error("{0}")]
     Refused(Refusal),
     /// A task other than the box needs this option.

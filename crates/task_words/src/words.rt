@@ -1,11 +1,9 @@
-//! From words to a task: each option's value is judged in a fixed order.
+//! From words to a task. Faults of options are looked for in a fixed order.
 ghost use Rattle.std.specs.Prelude.{◌≤◌, IfOk, IfSome};
 ghost use Rattle.task_words.specs.Task.{IsInRange};
 ghost use Rattle.geometry.specs.declared.limits.TheConstants.{STEP_LIMIT};
 
-use crate::command::{
-    BOX, GRID, LAYER, PITCH, PROBE, REPORT, RULE, UNIT, WORKER_LIMIT, WORKERS, command,
-};
+use crate::command::{BOX, GRID, LAYER, PITCH, PROBE, REPORT, RULE, UNIT, WORKERS, command};
 use crate::task::{Given, Task};
 use crate::texts::{Voxel, read_grid, read_rule, read_unit, read_voxel};
 use crate::word_fault::{Wanted, WordFault};
@@ -14,6 +12,7 @@ use geometry::STEP_LIMIT;
 use micro_num::Unit;
 use raster::Rule;
 use std::alloc::Global;
+use stripe_claims::PASS_LIMIT;
 
 /// The task that the words after the program's name stand for.
 ///
@@ -54,7 +53,7 @@ fn task_of(matches: &ArgMatches<'_>) -> Result<Task, WordFault>
             pitch,
             layer,
             rule,
-            workers: number_of(matches, WORKERS, WORKER_LIMIT).unwrap_or(1),
+            workers: number_of(matches, WORKERS, PASS_LIMIT).unwrap_or(1),
             report: matches.get_flag(REPORT),
             grid,
         },
@@ -96,7 +95,8 @@ fn wanted(matches: &ArgMatches<'_>, name: &str, option: Wanted) -> Result<u32, W
     number_of(matches, name, STEP_LIMIT).ok_or(WordFault::Missing { option })
 }
 
-/// The number of an option, 1 to `most`. The command's own reader has that range, so nothing is left out here.
+/// The number of an option, 1 to `most`. The command refuses all other numbers before, so `None` means that the option
+/// isn't there.
 fn number_of(matches: &ArgMatches<'_>, name: &str, most: u32) -> Option<u32>
     ensures { IfSome result (λ n. (1 ≤ n) × (n ≤ most)) }
 {

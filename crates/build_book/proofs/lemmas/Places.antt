@@ -11,6 +11,7 @@ use Rattle.build_book.specs.Piece.{IsStripe}
 use Rattle.build_book.specs.Places.{filed_count, filled, or_layer, IsTaken, AreFree}
 use Rattle.build_book.specs.Book.{IsLawfulPlace, IsLawfulBook}
 use Rattle.build_book.specs.Build.{IsComplete}
+use Rattle.build_book.specs.declared.limits.TheConstants.{MOST_STRIPES}
 use Rattle.geometry.specs.declared.limits.TheConstants.{LAYER_LIMIT}
 
 filled_none : (places : List (Option Layer)) → filled zero [] places ≡ places
@@ -287,7 +288,7 @@ stripe_filled job s first ys ps new lawful at stripe is below k near low =
     (taken_filled first (first + length ys) ys ps refl k early (λ h. below k (omega (arith, h, at)) early)
     (omega (arith, at, stripe.whole, near, early, lawful.one_each)))
 
-pub few_layers : (job : Job) (ps : List (Option Layer)) → IsLawfulBook (record { job = job; places = ps }) → (n : ℕ) → n ≡ stripe_count job.grid → n ≤ 8192
+pub few_layers : (job : Job) (ps : List (Option Layer)) → IsLawfulBook (record { job = job; places = ps }) → (n : ℕ) → n ≡ stripe_count job.grid → n ≤ MOST_STRIPES
     → filed_count ps ≤ 65536
 few_layers job ps lawful n is few = omega (arith, count_by-le-length is_some ps, lawful.one_each, is, few)
 

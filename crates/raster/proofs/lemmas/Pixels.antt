@@ -8,7 +8,7 @@ use Rattle.geometry.specs.Facet.{Facet, twice}
 use Rattle.geometry.specs.Winding.{hit, neg_ray_back, ray_back, total, wind}
 use Rattle.exact_cut.specs.Column.{centre_x}
 use Rattle.exact_cut.specs.Lattice.{pixel, row_y}
-use Rattle.exact_cut.specs.declared.dda.lattice.Lattice.{Lattice as Pixels}
+use Rattle.exact_cut.specs.declared.dda.lattice.Lattice.{Lattice}
 use Rattle.mesh_weld.specs.Balance.{IsBalanced}
 use Rattle.mesh_weld.proofs.lemmas.Sums.{ray_from_left}
 use Rattle.raster.specs.declared.crossings.RowCrossing.{RowCrossing}
@@ -44,14 +44,14 @@ last-row o p n h k =
     subst (λ (m : ℕ). (middle o p 0 +ℤ pos (2 * p * m)) ≤ℤ pos (CENTRE_LIMIT + 2 * p)) last (last-at o p (n - 1) k)
 
 -- a lattice with the centres of a layer's pixels
-pub record ArePixels (g : Grid) (l : Pixels) : Type 0 where
+pub record ArePixels (g : Grid) (l : Lattice) : Type 0 where
   pub x2 : l.x2 ≡ middle g.origin.x g.pitch 0
   pub y2 : l.y2 ≡ middle g.origin.y g.pitch 0
   pub step : l.step ≡ g.pitch
   pub columns : l.columns ≡ g.columns
   pub rows : l.rows ≡ g.rows
 
-pixel-is : (g : Grid) (l : Pixels) (k : ℕ) (z : ℤ) → ArePixels g l → z ≡ plane g k → (i j : ℕ) → pixel l z i j ≡ centre g i j k
+pixel-is : (g : Grid) (l : Lattice) (k : ℕ) (z : ℤ) → ArePixels g l → z ≡ plane g k → (i j : ℕ) → pixel l z i j ≡ centre g i j k
 pixel-is g l k z h e i j =
     let x : centre_x l.x2 l.step i ≡ middle g.origin.x g.pitch i = (λ n. centre_x (h.x2 n) (h.step n) i) ∙ step-on g.origin.x g.pitch i in
     let y : centre_x l.y2 l.step j ≡ middle g.origin.y g.pitch j = (λ n. centre_x (h.y2 n) (h.step n) j) ∙ step-on g.origin.y g.pitch j in
@@ -76,7 +76,7 @@ spans-form rule columns rows list spans h =
     }
 
 -- the spans of all rows of a grid
-pub spans-below : (rule : Rule) (g : Grid) (l : Pixels) (rows : ℕ) (list : List (List RowCrossing)) (spans copied : List Span) → ArePixels g l → rows ≡ g.rows → copied ≡ spans
+pub spans-below : (rule : Rule) (g : Grid) (l : Lattice) (rows : ℕ) (list : List (List RowCrossing)) (spans copied : List Span) → ArePixels g l → rows ≡ g.rows → copied ≡ spans
     → AreCrossingsWithin l.columns list
     → ((columns : ℕ) → AreCrossingsWithin columns list → AreSpansBelow rule columns rows list spans)
     → AreSpansBelow rule g.columns g.rows list copied
@@ -86,7 +86,7 @@ spans-below rule g l rows list spans copied same count kept inside below =
     (below g.columns (subst (λ (n : ℕ). AreCrossingsWithin n list) same.columns inside)))
 
 -- where the sums of a row are those over all facets, its spans cover what is inside by the crossings that don't lie ahead
-pub spans-swept : (facets : List Facet) (g : Grid) (l : Pixels) (k : ℕ) (z : ℤ) (rule : Rule) (list : List (List RowCrossing)) (spans : List Span)
+pub spans-swept : (facets : List Facet) (g : Grid) (l : Lattice) (k : ℕ) (z : ℤ) (rule : Rule) (list : List (List RowCrossing)) (spans : List Span)
     → ArePixels g l → z ≡ plane g k
     → ((i j : ℕ) → i < l.columns → j < l.rows → row_passed list j i ≡ total (λ t. wind (twice t) (row_y l j) z -ℤ hit (twice t) (pixel l z i j)) facets)
     → AreSpansBelow rule g.columns g.rows list spans

@@ -16,8 +16,8 @@ use std::marker::Model;
 /// The greatest number of bytes that one call of a sink is given: room for eight rows of the greatest width.
 const CHUNK_LEN: usize = 16_384;
 
-/// Bytes on their way to a sink. They lie on the stack, so that writing allocates no memory. The free room behind them
-/// is blank: all its bytes are 0.
+/// Bytes on their way to a sink. They lie on the stack, so that writing allocates no memory. All bytes of the free room
+/// behind them are 0, so that a row is drawn by setting bits.
 #[derive(Drop)]
 pub(crate) struct Chunk {
     bytes: [u8; CHUNK_LEN],
@@ -73,7 +73,7 @@ impl Chunk {
     }
 
     /// Appends a number in plain decimal.
-    // (The contract of std's `write!` into a slice does not say which bytes it writes.)
+    // `write!` into a slice won't do: its contract in std doesn't say which bytes it writes.
     fn push_decimal(&mut self, n: u32)
         requires { length self.old + length (decimal n) ≤ CHUNK_LEN }
         ensures { self.new ≡ self.old ++ decimal n }
