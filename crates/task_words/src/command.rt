@@ -22,6 +22,8 @@ pub(crate) const GRID: &str = "grid";
 
 pub(crate) const PROBE: &str = "probe";
 
+pub(crate) const PROGRESS: &str = "progress";
+
 /// The greatest count of workers.
 pub(crate) const WORKER_LIMIT: u32 = 64;
 
@@ -80,7 +82,12 @@ pub(crate) fn command<'a>(alloc: Global) -> Result<Command<'a>, AllocError> {
             BOX,
             "Write how many facets there are and their box in\nmicrometres, and do nothing else; the mesh may be open",
         ))?
-        .arg(probe(alloc))
+        .arg(probe(alloc))?
+        .arg(flag(
+            alloc,
+            PROGRESS,
+            "Show on standard error how far slicing is: layers made,\nbytes of images written, and the time left",
+        ))
 }
 
 fn pitch<'a>(alloc: Global) -> Arg<'a> {
