@@ -27,6 +27,7 @@ _stlslice() {
                 --report
                 --box
                 --probe
+                --progress
                 --help
                 --version
             )

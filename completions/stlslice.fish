@@ -10,5 +10,6 @@ complete -c stlslice -l workers -x -a '1 2 4 8 16 32 64' -d 'Number of threads, 
 complete -c stlslice -l report -d 'Write loops and areas in place of images'
 complete -c stlslice -l box -d 'Write the count of facets and their box'
 complete -c stlslice -l probe -x -d 'Write the crossings at the voxel I,J,K'
+complete -c stlslice -l progress -d 'Show how far slicing is'
 complete -c stlslice -s h -l help -d 'Show the options'
 complete -c stlslice -s V -l version -d 'Show the version'

@@ -289,7 +289,8 @@ def other_faults(program, folder):
             ["bash", "-c", f"ulimit -v 20000; exec {quoted} --pitch 10 --layer 10 --report < part.stl"], cwd=folder),
         "The input can't be read": lambda: run(["bash", "-c", f"{quoted} --box < /"]),
         "The output can't be written": lambda: run(["bash", "-c", f"{quoted} --pitch 100 --layer 100 < part.stl > /dev/full"], cwd=folder),
-        "The help or the version can't be written": lambda: run(["bash", "-c", f"{quoted} --help > /dev/full"]),
+        "The help can't be written": lambda: run(["bash", "-c", f"{quoted} --help > /dev/full"]),
+        "The version can't be written": lambda: run(["bash", "-c", f"{quoted} --version > /dev/full"]),
     }
     same({head for head, section in page.items() if section[0] in (5, 6, 7)}, set(runs), "headings")
     for head, made in runs.items():
@@ -310,6 +311,8 @@ def faults_of_words(program, folder):
     for line, given in zip(lines, words):
         status, fault = refused(program, b"", given)
         same((status, fault.splitlines()[0]), (2, line), str(given))
+        is_number = line.startswith("error: invalid value")
+        same("whole micrometres, as in --pitch 50 for 0.05 mm" in fault.splitlines()[-1], is_number, f"last line by {given}")
 
 
 # The enums whose texts a run can end with; those of other faults (a book's, a device's) stay within the program.

@@ -2,7 +2,7 @@
 //! where an allocation fails.
 ghost use Rattle.std.specs.Prelude.{◌≡◌, IfOk};
 
-use crate::growth::{Count, first_free_turn};
+use crate::allocations::{Count, first_free_turn};
 use crate::jobs::job_of;
 use crate::meshes::{COLUMN, CUBE, Part, TWO_CUBES};
 use build_book::{Book, Build, FileFault, Job, Piece, Slicer, slice_stripe};
@@ -367,7 +367,7 @@ impl Count for AllLate {
 const TURNS: u64 = 10_000;
 
 #[test]
-fn each_growth_refused_in_turn(rt: HostRuntime) -> Result<(), Fail> {
+fn each_allocation_fails_in_turn(rt: HostRuntime) -> Result<(), Fail> {
     assert!(rt; first_free_turn::<Late>(rt.alloc(), TURNS, 9) > Some(17));
     assert!(rt; first_free_turn::<Filed>(rt.alloc(), TURNS, 3) > Some(17));
     assert!(rt; first_free_turn::<AllLate>(rt.alloc(), TURNS, 3) > Some(17));

@@ -3,7 +3,7 @@
 ghost use Rattle.std.specs.Prelude.{◌≤◌, All, IfOk};
 ghost use Rattle.stripe_claims.specs.Claims.{IsOwned};
 
-use crate::growth::{Count, first_free_turn};
+use crate::allocations::{Count, first_free_turn};
 use short_memory::ShortMemory;
 use std::alloc::{AllocError, Global};
 use std::test::Fail;
@@ -164,7 +164,7 @@ impl Count for Opened {
 }
 
 #[test]
-fn each_growth_refused_in_turn(rt: HostRuntime) -> Result<(), Fail> {
+fn each_allocation_fails_in_turn(rt: HostRuntime) -> Result<(), Fail> {
     assert!(rt; first_free_turn::<Opened>(rt.alloc(), 100, PASS_LIMIT as usize) > Some(1));
     Ok(())
 }

@@ -1,9 +1,9 @@
-//! What no clause says: worked meshes with ample memory, and memory that is refused.
+//! What no clause says: worked meshes with ample memory, and allocations that fail.
 ghost use Rattle.std.specs.Prelude.{◌≡◌};
 ghost use Rattle.contour.specs.Loops.{loops as all_loops};
 ghost use Rattle.contour.specs.Segment.{segments as all_segments};
 
-use crate::growth::{Count, first_free_turn};
+use crate::allocations::{Count, first_free_turn};
 use crate::meshes::{CUBE, CUBE_AND_PAIR, OCTAHEDRON, Part, TWO_CUBES, solid_of};
 use contour::{Linker, Loops, Node, Segment, Sweep, loop_ray, loops, segments};
 use exact_cut::Centre;
@@ -77,7 +77,7 @@ fn are_loops(s: &Solid<Global>, centre: &Centre, found: &Loops<Global>, told: &[
     found.count() == told.len()
 }
 
-// A mesh, a centre, in half micrometres, and the loops of the centre's plane.
+// A mesh, a centre in half-micrometres, and the loops of the centre's plane.
 type Plane<'a> = (&'a [Part<'a>], [i64; 3], &'a [Told<'a>]);
 
 fn is_plane(alloc: Global, (parts, [x2, y2, z2], told): Plane<'_>) -> Option<bool> {
@@ -222,7 +222,7 @@ impl Count for TwoCubesLoops {
 }
 
 #[test]
-fn each_growth_of_loops_refused(rt: HostRuntime) -> Result<(), Fail> {
+fn each_allocation_of_loops_fails(rt: HostRuntime) -> Result<(), Fail> {
     assert!(rt; first_free_turn::<BoxLoops>(rt.alloc(), 200, 2) > Some(8));
     assert!(rt; first_free_turn::<TwoCubesLoops>(rt.alloc(), 200, 2) > Some(8));
     Ok(())
@@ -235,7 +235,7 @@ const LOW: Counts = (2, 10, 8, 8);
 
 const HIGH: Counts = (6, 20, 16, 16);
 
-// Where a sweep stands after a rise; if only the rise was refused memory, it stands as before.
+// Where a sweep stands after a rise. Where an allocation of the rise failed, that is where it stood before.
 fn after_rise<A: Allocator + Copy + Send + Sync>(
     alloc: A,
     solid: &Solid<A>,
@@ -257,8 +257,8 @@ fn rise(memory: &ShortMemory<Global>) -> Option<Counts> {
     after_rise(memory, &solid).ok()
 }
 
-// Refuses each growth of a rise in turn until none is left to refuse: how many rises were refused alone. `None` where
-// one ends otherwise.
+// Fails each allocation in turn until none is left to fail, and answers at how many turns it was the rise that failed.
+// `None` where the sweep stands elsewhere than before or after the rise.
 fn refused_rises(alloc: Global) -> Option<u32> {
     let mut alone = 0u32;
     for turn in 1..200u64 {
@@ -277,7 +277,7 @@ fn refused_rises(alloc: Global) -> Option<u32> {
 }
 
 #[test]
-fn each_growth_of_a_sweep_refused(rt: HostRuntime) -> Result<(), Fail> {
+fn each_allocation_of_a_sweep_fails(rt: HostRuntime) -> Result<(), Fail> {
     assert!(rt; refused_rises(rt.alloc()) > Some(0));
     Ok(())
 }

@@ -1,8 +1,8 @@
-//! Small meshes, filled, and memory that is refused.
+//! Small meshes, filled, and allocations that fail.
 ghost use Rattle.std.specs.Prelude.{◌<◌, IfOk};
 ghost use Rattle.raster.specs.Span.{AreSpans};
 
-use crate::growth::{Count, first_free_turn};
+use crate::allocations::{Count, first_free_turn};
 use crate::meshes::{
     CUBE, INWARD_CUBE, OCTAHEDRON, ONE_INWARD, Part, TOUCHING, TWO_CUBES, solid_of,
 };
@@ -28,7 +28,7 @@ fn layer<A: Allocator + Copy + Send + Sync>(
     fill(alloc, s, g, rule, k, cut.as_slice())
 }
 
-// The spans of a layer of boxes in voxels of 2; `None` where memory was refused.
+// The spans of a layer of boxes in voxels of 2; `None` where an allocation failed.
 fn layer_of<A: Allocator + Copy + Send + Sync>(
     alloc: A,
     parts: &[Part<'_>],
@@ -239,7 +239,7 @@ impl Count for Spans {
 }
 
 #[test]
-fn each_growth_refused_in_turn(rt: HostRuntime) -> Result<(), Fail> {
+fn each_allocation_fails_in_turn(rt: HostRuntime) -> Result<(), Fail> {
     assert!(rt; first_free_turn::<Spans>(rt.alloc(), 100, 4) > Some(8));
     Ok(())
 }

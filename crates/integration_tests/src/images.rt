@@ -160,7 +160,8 @@ fn fitted_grids(rt: HostRuntime) -> Result<(), Fail> {
     Ok(())
 }
 
-// Voxels of a cube of 3 in voxels of 2, by column, row and layer, and their centres, doubled.
+// The voxels of a cube of 3 micrometres at a pitch and a layer height of 2, by column, row and layer, and their centres in
+// half-micrometres.
 static CENTRES: [([u32; 3], [i64; 3]); 5] = [
     ([0, 0, 0], [2, 2, 2]),
     ([1, 0, 0], [6, 2, 2]),

@@ -3,6 +3,8 @@
 #![tactic(auto)]
 
 #[cfg(test)]
+mod allocations;
+#[cfg(test)]
 mod book;
 #[cfg(test)]
 mod claims;
@@ -12,8 +14,6 @@ mod contours;
 mod cuts;
 #[cfg(test)]
 mod filling;
-#[cfg(test)]
-mod growth;
 #[cfg(test)]
 mod images;
 #[cfg(test)]

@@ -158,7 +158,7 @@ fn one_worker_is_held_while_the_other_works(rt: HostRuntime) -> Result<(), Fail>
     Ok(())
 }
 
-// The same for the column in memory of which a growth is refused.
+// The same for the column in memory of which one allocation fails.
 fn column_in<R: Threads + Wait + Sync>(
     rt: &R,
     memory: &ShortMemory<Global>,
@@ -172,16 +172,16 @@ fn column_in<R: Threads + Wait + Sync>(
 }
 
 // More allocations than the job and the build of the column ask for.
-const GROWTHS: u64 = 2000;
+const ALLOCATIONS: u64 = 2000;
 
-// Refuses each allocation in turn until none is left to refuse: how many of the builds had late layers. `None` where an
-// answer was neither the column nor a failed allocation, or where a build without a refusal fails, or has such layers.
+// Fails each allocation in turn until none is left to fail: how many of the builds had late layers. `None` where an
+// answer was neither the column nor a failed allocation, or where a build with all its memory fails or has such layers.
 fn refuse_each<R: Threads + Wait + Sync>(rt: &R, alloc: Global, workers: u32) -> Option<u32>
     requires some { 1 ≤ workers }
     requires few { workers ≤ PASS_LIMIT }
 {
     let mut made_up = 0u32;
-    for turn in 1..GROWTHS {
+    for turn in 1..ALLOCATIONS {
         let memory = ShortMemory::new(alloc, turn);
         let built = column_in(rt, &memory, workers);
         if !memory.has_refused() {
@@ -197,7 +197,7 @@ fn refuse_each<R: Threads + Wait + Sync>(rt: &R, alloc: Global, workers: u32) ->
 }
 
 #[test]
-fn each_growth_of_a_build_refused_in_turn(rt: HostRuntime) -> Result<(), Fail> {
+fn each_allocation_of_a_build_fails_in_turn(rt: HostRuntime) -> Result<(), Fail> {
     assert!(rt; refuse_each(&rt, rt.alloc(), 1) > Some(0));
     assert!(rt; refuse_each(&rt, rt.alloc(), 2).is_some());
     Ok(())

@@ -1,4 +1,4 @@
-//! Rays of meshes with known answers. Centres are doubled.
+//! Rays of meshes with known answers. Centres are in half-micrometres.
 use crate::meshes::{INWARD_CUBE, OCTAHEDRON, Part, TOUCHING, TWO_CUBES, solid_of};
 use exact_cut::Centre;
 use mesh_weld::{probe, step};

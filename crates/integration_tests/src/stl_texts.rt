@@ -287,7 +287,7 @@ fn a_cube_in_inches(rt: HostRuntime) -> Result<(), Fail> {
 }
 
 #[test]
-fn each_growth_refused_in_turn(rt: HostRuntime) -> Result<(), Fail> {
+fn each_allocation_fails_in_turn(rt: HostRuntime) -> Result<(), Fail> {
     let file = cube_file(rt.alloc())?;
     for turn in 1..100 {
         let memory = ShortMemory::new(rt.alloc(), turn);

@@ -1,7 +1,7 @@
-//! What no clause says: solids of boxes, the least open edge, and memory that is refused.
+//! What no clause says: solids of boxes, the least open edge, and allocations that fail.
 ghost use Rattle.std.specs.Prelude.{◌≤◌, ◌<◌};
 
-use crate::growth::{Count, first_free_turn};
+use crate::allocations::{Count, first_free_turn};
 use crate::meshes::{BOX, CORNERS, CUBE, CUBE_AND_FLAT, CUBE_AND_PAIR, Part, solid_of, welded};
 use mesh_weld::{Solid, WeldFault};
 use short_memory::ShortMemory;
@@ -12,7 +12,7 @@ use stl_text::{Facet, Point};
 // How many facets were kept and dropped, and how many vertices and edges there are.
 type Counts = (usize, u32, usize, u32);
 
-// The counts of a solid; `None` where memory was refused.
+// The counts of a solid; `None` where an allocation failed.
 fn counts(welded: Result<Solid<Global>, WeldFault>) -> Option<Counts> {
     let solid = welded.ok()?;
     Some((
@@ -117,7 +117,7 @@ impl Count for Kept {
 }
 
 #[test]
-fn each_growth_refused_in_turn(rt: HostRuntime) -> Result<(), Fail> {
+fn each_allocation_fails_in_turn(rt: HostRuntime) -> Result<(), Fail> {
     assert!(rt; first_free_turn::<Kept>(rt.alloc(), 100, 12) > Some(8));
     Ok(())
 }
@@ -186,7 +186,7 @@ impl Count for KeptOfRings {
 }
 
 #[test]
-fn each_growth_refused_in_turn_among_many_facets(rt: HostRuntime) -> Result<(), Fail> {
+fn each_allocation_fails_in_turn_among_many_facets(rt: HostRuntime) -> Result<(), Fail> {
     assert!(rt; first_free_turn::<KeptOfRings>(rt.alloc(), 100, 4608) > Some(30));
     Ok(())
 }

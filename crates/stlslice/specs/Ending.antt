@@ -47,12 +47,16 @@ IsPlacingFault unit given pitch layer bytes f =
     IsLoadFault unit bytes f ⊎ ((solid : Solid) × IsSolidOf unit bytes solid
     × (cause : GridFault) × (f ≡ fault.Grid cause) × (grid_for given pitch layer solid.facets ≡ Err cause))
 
--- a sink before and after a call: the bytes that it holds, and the count of its failed calls
+-- a device before and after a call: the bytes that a sink holds or a source has left, where they are known, and the count of
+-- failed calls
 pub record Transcript : Type 0 where
   pub old : Option (List ℕ)
   pub new : Option (List ℕ)
   pub failed_before : ℕ
   pub failed : ℕ
+
+abbrev pub transcript : Option (List ℕ) → Option (List ℕ) → ℕ → ℕ → Transcript
+transcript old new failed_before failed = record { old = old; new = new; failed_before = failed_before; failed = failed }
 
 -- the first bytes of a text went out, as many as the fault counts, and the device failed
 abbrev pub IsUnwritten : Transcript → List ℕ → RunFault → Type 0

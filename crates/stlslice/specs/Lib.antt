@@ -2,3 +2,4 @@ pub mod Status
 pub mod SlicedText
 pub mod Outcome
 pub mod Ending
+pub mod Run

@@ -13,7 +13,7 @@ use Rattle.mesh_weld.specs.Solid.{Solid, solid_of}
 use Rattle.raster.specs.declared.grid.GridFault.{GridFault}
 use Rattle.raster.specs.Grid.{Grid, centre, fitted_grid, given_grid, grid_with}
 use Rattle.raster.specs.declared.rule.Rule.{Rule}
-use Rattle.stlslice.specs.SlicedText.{sliced_text}
+use Rattle.stlslice.specs.SlicedText.{output_of, sliced_text}
 use Rattle.task_words.specs.declared.task.Given.{Given}
 use Rattle.task_words.specs.declared.task.Task.{Task}
 use Rattle.task_words.specs.declared.task.Task.TheVariants as task
@@ -79,7 +79,7 @@ probed grid pitch layer i j k facets = with_grid (probed_text i j k facets) (gri
 -- what slicing answers for the kept facets of a closed mesh: the images of all layers, or the report
 abbrev pub sliced : Option Given → ℕ → ℕ → Rule → Bool → List Facet → Result (List ℕ) RunFault
 sliced grid pitch layer rule report facets =
-    with_grid (λ g. Ok (sliced_text report g rule facets)) (grid_for grid pitch layer facets)
+    with_grid (λ g. Ok (sliced_text (output_of report) g rule facets)) (grid_for grid pitch layer facets)
 
 -- what comes of the kept facets of a closed mesh
 abbrev pub IsMade : Task → Solid → Result (List ℕ) RunFault → Type 0

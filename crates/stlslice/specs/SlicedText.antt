@@ -1,4 +1,4 @@
--- What slicing writes: the images of all layers, or a line for each.
+-- The outputs of slicing: the images of all layers, or a report with a line for each.
 use Rattle.std.specs.Prelude.{ℕ, Bool, List, ◌++◌, codes, decimal, flat_map, length, sum_by, if◌then◌else◌}
 use Rattle.geometry.specs.Facet.{Facet}
 use Rattle.contour.specs.Loops.{loops}
@@ -9,6 +9,8 @@ use Rattle.raster.specs.Fill.{area_of, below}
 use Rattle.raster.specs.Span.{covers}
 use Rattle.raster.specs.Grid.{Grid, plane}
 use Rattle.raster.specs.Picture.{picture, pictures}
+use Rattle.stlslice.specs.declared.write.Output.{Output}
+use Rattle.stlslice.specs.declared.write.Output.TheVariants as output
 
 -- the image of the pixels that lie in the spans
 abbrev pub image : Grid → List Span → List ℕ
@@ -30,5 +32,11 @@ abbrev pub report_text : Grid → Rule → List Facet → List ℕ
 report_text g rule facets =
     flat_map (layer_line g rule facets) (below g.layers) ++ total_line (sum_by (area_of g rule facets) (below g.layers))
 
-abbrev pub sliced_text : Bool → Grid → Rule → List Facet → List ℕ
-sliced_text is_report g rule facets = if is_report then report_text g rule facets else pictures g rule facets
+-- what a task that asks for a report, or doesn't, writes
+abbrev pub output_of : Bool → Output
+output_of report = if report then output.Report else output.Images
+
+-- each output of slicing
+abbrev pub sliced_text : Output → Grid → Rule → List Facet → List ℕ
+sliced_text output.Images g rule facets = pictures g rule facets
+sliced_text output.Report g rule facets = report_text g rule facets

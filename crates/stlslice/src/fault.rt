@@ -20,8 +20,8 @@ pub enum RunFault {
     /// The input is no mesh. Nothing was written.
     #[error("stlslice: {0}")]
     Stl(StlFault),
-    /// The mesh is not closed. Of all pairs of points `from` before `to` between which the directed edges there and
-    /// back differ in number, the least; with both numbers. Nothing was written.
+    /// The mesh is not closed: the numbers of half-edges from `from` to `to` and back differ. Of all such pairs with
+    /// `from` before `to` this is the least. Nothing was written.
     #[error("stlslice: open edge {} {} {} to {} {} {} there {there} back {back}", .from.x(), .from.y(), .from.z(), .to.x(), .to.y(), .to.z())]
     Open {
         from: Point,

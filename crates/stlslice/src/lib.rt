@@ -3,6 +3,7 @@
 //! [`read_words`] turns the command's words into a [`Task`], and [`run`] does it: it reads ASCII STL to its end, and
 //! writes the images of all layers, a report, the box of the mesh, or the two rays of a voxel. A [`RunFault`] says why a
 //! run wrote nothing, or not all; its `Display` is the line on standard error, and its `status` the exit status.
+//! [`run_watched`] also tells a [`Gate`] of the layers as they are made.
 //!
 //! ```text
 //! let task = read_words(words)?;                    // --pitch 50 --layer 100
@@ -18,8 +19,11 @@ mod placing;
 mod running;
 mod write;
 
+pub use build_book::Piece;
 pub use fault::RunFault;
+pub use layer_pool::Gate;
 pub use loading::load;
 pub use raster::{Counted, Failed, Failures, Sink, Source};
-pub use running::run;
-pub use task_words::{Given, Task, Wanted, WordFault, read_words};
+pub use running::{run, run_watched};
+pub use task_words::{Given, Task, Wanted, WordFault, read_words, wants_progress};
+pub use write::images::image_len;

@@ -1,20 +1,23 @@
 //! What a run reads: the bytes of its input, and the closed mesh that they spell.
-ghost use Rattle.std.specs.Prelude.{◌≡◌, ◌⊎◌, Err, IfErr, IfOk, IfSome, OnOk, List};
+ghost use Rattle.std.specs.Prelude.{◌≡◌, ◌≤◌, ◌⊎◌, Err, IfErr, IfOk, IfSome, List, OnOk, vec_len};
 ghost use Rattle.std.specs.Io.KnownBytes.{IsAtEnd};
 ghost use Rattle.raster.specs.Devices.{HasFailed};
-ghost use Rattle.stlslice.specs.declared.fault.RunFault.TheVariants.{Memory, Read};
+ghost use Rattle.stlslice.specs.declared.fault.RunFault.TheVariants.{Memory, Read, Stl};
 ghost use Rattle.mesh_weld.specs.Balance.{IsBalanced};
 ghost use Rattle.mesh_weld.specs.Solid.{solid_of};
-ghost use Rattle.stl_text.specs.Text.{Reads};
+ghost use Rattle.stl_text.specs.Text.{IsFaultOf, Reads};
+ghost use Rattle.stl_text.specs.declared.stl_fault.StlFault.{StlFault};
 ghost use Rattle.geometry.specs.Facet.{Facet};
-ghost use Rattle.stlslice.specs.Ending.{IsLoadFault};
+ghost use Rattle.stlslice.specs.Ending.{IsLoadFault, IsSolidOf};
 ghost use Rattle.geometry.specs.declared.limits.TheConstants.{FACET_LIMIT};
 
 use crate::fault::RunFault;
+use geometry::Facet;
 use mesh_weld::{Solid, weld};
 use micro_num::Unit;
 use raster::Source;
 use std::alloc::Allocator;
+use std::convert::AsSlice;
 use stl_text::read_stl;
 
 /// The closed mesh of an ASCII STL text whose numbers are in `unit`. Facets with two equal corners are dropped.
@@ -32,8 +35,40 @@ pub fn load<A: Allocator + Copy + Send + Sync>(
     ensures only { (facets : List Facet) → Reads FACET_LIMIT unit bytes.now facets → IsBalanced facets
         → IfErr result (λ fault. fault ≡ Memory) }
 {
-    let facets = read_stl(alloc, bytes, unit)?;
+    read_solid(alloc, bytes, unit)
+}
+
+/// The closed mesh of a text. A text that is handed over with its memory is freed before the weld.
+pub(crate) fn read_solid<A: Allocator + Copy + Send + Sync, T: AsSlice<u8> + Drop>(
+    alloc: A,
+    text: T,
+    unit: Unit,
+) -> Result<Solid<A>, RunFault>
+    ensures ok { IfOk result (IsSolidOf unit (T.items text)) }
+    ensures err { IfErr result (IsLoadFault unit (T.items text)) }
+    ensures only { (facets : List Facet) → Reads FACET_LIMIT unit (T.items text) facets → IsBalanced facets
+        → IfErr result (λ fault. fault ≡ Memory) }
+{
+    let facets = read_facets(alloc, text, unit)?;
     Ok(weld(alloc, facets)?)
+}
+
+/// The facets of a text. A text that is handed over with its memory is freed.
+pub(crate) fn read_facets<A: Allocator + Copy + Send + Sync, T: AsSlice<u8> + Drop>(
+    alloc: A,
+    text: T,
+    unit: Unit,
+) -> Result<Vec<Facet, A>, RunFault>
+    ensures ok { IfOk result (λ facets. Reads FACET_LIMIT unit (T.items text) facets.items) }
+    ensures few { IfOk result (λ facets. vec_len facets ≤ FACET_LIMIT) }
+    ensures err { IfErr result (λ fault. (fault ≡ Memory) ⊎ ((cause : StlFault) × (fault ≡ Stl cause)
+        × IsFaultOf FACET_LIMIT unit (T.items text) cause)) }
+    ensures same { (facets : List Facet) → Reads FACET_LIMIT unit (T.items text) facets
+        → IfOk result (λ found. found.items ≡ facets) }
+    ensures only { (facets : List Facet) → Reads FACET_LIMIT unit (T.items text) facets
+        → IfErr result (λ fault. fault ≡ Memory) }
+{
+    Ok(read_stl(alloc, text.as_slice(), unit)?)
 }
 
 /// The length of the chunk that one call of the source fills, in bytes.

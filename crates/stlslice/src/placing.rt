@@ -1,8 +1,8 @@
 //! The grid of a run: the one that was handed in, or the one that the mesh fits in.
 ghost use Rattle.std.specs.Prelude.{◌≡◌, ◌≤◌, Err, IfErr, IfOk, Ok};
-ghost use Rattle.raster.specs.declared.grid.GridFault.{GridFault as NoGrid};
+ghost use Rattle.raster.specs.declared.grid.GridFault.{GridFault};
 ghost use Rattle.stlslice.specs.Outcome.{grid_for};
-ghost use Rattle.stlslice.specs.declared.fault.RunFault.TheVariants.{Grid as NoGridOf};
+ghost use Rattle.stlslice.specs.declared.fault.RunFault.TheVariants as run_fault;
 ghost use Rattle.geometry.specs.declared.limits.TheConstants.{STEP_LIMIT};
 
 use crate::fault::RunFault;
@@ -23,7 +23,7 @@ pub(crate) fn grid_for<A: Allocator>(
     requires layer { 1 ≤ layer }
     requires layer_high { layer ≤ STEP_LIMIT }
     ensures ok { IfOk result (λ grid. grid_for given pitch layer solid.now.facets ≡ Ok grid) }
-    ensures err { IfErr result (λ fault. (cause : NoGrid) × (fault ≡ NoGridOf cause)
+    ensures err { IfErr result (λ fault. (cause : GridFault) × (fault ≡ run_fault.Grid cause)
         × (grid_for given pitch layer solid.now.facets ≡ Err cause)) }
 {
     match given {

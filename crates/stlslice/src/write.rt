@@ -1,10 +1,11 @@
-//! What a run writes, each output in a module of its own; and how a text goes out.
+//! What a run writes: each output has a module of its own. Here stand the choice among the outputs of slicing, and how
+//! a whole text is written and flushed.
 ghost use Rattle.std.specs.Prelude.{◌≡◌, ◌≤◌, IfErr, OnOk, length, true, ℕ, ◌⊎◌};
 ghost use Rattle.std.specs.Io.KnownBytes.{Appends, Keeps};
 ghost use Rattle.raster.specs.Devices.{AppendsFirst, HasFailed};
 ghost use Rattle.stlslice.specs.declared.fault.RunFault.TheVariants.{Write, Memory};
-ghost use Rattle.stlslice.specs.Ending.{IsUnwritten};
-ghost use Rattle.stlslice.specs.SlicedText.{sliced_text};
+ghost use Rattle.stlslice.specs.Ending.{IsUnwritten, transcript};
+ghost use Rattle.stlslice.specs.SlicedText.{output_of, sliced_text};
 
 pub(crate) mod box_line;
 pub(crate) mod images;
@@ -18,32 +19,50 @@ use build_book::Build;
 use raster::{Sink, put_all};
 use std::alloc::Allocator;
 
-/// Writes and flushes the images of all layers of a build, or a report of them. A report is whole before its first
-/// byte goes out; images take no memory.
+/// What slicing writes.
+#[derive(Clone, Copy)]
+pub(crate) enum Output {
+    /// The images of all layers, one after the other.
+    Images,
+    /// The loops and the area of each layer, and the area of all.
+    Report,
+}
+
+impl Output {
+    /// The output of a task that asks for a report, or doesn't.
+    pub(crate) fn of(report: bool) -> Output
+        ensures { result ≡ output_of report }
+    {
+        if report {
+            Output::Report
+        } else {
+            Output::Images
+        }
+    }
+}
+
+/// Writes and flushes an output of a build. A report is made as a whole before its first byte is written; images take
+/// no memory.
 pub(crate) fn write_build<A: Allocator + Copy + Send + Sync, O: Sink>(
     alloc: A,
     build: &Build<'_, A>,
-    is_report: bool,
+    output: Output,
     sink: &mut O,
 ) -> Result<(), RunFault>
     ensures flushed { OnOk result (O.is_settled sink.new ≡ true) }
     ensures ok { OnOk result (Appends (O.contents sink.old) (O.contents sink.new)
-        (sliced_text is_report build.now.job.grid build.now.job.rule build.now.job.solid.facets)) }
+        (sliced_text output build.now.job.grid build.now.job.rule build.now.job.solid.facets)) }
     ensures err { IfErr result (λ fault. ((fault ≡ Memory) × Keeps (O.contents sink.old) (O.contents sink.new))
         ⊎ IsUnwritten
-        (record {
-          old = O.contents sink.old;
-          new = O.contents sink.new;
-          failed_before = O.Failures.failure_count sink.old;
-          failed = O.Failures.failure_count sink.new;
-        })
-        (sliced_text is_report build.now.job.grid build.now.job.rule build.now.job.solid.facets) fault) }
+        (transcript (O.contents sink.old) (O.contents sink.new) (O.Failures.failure_count sink.old) (O.Failures.failure_count sink.new))
+        (sliced_text output build.now.job.grid build.now.job.rule build.now.job.solid.facets) fault) }
 {
-    if is_report {
-        let text = report(alloc, build)?;
-        write_all(sink, text.as_bytes())
-    } else {
-        write_images(build, sink)
+    match output {
+        Output::Images => write_images(build, sink),
+        Output::Report => {
+            let text = report(alloc, build)?;
+            write_all(sink, text.as_bytes())
+        }
     }
 }
 

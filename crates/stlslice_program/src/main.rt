@@ -1,20 +1,27 @@
 //! The program `stlslice`: slices the mesh on standard input, and writes to standard output.
 #![tactic(auto)]
 
+mod progress;
 #[cfg(test)]
 mod tests;
 
+use crate::progress::{Progress, Watched};
+use clap::error::ErrorKind as RefusalKind;
 use std::env::{self, Env, FillError};
 use std::fmt::Display;
-use std::io::{self, ErrorKind};
+use std::io::{self, ErrorKind, IsTerminal};
 use std::process::ExitCode;
-use stlslice::{Counted, WordFault, read_words, run};
+use stlslice::{Counted, WordFault, read_words, run, run_watched, wants_progress};
 
-/// The status where the words are not even text.
+/// The status where the words are not UTF-8.
 const NO_TEXT: u8 = 2;
 
-/// The status where help could not be written.
+/// The status where the help or the version could not be written.
 const UNWRITTEN: u8 = 7;
+
+/// What is said of a number that is refused, after the words that name it.
+const WHOLE_NUMBERS: &str =
+    "stlslice: --pitch and --layer take whole micrometres, as in --pitch 50 for 0.05 mm; --workers takes a whole number";
 
 fn main(rt: HostRuntime) -> ExitCode {
     let alloc = rt.alloc();
@@ -27,8 +34,20 @@ fn main(rt: HostRuntime) -> ExitCode {
         Err(fault) => return refused(&rt, &fault),
     };
     let mut source = Counted::new(rt.stdin());
-    let mut sink = Counted::new(rt.stdout());
-    match run(&rt, alloc, &task, &mut source, &mut sink) {
+    let end = if wants_progress(words.as_slice()) {
+        let progress = Progress::new(&rt, &task, rt.stderr().is_terminal());
+        let mut sink = Counted::new(Watched {
+            to: rt.stdout(),
+            progress: &progress,
+        });
+        let end = run_watched(&rt, alloc, &task, &mut source, &mut sink, &progress);
+        progress.end();
+        end
+    } else {
+        let mut sink = Counted::new(rt.stdout());
+        run(&rt, alloc, &task, &mut source, &mut sink)
+    };
+    match end {
         Ok(()) => ExitCode::SUCCESS,
         Err(fault) => ended(&rt, &fault, fault.status()),
     }
@@ -67,16 +86,21 @@ fn unread<R: Eprint>(rt: &R, fault: &io::Error) -> ExitCode {
     }
 }
 
-/// Ends a program whose words are no task. Help that they ask for goes to standard output.
+/// Ends a program whose words are no task. Help or a version that they ask for goes to standard output.
 fn refused<R: Print + Eprint>(rt: &R, fault: &WordFault) -> ExitCode {
-    match fault {
-        WordFault::Refused(refusal) => match refusal.print(rt) {
-            Err(_) if fault.status() == 0 => {
-                ended(rt, &"stlslice: the help could not be written", UNWRITTEN)
-            }
-            _ => ExitCode::from(fault.status()),
-        },
-        _ => ended(rt, fault, fault.status()),
+    let WordFault::Refused(refusal) = fault else {
+        return ended(rt, fault, fault.status());
+    };
+    let kind = refusal.kind();
+    match refusal.print(rt) {
+        Err(_) if kind == RefusalKind::DisplayVersion => {
+            ended(rt, &"stlslice: the version could not be written", UNWRITTEN)
+        }
+        Err(_) if fault.status() == 0 => {
+            ended(rt, &"stlslice: the help could not be written", UNWRITTEN)
+        }
+        _ if kind == RefusalKind::ValueValidation => ended(rt, &WHOLE_NUMBERS, fault.status()),
+        _ => ExitCode::from(fault.status()),
     }
 }
 

@@ -23,6 +23,8 @@ pub(crate) const GRID: &str = "grid";
 
 pub(crate) const PROBE: &str = "probe";
 
+pub(crate) const PROGRESS: &str = "progress";
+
 /// What `--version` prints behind the program's name: the version, and the toolchain that proved it.
 const VERSION: &str = "1.0.0 (proved with rattle-kit-13b logic dac8208d650f15bf)";
 
@@ -79,7 +81,12 @@ pub(crate) fn command<'a>(alloc: Global) -> Result<Command<'a>, AllocError> {
             BOX,
             "Write how many facets there are and their box in\nmicrometres, and do nothing else; the mesh may be open",
         ))?
-        .arg(probe(alloc))
+        .arg(probe(alloc))?
+        .arg(flag(
+            alloc,
+            PROGRESS,
+            "Show on standard error how far slicing is: layers made,\nbytes of images written, and the time left",
+        ))
 }
 
 fn pitch<'a>(alloc: Global) -> Arg<'a> {

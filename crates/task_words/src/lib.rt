@@ -2,7 +2,8 @@
 //!
 //! [`read_words`] takes the words after the program's name, as `--pitch 50 --layer 100 --rule positive`, and answers a
 //! [`Task`], or a [`WordFault`] whose `Display` is the line on standard error and whose `status` the exit status.
-//! `--help` and `--version` come as the fault `Refused` with status 0.
+//! `--help` and `--version` come as the fault `Refused` with status 0. [`wants_progress`] says whether such words ask
+//! for the progress of the run to be shown, which is no part of the task.
 //!
 //! Pitch, layer height and the origin of a [`Given`] grid are in micrometres. [`PASS_LIMIT`] is the greatest count of
 //! workers; it is handed on from `stripe_claims`.
@@ -17,4 +18,4 @@ mod words;
 pub use stripe_claims::PASS_LIMIT;
 pub use task::{Given, Task};
 pub use word_fault::{Wanted, WordFault};
-pub use words::read_words;
+pub use words::{read_words, wants_progress};

@@ -3,7 +3,9 @@ ghost use Rattle.std.specs.Prelude.{◌≤◌, IfOk, IfSome};
 ghost use Rattle.task_words.specs.Task.{IsInRange};
 ghost use Rattle.geometry.specs.declared.limits.TheConstants.{STEP_LIMIT};
 
-use crate::command::{BOX, GRID, LAYER, PITCH, PROBE, REPORT, RULE, UNIT, WORKERS, command};
+use crate::command::{
+    BOX, GRID, LAYER, PITCH, PROBE, PROGRESS, REPORT, RULE, UNIT, WORKERS, command,
+};
 use crate::task::{Given, Task};
 use crate::texts::{Voxel, read_grid, read_rule, read_unit, read_voxel};
 use crate::word_fault::{Wanted, WordFault};
@@ -23,6 +25,14 @@ pub fn read_words(alloc: Global, words: &[String]) -> Result<Task, WordFault>
 {
     let matches = command(alloc)?.try_get_matches_from(words)?;
     task_of(&matches)
+}
+
+/// Whether words that stand for a task ask for the run's progress to be shown. The flag is a word of its own, since no
+/// option takes a value that begins with two dashes.
+pub fn wants_progress(words: &[String]) -> bool {
+    words
+        .iter()
+        .any(|word| word.as_str().strip_prefix("--") == Some(PROGRESS))
 }
 
 /// The task of words that are of the command's form.

@@ -15,7 +15,7 @@ use Rattle.stlslice.specs.declared.fault.RunFault.{RunFault}
 use Rattle.stlslice.specs.declared.fault.RunFault.TheVariants as fault
 use Rattle.stlslice.specs.Outcome.{IsOutcome, grid_for}
 use Rattle.stlslice.specs.Ending.{IsEnd, IsSolidOf, IsUnwritten, IsWorkFault, Transcript}
-use Rattle.stlslice.specs.SlicedText.{sliced_text}
+use Rattle.stlslice.specs.SlicedText.{output_of, sliced_text}
 use Rattle.stlslice.proofs.lemmas.Faults.{made_there}
 
 pub keeps_self : (a : Option (List ℕ)) → Keeps a a
@@ -25,7 +25,7 @@ keeps_self (Some xs) = refl
 pub no_memory : (t : Task) (input : List ℕ) (f : RunFault) → f ≡ fault.Memory → IsWorkFault t input f
 no_memory t input f is = rw is (tt, (λ e. cc), (λ w e. cc))
 
--- a fault that is passed on before the first byte is the end
+-- where a fault is passed on before the first byte is written, the run ends with it
 pub stopped : {T : Type 0} (r : Result T RunFault) (t : Task) (input : List ℕ) (transcript : Transcript) (f : RunFault) → Keeps transcript.old transcript.new
     → IsWorkFault t input f → IsErrAnd r (λ x. x ≡ f) → IfErr r (IsEnd t input transcript)
 stopped (Ok x) t input transcript f kept known is = tt
@@ -35,13 +35,13 @@ stopped (Err x) t input transcript f kept known is = inl (rw is known, kept)
 pub sliced_there : (unit : LengthUnit) (pitch layer : ℕ) (rule : Rule) (workers : ℕ) (report : Bool) (given : Option Given) (input : List ℕ)
     (solid : Solid) (g : Grid) (job : Job) → IsSolidOf unit input solid → grid_for given pitch layer solid.facets ≡ Ok g
     → job ≡ record { solid = solid; grid = g; rule = rule }
-    → IsOutcome (task.Slice unit pitch layer rule workers report given) input (Ok (sliced_text report job.grid job.rule job.solid.facets))
+    → IsOutcome (task.Slice unit pitch layer rule workers report given) input (Ok (sliced_text (output_of report) job.grid job.rule job.solid.facets))
 sliced_there unit pitch layer rule workers report given input solid g job s placed is =
     made_there (task.Slice unit pitch layer rule workers report given) input solid
-    (Ok (sliced_text report job.grid job.rule job.solid.facets)) refl s
-    (rw placed (ap (λ (w : Job). Ok (sliced_text report w.grid w.rule w.solid.facets)) is))
+    (Ok (sliced_text (output_of report) job.grid job.rule job.solid.facets)) refl s
+    (rw placed (ap (λ (w : Job). Ok (sliced_text (output_of report) w.grid w.rule w.solid.facets)) is))
 
--- a text that is the outcome was written in part, or none of it for want of memory
+-- where writing an outcome failed, a part of it was written, or nothing for want of memory
 pub ended : (t : Task) (input : List ℕ) (transcript : Transcript) (text : List ℕ) (f : RunFault) → IsOutcome t input (Ok text)
     → ((f ≡ fault.Memory) × Keeps transcript.old transcript.new) ⊎ IsUnwritten transcript text f → IsEnd t input transcript f
 ended t input transcript text f outcome (inl h) = inl (no_memory t input f h.0, h.1)

@@ -25,7 +25,7 @@ use Rattle.geometry.specs.declared.limits.TheConstants.{FACET_LIMIT}
 abbrev pub IsTextFault : LengthUnit → List ℕ → RunFault → Type 0
 IsTextFault unit input f = (f ≡ fault.Memory) ⊎ ((cause : StlFault) × (f ≡ fault.Stl cause) × IsFaultOf FACET_LIMIT unit input cause)
 
--- what a fault of the text is told as
+-- the fault of a run for a fault of its text
 pub told : (unit : LengthUnit) (input : List ℕ) (cause : StlFault) (f : RunFault)
     → ((cause ≡ stl.Memory → f ≡ fault.Memory) × (cause ≢ stl.Memory → f ≡ fault.Stl cause))
     → (cause ≢ stl.Memory → IsFaultOf FACET_LIMIT unit input cause) → IsTextFault unit input f
@@ -35,18 +35,18 @@ told unit input (stl.Number cause at) f gives known = inr (stl.Number cause at, 
 told unit input (stl.Ended word) f gives known = inr (stl.Ended word, gives.1 (λ e. cc), known (λ e. cc))
 told unit input (stl.TooMany at) f gives known = inr (stl.TooMany at, gives.1 (λ e. cc), known (λ e. cc))
 
--- a text that is no mesh is no solid
+-- a text that doesn't read as facets has no solid
 pub unread : (unit : LengthUnit) (input : List ℕ) (f : RunFault) → IsTextFault unit input f → IsLoadFault unit input f
 unread unit input f (inl is) = rw is tt
 unread unit input f (inr h) = rw h.1 h.2
 
--- a mesh that is not closed is no solid
+-- a mesh that is not closed has no solid
 pub unclosed : (unit : LengthUnit) (input : List ℕ) (facets : List Facet) (cause : WeldFault) (f : RunFault) → f ≡ of_weld cause
     → Reads FACET_LIMIT unit input facets → IsWeldFault facets cause → IsLoadFault unit input f
 unclosed unit input facets (weld.Open from to there back) f gives reads known = rw gives (facets, reads, known)
 unclosed unit input facets weld.Memory f gives reads known = rw gives tt
 
--- a text that is no mesh is the outcome of a box
+-- where a text doesn't read as facets, its fault is the outcome of a box
 pub misread_box : (unit : LengthUnit) (input : List ℕ) (f : RunFault) → IsTextFault unit input f → IsWorkFault (task.Box unit) input f
 misread_box unit input f (inl is) = rw is (tt, (λ e. cc), (λ w e. cc))
 misread_box unit input f (inr h) = rw h.1 (misread h.0 h.2 refl, (λ e. cc), (λ w e. cc))
@@ -55,7 +55,7 @@ pub passed_on : {T : Type 0} (r : Result T RunFault) (P Q : RunFault → Type 0)
 passed_on (Ok x) P Q more h = tt
 passed_on (Err f) P Q more h = more f h
 
--- a text that is no closed mesh is the outcome of what needs one
+-- where a text is no closed mesh, its fault is the outcome of a task that needs one
 pub unloaded : (t : Task) (input : List ℕ) (f : RunFault) → is_box t ≡ false → IsLoadFault (unit_of t) input f → IsWorkFault t input f
 unloaded t input fault.Read other h = absurd h
 unloaded t input (fault.Stl cause) other h = (misread cause h refl, (λ e. cc), (λ w e. cc))
@@ -65,7 +65,7 @@ unloaded t input fault.Memory other h = (tt, (λ e. cc), (λ w e. cc))
 unloaded t input (fault.Write written) other h = absurd h
 unloaded t input (fault.Outside columns rows layers) other h = absurd h
 
--- what is made of the mesh is the outcome
+-- what a task makes of the mesh is its outcome
 pub made_there : (t : Task) (input : List ℕ) (solid : Solid) (answer : Result (List ℕ) RunFault) → is_box t ≡ false
     → IsSolidOf (unit_of t) input solid → IsMade t solid answer → IsOutcome t input answer
 made_there t input solid answer other s made = closed s.0 s.1 other s.2 (subst (λ (m : Solid). IsMade t m answer) s.3 made)
@@ -78,7 +78,7 @@ unplaced t pitch layer given input f other made (inl h) = unloaded t input f oth
 unplaced t pitch layer given input f other made (inr h) =
     rw h.3 (made_there t input h.0 (Err (fault.Grid h.2)) other h.1 (made h.0 h.2 h.4), (λ e. cc), (λ w e. cc))
 
--- what a probe answers in its grid is its outcome
+-- the answer of a probe in its grid is its outcome
 pub probed_there : (unit : LengthUnit) (pitch layer : ℕ) (given : Option Given) (i j k : ℕ) (input : List ℕ) (solid : Solid) (g : Grid)
     (answer : Result (List ℕ) RunFault) → IsSolidOf unit input solid → grid_for given pitch layer solid.facets ≡ Ok g
     → answer ≡ probed_text i j k solid.facets g → IsOutcome (task.Probe unit pitch layer given i j k) input answer

@@ -29,7 +29,7 @@ pub(crate) fn write_images<A: Allocator, O: Sink>(
         × HasFailed (O.Failures.failure_count sink.old) (O.Failures.failure_count sink.new)) }
 {
     let grid = build.job().grid();
-    // (a grid has few layers, so the count of bytes has room)
+    // wakes the invariant (see CONTRIBUTING.md): a grid has at most 65535 layers, so the count of bytes fits
     let _layers = grid.layers();
     let mut written = 0;
     for layer in build.layers() {
@@ -65,8 +65,8 @@ pub(crate) fn write_image<O: Sink>(
     }
 }
 
-/// How many bytes the image of each layer of a grid has.
-fn image_len(grid: &Grid) -> u64
+/// The length in bytes of the image of a layer of this grid, which is the same for all of them.
+pub fn image_len(grid: &Grid) -> u64
     ensures value { (pixel : ℕ → ℕ → Bool) → length (picture grid.now.columns grid.now.rows pixel) ≡ result }
     ensures small { result ≤ 2 ^ 26 }
 {

@@ -1,14 +1,15 @@
 //! The output of `--probe`: the rays along x and y at a voxel.
-ghost use Rattle.std.specs.Prelude.{◌≡◌, ◌⊎◌, ◌<◌, Err, IfErr, IfOk, Ok, string_bytes};
-ghost use Rattle.stlslice.specs.Outcome.{outside, probe_text, probed_text};
+ghost use Rattle.std.specs.Prelude.{◌≡◌, ◌⊎◌, Err, IfErr, IfOk, Ok, string_bytes};
+ghost use Rattle.stlslice.specs.Outcome.{outside, probed_text};
 ghost use Rattle.stlslice.specs.declared.fault.RunFault.TheVariants.{Memory};
 
 use crate::fault::RunFault;
 use mesh_weld::{Solid, probe};
 use raster::Grid;
-use std::alloc::{AllocError, Allocator};
+use std::alloc::Allocator;
 
-/// The line on the signed crossings at a voxel. It is `Outside` where the grid has no such voxel.
+/// The line on the signed crossings along x and y from the centre of a voxel. The fault is `Outside` where the grid has no
+/// such voxel.
 pub(crate) fn probe_voxel<A: Allocator + Copy + Send + Sync>(
     alloc: A,
     solid: &Solid<A>,
@@ -22,7 +23,8 @@ pub(crate) fn probe_voxel<A: Allocator + Copy + Send + Sync>(
         × (Err fault ≡ probed_text i j k solid.now.facets grid.now)) }
 {
     if i < grid.columns() && j < grid.rows() && k < grid.layers() {
-        Ok(probe_line(alloc, solid, grid, i, j, k)?)
+        let (x, y) = probe(solid, &grid.centre(i, j, k));
+        Ok(format!(in alloc; "voxel {i} {j} {k} x {x} y {y}\n")?)
     } else {
         Err(RunFault::Outside {
             columns: grid.columns(),
@@ -30,22 +32,4 @@ pub(crate) fn probe_voxel<A: Allocator + Copy + Send + Sync>(
             layers: grid.layers(),
         })
     }
-}
-
-/// The line on the rays along x and y from the centre of a voxel.
-fn probe_line<A: Allocator + Copy + Send + Sync>(
-    alloc: A,
-    solid: &Solid<A>,
-    grid: &Grid,
-    i: u32,
-    j: u32,
-    k: u32,
-) -> Result<String<A>, AllocError>
-    requires column { i < grid.now.columns }
-    requires row { j < grid.now.rows }
-    requires layer { k < grid.now.layers }
-    ensures { IfOk result (λ line. string_bytes line ≡ probe_text grid.now solid.now.facets i j k) }
-{
-    let (x, y) = probe(solid, &grid.centre(i, j, k));
-    format!(in alloc; "voxel {i} {j} {k} x {x} y {y}\n")
 }

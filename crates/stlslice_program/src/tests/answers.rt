@@ -1,3 +1,4 @@
+//! What a run by a line of words answers, for the tests of runs: its end, its text, and its fault as it is told.
 ghost use Rattle.std.specs.Prelude.{IfOk};
 ghost use Rattle.task_words.specs.Task.{IsInRange};
 
@@ -8,7 +9,7 @@ use std::thread::Threads;
 use stlslice::{Counted, RunFault, Sink, Source, Task, WordFault, read_words, run};
 
 /// The words of a line, which are parted by blanks.
-fn split(alloc: Global, line: &str) -> Result<Vec<String>, AllocError> {
+pub(crate) fn split(alloc: Global, line: &str) -> Result<Vec<String>, AllocError> {
     let mut words = Vec::new(alloc);
     for word in line.split_whitespace() {
         words.push(String::from_str(alloc, word)?)?;

@@ -1,3 +1,5 @@
+//! Runs of `--box`, and texts that are misread by each task: no clause says that a run succeeds, nor which line a fault
+//! prints.
 use super::answers::{Told, all_written, refuses};
 use super::meshes::Mesh::{Boxes, Facets, Joined, Text};
 use super::meshes::{CUBE, FLAT, OPEN, SPIKED, mesh_text};

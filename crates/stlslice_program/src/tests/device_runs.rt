@@ -1,3 +1,5 @@
+//! Runs over readers and writers that fail after each number of calls or bytes: contracts say what a fault leaves, and
+//! these show that the run goes on until there.
 use super::answers::end_of;
 use super::devices::{OneByteReader, SmallWriter};
 use super::meshes::Mesh::Facets;
@@ -50,7 +52,7 @@ fn end_by_cube<R: Threads + Wait + Sync + AllocGlobal, O: Sink>(
     }
 }
 
-/// Whether a run over the cube ends so, and its writer took this text.
+/// Whether a run over the cube has this end, and its writer took this text.
 fn is_taken<R: Threads + Wait + Sync + AllocGlobal>(
     rt: &R,
     line: &str,
@@ -77,8 +79,8 @@ static WAYS: [Way; 7] = [
     (1, None, false),
 ];
 
-/// The first room, up to just enough for the text, with which a run does anything but fill it; and then end well only
-/// where that is the whole text, and flushed.
+/// The first room, up to the length of the text, with which a run does not go as it should: it fills the room, and
+/// succeeds just where the whole text fits and is flushed.
 fn first_other_room<R: Threads + Wait + Sync + AllocGlobal>(
     rt: &R,
     row: &Row<'_>,
@@ -132,7 +134,7 @@ fn writers_with_little_room(rt: HostRuntime) -> Result<(), usize> {
     all_filled_by_each(&rt, &TEXTS, &WAYS)
 }
 
-/// Whether a run ends so over a reader, and has written this text.
+/// Whether a run over a reader has this end, and has written this text.
 fn is_read<R: Threads + Wait + Sync + AllocGlobal>(
     rt: &R,
     line: &str,
@@ -146,7 +148,8 @@ fn is_read<R: Threads + Wait + Sync + AllocGlobal>(
     is_alike(found, source.failures(), sink.inner().as_slice(), end, text)
 }
 
-/// Whether a run over a reader of this text that fails after so many calls ends by that, or else writes this text.
+/// Whether a run over a reader of this text, which fails after `calls` calls, ends by that failure, or writes its text
+/// where the whole input was read before it.
 fn is_read_until<R: Threads + Wait + Sync + AllocGlobal>(
     rt: &R,
     line: &str,
@@ -187,7 +190,7 @@ fn first_other_call<R: Threads + Wait + Sync + AllocGlobal>(
     None
 }
 
-/// Whether a run ends as it has to with each number of calls.
+/// Whether a run ends as it should with each number of calls before the failure.
 fn is_each_read<R: Threads + Wait + Sync + AllocGlobal>(rt: &R, row: &Row<'_>) -> bool {
     let (line, text) = *row;
     match mesh_text(rt.alloc(), Facets(CUBE)) {

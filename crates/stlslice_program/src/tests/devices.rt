@@ -1,3 +1,4 @@
+//! A reader and a writer for tests: they move few bytes a call, and fail where a test wants it.
 use std::alloc::{Allocator, Global};
 use std::io::{Error, ErrorKind, Read, Result, Write};
 

@@ -1,3 +1,4 @@
+//! The line and the status of each fault of a run: no clause speaks of a `Display`.
 use super::answers::is_told;
 use micro_num::NumFault;
 use raster::GridFault;

@@ -1,3 +1,5 @@
+//! The solids that `load` answers for small meshes, its faults, and its allocations that fail: no clause says that it
+//! succeeds.
 use super::meshes::Mesh::{Facets, Joined, Text};
 use super::meshes::{CUBE, FLAT, Mesh, OPEN, PAIR, SHEET, SPIKED, gap, mesh_text};
 use micro_num::Unit;
@@ -6,16 +8,16 @@ use std::alloc::{Allocator, Global};
 use stl_text::{Point, StlFault, Word};
 use stlslice::{RunFault, load};
 
-/// What is told of a solid: how many facets it keeps and has dropped, and its least and its greatest corner.
+/// What a test compares of a solid: how many facets it keeps and has dropped, and its least and its greatest corner.
 type Facts = (usize, u32, Option<(Point, Point)>);
 
-/// What is told of the solid of a text.
+/// The facts of the solid of a text.
 fn facts_of<A: Allocator + Copy + Send + Sync>(alloc: A, text: &str) -> Result<Facts, RunFault> {
     let solid = load(alloc, text.as_bytes(), Unit::Millimetre)?;
     Ok((solid.count(), solid.dropped(), solid.corners()))
 }
 
-/// What is told of the solid of a mesh.
+/// The facts of the solid of a mesh.
 fn facts_of_mesh(alloc: Global, mesh: Mesh<'_>) -> Result<Facts, RunFault> {
     let text = mesh_text(alloc, mesh)?;
     facts_of(alloc, text.as_str())
@@ -33,7 +35,7 @@ static SOLIDS: [Row; 5] = [
     (Facets(SHEET), 2, 0, 0),
 ];
 
-/// `Ok`, or the number of the first row of which the solid is told otherwise.
+/// `Ok`, or the number of the first row whose solid has other facts.
 fn all_solids(alloc: Global, rows: &[Row<'_>]) -> Result<(), usize> {
     for (n, (mesh, kept, dropped, top)) in rows.iter().enumerate() {
         let corners = Point::new(0, 0, 0).zip(Point::new(2, 2, *top));
@@ -79,8 +81,8 @@ fn a_text_that_is_cut(rt: HostRuntime) {
     assert!(rt; is_refused(rt.alloc(), Text(CUT), fault));
 }
 
-/// Refuses each growth of a load in turn, and answers which turn was the first that met no refusal. `None` where a load
-/// gives no solid of 12 facets and a dropped one, or no fault for want of memory.
+/// Fails each allocation of a load in turn, and answers the first turn at which none failed. `None` where a load answers
+/// neither a solid of 12 facets and one that was dropped, nor a fault for want of memory.
 fn first_free_turn(alloc: Global, text: &str) -> Option<u64> {
     for turn in 1..1000 {
         let memory = ShortMemory::new(alloc, turn);
@@ -99,13 +101,13 @@ fn first_free_turn(alloc: Global, text: &str) -> Option<u64> {
     None
 }
 
-/// The first turn at which no growth of a mesh's load is refused.
+/// The first turn at which no allocation of a mesh's load fails.
 fn free_turn(alloc: Global, mesh: Mesh<'_>) -> Option<u64> {
     let text = mesh_text(alloc, mesh).ok()?;
     first_free_turn(alloc, text.as_str())
 }
 
 #[test]
-fn each_growth_of_a_load_refused(rt: HostRuntime) {
+fn each_allocation_of_a_load_fails(rt: HostRuntime) {
     assert!(rt; free_turn(rt.alloc(), Joined(CUBE, FLAT)) > Some(8));
 }

@@ -1,3 +1,4 @@
+//! The meshes of the tests, and their texts.
 use std::alloc::{AllocError, Global};
 use stl_text::Point;
 use stlslice::RunFault;

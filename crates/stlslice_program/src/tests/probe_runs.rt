@@ -1,3 +1,4 @@
+//! Runs of `--probe` with rays that are known, and its faults in their order.
 use super::answers::{Refused, Told, all_refused, all_written};
 use super::meshes::Mesh::{Boxes, Facets, Text};
 use super::meshes::{CUBE, INWARD, OCTAHEDRON, OPEN};

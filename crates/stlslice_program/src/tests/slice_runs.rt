@@ -1,13 +1,17 @@
+//! Runs that slice, with images and reports that are known, by several numbers of workers.
 use super::answers::{Refused, all_refused, writes, written};
 use super::meshes::Mesh::{Boxes, Facets, Hollow, Joined, Loud, Text};
 use super::meshes::{
     CUBE, Corners, FLAT, INWARD, Mesh, OCTAHEDRON, OPEN, PAIR, SHEET, SPIKED, mesh_text,
 };
+use raster::Grid;
 use std::alloc::{AllocError, Global};
 use std::sync::Wait;
 use std::thread::Threads;
+use stl_text::Point;
+use stlslice::image_len;
 
-/// Whether so many workers write this text by a line of words and an option.
+/// Whether a run by a line of words, an option and this number of workers writes this text.
 fn writes_by<R: Threads + Wait + Sync + AllocGlobal>(
     rt: &R,
     line: &str,
@@ -22,7 +26,7 @@ fn writes_by<R: Threads + Wait + Sync + AllocGlobal>(
     }
 }
 
-/// Whether each of these numbers of workers does.
+/// The same for each of several numbers of workers.
 fn each_writes<R: Threads + Wait + Sync + AllocGlobal>(
     rt: &R,
     line: &str,
@@ -309,6 +313,18 @@ fn the_widest_grid(rt: HostRuntime) {
     assert!(rt; is_widest(&rt));
 }
 
+/// The length of an image of the widest row.
+fn widest_length() -> Option<u64> {
+    let origin = Point::new(0, 0, 0)?;
+    let grid = Grid::given(origin, 1, 1, 16384, 1, 1).ok()?;
+    Some(image_len(&grid))
+}
+
+#[test]
+fn the_length_of_the_widest_image(rt: HostRuntime) {
+    assert!(rt; widest_length() == Some(11 + 2048));
+}
+
 /// From one layer on to before another: the image of each, its loops and its area.
 type Layers<'a> = (u32, u32, &'a [u8], u32, u32);
 
@@ -458,8 +474,8 @@ fn ends_by_each<R: Threads + Wait + Sync + AllocGlobal>(
 #[test]
 fn a_report_of_slanted_facets_by_many_workers(rt: HostRuntime) {
     let line = "--unit inch --pitch 3 --layer 1 --report";
-    // Inside, the amounts of x, y and z sum to less than 51 micrometres. That holds for 19584 centres of voxels, which
-    // are at odd halves of 3, 3 and 1.
+    // A centre is inside where the magnitudes of its x, y and z sum to less than 51 micrometres. Centres are at odd
+    // multiples of half a pitch, 1.5, and of half a layer height, 0.5; of these, 19584 are inside.
     let end = b"layer 101 loops 1 area 0\ntotal 19584\n";
     assert!(rt; ends_by_each(&rt, line, OCTAHEDRON, end));
 }

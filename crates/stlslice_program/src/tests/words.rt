@@ -1,9 +1,10 @@
-use super::answers::task_of;
+//! Which tasks words stand for, and how words are refused: no clause says either.
+use super::answers::{split, task_of};
 use micro_num::Unit;
 use raster::Rule;
 use std::alloc::Global;
 use stl_text::Point;
-use stlslice::{Given, Task, WordFault};
+use stlslice::{Given, Task, WordFault, wants_progress};
 
 /// `Ok`, or the number of the first row whose words are another task or none.
 fn all_tasks(alloc: Global, rows: &[(&str, Task)]) -> Result<(), usize> {
@@ -30,8 +31,9 @@ const PLAIN: Task = Task::Slice {
 };
 
 /// Words, and their task.
-const TASKS: [(&str, Task); 7] = [
+const TASKS: [(&str, Task); 8] = [
     ("--box", BOX),
+    ("--progress --box", BOX),
     ("--box --pitch 5 --report --probe 0,0,0", BOX),
     (
         "--unit inch --box --workers 2",
@@ -73,7 +75,19 @@ fn words_are_tasks(rt: HostRuntime) -> Result<(), usize> {
     all_tasks(rt.alloc(), &TASKS)
 }
 
-/// A task with each option.
+/// Whether a line of words asks for progress. `None` where memory is short.
+fn asks_for_progress(alloc: Global, line: &str) -> Option<bool> {
+    let words = split(alloc, line).ok()?;
+    Some(wants_progress(words.as_slice()))
+}
+
+#[test]
+fn words_that_ask_for_progress(rt: HostRuntime) {
+    assert!(rt; asks_for_progress(rt.alloc(), "--pitch 1 --progress --layer 1") == Some(true));
+    assert!(rt; asks_for_progress(rt.alloc(), "--pitch 1 --layer 1 --report") == Some(false));
+}
+
+/// A task with each option that belongs to it.
 fn full_task() -> Option<Task> {
     let origin = Point::new(-1, 0, -128_000_000)?;
     Some(Task::Slice {
@@ -186,7 +200,7 @@ const ABOUT: &str = "Slices a closed triangle mesh into one image a layer.\n";
 /// Words that are not of the form of the command, or ask for its help; and the status and the front of what is told.
 type Refused<'a> = (&'a str, u8, &'a str);
 
-static REFUSED: [Refused; 13] = [
+static REFUSED: [Refused; 16] = [
     (
         "--pitch 0 --layer 1",
         2,
@@ -231,6 +245,21 @@ static REFUSED: [Refused; 13] = [
         "--box --unit mm --unit mm",
         2,
         "error: the argument '--unit <U>' cannot be used multiple times",
+    ),
+    (
+        "--progress --box --progress",
+        2,
+        "error: the argument '--progress' cannot be used multiple times",
+    ),
+    (
+        "--pitch --progress --layer 1",
+        2,
+        "error: a value is required for '--pitch <N>' but none was supplied",
+    ),
+    (
+        "--box -- --progress",
+        2,
+        "error: unexpected argument '--progress' found",
     ),
     ("--bo", 2, "error: unexpected argument '--bo' found"),
     (

@@ -87,8 +87,8 @@ returns-in_err-build-in-Slice-clause-err g c =
 pub returns-in_ok-build-in-Slice-clause-ok : goal.returns-in_ok-build-in-Slice-clause-ok
 returns-in_ok-build-in-Slice-clause-ok g c =
     let job : Job = c.in_ok-build-in-Slice.build.job in
-    let known : IsOutcome c.args.task.now c.args.input.items (Ok (sliced_text c.in-Slice.report job.grid job.rule job.solid.facets)) =
-    rw c.in-Slice.is
+    let known : IsOutcome c.args.task.now c.args.input.items (Ok (sliced_text c.of.result job.grid job.rule job.solid.facets)) =
+    rw (c.of.ensures, c.in-Slice.is)
     (sliced_there c.in-Slice.unit c.in-Slice.pitch c.in-Slice.layer c.in-Slice.rule c.in-Slice.workers c.in-Slice.report c.in-Slice.grid
     c.args.input.items c.in_ok-solid-in-Slice.solid c.in_ok-solid-in-Slice.grid job
     c.in_ok-solid-in-Slice.ensures.solid c.in_ok-solid-in-Slice.ensures.grid (c.in_ok-build-in-Slice.ensures.job ∙ c.new-job.ensures)) in
@@ -97,8 +97,8 @@ returns-in_ok-build-in-Slice-clause-ok g c =
 pub returns-in_ok-build-in-Slice-clause-err : goal.returns-in_ok-build-in-Slice-clause-err
 returns-in_ok-build-in-Slice-clause-err g c =
     let job : Job = c.in_ok-build-in-Slice.build.job in
-    let known : IsOutcome c.args.task.now c.args.input.items (Ok (sliced_text c.in-Slice.report job.grid job.rule job.solid.facets)) =
-    rw c.in-Slice.is
+    let known : IsOutcome c.args.task.now c.args.input.items (Ok (sliced_text c.of.result job.grid job.rule job.solid.facets)) =
+    rw (c.of.ensures, c.in-Slice.is)
     (sliced_there c.in-Slice.unit c.in-Slice.pitch c.in-Slice.layer c.in-Slice.rule c.in-Slice.workers c.in-Slice.report c.in-Slice.grid
     c.args.input.items c.in_ok-solid-in-Slice.solid c.in_ok-solid-in-Slice.grid job
     c.in_ok-solid-in-Slice.ensures.solid c.in_ok-solid-in-Slice.ensures.grid (c.in_ok-build-in-Slice.ensures.job ∙ c.new-job.ensures)) in

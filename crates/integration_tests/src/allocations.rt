@@ -4,7 +4,7 @@ use std::alloc::Global;
 
 /// A count that takes memory.
 pub(crate) trait Count {
-    /// The count, if no memory was refused.
+    /// The count, unless an allocation failed.
     fn count(memory: &ShortMemory<Global>) -> Option<usize>;
 }
 

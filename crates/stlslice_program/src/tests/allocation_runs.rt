@@ -1,3 +1,5 @@
+//! Runs in which one allocation fails, each in turn: no clause says that a run with enough memory succeeds, nor that an
+//! allocation that fails comes out as `Memory`.
 use super::answers::outcome;
 use super::meshes::Mesh::Facets;
 use super::meshes::{CUBE, OPEN, gap, mesh_text};
@@ -9,8 +11,8 @@ use stlslice::RunFault;
 /// How a run ends as usual, and what it has written then.
 type Usual<'a> = (Result<(), RunFault>, &'a [u8]);
 
-/// Whether a run with this end and this text met no refusal. `None` where it ended neither as usual nor for want of
-/// memory with nothing written.
+/// Whether a run with this end and this text had no allocation that failed. `None` where it ended neither as usual nor
+/// for want of memory with nothing written.
 fn is_free(
     end: Option<Result<(), RunFault>>,
     text: &[u8],
@@ -26,7 +28,8 @@ fn is_free(
     None
 }
 
-/// Whether a run of whose growths the one at this turn is refused has none at this turn; or `None` as above.
+/// Fails the allocation numbered `turn` of a run, and answers whether the run has no allocation of that number; `None`
+/// as above.
 fn is_free_turn<R: Threads + Wait + Sync + AllocGlobal>(
     rt: &R,
     turn: u64,
@@ -39,8 +42,8 @@ fn is_free_turn<R: Threads + Wait + Sync + AllocGlobal>(
     is_free(end, text.as_slice(), memory.has_refused(), usual)
 }
 
-/// Refuses each growth in turn until none is left to refuse, and answers which turn was the first that met no refusal.
-/// 0 where a run ends otherwise.
+/// Fails each allocation in turn until none is left to fail, and answers the first turn at which none failed. 0 where a
+/// run ends otherwise.
 fn first_free_turn<R: Threads + Wait + Sync + AllocGlobal>(
     rt: &R,
     line: &str,
@@ -70,7 +73,7 @@ fn first_free_turn_over<R: Threads + Wait + Sync + AllocGlobal>(
     }
 }
 
-/// A line of words, the text that a run by them writes for the cube, and a turn at which it still meets a refusal.
+/// A line of words, the text that a run by them writes for the cube, and a turn at which an allocation still fails.
 type Row<'a> = (&'a str, &'a [u8], u64);
 
 static ROWS: [Row; 5] = [
@@ -108,12 +111,12 @@ fn all_free<R: Threads + Wait + Sync + AllocGlobal>(rt: &R, rows: &[Row<'_>]) ->
 }
 
 #[test]
-fn each_growth_refused_in_turn(rt: HostRuntime) -> Result<(), usize> {
+fn each_allocation_fails_in_turn(rt: HostRuntime) -> Result<(), usize> {
     all_free(&rt, &ROWS)
 }
 
 #[test]
-fn each_growth_refused_before_a_gap(rt: HostRuntime) {
+fn each_allocation_fails_before_a_gap(rt: HostRuntime) {
     match gap() {
         Some(fault) => {
             let usual: Usual = (Err(fault), b"");

@@ -1,0 +1,23 @@
+-- What a run promises, by what is left of its source and what its sink holds.
+use Rattle.std.specs.Prelude.{◌≡◌, ◌≢◌, ℕ, ◌≤◌, Bool, List, Result, Err, IfErr, IfSome, Ok, OnOk, length, true}
+use Rattle.std.specs.Io.KnownBytes.{Appends, IsAtEnd, Keeps}
+use Rattle.raster.specs.Devices.{AppendsFirst, HasFailed}
+use Rattle.task_words.specs.declared.task.Task.{Task}
+use Rattle.stlslice.specs.declared.fault.RunFault.{RunFault}
+use Rattle.stlslice.specs.declared.fault.RunFault.TheVariants as cause
+use Rattle.stlslice.specs.Outcome.{IsOutcome}
+use Rattle.stlslice.specs.Ending.{IsRunFault, Transcript}
+
+pub record IsRun {T : Type 0} (t : Task) (result : Result T RunFault) (source sink : Transcript) (is_settled : Bool) : Type 0 where
+  -- it succeeds only where all was read, and just the text of the outcome was written and flushed
+  pub whole : OnOk result (IsAtEnd source.new)
+  pub flushed : OnOk result (is_settled ≡ true)
+  pub ok : OnOk result (IfSome source.old (λ input. (text : List ℕ) × IsOutcome t input (Ok text) × Appends sink.old sink.new text))
+  -- a fault of the input is its outcome, and the others come of a device or of memory
+  pub fault : IfErr result (λ f. IfSome source.old (λ input. IsRunFault t input f))
+  pub unread : result ≡ Err cause.Read → HasFailed source.failed_before source.failed
+  pub unwritten : (written : ℕ) → result ≡ Err (cause.Write written) → HasFailed sink.failed_before sink.failed
+  -- after a fault of the output its first `written` bytes went out; after any other fault nothing did
+  pub first : (written : ℕ) → result ≡ Err (cause.Write written) → IfSome source.old (λ input.
+      (text : List ℕ) × IsOutcome t input (Ok text) × (written ≤ length text) × AppendsFirst sink.old sink.new written text)
+  pub nothing : IfErr result (λ f. ((written : ℕ) → f ≢ cause.Write written) → Keeps sink.old sink.new)

@@ -1,0 +1,236 @@
+//! How far slicing is, shown on standard error: the layers that are made, then the bytes of their images that are
+//! written.
+use std::alloc::Allocator;
+use std::fmt::{self, Display, Formatter};
+use std::io::{self, Write};
+use std::sync::{Mutex, Wait};
+use std::time::{Clock, Instant};
+use stlslice::{Gate, Piece, Task, image_len};
+
+/// What a run does with the layers.
+#[derive(Clone, Copy, PartialEq, Eq)]
+pub(crate) enum Stage {
+    Slicing,
+    Writing,
+}
+
+/// How far a stage is: in layers while slicing, in bytes while writing.
+#[derive(Clone, Copy)]
+pub(crate) struct Bar {
+    pub(crate) stage: Stage,
+    pub(crate) done: u64,
+    pub(crate) total: u64,
+    /// When the stage began. `None` before that, and where the clock can't be read.
+    pub(crate) begun: Option<Instant>,
+}
+
+impl Bar {
+    /// How many of `steps` equal steps are done.
+    fn steps_done(&self, steps: u64) -> u64 {
+        let done = self.done.min(self.total).saturating_mul(steps);
+        done.checked_div(self.total).unwrap_or(0)
+    }
+
+    /// The seconds that the stage will still take at its pace so far.
+    fn seconds_left(&self, now: Instant) -> Option<u64> {
+        let millis = now.duration_since(self.begun?).as_millis();
+        let left = u128::from(self.total.saturating_sub(self.done));
+        let millis_left = millis
+            .saturating_mul(left)
+            .checked_div(u128::from(self.done))?;
+        u64::try_from(millis_left / 1000).ok()
+    }
+}
+
+/// The text on a bar. On a terminal it takes the place of the text before it; elsewhere it is a line.
+#[derive(Clone, Copy)]
+pub(crate) struct Shown {
+    pub(crate) bar: Bar,
+    pub(crate) seconds_left: Option<u64>,
+    pub(crate) is_terminal: bool,
+}
+
+/// The number of cells of the bar that a terminal shows.
+const CELLS: u64 = 20;
+
+impl Display for Shown {
+    fn fmt<W: fmt::Write>(&self, f: &mut Formatter<W>) -> fmt::Result {
+        if self.is_terminal {
+            f.write_str("\r")?;
+            self.fmt_cells(f)?;
+            self.fmt_counts(f)?;
+            // clears what a longer text left behind
+            f.write_str("\x1b[K")
+        } else {
+            f.write_str("stlslice: ")?;
+            self.fmt_counts(f)?;
+            f.write_str("\n")
+        }
+    }
+}
+
+impl Shown {
+    fn fmt_cells<W: fmt::Write>(&self, f: &mut Formatter<W>) -> fmt::Result {
+        let filled = self.bar.steps_done(CELLS);
+        f.write_str("[")?;
+        for cell in 0..CELLS {
+            f.write_str(if cell < filled { "#" } else { " " })?;
+        }
+        f.write_str("] ")
+    }
+
+    fn fmt_counts<W: fmt::Write>(&self, f: &mut Formatter<W>) -> fmt::Result {
+        let (stage, unit) = match self.bar.stage {
+            Stage::Slicing => ("slicing", "layers"),
+            Stage::Writing => ("writing", "bytes"),
+        };
+        let percent = self.bar.steps_done(100);
+        let done = self.bar.done;
+        let total = self.bar.total;
+        write!(f, "{stage} {percent} %, {done} of {total} {unit}")?;
+        match self.seconds_left {
+            Some(seconds) => write!(f, ", {seconds} s left"),
+            None => Ok(()),
+        }
+    }
+}
+
+/// Shows how far a run is: on a terminal in one line, which is drawn anew at each percent, elsewhere by a line at each
+/// tenth. It is the gate of the workers; a [`Watched`] writer tells it of bytes.
+#[derive(Drop)]
+pub(crate) struct Progress<'r, R> {
+    rt: &'r R,
+    is_terminal: bool,
+    /// Whether the run writes images. A report is written at once, so its bytes aren't shown.
+    has_images: bool,
+    state: Mutex<State>,
+}
+
+/// What the workers and the writer change.
+#[derive(Drop)]
+struct State {
+    bar: Bar,
+    /// The length of all images in bytes, once a piece was made.
+    image_bytes: u64,
+    /// Whether a bar was shown.
+    is_shown: bool,
+}
+
+impl<'r, R: Clock + Eprint + Wait> Progress<'r, R> {
+    /// The progress of a task that hasn't begun.
+    pub(crate) fn new(rt: &'r R, task: &Task, is_terminal: bool) -> Progress<'r, R> {
+        let bar = Bar {
+            stage: Stage::Slicing,
+            done: 0,
+            total: 0,
+            begun: None,
+        };
+        Progress {
+            rt,
+            is_terminal,
+            has_images: matches!(task, Task::Slice { report: false, .. }),
+            state: Mutex::new(State {
+                bar,
+                image_bytes: 0,
+                is_shown: false,
+            }),
+        }
+    }
+
+    /// Ends the line that is drawn on a terminal, so that what follows stands on a line of its own.
+    pub(crate) fn end(&self) {
+        let is_shown = self.state.lock(self.rt).is_shown;
+        if self.is_terminal && is_shown {
+            let _ = self.rt.eprint("\n");
+        }
+    }
+
+    /// The time, where the clock can be read.
+    fn now(&self) -> Option<Instant> {
+        Instant::now(self.rt).ok()
+    }
+
+    /// Adds layers or bytes to the stage's bar, and shows it where that is a step on.
+    fn advance(&self, state: &mut State, count: u64) {
+        let steps = if self.is_terminal { 100 } else { 10 };
+        let before = state.bar.steps_done(steps);
+        state.bar.done = state.bar.done.saturating_add(count);
+        if state.bar.steps_done(steps) > before {
+            state.is_shown = true;
+            self.show(&state.bar);
+        }
+    }
+
+    /// Shows a bar. Where standard error can't be written, nothing is shown.
+    fn show(&self, bar: &Bar) {
+        let seconds_left = match self.now() {
+            Some(now) => bar.seconds_left(now),
+            None => None,
+        };
+        let _ = self.rt.eprint(Shown {
+            bar: *bar,
+            seconds_left,
+            is_terminal: self.is_terminal,
+        });
+    }
+
+    /// Begins the stage of writing, where it hasn't begun.
+    fn begin_writing(&self) {
+        let mut state = self.state.lock(self.rt);
+        if state.bar.stage == Stage::Slicing {
+            state.bar = Bar {
+                stage: Stage::Writing,
+                done: 0,
+                total: state.image_bytes,
+                begun: self.now(),
+            };
+        }
+    }
+
+    /// Adds bytes that were written.
+    fn wrote(&self, count: u64) {
+        let mut state = self.state.lock(self.rt);
+        self.advance(&mut state, count);
+    }
+}
+
+impl<'r, A: Allocator, R: Clock + Eprint + Wait> Gate<A> for Progress<'r, R> {
+    fn arrived(&self, _worker: u32, _stripe: u64) {
+        let mut state = self.state.lock(self.rt);
+        if state.bar.begun.is_none() {
+            state.bar.begun = self.now();
+        }
+    }
+
+    fn made(&self, _worker: u32, piece: &Piece<'_, A>) {
+        let grid = piece.job().grid();
+        let layers = u64::from(grid.layers());
+        let mut state = self.state.lock(self.rt);
+        state.bar.total = layers;
+        state.image_bytes = image_len(grid).saturating_mul(layers);
+        self.advance(&mut state, piece.layers().len() as u64);
+    }
+}
+
+/// A writer that tells a progress how many bytes it writes.
+#[derive(Drop)]
+pub(crate) struct Watched<'p, 'r, W, R> {
+    pub(crate) to: W,
+    pub(crate) progress: &'p Progress<'r, R>,
+}
+
+impl<'p, 'r, W: Write, R: Clock + Eprint + Wait> Write for Watched<'p, 'r, W, R> {
+    fn write(&mut self, buf: &[u8]) -> io::Result<usize> {
+        if !self.progress.has_images {
+            return self.to.write(buf);
+        }
+        self.progress.begin_writing();
+        let count = self.to.write(buf)?;
+        self.progress.wrote(count as u64);
+        Ok(count)
+    }
+
+    fn flush(&mut self) -> io::Result<()> {
+        self.to.flush()
+    }
+}
