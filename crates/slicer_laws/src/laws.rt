@@ -1,0 +1,11 @@
+//! The laws, one function each. No code runs them: a clause is what is proved.
+ghost use Rattle.raster.specs.declared.rule.Rule.TheVariants.{EvenOdd, NonZero};
+ghost use Rattle.slicer_laws.specs.InsideOut.{KeepsImages, RaysAlongYAreNegated, RaysAreNegated};
+
+/// A mesh that is turned inside out has each ray with the other sign, so the same images by `evenodd` and by `nonzero`.
+pub fn turned_inside_out()
+    ensures rays { RaysAreNegated }
+    ensures rays_along_y { RaysAlongYAreNegated }
+    ensures evenodd { KeepsImages EvenOdd }
+    ensures nonzero { KeepsImages NonZero }
+{}

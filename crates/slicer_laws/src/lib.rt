@@ -1,0 +1,9 @@
+//! What a user may expect of a slicer, proved of the definitions of rays, images and areas that `raster`'s contracts cite.
+//! Each law is the contract of a function that does nothing.
+//!
+//! - [`turned_inside_out`]: the way that facets face decides the signs of rays alone.
+#![tactic(auto)]
+
+mod laws;
+
+pub use laws::turned_inside_out;
