@@ -1,1 +1,2 @@
 pub mod InsideOut
+pub mod Orders

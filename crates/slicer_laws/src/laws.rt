@@ -1,6 +1,7 @@
 //! The laws, one function each. No code runs them: a clause is what is proved.
 ghost use Rattle.raster.specs.declared.rule.Rule.TheVariants.{EvenOdd, NonZero};
 ghost use Rattle.slicer_laws.specs.InsideOut.{KeepsImages, RaysAlongYAreNegated, RaysAreNegated};
+ghost use Rattle.slicer_laws.specs.Orders.{AreasIgnoreOrder, ImagesIgnoreOrder, RaysAlongYIgnoreOrder, RaysIgnoreOrder};
 
 /// A mesh that is turned inside out has each ray with the other sign, so the same images by `evenodd` and by `nonzero`.
 pub fn turned_inside_out()
@@ -8,4 +9,12 @@ pub fn turned_inside_out()
     ensures rays_along_y { RaysAlongYAreNegated }
     ensures evenodd { KeepsImages EvenOdd }
     ensures nonzero { KeepsImages NonZero }
+{}
+
+/// The same facets in another order have the same rays, images and areas.
+pub fn any_order()
+    ensures rays { RaysIgnoreOrder }
+    ensures rays_along_y { RaysAlongYIgnoreOrder }
+    ensures images { ImagesIgnoreOrder }
+    ensures areas { AreasIgnoreOrder }
 {}
