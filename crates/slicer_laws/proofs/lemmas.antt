@@ -1,3 +1,4 @@
 pub mod Images
 pub mod Turned
 pub mod Totals
+pub mod Slabs

@@ -1,2 +1,3 @@
 pub mod InsideOut
 pub mod Orders
+pub mod Slabs

@@ -2,6 +2,7 @@
 ghost use Rattle.raster.specs.declared.rule.Rule.TheVariants.{EvenOdd, NonZero};
 ghost use Rattle.slicer_laws.specs.InsideOut.{KeepsImages, RaysAlongYAreNegated, RaysAreNegated};
 ghost use Rattle.slicer_laws.specs.Orders.{AreasIgnoreOrder, ImagesIgnoreOrder, RaysAlongYIgnoreOrder, RaysIgnoreOrder};
+ghost use Rattle.slicer_laws.specs.Slabs.{AreasStay, LowerPartsAreGrids, SlabsJoin, UpperPartsAreGrids};
 
 /// A mesh that is turned inside out has each ray with the other sign, so the same images by `evenodd` and by `nonzero`.
 pub fn turned_inside_out()
@@ -17,4 +18,12 @@ pub fn any_order()
     ensures rays_along_y { RaysAlongYIgnoreOrder }
     ensures images { ImagesIgnoreOrder }
     ensures areas { AreasIgnoreOrder }
+{}
+
+/// The images of a grid are those of its first layers, then those of the layers above them, each part sliced by itself.
+pub fn slabs_join()
+    ensures images { SlabsJoin }
+    ensures areas { AreasStay }
+    ensures lower { LowerPartsAreGrids }
+    ensures upper { UpperPartsAreGrids }
 {}
