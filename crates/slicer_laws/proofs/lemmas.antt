@@ -2,3 +2,4 @@ pub mod Images
 pub mod Turned
 pub mod Totals
 pub mod Slabs
+pub mod Moved

@@ -1,3 +1,4 @@
 pub mod InsideOut
 pub mod Orders
 pub mod Slabs
+pub mod Moves

@@ -1,6 +1,7 @@
 //! The laws, one function each. No code runs them: a clause is what is proved.
 ghost use Rattle.raster.specs.declared.rule.Rule.TheVariants.{EvenOdd, NonZero};
 ghost use Rattle.slicer_laws.specs.InsideOut.{KeepsImages, RaysAlongYAreNegated, RaysAreNegated};
+ghost use Rattle.slicer_laws.specs.Moves.{AreasMoveAlong, ImagesMoveAlong, RaysAlongYMoveAlong, RaysMoveAlong};
 ghost use Rattle.slicer_laws.specs.Orders.{AreasIgnoreOrder, ImagesIgnoreOrder, RaysAlongYIgnoreOrder, RaysIgnoreOrder};
 ghost use Rattle.slicer_laws.specs.Slabs.{AreasStay, LowerPartsAreGrids, SlabsJoin, UpperPartsAreGrids};
 
@@ -26,4 +27,12 @@ pub fn slabs_join()
     ensures areas { AreasStay }
     ensures lower { LowerPartsAreGrids }
     ensures upper { UpperPartsAreGrids }
+{}
+
+/// A mesh and a grid that are moved together, by whole micrometres, have the same images and areas.
+pub fn moved_together()
+    ensures rays { RaysMoveAlong }
+    ensures rays_along_y { RaysAlongYMoveAlong }
+    ensures images { ImagesMoveAlong }
+    ensures areas { AreasMoveAlong }
 {}

@@ -4,8 +4,9 @@
 //! - [`turned_inside_out`]: the way that facets face decides the signs of rays alone.
 //! - [`any_order`]: the order of the facets changes nothing.
 //! - [`slabs_join`]: a grid may be sliced in parts, from its first layer up and from any other.
+//! - [`moved_together`]: where mesh and grid lie makes no difference, so long as they move together.
 #![tactic(auto)]
 
 mod laws;
 
-pub use laws::{any_order, slabs_join, turned_inside_out};
+pub use laws::{any_order, moved_together, slabs_join, turned_inside_out};
