@@ -3,3 +3,4 @@ pub mod Turned
 pub mod Totals
 pub mod Slabs
 pub mod Moved
+pub mod Shells

@@ -2,3 +2,4 @@ pub mod InsideOut
 pub mod Orders
 pub mod Slabs
 pub mod Moves
+pub mod Shells

@@ -3,6 +3,7 @@ ghost use Rattle.raster.specs.declared.rule.Rule.TheVariants.{EvenOdd, NonZero};
 ghost use Rattle.slicer_laws.specs.InsideOut.{KeepsImages, RaysAlongYAreNegated, RaysAreNegated};
 ghost use Rattle.slicer_laws.specs.Moves.{AreasMoveAlong, ImagesMoveAlong, RaysAlongYMoveAlong, RaysMoveAlong};
 ghost use Rattle.slicer_laws.specs.Orders.{AreasIgnoreOrder, ImagesIgnoreOrder, RaysAlongYIgnoreOrder, RaysIgnoreOrder};
+ghost use Rattle.slicer_laws.specs.Shells.{AreasAdd, PositiveAreasAdd, RaysAdd, RaysAlongYAdd};
 ghost use Rattle.slicer_laws.specs.Slabs.{AreasStay, LowerPartsAreGrids, SlabsJoin, UpperPartsAreGrids};
 
 /// A mesh that is turned inside out has each ray with the other sign, so the same images by `evenodd` and by `nonzero`.
@@ -35,4 +36,14 @@ pub fn moved_together()
     ensures rays_along_y { RaysAlongYMoveAlong }
     ensures images { ImagesMoveAlong }
     ensures areas { AreasMoveAlong }
+{}
+
+/// A ray of two meshes together is the sum of their rays. Where no voxel of a layer is filled by both meshes, their
+/// areas add: by `evenodd` and by `nonzero` as they are, by `positive` where neither has a negative ray.
+pub fn shells_add()
+    ensures rays { RaysAdd }
+    ensures rays_along_y { RaysAlongYAdd }
+    ensures evenodd { AreasAdd EvenOdd }
+    ensures nonzero { AreasAdd NonZero }
+    ensures positive { PositiveAreasAdd }
 {}

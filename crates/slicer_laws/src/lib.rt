@@ -5,8 +5,9 @@
 //! - [`any_order`]: the order of the facets changes nothing.
 //! - [`slabs_join`]: a grid may be sliced in parts, from its first layer up and from any other.
 //! - [`moved_together`]: where mesh and grid lie makes no difference, so long as they move together.
+//! - [`shells_add`]: shells that fill no voxel in common fill together what each fills.
 #![tactic(auto)]
 
 mod laws;
 
-pub use laws::{any_order, moved_together, slabs_join, turned_inside_out};
+pub use laws::{any_order, moved_together, shells_add, slabs_join, turned_inside_out};
