@@ -4,3 +4,4 @@ pub mod Totals
 pub mod Slabs
 pub mod Moved
 pub mod Shells
+pub mod Boxes

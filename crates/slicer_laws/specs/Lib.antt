@@ -3,3 +3,4 @@ pub mod Orders
 pub mod Slabs
 pub mod Moves
 pub mod Shells
+pub mod Boxes

@@ -1,5 +1,6 @@
 //! The laws, one function each. No code runs them: a clause is what is proved.
 ghost use Rattle.raster.specs.declared.rule.Rule.TheVariants.{EvenOdd, NonZero};
+ghost use Rattle.slicer_laws.specs.Boxes.{BoxRays, BoxesAreFilled};
 ghost use Rattle.slicer_laws.specs.InsideOut.{KeepsImages, RaysAlongYAreNegated, RaysAreNegated};
 ghost use Rattle.slicer_laws.specs.Moves.{AreasMoveAlong, ImagesMoveAlong, RaysAlongYMoveAlong, RaysMoveAlong};
 ghost use Rattle.slicer_laws.specs.Orders.{AreasIgnoreOrder, ImagesIgnoreOrder, RaysAlongYIgnoreOrder, RaysIgnoreOrder};
@@ -46,4 +47,11 @@ pub fn shells_add()
     ensures evenodd { AreasAdd EvenOdd }
     ensures nonzero { AreasAdd NonZero }
     ensures positive { PositiveAreasAdd }
+{}
+
+/// A box holds the points from its low corner on, and not those of its three far faces: there each ray counts 1, and
+/// everywhere else 0. So by each rule a voxel is filled exactly where the box holds its centre.
+pub fn box_is_half_open()
+    ensures rays { BoxRays }
+    ensures filled { BoxesAreFilled }
 {}

@@ -6,8 +6,11 @@
 //! - [`slabs_join`]: a grid may be sliced in parts, from its first layer up and from any other.
 //! - [`moved_together`]: where mesh and grid lie makes no difference, so long as they move together.
 //! - [`shells_add`]: shells that fill no voxel in common fill together what each fills.
+//! - [`box_is_half_open`]: a box holds its near faces and not its far ones, so boxes that meet share no voxel.
 #![tactic(auto)]
 
 mod laws;
 
-pub use laws::{any_order, moved_together, shells_add, slabs_join, turned_inside_out};
+pub use laws::{
+    any_order, box_is_half_open, moved_together, shells_add, slabs_join, turned_inside_out,
+};
