@@ -5,3 +5,5 @@ pub mod Slabs
 pub mod Moved
 pub mod Shells
 pub mod Boxes
+pub mod ClosedBoxes
+pub mod BoxesAlongY

@@ -2,7 +2,8 @@
 use Rattle.std.specs.Prelude.{◌≡◌, ℕ, Bool, ◌&&◌, List, [], ◌∷◌, ◌++◌, ℤ, pos, ◌*ℤ◌, int_le, int_lt, if◌then◌else◌}
 use Rattle.geometry.specs.Point.{Point}
 use Rattle.geometry.specs.Facet.{Facet, facet_with}
-use Rattle.geometry.specs.Winding.{ray}
+use Rattle.geometry.specs.Winding.{ray, ray_y}
+use Rattle.mesh_weld.specs.Balance.{IsBalanced}
 use Rattle.raster.specs.declared.rule.Rule.{Rule}
 use Rattle.raster.specs.Grid.{Grid, IsBox, centre}
 use Rattle.raster.specs.Fill.{is_filled}
@@ -42,8 +43,14 @@ is_between low high m = int_le (pos 2 *ℤ low) m && int_lt m (pos 2 *ℤ high)
 abbrev pub holds : Point → Point → Point → Bool
 holds low high c = is_between low.x high.x c.x && is_between low.y high.y c.y && is_between low.z high.z c.z
 
+abbrev pub BoxesAreClosed : Type 0
+BoxesAreClosed = (low high : Point) → IsBalanced (box low high)
+
 abbrev pub BoxRays : Type 0
 BoxRays = (low high c : Point) → IsBox low high → ray (box low high) c ≡ (if holds low high c then pos 1 else pos 0)
+
+abbrev pub BoxRaysAlongY : Type 0
+BoxRaysAlongY = (low high c : Point) → IsBox low high → ray_y (box low high) c ≡ (if holds low high c then pos 1 else pos 0)
 
 -- by each rule a voxel of any grid is filled exactly where the box holds its centre
 abbrev pub BoxesAreFilled : Type 0

@@ -4,7 +4,7 @@ use Rattle.geometry.specs.Point.{Point}
 use Rattle.geometry.specs.Facet.{Facet}
 use Rattle.geometry.specs.declared.limits.TheConstants.{COORDINATE_LIMIT}
 use Rattle.raster.specs.declared.rule.Rule.{Rule}
-use Rattle.raster.specs.Grid.{Grid, IsGrid, grid_with}
+use Rattle.raster.specs.Grid.{Grid, IsGrid, grid_with, plane}
 use Rattle.raster.specs.Fill.{area_of}
 use Rattle.raster.specs.Picture.{pictures}
 
@@ -24,10 +24,17 @@ abbrev pub SlabsJoin : Type 0
 SlabsJoin = (g : Grid) (rule : Rule) (facets : List Facet) (m : ℕ) → m ≤ g.layers
     → pictures g rule facets ≡ pictures (first_layers m g) rule facets ++ pictures (layers_from m g) rule facets
 
--- a layer of the upper part has the area of the layer that it is
-abbrev pub AreasStay : Type 0
-AreasStay = (g : Grid) (rule : Rule) (facets : List Facet) (m k : ℕ)
+-- layer k of the upper part is layer m + k of the whole, so it has its plane and its area
+abbrev pub PlanesStay : Type 0
+PlanesStay = (g : Grid) (m k : ℕ) → plane (layers_from m g) k ≡ plane g (m + k)
+
+abbrev pub UpperAreasStay : Type 0
+UpperAreasStay = (g : Grid) (rule : Rule) (facets : List Facet) (m k : ℕ)
     → area_of (layers_from m g) rule facets k ≡ area_of g rule facets (m + k)
+
+abbrev pub LowerAreasStay : Type 0
+LowerAreasStay = (g : Grid) (rule : Rule) (facets : List Facet) (m k : ℕ)
+    → area_of (first_layers m g) rule facets k ≡ area_of g rule facets k
 
 -- a grid that is cut within leaves two grids, unless the upper part's origin lies above the limit of coordinates
 abbrev pub LowerPartsAreGrids : Type 0

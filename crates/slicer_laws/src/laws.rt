@@ -1,18 +1,21 @@
 //! The laws, one function each. No code runs them: a clause is what is proved.
 ghost use Rattle.raster.specs.declared.rule.Rule.TheVariants.{EvenOdd, NonZero};
-ghost use Rattle.slicer_laws.specs.Boxes.{BoxRays, BoxesAreFilled};
-ghost use Rattle.slicer_laws.specs.InsideOut.{KeepsImages, RaysAlongYAreNegated, RaysAreNegated};
+ghost use Rattle.slicer_laws.specs.Boxes.{BoxRays, BoxRaysAlongY, BoxesAreClosed, BoxesAreFilled};
+ghost use Rattle.slicer_laws.specs.InsideOut.{KeepsAreas, KeepsImages, RaysAlongYAreNegated, RaysAreNegated};
 ghost use Rattle.slicer_laws.specs.Moves.{AreasMoveAlong, ImagesMoveAlong, RaysAlongYMoveAlong, RaysMoveAlong};
 ghost use Rattle.slicer_laws.specs.Orders.{AreasIgnoreOrder, ImagesIgnoreOrder, RaysAlongYIgnoreOrder, RaysIgnoreOrder};
 ghost use Rattle.slicer_laws.specs.Shells.{AreasAdd, PositiveAreasAdd, RaysAdd, RaysAlongYAdd};
-ghost use Rattle.slicer_laws.specs.Slabs.{AreasStay, LowerPartsAreGrids, SlabsJoin, UpperPartsAreGrids};
+ghost use Rattle.slicer_laws.specs.Slabs.{LowerAreasStay, LowerPartsAreGrids, PlanesStay, SlabsJoin, UpperAreasStay, UpperPartsAreGrids};
 
-/// A mesh that is turned inside out has each ray with the other sign, so the same images by `evenodd` and by `nonzero`.
+/// A mesh that is turned inside out has each ray with the other sign, so the same images and areas by `evenodd` and by
+/// `nonzero`.
 pub fn turned_inside_out()
     ensures rays { RaysAreNegated }
     ensures rays_along_y { RaysAlongYAreNegated }
     ensures evenodd { KeepsImages EvenOdd }
+    ensures evenodd_areas { KeepsAreas EvenOdd }
     ensures nonzero { KeepsImages NonZero }
+    ensures nonzero_areas { KeepsAreas NonZero }
 {}
 
 /// The same facets in another order have the same rays, images and areas.
@@ -26,7 +29,9 @@ pub fn any_order()
 /// The images of a grid are those of its first layers, then those of the layers above them, each part sliced by itself.
 pub fn slabs_join()
     ensures images { SlabsJoin }
-    ensures areas { AreasStay }
+    ensures planes { PlanesStay }
+    ensures lower_areas { LowerAreasStay }
+    ensures upper_areas { UpperAreasStay }
     ensures lower { LowerPartsAreGrids }
     ensures upper { UpperPartsAreGrids }
 {}
@@ -49,9 +54,11 @@ pub fn shells_add()
     ensures positive { PositiveAreasAdd }
 {}
 
-/// A box holds the points from its low corner on, and not those of its three far faces: there each ray counts 1, and
+/// A box is a closed mesh. It holds the points from its low corner on, and not those of its three far faces: there each ray counts 1, and
 /// everywhere else 0. So by each rule a voxel is filled exactly where the box holds its centre.
 pub fn box_is_half_open()
+    ensures closed { BoxesAreClosed }
     ensures rays { BoxRays }
+    ensures rays_along_y { BoxRaysAlongY }
     ensures filled { BoxesAreFilled }
 {}

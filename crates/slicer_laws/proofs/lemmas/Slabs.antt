@@ -15,7 +15,7 @@ use Rattle.raster.specs.Picture.{layer_picture, picture, pictures}
 use Rattle.slicer_laws.specs.Slabs.{first_layers, layers_from}
 
 -- ---- centres
-middle-raised : (start : ℤ) (step m k : ℕ) → middle (start +ℤ pos (m * step)) step k ≡ middle start step (m + k)
+pub middle-raised : (start : ℤ) (step m k : ℕ) → middle (start +ℤ pos (m * step)) step k ≡ middle start step (m + k)
 middle-raised start step m k =
     let far : step * (2 * (m + k) + 1) ≡ 2 * (m * step) + step * (2 * k + 1) = products step m k in
     omega (arith, ints, far)
