@@ -4,7 +4,7 @@ ghost use Rattle.slicer_laws.specs.Boxes.{BoxRays, BoxRaysAlongY, BoxesAreClosed
 ghost use Rattle.slicer_laws.specs.InsideOut.{KeepsAreas, KeepsImages, RaysAlongYAreNegated, RaysAreNegated};
 ghost use Rattle.slicer_laws.specs.Moves.{AreasMoveAlong, ImagesMoveAlong, RaysAlongYMoveAlong, RaysMoveAlong};
 ghost use Rattle.slicer_laws.specs.Orders.{AreasIgnoreOrder, ImagesIgnoreOrder, RaysAlongYIgnoreOrder, RaysIgnoreOrder};
-ghost use Rattle.slicer_laws.specs.Shells.{AreasAdd, PositiveAreasAdd, RaysAdd, RaysAlongYAdd};
+ghost use Rattle.slicer_laws.specs.Shells.{AreasAdd, PositiveAreasAdd, PositiveVoxelsJoin, RaysAdd, RaysAlongYAdd, VoxelsJoin};
 ghost use Rattle.slicer_laws.specs.Slabs.{LowerAreasStay, LowerPartsAreGrids, PlanesStay, SlabsJoin, UpperAreasStay, UpperPartsAreGrids};
 
 /// A mesh that is turned inside out has each ray with the other sign, so the same images and areas by `evenodd` and by
@@ -44,14 +44,18 @@ pub fn moved_together()
     ensures areas { AreasMoveAlong }
 {}
 
-/// A ray of two meshes together is the sum of their rays. Where no voxel of a layer is filled by both meshes, their
-/// areas add: by `evenodd` and by `nonzero` as they are, by `positive` where neither has a negative ray.
+/// A ray of two meshes together is the sum of their rays. A voxel that isn't filled by both meshes is filled by both
+/// together exactly where one of them fills it; where that holds for all voxels of a layer, the areas add. By
+/// `positive` neither mesh may have a negative ray there.
 pub fn shells_add()
     ensures rays { RaysAdd }
     ensures rays_along_y { RaysAlongYAdd }
-    ensures evenodd { AreasAdd EvenOdd }
-    ensures nonzero { AreasAdd NonZero }
-    ensures positive { PositiveAreasAdd }
+    ensures evenodd { VoxelsJoin EvenOdd }
+    ensures evenodd_areas { AreasAdd EvenOdd }
+    ensures nonzero { VoxelsJoin NonZero }
+    ensures nonzero_areas { AreasAdd NonZero }
+    ensures positive { PositiveVoxelsJoin }
+    ensures positive_areas { PositiveAreasAdd }
 {}
 
 /// A box is a closed mesh. It holds the points from its low corner on, and not those of its three far faces: there each ray counts 1, and

@@ -1,5 +1,5 @@
 -- Two meshes sliced together: what a voxel's rays say by each rule, and counts over a layer.
-use Rattle.std.proofs.Common.{◌≡◌, ℕ, zero, suc, ◌+◌, ◌%◌, ◌<◌, ◌⊎◌, inl, inr, Bool, false, cond, ◌&&◌, List, ◌++◌, ℤ, pos, ◌+ℤ◌, ◌≤ℤ◌, refl, sym, ◌∙◌, ap, arith}
+use Rattle.std.proofs.Common.{◌≡◌, ℕ, zero, suc, ◌+◌, ◌%◌, ◌<◌, ◌⊎◌, inl, inr, Bool, true, false, cond, ◌&&◌, ◌||◌, List, ◌++◌, ℤ, pos, ◌+ℤ◌, ◌≤ℤ◌, refl, sym, ◌∙◌, ap, arith}
 use Rattle.std.specs.Prelude.{◌==◌, nat_abs, sum_by}
 use Rattle.std.specs.List.{range_with_len}
 use Rattle.std.proofs.lemmas.Bool.{and_cases}
@@ -65,20 +65,41 @@ zero-skips rule a b first second =
       right = λ h. ap (is_inside rule) (swapped a b ∙ no_more b a (second h));
     }
 
+-- where not both rays are inside, their sum is inside exactly where one of them is
 joined : (rule : Rule) (a b : ℤ) → IsSkipped rule a b → (is_inside rule a && is_inside rule b) ≡ false
-    → cond (is_inside rule (a +ℤ b)) 1 0 ≡ cond (is_inside rule a) 1 0 + cond (is_inside rule b) 1 0
+    → is_inside rule (a +ℤ b) ≡ (is_inside rule a || is_inside rule b)
 joined rule a b skips apart = by (and_cases (is_inside rule a) (is_inside rule b) apart)
   where
-    nothing_first : (p q r : Bool) → p ≡ false → r ≡ q → cond r 1 0 ≡ cond p 1 0 + cond q 1 0
-    nothing_first p q r e f = grind (arith, e, f)
+    nothing_first : (p q r : Bool) → p ≡ false → r ≡ q → r ≡ (p || q)
+    nothing_first p q r e f = f ∙ sym (ap (λ b. b || q) e)
 
-    nothing_second : (p q r : Bool) → q ≡ false → r ≡ p → cond r 1 0 ≡ cond p 1 0 + cond q 1 0
-    nothing_second p q r e f = grind (arith, e, f)
+    nothing_second : (p q r : Bool) → q ≡ false → r ≡ p → r ≡ (p || q)
+    nothing_second true q r e f = f
+    nothing_second false q r e f = f ∙ sym e
 
-    by : (is_inside rule a ≡ false) ⊎ (is_inside rule b ≡ false)
-        → cond (is_inside rule (a +ℤ b)) 1 0 ≡ cond (is_inside rule a) 1 0 + cond (is_inside rule b) 1 0
+    by : (is_inside rule a ≡ false) ⊎ (is_inside rule b ≡ false) → is_inside rule (a +ℤ b) ≡ (is_inside rule a || is_inside rule b)
     by (inl e) = nothing_first _ _ _ e (skips.left e)
     by (inr e) = nothing_second _ _ _ e (skips.right e)
+
+voxels-joined : (rule : Rule) (a b : List Facet) (c : Point) → IsSkipped rule (ray a c) (ray b c)
+    → (is_filled rule a c && is_filled rule b c) ≡ false → is_filled rule (a ++ b) c ≡ (is_filled rule a c || is_filled rule b c)
+voxels-joined rule a b c skips apart = ap (is_inside rule) (ray-append a b c) ∙ joined rule (ray a c) (ray b c) skips apart
+
+pub evenodd-voxels : (a b : List Facet) (c : Point) → (is_filled EvenOdd a c && is_filled EvenOdd b c) ≡ false
+    → is_filled EvenOdd (a ++ b) c ≡ (is_filled EvenOdd a c || is_filled EvenOdd b c)
+evenodd-voxels a b c apart = voxels-joined EvenOdd a b c (evenodd-skips (ray a c) (ray b c)) apart
+
+pub nonzero-voxels : (a b : List Facet) (c : Point) → (is_filled NonZero a c && is_filled NonZero b c) ≡ false
+    → is_filled NonZero (a ++ b) c ≡ (is_filled NonZero a c || is_filled NonZero b c)
+nonzero-voxels a b c apart =
+    voxels-joined NonZero a b c (zero-skips NonZero (ray a c) (ray b c) (zero_ray (ray a c)) (zero_ray (ray b c))) apart
+
+pub positive-voxels : (a b : List Facet) (c : Point) → pos 0 ≤ℤ ray a c → pos 0 ≤ℤ ray b c
+    → (is_filled Positive a c && is_filled Positive b c) ≡ false
+    → is_filled Positive (a ++ b) c ≡ (is_filled Positive a c || is_filled Positive b c)
+positive-voxels a b c above_a above_b apart =
+    voxels-joined Positive a b c
+    (zero-skips Positive (ray a c) (ray b c) (zero_or_less (ray a c) above_a) (zero_or_less (ray b c) above_b)) apart
 
 -- ---- counts over a layer
 sum_by-added : (f g h : ℕ → ℕ) (a n : ℕ) → ((k : ℕ) → k < a + n → f k ≡ g k + h k)
@@ -98,10 +119,17 @@ sum_by-added f g h a (suc n) e =
     later : (a n k : ℕ) → k < a + 1 + n → k < a + suc n
     later a n k l = omega arith
 
+one_of_two : (p q : Bool) → (p && q) ≡ false → cond (p || q) 1 0 ≡ cond p 1 0 + cond q 1 0
+one_of_two true true e = cc
+one_of_two true false e = refl
+one_of_two false true e = refl
+one_of_two false false e = refl
+
 area-added : (g : Grid) (rule : Rule) (k : ℕ) (a b : List Facet) → AreApart g rule k a b
-    → ((i j : ℕ) → i < g.columns → j < g.rows → IsSkipped rule (ray a (centre g i j k)) (ray b (centre g i j k)))
+    → ((i j : ℕ) → i < g.columns → j < g.rows
+    → is_filled rule (a ++ b) (centre g i j k) ≡ (is_filled rule a (centre g i j k) || is_filled rule b (centre g i j k)))
     → area_of g rule (a ++ b) k ≡ area_of g rule a k + area_of g rule b k
-area-added g rule k a b apart skips =
+area-added g rule k a b apart either =
     sum_by-added (row (a ++ b)) (row a) (row b) 0 g.rows
     (λ j h. sum_by-added (voxel (a ++ b) j) (voxel a j) (voxel b j) 0 g.columns (λ i l. one i j (below_end i g.columns l) (below_end j g.rows h)))
   where
@@ -115,24 +143,21 @@ area-added g rule k a b apart skips =
     below_end i n h = omega arith
 
     one : (i j : ℕ) → i < g.columns → j < g.rows → voxel (a ++ b) j i ≡ voxel a j i + voxel b j i
-    one i j h l =
-        ap (λ z. cond (is_inside rule z) 1 0) (ray-append a b (centre g i j k))
-        ∙ joined rule (ray a (centre g i j k)) (ray b (centre g i j k)) (skips i j h l) (apart i j h l)
+    one i j h l = ap (λ p. cond p 1 0) (either i j h l) ∙ one_of_two _ _ (apart i j h l)
 
 pub evenodd-areas : (g : Grid) (k : ℕ) (a b : List Facet) → AreApart g EvenOdd k a b
     → area_of g EvenOdd (a ++ b) k ≡ area_of g EvenOdd a k + area_of g EvenOdd b k
 evenodd-areas g k a b apart =
-    area-added g EvenOdd k a b apart (λ i j h l. evenodd-skips (ray a (centre g i j k)) (ray b (centre g i j k)))
+    area-added g EvenOdd k a b apart (λ i j h l. evenodd-voxels a b (centre g i j k) (apart i j h l))
 
 pub nonzero-areas : (g : Grid) (k : ℕ) (a b : List Facet) → AreApart g NonZero k a b
     → area_of g NonZero (a ++ b) k ≡ area_of g NonZero a k + area_of g NonZero b k
 nonzero-areas g k a b apart =
-    area-added g NonZero k a b apart
-    (λ i j h l. zero-skips NonZero (ray a (centre g i j k)) (ray b (centre g i j k)) (zero_ray (ray a (centre g i j k))) (zero_ray (ray b (centre g i j k))))
+    area-added g NonZero k a b apart (λ i j h l. nonzero-voxels a b (centre g i j k) (apart i j h l))
 
 pub positive-areas : (g : Grid) (k : ℕ) (a b : List Facet) → HasNoNegativeRay g k a → HasNoNegativeRay g k b
     → AreApart g Positive k a b
     → area_of g Positive (a ++ b) k ≡ area_of g Positive a k + area_of g Positive b k
 positive-areas g k a b above_a above_b apart =
     area-added g Positive k a b apart
-    (λ i j h l. zero-skips Positive (ray a (centre g i j k)) (ray b (centre g i j k)) (zero_or_less (ray a (centre g i j k)) (above_a i j h l)) (zero_or_less (ray b (centre g i j k)) (above_b i j h l)))
+    (λ i j h l. positive-voxels a b (centre g i j k) (above_a i j h l) (above_b i j h l) (apart i j h l))
