@@ -1,0 +1,68 @@
+//! The laws, one function each. No code runs them: a clause is what is proved.
+ghost use Rattle.raster.specs.declared.rule.Rule.TheVariants.{EvenOdd, NonZero};
+ghost use Rattle.slicer_laws.specs.Boxes.{BoxRays, BoxRaysAlongY, BoxesAreClosed, BoxesAreFilled};
+ghost use Rattle.slicer_laws.specs.InsideOut.{KeepsAreas, KeepsImages, RaysAlongYAreNegated, RaysAreNegated};
+ghost use Rattle.slicer_laws.specs.Moves.{AreasMoveAlong, ImagesMoveAlong, RaysAlongYMoveAlong, RaysMoveAlong};
+ghost use Rattle.slicer_laws.specs.Orders.{AreasIgnoreOrder, ImagesIgnoreOrder, RaysAlongYIgnoreOrder, RaysIgnoreOrder};
+ghost use Rattle.slicer_laws.specs.Shells.{AreasAdd, PositiveAreasAdd, PositiveVoxelsJoin, RaysAdd, RaysAlongYAdd, VoxelsJoin};
+ghost use Rattle.slicer_laws.specs.Slabs.{LowerAreasStay, LowerPartsAreGrids, PlanesStay, SlabsJoin, UpperAreasStay, UpperPartsAreGrids};
+
+/// A mesh that is turned inside out has each ray with the other sign, so the same images and areas by `evenodd` and by
+/// `nonzero`.
+pub fn turned_inside_out()
+    ensures rays { RaysAreNegated }
+    ensures rays_along_y { RaysAlongYAreNegated }
+    ensures evenodd { KeepsImages EvenOdd }
+    ensures evenodd_areas { KeepsAreas EvenOdd }
+    ensures nonzero { KeepsImages NonZero }
+    ensures nonzero_areas { KeepsAreas NonZero }
+{}
+
+/// The same facets in another order have the same rays, images and areas.
+pub fn any_order()
+    ensures rays { RaysIgnoreOrder }
+    ensures rays_along_y { RaysAlongYIgnoreOrder }
+    ensures images { ImagesIgnoreOrder }
+    ensures areas { AreasIgnoreOrder }
+{}
+
+/// The images of a grid are those of its first layers, then those of the layers above them, each part sliced by itself.
+pub fn slabs_join()
+    ensures images { SlabsJoin }
+    ensures planes { PlanesStay }
+    ensures lower_areas { LowerAreasStay }
+    ensures upper_areas { UpperAreasStay }
+    ensures lower { LowerPartsAreGrids }
+    ensures upper { UpperPartsAreGrids }
+{}
+
+/// A mesh and a grid that are moved together, by whole micrometres, have the same images and areas.
+pub fn moved_together()
+    ensures rays { RaysMoveAlong }
+    ensures rays_along_y { RaysAlongYMoveAlong }
+    ensures images { ImagesMoveAlong }
+    ensures areas { AreasMoveAlong }
+{}
+
+/// A ray of two meshes together is the sum of their rays. A voxel that isn't filled by both meshes is filled by both
+/// together exactly where one of them fills it; where that holds for all voxels of a layer, the areas add. By
+/// `positive` neither mesh may have a negative ray there.
+pub fn shells_add()
+    ensures rays { RaysAdd }
+    ensures rays_along_y { RaysAlongYAdd }
+    ensures evenodd { VoxelsJoin EvenOdd }
+    ensures evenodd_areas { AreasAdd EvenOdd }
+    ensures nonzero { VoxelsJoin NonZero }
+    ensures nonzero_areas { AreasAdd NonZero }
+    ensures positive { PositiveVoxelsJoin }
+    ensures positive_areas { PositiveAreasAdd }
+{}
+
+/// A box is a closed mesh. It holds the points from its low corner on, and not those of its three far faces: there each ray counts 1, and
+/// everywhere else 0. So by each rule a voxel is filled exactly where the box holds its centre.
+pub fn box_is_half_open()
+    ensures closed { BoxesAreClosed }
+    ensures rays { BoxRays }
+    ensures rays_along_y { BoxRaysAlongY }
+    ensures filled { BoxesAreFilled }
+{}
