@@ -1,6 +1,6 @@
 -- A mesh and a grid that are moved together, by whole micrometres.
 use Rattle.std.specs.Prelude.{◌≡◌, ℕ, List, map, ◌+ℤ◌}
-use Rattle.geometry.specs.Point.{Point, doubled}
+use Rattle.geometry.specs.Point.{Point, half_micrometres_of}
 use Rattle.geometry.specs.Facet.{Facet, facet_with}
 use Rattle.geometry.specs.Winding.{ray, ray_y}
 use Rattle.raster.specs.declared.rule.Rule.{Rule}
@@ -23,11 +23,11 @@ moved_grid by g = grid_with (moved by g.origin) g.pitch g.layer_height g.columns
 -- a centre is in half-micrometres, so it moves by twice as many of them
 abbrev pub RaysMoveAlong : Type 0
 RaysMoveAlong = (by : Point) (facets : List Facet) (c : Point)
-    → ray (moved_mesh by facets) (moved (doubled by) c) ≡ ray facets c
+    → ray (moved_mesh by facets) (moved (half_micrometres_of by) c) ≡ ray facets c
 
 abbrev pub RaysAlongYMoveAlong : Type 0
 RaysAlongYMoveAlong = (by : Point) (facets : List Facet) (c : Point)
-    → ray_y (moved_mesh by facets) (moved (doubled by) c) ≡ ray_y facets c
+    → ray_y (moved_mesh by facets) (moved (half_micrometres_of by) c) ≡ ray_y facets c
 
 abbrev pub ImagesMoveAlong : Type 0
 ImagesMoveAlong = (by : Point) (g : Grid) (rule : Rule) (facets : List Facet)
