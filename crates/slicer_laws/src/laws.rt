@@ -58,8 +58,9 @@ pub fn shells_add()
     ensures positive_areas { PositiveAreasAdd }
 {}
 
-/// A box is a closed mesh. It holds the points from its low corner on, and not those of its three far faces: there each ray counts 1, and
-/// everywhere else 0. So by each rule a voxel is filled exactly where the box holds its centre.
+/// A box is a closed mesh, and half-open: it holds its near faces, at the low ends of x, y and z, and not its far faces.
+/// A ray counts 1 from each point that the box holds, and 0 from all others. So by each rule a voxel is filled exactly
+/// where the box holds its centre.
 pub fn box_is_half_open()
     ensures closed { BoxesAreClosed }
     ensures rays { BoxRays }

@@ -1,12 +1,14 @@
 //! What a user may expect of a slicer, proved of the definitions of rays, images and areas that `raster`'s contracts cite.
 //! Each law is the contract of a function that does nothing.
 //!
-//! - [`turned_inside_out`]: the way that facets face decides the signs of rays alone.
-//! - [`any_order`]: the order of the facets changes nothing.
-//! - [`slabs_join`]: a grid may be sliced in parts, from its first layer up and from any other.
+//! - [`turned_inside_out`]: by `evenodd` and by `nonzero` it makes no difference which way the facets face, so long as all
+//!   of them are turned.
+//! - [`any_order`]: the order of the facets makes no difference.
+//! - [`slabs_join`]: a grid may be sliced in two parts, one above the other, each by itself.
 //! - [`moved_together`]: where mesh and grid lie makes no difference, so long as they move together.
 //! - [`shells_add`]: shells that fill no voxel in common fill together what each fills.
-//! - [`box_is_half_open`]: a box holds its near faces and not its far ones, so boxes that meet share no voxel.
+//! - [`box_is_half_open`]: a box holds its near faces and not its far ones, so two boxes side by side share no voxel and
+//!   leave none out between them.
 #![tactic(auto)]
 
 mod laws;

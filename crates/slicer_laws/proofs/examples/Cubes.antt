@@ -11,6 +11,7 @@ use Rattle.raster.specs.Grid.{Grid, IsBox, IsGrid, grid_with}
 use Rattle.raster.specs.Fill.{area_of}
 use Rattle.slicer_laws.specs.Boxes.{at, box}
 use Rattle.slicer_laws.specs.InsideOut.{inside_out}
+use Rattle.slicer_laws.specs.Moves.{moved_mesh}
 use Rattle.slicer_laws.specs.Shells.{AreApart}
 use Rattle.slicer_laws.specs.Slabs.{layers_from}
 
@@ -78,6 +79,39 @@ tall_is_a_grid =
 
 upper_part_too_high : (layers_from 1 tall).origin.z ≤ℤ pos COORDINATE_LIMIT → ⊥
 upper_part_too_high h = omega (arith, ints)
+
+-- above all layers of a grid there is none, wherever its origin lies
+no_layers : IsGrid (layers_from 1 pair) → ⊥
+no_layers h = omega (arith, h.layers_low)
+
+-- a layer below the cube, and one within it
+abbrev pub stack : Grid
+stack = grid_with (at (pos 0) (pos 0) (negsuc 0)) 1 1 1 1 2
+
+area_below : area_of stack EvenOdd cube 0 ≡ 0
+unfolding turn_of wind hit
+area_below = refl
+
+area_within : area_of (layers_from 1 stack) EvenOdd cube 0 ≡ 1
+unfolding turn_of wind hit
+area_within = refl
+
+area_above : area_of (layers_from 2 stack) EvenOdd cube 0 ≡ 0
+unfolding turn_of wind hit
+area_above = refl
+
+-- ---- a mesh moved by a micrometre, and a centre moved by two half-micrometres, by one, or not at all
+moved_by_two : ray (moved_mesh (at (pos 1) (pos 0) (pos 0)) cube) (at (pos 2) (pos 0) (pos 0)) ≡ pos 1
+unfolding turn_of wind hit
+moved_by_two = refl
+
+moved_by_one : ray (moved_mesh (at (pos 1) (pos 0) (pos 0)) cube) (at (pos 1) (pos 0) (pos 0)) ≡ pos 0
+unfolding turn_of wind hit
+moved_by_one = refl
+
+left_behind : ray (moved_mesh (at (pos 1) (pos 0) (pos 0)) cube) (at (pos 0) (pos 0) (pos 0)) ≡ pos 0
+unfolding turn_of wind hit
+left_behind = refl
 
 -- ---- shells
 neighbours_add : area_of pair EvenOdd (cube ++ neighbour) 0 ≡ 2
