@@ -10,6 +10,7 @@ use std::sync::Wait;
 use std::thread::Threads;
 use stl_text::Point;
 use stlslice::image_len;
+use task_words::PASS_LIMIT;
 
 /// Whether a run by a line of words, an option and this number of workers writes this text.
 fn writes_by<R: Threads + Wait + Sync + AllocGlobal>(
@@ -34,7 +35,7 @@ fn each_writes<R: Threads + Wait + Sync + AllocGlobal>(
     input: &str,
     text: &[u8],
 ) -> bool {
-    for workers in &[1, 2, 3, 64] {
+    for workers in &[1, 2, 3, PASS_LIMIT] {
         if !writes_by(rt, line, option, *workers, input, text) {
             return false;
         }
