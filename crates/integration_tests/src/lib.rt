@@ -7,11 +7,17 @@ mod allocations;
 #[cfg(test)]
 mod book;
 #[cfg(test)]
+mod byte_writers;
+#[cfg(test)]
 mod claims;
 #[cfg(test)]
 mod contours;
 #[cfg(test)]
+mod corner_planes;
+#[cfg(test)]
 mod cuts;
+#[cfg(test)]
+mod file_forms;
 #[cfg(test)]
 mod filling;
 #[cfg(test)]
@@ -29,6 +35,14 @@ mod published;
 #[cfg(test)]
 mod rays;
 #[cfg(test)]
+mod refused_rises;
+#[cfg(test)]
+mod refused_welds;
+#[cfg(test)]
 mod stl_texts;
 #[cfg(test)]
+mod walks;
+#[cfg(test)]
 mod welding;
+#[cfg(test)]
+mod worked_layers;
