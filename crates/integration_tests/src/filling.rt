@@ -13,8 +13,8 @@ use short_memory::ShortMemory;
 use std::alloc::{AllocError, Allocator, Global};
 use std::test::Fail;
 
-// The spans of a layer.
-fn layer<A: Allocator + Copy + Send + Sync>(
+/// The spans of a layer.
+pub(crate) fn layer<A: Allocator + Copy + Send + Sync>(
     alloc: A,
     s: &Solid<A>,
     g: &Grid,

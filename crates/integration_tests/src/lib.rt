@@ -5,11 +5,15 @@
 #[cfg(test)]
 mod book;
 #[cfg(test)]
+mod byte_writers;
+#[cfg(test)]
 mod claims;
 #[cfg(test)]
 mod contours;
 #[cfg(test)]
 mod cuts;
+#[cfg(test)]
+mod file_forms;
 #[cfg(test)]
 mod filling;
 #[cfg(test)]
@@ -32,3 +36,5 @@ mod rays;
 mod stl_texts;
 #[cfg(test)]
 mod welding;
+#[cfg(test)]
+mod worked_layers;

@@ -86,6 +86,19 @@ pub(crate) const ONE_INWARD: &[Part] = &[(NEAR, BOX), (FAR, INWARD)];
 
 pub(crate) const CUBE_OF_THREE: &[Part] = &[(corners![0 0 0 to 3 3 3], BOX)];
 
+/// Two facets back to back, with nothing between them.
+pub(crate) const SHEET: &[Part] = &[(CORNERS, &[[0, 4, 2], [0, 2, 4]])];
+
+/// A box of nine voxels in a row.
+pub(crate) const NINE_IN_A_ROW: &[Part] = &[(corners![0 0 0 to 9 1 1], BOX)];
+
+/// A row of all columns, two voxels of row 5, and the last eight of row 19.
+pub(crate) const WIDE_ROWS: &[Part] = &[
+    (corners![0 0 0 to 16384 1 1], BOX),
+    (corners![8 5 0 to 10 6 1], BOX),
+    (corners![16376 19 0 to 16384 20 1], BOX),
+];
+
 /// A box of 17 layers of one voxel, in stripes of 8, 8 and 1.
 pub(crate) const COLUMN: &[Part] = &[(corners![0 0 0 to 1 1 17], BOX)];
 
@@ -133,16 +146,24 @@ fn push_facets<A: Allocator>(
     Ok(())
 }
 
+/// The facets of a mesh. `Err` comes only where an allocation failed.
+pub(crate) fn facets_of<A: Allocator + Copy>(
+    alloc: A,
+    parts: &[Part<'_>],
+) -> Result<Vec<Facet, A>, AllocError> {
+    let mut list = Vec::new(alloc);
+    for part in parts {
+        push_facets(&mut list, *part)?;
+    }
+    Ok(list)
+}
+
 /// The solid of the facets of a mesh, which are few.
 pub(crate) fn solid_of<A: Allocator + Copy + Send + Sync>(
     alloc: A,
     parts: &[Part<'_>],
 ) -> Result<Solid<A>, WeldFault> {
-    let mut list = Vec::new(alloc);
-    for part in parts {
-        push_facets(&mut list, *part)?;
-    }
-    welded(alloc, list)
+    welded(alloc, facets_of(alloc, parts)?)
 }
 
 /// The solid of at most 4608 facets.

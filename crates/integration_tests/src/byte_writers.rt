@@ -1,0 +1,206 @@
+//! Images through writers that take few bytes a call, stop at any byte, and keep what they took.
+use crate::filling::layer;
+use crate::meshes::{CUBE, Part, WIDE_ROWS, solid_of};
+use raster::{Counted, Failures, Grid, Rule, Source, WriteFault, put_all, write_layer};
+use std::alloc::{AllocError, Global};
+use std::io::{Error, ErrorKind, Read, Result as Written, Write};
+use std::test::Fail;
+
+// Takes at most `piece` bytes a call while it has room. Then it fails with `fault`; or, without one, it takes nothing
+// and calls that no error.
+#[derive(Drop)]
+struct SmallWriter {
+    taken: Vec<u8>,
+    piece: usize,
+    room: usize,
+    fault: Option<ErrorKind>,
+}
+
+impl Write for SmallWriter {
+    fn write(&mut self, buf: &[u8]) -> Written<usize> {
+        match self.fault {
+            Some(fault) if self.room == 0 => Err(Error::from(fault)),
+            _ => {
+                let count = buf.len().min(self.piece).min(self.room);
+                self.taken.extend_from_slice(&buf[..count])?;
+                self.room -= count;
+                Ok(count)
+            }
+        }
+    }
+
+    fn flush(&mut self) -> Written<()> {
+        Ok(())
+    }
+}
+
+// How many bytes a writer takes a call, and the fault with which it has no more room.
+type Way = (usize, Option<ErrorKind>);
+
+const WAYS: [Way; 6] = [
+    (1, Some(ErrorKind::Other)),
+    (1, Some(ErrorKind::Interrupted)),
+    (1, None),
+    (5, Some(ErrorKind::Other)),
+    (5, Some(ErrorKind::Interrupted)),
+    (5, None),
+];
+
+fn writer(alloc: Global, (piece, fault): Way, room: usize) -> Counted<SmallWriter> {
+    Counted::new(SmallWriter {
+        taken: Vec::new(alloc),
+        piece,
+        room,
+        fault,
+    })
+}
+
+// Whether the image of the lowest layer of a mesh went out to a writer of this way up to its room: the first bytes of
+// the image, and one failure where these aren't all.
+fn is_filled(
+    alloc: Global,
+    parts: &[Part<'_>],
+    image: &[u8],
+    way: Way,
+    room: usize,
+) -> Option<bool> {
+    let solid = solid_of(alloc, parts).ok()?;
+    let g = Grid::fit(&solid, 1, 1).ok()?;
+    let spans = layer(alloc, &solid, &g, Rule::EvenOdd, 0).ok()?;
+    let mut w = writer(alloc, way, room);
+    let told = if room < image.len() {
+        Err(WriteFault {
+            written: room as u64,
+        })
+    } else {
+        Ok(())
+    };
+    let found = write_layer(&g, spans.as_slice(), &mut w);
+    let taken = image.get(..room.min(image.len()))?;
+    let failures = u64::from(told.is_err());
+    Some(found == told && w.failures() == failures && w.inner().taken.as_slice() == taken)
+}
+
+const SMALL: &[u8] = b"P4\n2 2\n\xc0\xc0";
+
+#[test]
+fn each_beginning_of_an_image(rt: HostRuntime) -> Result<(), Fail> {
+    for way in WAYS {
+        for room in 0..=9 {
+            assert_eq!(rt; is_filled(rt.alloc(), CUBE, SMALL, way, room), Some(true));
+        }
+    }
+    Ok(())
+}
+
+// A row of the image of wide rows: all black, two pixels from column 8 on, the last eight pixels, or white.
+fn push_wide_row(image: &mut Vec<u8>, row: u32) -> Result<(), AllocError> {
+    for byte in 0..2048 {
+        image.push(match (row, byte) {
+            (0, _) | (19, 2047) => 0xff,
+            (5, 1) => 0xc0,
+            _ => 0,
+        })?;
+    }
+    Ok(())
+}
+
+// The image of wide rows, which is longer than what goes out at once.
+fn wide_image(alloc: Global) -> Result<Vec<u8>, AllocError> {
+    let mut image = Vec::new(alloc);
+    image.extend_from_slice(b"P4\n16384 20\n")?;
+    for row in (0..20).rev() {
+        push_wide_row(&mut image, row)?;
+    }
+    Ok(image)
+}
+
+#[test]
+fn an_image_beyond_one_chunk(rt: HostRuntime) -> Result<(), Fail> {
+    let image = wide_image(rt.alloc())?;
+    let bytes = image.as_slice();
+    assert_eq!(rt; bytes.len(), 40_972);
+    for room in [0, 16_383, 16_384, 16_385, 30_000, 40_971, 40_972, 50_000] {
+        for way in [(1, None), (1000, Some(ErrorKind::Other)), (50_000, None)] {
+            assert_eq!(rt;
+                is_filled(rt.alloc(), WIDE_ROWS, bytes, way, room),
+                Some(true)
+            );
+        }
+    }
+    Ok(())
+}
+
+// Gives one byte a call, and fails after the first `calls`.
+#[derive(Drop)]
+struct OneByteReader<'a> {
+    bytes: &'a [u8],
+    calls: u64,
+}
+
+impl<'a> Read for OneByteReader<'a> {
+    fn read(&mut self, buf: &mut [u8]) -> Written<usize> {
+        if self.calls == 0 {
+            return Err(Error::from(ErrorKind::Interrupted));
+        }
+        self.calls -= 1;
+        match (self.bytes.split_first(), buf.first_mut()) {
+            (Some((byte, rest)), Some(place)) => {
+                *place = *byte;
+                self.bytes = rest;
+                Ok(1)
+            }
+            _ => Ok(0),
+        }
+    }
+}
+
+// Passes on what one call of a source gives: how many bytes, or `None` where either device failed.
+fn pass(r: &mut Counted<OneByteReader<'_>>, w: &mut Counted<SmallWriter>) -> Option<usize> {
+    let mut buf = [0; 8];
+    let count = r.pull(&mut buf).ok()?;
+    put_all(w, &buf[..count]).ok()?;
+    Some(count)
+}
+
+// Passes on all that a source gives, in at most a hundred calls: whether it came to its end.
+fn pass_all(r: &mut Counted<OneByteReader<'_>>, w: &mut Counted<SmallWriter>) -> bool {
+    for _ in 0..100 {
+        match pass(r, w) {
+            Some(0) => return true,
+            Some(_) => {}
+            None => return false,
+        }
+    }
+    false
+}
+
+// How a reader of this many calls and a writer with this room pass on a text: whether to the end, the bytes that the
+// writer took, and how often either failed.
+fn passed(alloc: Global, calls: u64, room: usize) -> (bool, Vec<u8>, [u64; 2]) {
+    let mut r = Counted::new(OneByteReader {
+        bytes: SMALL,
+        calls,
+    });
+    let mut w = writer(alloc, (1, None), room);
+    let ended = pass_all(&mut r, &mut w);
+    let failures = [r.failures(), w.failures()];
+    (ended, w.into_inner().taken, failures)
+}
+
+#[test]
+fn a_byte_at_a_time_from_reader_to_writer(rt: HostRuntime) -> Result<(), Fail> {
+    // the call behind the nine bytes gives the end
+    for (calls, room, told) in [
+        (10, 9, (true, 9, [0, 0])),
+        (10, 8, (false, 8, [0, 1])),
+        (9, 9, (false, 9, [1, 0])),
+        (4, 9, (false, 4, [1, 0])),
+        (0, 0, (false, 0, [1, 0])),
+    ] {
+        let (ended, taken, failures) = passed(rt.alloc(), calls, room);
+        assert_eq!(rt; (ended, taken.len(), failures), told);
+        assert!(rt; SMALL.starts_with(taken.as_slice()));
+    }
+    Ok(())
+}

@@ -1,0 +1,117 @@
+//! Meshes as text: a keyword or a vertex a line, and coordinates in millimetres with three decimals.
+use crate::meshes::{
+    CUBE, CUBE_AND_FLAT, CUBE_AND_PAIR, CUBE_OF_THREE, INWARD_CUBE, LONG_BEAM, OCTAHEDRON,
+    ONE_INWARD, Part, SHEET, TOUCHING, TWO_CUBES, facets_of,
+};
+use micro_num::Unit;
+use std::alloc::{AllocError, Global};
+use std::test::Fail;
+use stl_text::{Facet, Point, read_stl};
+
+// A coordinate in micrometres, as a text in millimetres.
+fn number(alloc: Global, micrometres: i32) -> Result<String, AllocError> {
+    let sign = if micrometres < 0 { "-" } else { "" };
+    let size = micrometres.unsigned_abs();
+    format!(in alloc; "{sign}{}.{:03}", size / 1000, size % 1000)
+}
+
+fn push_vertex(alloc: Global, text: &mut String, point: Point) -> Result<(), AllocError> {
+    text.push_str("vertex")?;
+    for at in [point.x(), point.y(), point.z()] {
+        text.push_str(" ")?;
+        text.push_str(number(alloc, at)?.as_str())?;
+    }
+    text.push_str("\n")
+}
+
+fn push_facet(alloc: Global, text: &mut String, facet: &Facet) -> Result<(), AllocError> {
+    text.push_str("facet normal 0 0 0\nouter loop\n")?;
+    for number in 0..3 {
+        push_vertex(alloc, text, facet.corner(number))?;
+    }
+    text.push_str("endloop\nendfacet\n")
+}
+
+// The text of facets.
+fn text_of(alloc: Global, facets: &[Facet]) -> Result<String, AllocError> {
+    let mut text = String::new(alloc);
+    text.push_str("solid t\n")?;
+    for facet in facets {
+        push_facet(alloc, &mut text, facet)?;
+    }
+    text.push_str("endsolid t\n")?;
+    Ok(text)
+}
+
+// The facets that a text is read as.
+fn read(alloc: Global, text: &str) -> Option<Vec<Facet>> {
+    read_stl(alloc, text.as_bytes(), Unit::Millimetre).ok()
+}
+
+// Whether the text of a mesh is this long, and is read as just its facets.
+fn is_read(alloc: Global, parts: &[Part<'_>], len: usize) -> Option<bool> {
+    let facets = facets_of(alloc, parts).ok()?;
+    let text = text_of(alloc, facets.as_slice()).ok()?;
+    let found = read(alloc, text.as_str())?;
+    Some(text.len() == len && found.as_slice() == facets.as_slice())
+}
+
+#[test]
+fn meshes_are_read_from_their_texts(rt: HostRuntime) -> Result<(), Fail> {
+    for (parts, len) in [
+        (CUBE, 1483),
+        (CUBE_AND_PAIR, 1727),
+        (CUBE_AND_FLAT, 1605),
+        (CUBE_OF_THREE, 1483),
+        (INWARD_CUBE, 1483),
+        (TOUCHING, 2947),
+        (TWO_CUBES, 2947),
+        (ONE_INWARD, 2947),
+        (SHEET, 263),
+        (LONG_BEAM, 1501),
+        (OCTAHEDRON, 1007),
+    ] {
+        assert_eq!(rt; is_read(rt.alloc(), parts, len), Some(true));
+    }
+    Ok(())
+}
+
+// A facet below 0, and one at the ends of the range.
+const FAR_AND_NEAR: &str = "solid t
+facet normal 0 0 0
+outer loop
+vertex -0.002 0.000 -12.345
+vertex 0.000 -0.010 0.100
+vertex -1.000 -0.999 -10.001
+endloop
+endfacet
+facet normal 0 0 0
+outer loop
+vertex -128000.000 128000.000 -0.001
+vertex 127999.999 -127999.999 0.001
+vertex 16.385 -16.385 -0.000
+endloop
+endfacet
+endsolid t
+";
+
+// The corners of its facets, in micrometres.
+static CORNERS: [[i32; 3]; 6] = [
+    [-2, 0, -12_345],
+    [0, -10, 100],
+    [-1000, -999, -10_001],
+    [-128_000_000, 128_000_000, -1],
+    [127_999_999, -127_999_999, 1],
+    [16_385, -16_385, 0],
+];
+
+#[test]
+fn numbers_below_zero(rt: HostRuntime) -> Result<(), Fail> {
+    let facets = read(rt.alloc(), FAR_AND_NEAR).ok_or("refused")?;
+    assert_eq!(rt; facets.len(), 2);
+    let points = facets.iter().flat_map(|facet| facet.0.iter());
+    for (point, corner) in points.zip(CORNERS.as_slice()) {
+        assert_eq!(rt; [point.x(), point.y(), point.z()], *corner);
+    }
+    Ok(())
+}
