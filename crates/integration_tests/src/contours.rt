@@ -92,10 +92,11 @@ const NEAR_LOOP: &[u32] = &[4, 11, 10, 7, 6, 9, 8, 5];
 
 const FAR_LOOP: &[u32] = &[16, 23, 22, 19, 18, 21, 20, 17];
 
-static PLANES: [Plane; 7] = [
+static PLANES: [Plane; 8] = [
     (CUBE, [1, 1, 1], &[(NEAR_LOOP, 1)]),
     (CUBE, [1, 1, 3], &[(NEAR_LOOP, 1)]),
     (CUBE_AND_PAIR, [1, 1, 1], &[(NEAR_LOOP, 1), (&[12, 13], 0)]),
+    (CUBE_AND_PAIR, [1, 1, 3], &[(NEAR_LOOP, 1), (&[12, 13], 0)]),
     (OCTAHEDRON, [0, 0, 0], &[(&[0, 1, 2, 3], 1)]),
     (OCTAHEDRON, [0, 0, 4], &[]),
     (TWO_CUBES, [6, 6, 6], &[(NEAR_LOOP, 1), (FAR_LOOP, 1)]),

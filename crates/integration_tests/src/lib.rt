@@ -11,6 +11,8 @@ mod claims;
 #[cfg(test)]
 mod contours;
 #[cfg(test)]
+mod corner_planes;
+#[cfg(test)]
 mod cuts;
 #[cfg(test)]
 mod file_forms;
@@ -32,6 +34,10 @@ mod pool;
 mod published;
 #[cfg(test)]
 mod rays;
+#[cfg(test)]
+mod refused_rises;
+#[cfg(test)]
+mod refused_welds;
 #[cfg(test)]
 mod stl_texts;
 #[cfg(test)]

@@ -1,0 +1,72 @@
+//! A rise of a sweep for which an allocation fails leaves the sweep as it was, and the next one succeeds.
+use crate::meshes::{TWO_CUBES, solid_of};
+use contour::Sweep;
+use mesh_weld::Solid;
+use short_memory::ShortMemory;
+use std::alloc::{AllocError, Allocator, Global};
+use std::test::Fail;
+
+// A height of a sweep, how many facets it has passed there, and those that it cuts.
+type Stand<'a> = (i64, u32, &'a [u32]);
+
+const LOW: Stand<'static> = (2, 10, &[4, 5, 6, 7, 8, 9, 10, 11]);
+
+const HIGH: Stand<'static> = (
+    6,
+    20,
+    &[4, 5, 6, 7, 8, 9, 10, 11, 16, 17, 18, 19, 20, 21, 22, 23],
+);
+
+fn stands_at<A: Allocator + Copy + Send + Sync>(
+    sweep: &Sweep<'_, A>,
+    (height, passed, active): Stand<'_>,
+) -> bool {
+    sweep.height() == height && sweep.passed() == passed && sweep.active() == active
+}
+
+// Whether a rise was refused, and whether the sweep stood as before then, and above after the next rise; or stands above
+// at once.
+fn risen<A: Allocator + Copy + Send + Sync>(
+    alloc: A,
+    solid: &Solid<A>,
+) -> Result<(bool, bool), AllocError> {
+    let mut sweep = Sweep::start(alloc, solid, 2)?;
+    let started = stands_at(&sweep, LOW);
+    if sweep.advance(6).is_ok() {
+        return Ok((false, started && stands_at(&sweep, HIGH)));
+    }
+    let kept = stands_at(&sweep, LOW);
+    sweep.advance(6)?;
+    Ok((true, started && kept && stands_at(&sweep, HIGH)))
+}
+
+// The same for two cubes.
+fn risen_through_cubes(memory: &ShortMemory<Global>) -> Option<(bool, bool)> {
+    let solid = solid_of(memory, TWO_CUBES).ok()?;
+    risen(memory, &solid).ok()
+}
+
+// Fails each allocation in turn until none is left to fail: how many rises were refused. `None` where a sweep stood
+// otherwise.
+fn refused(alloc: Global) -> Option<u32> {
+    let mut refused = 0u32;
+    for turn in 1..200u64 {
+        let memory = ShortMemory::new(alloc, turn);
+        let found = risen_through_cubes(&memory);
+        if !memory.has_refused() {
+            return (found == Some((false, true))).then_some(refused);
+        }
+        match found {
+            Some((true, true)) => refused = refused.saturating_add(1),
+            Some(_) => return None,
+            None => {}
+        }
+    }
+    None
+}
+
+#[test]
+fn active_facets_stay_where_a_rise_is_refused(rt: HostRuntime) -> Result<(), Fail> {
+    assert!(rt; refused(rt.alloc()) > Some(0));
+    Ok(())
+}
