@@ -55,7 +55,7 @@ fn two_cubes_by_each_rule(rt: HostRuntime) -> Result<(), Fail> {
 }
 
 /// A stripe of a job, which has it.
-fn piece_of<'m, A: Allocator + Copy + Send + Sync>(
+pub(crate) fn piece_of<'m, A: Allocator + Copy + Send + Sync>(
     alloc: A,
     job: &'m Job<A>,
     stripe: u64,
@@ -70,13 +70,13 @@ fn piece_of<'m, A: Allocator + Copy + Send + Sync>(
 }
 
 /// The fault of a piece that a book doesn't take, with the stripe of the piece that comes back.
-type Refusal = Option<(FileFault, u64)>;
+pub(crate) type Refusal = Option<(FileFault, u64)>;
 
 /// What a book shows: how many places are taken, the area of their layers, and that of layer 8 and of layer 0.
-type Shown = (u32, u64, Option<u64>, Option<u64>);
+pub(crate) type Shown = (u32, u64, Option<u64>, Option<u64>);
 
 /// Why a book doesn't take a piece.
-fn refusal<'m>(book: &mut Book<'m, Global>, piece: Piece<'m, Global>) -> Refusal {
+pub(crate) fn refusal<'m>(book: &mut Book<'m, Global>, piece: Piece<'m, Global>) -> Refusal {
     let (fault, back) = book.file(piece).err()?;
     Some((fault, back.stripe()))
 }
@@ -86,7 +86,8 @@ fn area_at(book: &Book<'_, Global>, k: u32) -> Option<u64> {
     Some(layer.area())
 }
 
-fn shown(book: &Book<'_, Global>) -> Shown {
+/// What a book shows now.
+pub(crate) fn shown(book: &Book<'_, Global>) -> Shown {
     (
         book.filed(),
         book.total_area(),
@@ -97,10 +98,10 @@ fn shown(book: &Book<'_, Global>) -> Shown {
 
 /// Whether a stripe is of the other one of two jobs, and its number; why a book of the first doesn't take it, and what
 /// the book shows then.
-type Filing = (bool, u64, Refusal, Shown);
+pub(crate) type Filing = (bool, u64, Refusal, Shown);
 
-/// Whether such a stripe goes so.
-pub(crate) fn is_filed<'m>(
+// Whether such a stripe goes so.
+fn is_filed<'m>(
     alloc: Global,
     book: &mut Book<'m, Global>,
     job: &'m Job<Global>,

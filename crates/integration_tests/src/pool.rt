@@ -2,7 +2,7 @@
 //! allocation fails.
 ghost use Rattle.std.specs.Prelude.{◌≤◌};
 
-use crate::book::{FILINGS, is_filed};
+use crate::book::{FILINGS, Filing, piece_of, refusal, shown};
 use crate::jobs::job_of;
 use crate::meshes::{COLUMN, CUBE};
 use build_book::{Book, Build, Job, Piece};
@@ -63,9 +63,11 @@ fn any_number_of_workers(rt: HostRuntime) -> Result<(), Fail> {
     Ok(())
 }
 
-// Holds the worker that arrives first until the other has made two pieces, for at most `TURNS` turns.
+// Holds the worker that arrives first, or the one that is the first to have made a piece, until the other has made two
+// pieces, for at most `TURNS` turns.
 #[derive(Drop)]
 struct HoldsTheFirst {
+    at_made: bool,
     // Workers by their numbers plus 1, or 0 for nobody.
     held: AtomicU64,
     // Such a worker in each of three bytes, for the stripe that it came to or made: byte s is that of stripe s.
@@ -74,6 +76,7 @@ struct HoldsTheFirst {
     made_by_others: AtomicU64,
     let_go: AtomicU64,
     twice: AtomicU64,
+    early: AtomicU64,
 }
 
 const TURNS: u32 = 10_000_000;
@@ -81,29 +84,54 @@ const TURNS: u32 = 10_000_000;
 // The values of a byte.
 const BYTE: u64 = 256;
 
+// The unit of a stripe's byte; 0 where there is no such stripe.
+fn unit_of(stripe: u64) -> u64 {
+    match stripe {
+        0 => 1,
+        1 => BYTE,
+        2 => BYTE * BYTE,
+        _ => 0,
+    }
+}
+
 impl HoldsTheFirst {
-    fn new() -> HoldsTheFirst {
+    fn new(at_made: bool) -> HoldsTheFirst {
         HoldsTheFirst {
+            at_made,
             held: AtomicU64::new(0),
             arrived: AtomicU64::new(0),
             made: AtomicU64::new(0),
             made_by_others: AtomicU64::new(0),
             let_go: AtomicU64::new(0),
             twice: AtomicU64::new(0),
+            early: AtomicU64::new(0),
         }
     }
 
-    // Notes who came to a stripe. It counts where somebody had, or where there is no such stripe.
+    // Notes who came to a stripe. It counts where somebody had, or where there is no such stripe or worker.
     fn note(&self, places: &AtomicU64, worker: u64, stripe: u64) {
-        let unit: u64 = match stripe {
-            0 => 1,
-            1 => BYTE,
-            2 => BYTE * BYTE,
-            _ => 0,
-        };
+        let unit = unit_of(stripe);
         let before = places.fetch_add(worker.wrapping_mul(unit), SeqCst);
-        if unit == 0 || before / unit % BYTE != 0 {
+        if unit == 0 || worker > 2 || before / unit % BYTE != 0 {
             self.twice.fetch_add(1, SeqCst);
+        }
+    }
+
+    // Counts where a worker has made a stripe that it hadn't come to before.
+    fn note_order(&self, worker: u64, stripe: u64) {
+        let unit = unit_of(stripe);
+        if unit == 0 || self.arrived.load(SeqCst) / unit % BYTE != worker {
+            self.early.fetch_add(1, SeqCst);
+        }
+    }
+
+    fn hold_first(&self, worker: u64) {
+        if self
+            .held
+            .compare_exchange(0, worker, SeqCst, SeqCst)
+            .is_ok()
+        {
+            self.hold();
         }
     }
 
@@ -117,7 +145,7 @@ impl HoldsTheFirst {
         }
     }
 
-    // Whether each stripe was made once, by the worker that came to it, and the one held was let go.
+    // Whether each stripe was made once, by the worker that had come to it before, and the one held was let go.
     fn is_served(&self) -> bool {
         let made = self.made.load(SeqCst);
         made % BYTE != 0
@@ -125,6 +153,7 @@ impl HoldsTheFirst {
             && made / (BYTE * BYTE) % BYTE != 0
             && made == self.arrived.load(SeqCst)
             && self.twice.load(SeqCst) == 0
+            && self.early.load(SeqCst) == 0
             && self.let_go.load(SeqCst) == 1
     }
 }
@@ -133,27 +162,46 @@ impl Gate<Global> for HoldsTheFirst {
     fn arrived(&self, worker: u32, stripe: u64) {
         let me = u64::from(worker) + 1;
         self.note(&self.arrived, me, stripe);
-        if self.held.compare_exchange(0, me, SeqCst, SeqCst).is_ok() {
-            self.hold();
+        if !self.at_made {
+            self.hold_first(me);
         }
     }
 
     fn made(&self, worker: u32, piece: &Piece<'_, Global>) {
         let me = u64::from(worker) + 1;
+        self.note_order(me, piece.stripe());
         self.note(&self.made, me, piece.stripe());
+        if self.at_made {
+            self.hold_first(me);
+        }
         if self.held.load(SeqCst) != me {
             self.made_by_others.fetch_add(1, SeqCst);
         }
     }
 }
 
+// Whether two workers build the column with no late layer, served by a gate that holds the first of them.
+fn is_built_while_held<R: Threads + Wait + Sync>(
+    rt: &R,
+    alloc: Global,
+    at_made: bool,
+) -> Result<bool, AllocError> {
+    let job = job_of(alloc, COLUMN, 1, Rule::EvenOdd)?;
+    let gate = HoldsTheFirst::new(at_made);
+    let found = built(rt, alloc, &job, 2, &gate)?;
+    Ok(found == (true, 0) && gate.is_served())
+}
+
 #[test]
 fn one_worker_is_held_while_the_other_works(rt: HostRuntime) -> Result<(), Fail> {
-    let job = job_of(rt.alloc(), COLUMN, 1, Rule::EvenOdd)?;
-    let gate = HoldsTheFirst::new();
-    let found = built(&rt, rt.alloc(), &job, 2, &gate)?;
-    assert_eq!(rt; found, (true, 0));
-    assert!(rt; gate.is_served());
+    assert_eq!(rt; is_built_while_held(&rt, rt.alloc(), false), Ok(true));
+    Ok(())
+}
+
+// So nobody holds the book's lock from the slicing of a piece on.
+#[test]
+fn one_worker_is_held_with_its_piece_while_the_other_works(rt: HostRuntime) -> Result<(), Fail> {
+    assert_eq!(rt; is_built_while_held(&rt, rt.alloc(), true), Ok(true));
     Ok(())
 }
 
@@ -202,7 +250,21 @@ fn each_growth_of_a_build_refused_in_turn(rt: HostRuntime) -> Result<(), Fail> {
     Ok(())
 }
 
-// The number of the first stripe, each filed under the lock, that goes otherwise.
+// Whether a stripe goes so that is filed under the lock, where the book is looked at under a later one.
+fn is_filed_between<'m, R: Wait>(
+    rt: &R,
+    alloc: Global,
+    book: &Mutex<Book<'m, Global>>,
+    job: &'m Job<Global>,
+    other: &'m Job<Global>,
+    (is_other, stripe, refused, told): Filing,
+) -> Result<bool, AllocError> {
+    let piece = piece_of(alloc, if is_other { other } else { job }, stripe)?;
+    let found = refusal(&mut book.lock(rt), piece);
+    Ok(found == refused && shown(&book.lock(rt)) == told)
+}
+
+// The number of the first stripe that goes otherwise.
 fn first_other_filing<'m, R: Wait>(
     rt: &R,
     alloc: Global,
@@ -211,7 +273,7 @@ fn first_other_filing<'m, R: Wait>(
     other: &'m Job<Global>,
 ) -> Result<Option<usize>, AllocError> {
     for (n, row) in FILINGS.iter().enumerate() {
-        if !is_filed(alloc, &mut book.lock(rt), job, other, *row)? {
+        if !is_filed_between(rt, alloc, book, job, other, *row)? {
             return Ok(Some(n));
         }
     }
