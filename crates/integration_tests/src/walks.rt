@@ -99,14 +99,21 @@ fn crossed(f: &Facet, lattice: &Lattice, at: &Centre) -> Crossed {
     ))
 }
 
+// The y of a row's centres, in half-micrometres.
+fn scanline(lattice: &Lattice, row: u32) -> i64 {
+    i64::from(lattice.step)
+        .wrapping_mul(2)
+        .wrapping_mul(i64::from(row))
+        .wrapping_add(lattice.y2)
+}
+
 // How many rows of a lattice a facet crosses at a height; `None` where the walk goes otherwise there.
 fn rows_crossed(f: &Facet, z2: i64, lattice: &Lattice) -> Option<u32> {
     let start = Centre::new(0, 0, z2)?;
     let mut walk = Walk::start(f, start.z2(), lattice);
     let mut count = 0u32;
     for row in 0..lattice.rows {
-        let y2 = lattice.y2 + 2 * i64::from(lattice.step) * i64::from(row);
-        let at = Centre::new(0, y2, z2)?;
+        let at = Centre::new(0, scanline(lattice, row), z2)?;
         let alone = crossed(f, lattice, &at);
         if walked(&mut walk, row) != alone {
             return None;

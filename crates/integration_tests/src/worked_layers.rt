@@ -49,7 +49,8 @@ fn are_layers(alloc: Global, (parts, size, told): Worked<'_>, rule: Rule) -> Opt
     }
     let solid = solid_of(alloc, parts).ok()?;
     let g = Grid::fit(&solid, u32::from(size), u32::from(size)).ok()?;
-    for (k, layer) in (0..g.layers()).zip(told) {
+    for k in 0..g.layers() {
+        let layer = told.get(k as usize)?;
         if is_layer(alloc, &solid, &g, rule, k, *layer) != Some(true) {
             return Some(false);
         }
