@@ -4,6 +4,7 @@
 --     AreWordsOf        these pieces are words that stand for these tokens, with white space behind each
 --     IsRemark          what may follow a word up to the end of its line: a name, or what is skipped
 --     IsLineBreak       the end of a line, and more white space
+--     IsEnd             a line break, or nothing
 --     WrittenSolid      a solid of these facets, up to the end of the line of `endsolid`
 --     AreWrittenSolids  these pieces are solids of these facets, with a line break behind each
 --     Written           a text of these facets
@@ -63,6 +64,11 @@ abbrev pub IsLineBreak : List ℕ → Type 0
 IsLineBreak [] = ⊥
 IsLineBreak (byte ∷ bytes) = (is_line_end byte ≡ true) × (are_white bytes ≡ true)
 
+-- what may follow the last solid: a line break, or nothing where the text ends with the line of `endsolid`
+abbrev pub IsEnd : List ℕ → Type 0
+IsEnd [] = Unit {0}
+IsEnd (byte ∷ bytes) = IsLineBreak (byte ∷ bytes)
+
 -- a solid of these facets, up to the end of the line of `endsolid`
 pub record WrittenSolid (unit : LengthUnit) (facets : List Facet) (text : List ℕ) : Type 0 where
   pub opening : List ℕ
@@ -85,11 +91,6 @@ AreWrittenSolids unit [] (s ∷ texts) = ⊥
 AreWrittenSolids unit (facets ∷ solids) [] = ⊥
 AreWrittenSolids unit (facets ∷ solids) (s ∷ texts) =
     WrittenSolid unit facets s.text × IsLineBreak s.space × AreWrittenSolids unit solids texts
-
--- what may follow the last solid: a line break, or nothing where the text ends with the line of `endsolid`
-abbrev pub IsEnd : List ℕ → Type 0
-IsEnd [] = Unit {0}
-IsEnd (byte ∷ bytes) = IsLineBreak (byte ∷ bytes)
 
 -- a text of these facets: white space, solids, and a last solid
 pub record Written (unit : LengthUnit) (facets : List Facet) (text : List ℕ) : Type 0 where

@@ -16,7 +16,7 @@ use Rattle.stl_text.proofs.lemmas.Either.{after_word-lt, open_tokens, rest-le, n
 use Rattle.std.proofs.lemmas.Bool.{and_parts, false≢true}
 use Rattle.stl_text.proofs.lemmas.Steps.{facet_count-append, breaks_first, spells_then, stops_within_at}
 
-abbrev end_tokens : List Token
+abbrev pub end_tokens : List Token
 end_tokens = end_word ∷ rest_of_line ∷ []
 
 abbrev solid_word : Token
