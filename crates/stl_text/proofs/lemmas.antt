@@ -6,3 +6,4 @@ pub mod Either
 pub mod Steps
 pub mod Solids
 pub mod Written
+pub mod ReadIsWritten

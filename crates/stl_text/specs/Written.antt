@@ -1,11 +1,14 @@
 -- How facets may be written: in solids, with any white space between words, keywords in any case, any words for
 -- normals, any names, and anything behind `endsolid` on its line.
---     SpacedWord        a word and the white space behind it
---     AreWordsOf        these spaced words stand for these tokens
+--     Spaced            a piece of a text, and the white space behind it
+--     AreWordsOf        these pieces are words that stand for these tokens, with white space behind each
 --     IsRemark          what may follow a word up to the end of its line: a name, or what is skipped
---     WrittenSolid      a solid of these facets
+--     IsLineBreak       the end of a line, and more white space
+--     IsEnd             a line break, or nothing
+--     WrittenSolid      a solid of these facets, up to the end of the line of `endsolid`
+--     AreWrittenSolids  these pieces are solids of these facets, with a line break behind each
 --     Written           a text of these facets
-use Rattle.std.specs.Prelude.{◌≡◌, ℕ, ◌<◌, Bool, true, ◌&&◌, not, List, [], ◌∷◌, ◌++◌, length, Ok, nat_lt, flat_map}
+use Rattle.std.specs.Prelude.{◌≡◌, ℕ, Bool, true, ◌&&◌, not, List, [], ◌∷◌, ◌++◌, length, Ok, nat_lt, flat_map}
 use Rattle.std.specs.Str.{str_to_ascii_lowercase}
 use Rattle.std.specs.List.{list_all}
 use Rattle.micro_num.specs.declared.unit.Unit.{Unit as LengthUnit}
@@ -21,16 +24,17 @@ are_white bytes = list_all is_white bytes
 abbrev pub is_word : List ℕ → Bool
 is_word bytes = nat_lt 0 (length bytes) && list_all (λ byte. not (is_white byte)) bytes
 
--- a word, and the white space behind it
-pub record SpacedWord : Type 0 where
-  pub word : List ℕ
+-- a piece of a text, and the white space behind it
+pub record Spaced : Type 0 where
+  pub text : List ℕ
   pub space : List ℕ
 
-abbrev pub is_spaced_word : SpacedWord → Bool
-is_spaced_word t = is_word t.word && (nat_lt 0 (length t.space) && are_white t.space)
+-- one piece behind the other
+abbrev pub laid_out : List Spaced → List ℕ
+laid_out pieces = flat_map (λ s. s.text ++ s.space) pieces
 
-abbrev pub laid_out : List SpacedWord → List ℕ
-laid_out words = flat_map (λ t. t.word ++ t.space) words
+abbrev pub is_spaced_word : Spaced → Bool
+is_spaced_word s = is_word s.text && (nat_lt 0 (length s.space) && are_white s.space)
 
 -- the word stands for the token: a keyword in any case
 abbrev pub IsWordOf : LengthUnit → Token → List ℕ → Type 0
@@ -39,11 +43,11 @@ IsWordOf unit normal_part word = Unit {0}
 IsWordOf unit (coordinate z) word = coordinate_of unit word ≡ Ok z
 IsWordOf unit rest_of_line word = ⊥
 
-abbrev pub AreWordsOf : LengthUnit → List Token → List SpacedWord → Type 0
+abbrev pub AreWordsOf : LengthUnit → List Token → List Spaced → Type 0
 AreWordsOf unit [] [] = Unit {0}
-AreWordsOf unit [] (t ∷ words) = ⊥
+AreWordsOf unit [] (s ∷ words) = ⊥
 AreWordsOf unit (p ∷ tokens) [] = ⊥
-AreWordsOf unit (p ∷ tokens) (t ∷ words) = (is_spaced_word t ≡ true) × IsWordOf unit p t.word × AreWordsOf unit tokens words
+AreWordsOf unit (p ∷ tokens) (s ∷ words) = (is_spaced_word s ≡ true) × IsWordOf unit p s.text × AreWordsOf unit tokens words
 
 -- no bytes, or white space first
 abbrev pub IsApart : List ℕ → Type 0
@@ -55,41 +59,50 @@ pub record IsRemark (bytes : List ℕ) : Type 0 where
   pub apart : IsApart bytes
   pub one_line : list_all (λ byte. not (is_line_end byte)) bytes ≡ true
 
--- a solid of these facets, and the white space behind it
+-- the end of a line, and more white space
+abbrev pub IsLineBreak : List ℕ → Type 0
+IsLineBreak [] = ⊥
+IsLineBreak (byte ∷ bytes) = (is_line_end byte ≡ true) × (are_white bytes ≡ true)
+
+-- what may follow the last solid: a line break, or nothing where the text ends with the line of `endsolid`
+abbrev pub IsEnd : List ℕ → Type 0
+IsEnd [] = Unit {0}
+IsEnd (byte ∷ bytes) = IsLineBreak (byte ∷ bytes)
+
+-- a solid of these facets, up to the end of the line of `endsolid`
 pub record WrittenSolid (unit : LengthUnit) (facets : List Facet) (text : List ℕ) : Type 0 where
   pub opening : List ℕ
   pub opening_is : str_to_ascii_lowercase opening ≡ keyword_text Solid
   pub name : List ℕ
   pub name_is : IsRemark name
-  pub name_end : ℕ
-  pub name_ends : is_line_end name_end ≡ true
-  pub space : List ℕ
-  pub space_is : are_white space ≡ true
-  pub body : List SpacedWord
+  pub line_break : List ℕ
+  pub line_break_is : IsLineBreak line_break
+  pub body : List Spaced
   pub body_is : AreWordsOf unit (flat_map facet_tokens facets) body
   pub closing : List ℕ
   pub closing_is : str_to_ascii_lowercase closing ≡ end_keyword
   pub remark : List ℕ
   pub remark_is : IsRemark remark
-  pub remark_end : ℕ
-  pub remark_ends : is_line_end remark_end ≡ true
-  pub behind : List ℕ
-  pub behind_is : are_white behind ≡ true
-  pub text_is : text ≡ opening ++ (name ++ (name_end ∷ (space ++ (laid_out body ++ (closing ++ (remark ++ (remark_end ∷ behind)))))))
+  pub text_is : text ≡ opening ++ (name ++ (line_break ++ (laid_out body ++ (closing ++ remark))))
 
-abbrev pub AreWrittenSolids : LengthUnit → List (List Facet) → List (List ℕ) → Type 0
+abbrev pub AreWrittenSolids : LengthUnit → List (List Facet) → List Spaced → Type 0
 AreWrittenSolids unit [] [] = Unit {0}
-AreWrittenSolids unit [] (text ∷ texts) = ⊥
+AreWrittenSolids unit [] (s ∷ texts) = ⊥
 AreWrittenSolids unit (facets ∷ solids) [] = ⊥
-AreWrittenSolids unit (facets ∷ solids) (text ∷ texts) = WrittenSolid unit facets text × AreWrittenSolids unit solids texts
+AreWrittenSolids unit (facets ∷ solids) (s ∷ texts) =
+    WrittenSolid unit facets s.text × IsLineBreak s.space × AreWrittenSolids unit solids texts
 
--- a text of these facets: white space, and solids
+-- a text of these facets: white space, solids, and a last solid
 pub record Written (unit : LengthUnit) (facets : List Facet) (text : List ℕ) : Type 0 where
   pub lead : List ℕ
   pub lead_is : are_white lead ≡ true
   pub solids : List (List Facet)
-  pub some : 0 < length solids
-  pub each : facets ≡ facets_of solids
-  pub texts : List (List ℕ)
+  pub texts : List Spaced
   pub texts_are : AreWrittenSolids unit solids texts
-  pub text_is : text ≡ lead ++ flat_map (λ t. t) texts
+  pub last : List Facet
+  pub last_text : List ℕ
+  pub last_is : WrittenSolid unit last last_text
+  pub behind : List ℕ
+  pub behind_is : IsEnd behind
+  pub each : facets ≡ facets_of solids ++ last
+  pub text_is : text ≡ lead ++ (laid_out texts ++ (last_text ++ behind))

@@ -1,5 +1,5 @@
 //! Laws of the format, which relate the definitions that the contract of the reader cites.
-ghost use Rattle.std.specs.Prelude.{◌≡◌, ◌≤◌, ◌⊎◌, List, length, ℕ};
+ghost use Rattle.std.specs.Prelude.{◌≡◌, ◌≤◌, ◌↔◌, ◌⊎◌, List, length, ℕ};
 ghost use Rattle.micro_num.specs.declared.unit.Unit.{Unit as LengthUnit};
 ghost use Rattle.stl_text.specs.declared.stl_fault.StlFault.{StlFault};
 ghost use Rattle.stl_text.specs.Text.{IsFaultOf, Reads};
@@ -18,9 +18,10 @@ pub fn one_outcome()
         → ((facets : List Facet) × Reads limit unit bytes facets) ⊎ ((fault : StlFault) × IsFaultOf limit unit bytes fault) }
 {}
 
-/// Facets that are written as STL are read back unchanged, for any white space between words, any case of keywords, any
-/// words of normals and any names of solids.
-pub fn written_reads_back()
-    ensures { (limit : ℕ) (unit : LengthUnit) (facets : List Facet) (bytes : List ℕ)
-        → length facets ≤ limit → Written unit facets bytes → Reads limit unit bytes facets }
+/// A text reads as facets, at most `limit` of them, exactly where it is these facets written as STL: with any white
+/// space between words, any case of keywords, any words of normals and any names of solids, and with or without a line
+/// end behind the last solid.
+pub fn reads_as_written()
+    ensures { (limit : ℕ) (unit : LengthUnit) (bytes : List ℕ) (facets : List Facet)
+        → Reads limit unit bytes facets ↔ (Written unit facets bytes × (length facets ≤ limit)) }
 {}

@@ -2,8 +2,8 @@
 //!
 //! - [`read_stl`], [`read_stl_at_most`]: the facets of a text in file order, or its one fault.
 //! - [`StlFault`]: why a text is no mesh, with the byte offset of the fault; [`Word`]: what is wanted there.
-//! - [`one_outcome`], [`written_reads_back`]: laws. Each text has one outcome, and facets that are written as STL are read
-//!   back unchanged.
+//! - [`one_outcome`], [`reads_as_written`]: laws. Each text has one outcome, and it reads as facets exactly where it is
+//!   these facets written as STL.
 //! - [`Point`], [`Facet`], [`extent`], [`points_in_order`] and [`FACET_LIMIT`], handed on from `geometry`.
 //!
 //! ```
@@ -28,7 +28,7 @@ mod stl_fault;
 mod word;
 
 pub use geometry::{FACET_LIMIT, Facet, Point, extent, points_in_order};
-pub use laws::{one_outcome, written_reads_back};
+pub use laws::{one_outcome, reads_as_written};
 pub use reading::{read_stl, read_stl_at_most};
 pub use stl_fault::StlFault;
 pub use word::Word;

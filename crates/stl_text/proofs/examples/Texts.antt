@@ -131,9 +131,12 @@ too_many =
     }
 
 -- two solids in capitals, with CR LF, words for normals, and names
+abbrev solid_text : Facet → List ℕ → List ℕ
+solid_text t name =
+    codes "SOLID" ++ name ++ codes "\r\nFACET NORMAL nan nan nan\r\nOUTER LOOP\r\nVERTEX 1E-3 +0 -.002 VERTEX 0 0 0\r\nVertex 0 .001e0 0\r\nENDLOOP\r\n  endFacet\r\nENDSOLID it is"
+
 abbrev capitals : Facet → List ℕ → List ℕ
-capitals t name =
-    codes "SOLID" ++ name ++ codes "\r\nFACET NORMAL nan nan nan\r\nOUTER LOOP\r\nVERTEX 1E-3 +0 -.002 VERTEX 0 0 0\r\nVertex 0 .001e0 0\r\nENDLOOP\r\n  endFacet\r\nENDSOLID it is\r\n"
+capitals t name = solid_text t name ++ codes "\r\n"
 
 abbrev small : Facet
 small = facet_with (at (pos 1) (pos 0) (negsuc 1)) (at (pos 0) (pos 0) (pos 0)) (at (pos 0) (pos 1) (pos 0))
@@ -272,10 +275,10 @@ number_out_of_range =
     }
 
 -- the first of these solids, as it is written
-abbrev spaced : List ℕ → List ℕ → Written.SpacedWord
-spaced word space = record { word = word; space = space }
+abbrev spaced : List ℕ → List ℕ → Written.Spaced
+spaced text space = record { text = text; space = space }
 
-abbrev body : List Written.SpacedWord
+abbrev body : List Written.Spaced
 body =
     spaced (codes "FACET") (codes " ") ∷ spaced (codes "NORMAL") (codes " ")
     ∷ spaced (codes "nan") (codes " ") ∷ spaced (codes "nan") (codes " ") ∷ spaced (codes "nan") (codes "\r\n")
@@ -285,7 +288,7 @@ body =
     ∷ spaced (codes "Vertex") (codes " ") ∷ spaced (codes "0") (codes " ") ∷ spaced (codes ".001e0") (codes " ") ∷ spaced (codes "0") (codes "\r\n")
     ∷ spaced (codes "ENDLOOP") (codes "\r\n  ") ∷ spaced (codes "endFacet") (codes "\r\n") ∷ []
 
-solid_in_capitals : Written.WrittenSolid Millimetre (small ∷ []) (capitals small (codes " endsolid"))
+solid_in_capitals : Written.WrittenSolid Millimetre (small ∷ []) (solid_text small (codes " endsolid"))
 unfolding magnitude
 solid_in_capitals =
     record {
@@ -293,35 +296,34 @@ solid_in_capitals =
       opening_is = refl;
       name = codes " endsolid";
       name_is = record { apart = refl; one_line = refl };
-      name_end = 13;
-      name_ends = refl;
-      space = codes "\n";
-      space_is = refl;
+      line_break = codes "\r\n";
+      line_break_is = (refl, refl);
       body = body;
       body_is = words;
       closing = codes "ENDSOLID";
       closing_is = refl;
       remark = codes " it is";
       remark_is = record { apart = refl; one_line = refl };
-      remark_end = 13;
-      remark_ends = refl;
-      behind = codes "\n";
-      behind_is = refl;
       text_is = refl;
     }
   where
     words : Written.AreWordsOf Millimetre (flat_map Text.facet_tokens (small ∷ [])) body
     words = (refl, refl, (refl, refl, (refl, tt, (refl, tt, (refl, tt, (refl, refl, (refl, refl, (refl, refl, (refl, refl, (refl, refl, (refl, refl, (refl, refl, (refl, refl, (refl, refl, (refl, refl, (refl, refl, (refl, refl, (refl, refl, (refl, refl, (refl, refl, (refl, refl, tt)))))))))))))))))))))
 
-written_in_capitals : Written.Written Millimetre (small ∷ []) (codes "\n" ++ capitals small (codes " endsolid"))
-written_in_capitals =
+-- twice, the second time with no line end behind the solid
+written_twice : Written.Written Millimetre (small ∷ small ∷ []) (codes "\n" ++ solid_text small (codes " endsolid") ++ codes "\r\n" ++ solid_text small (codes " endsolid"))
+written_twice =
     record {
       lead = codes "\n";
       lead_is = refl;
       solids = (small ∷ []) ∷ [];
-      some = lit≤ tt;
+      texts = spaced (solid_text small (codes " endsolid")) (codes "\r\n") ∷ [];
+      texts_are = (solid_in_capitals, (refl, refl), tt);
+      last = small ∷ [];
+      last_text = solid_text small (codes " endsolid");
+      last_is = solid_in_capitals;
+      behind = [];
+      behind_is = tt;
       each = refl;
-      texts = capitals small (codes " endsolid") ∷ [];
-      texts_are = (solid_in_capitals, tt);
       text_is = refl;
     }

@@ -16,7 +16,7 @@ use Rattle.stl_text.proofs.lemmas.Either.{after_word-lt, open_tokens, rest-le, n
 use Rattle.std.proofs.lemmas.Bool.{and_parts, false≢true}
 use Rattle.stl_text.proofs.lemmas.Steps.{facet_count-append, breaks_first, spells_then, stops_within_at}
 
-abbrev end_tokens : List Token
+abbrev pub end_tokens : List Token
 end_tokens = end_word ∷ rest_of_line ∷ []
 
 abbrev solid_word : Token
@@ -149,18 +149,21 @@ first_whole start now had facets added none items spelled = record {
   spelled = subst (λ ps. Spells ps start now) (sym (append-nil (solid_tokens added))) spelled;
 }
 
-tokens-more : (solids : List (List Facet)) (added : List Facet)
+pub tokens-more : (solids : List (List Facet)) (added : List Facet)
     → flat_map solid_tokens (solids ++ added ∷ []) ≡ flat_map solid_tokens solids ++ solid_tokens added
 tokens-more solids added =
     flat_map-append solid_tokens solids (added ∷ []) ∙ ap (λ ps. flat_map solid_tokens solids ++ ps) (append-nil (solid_tokens added))
+
+pub facets-more : (solids : List (List Facet)) (added : List Facet) → facets_of solids ++ added ≡ facets_of (solids ++ added ∷ [])
+facets-more solids added =
+    ap (λ xs. facets_of solids ++ xs) (sym (append-nil added)) ∙ sym (flat_map-append (λ xs. xs) solids (added ∷ []))
 
 pub one_more_whole : (start now next : Reader) (had facets added : List Facet) → AreWhole start now had → facets ≡ had ++ added
     → Spells (solid_tokens added) now next → AreWhole start next facets
 one_more_whole start now next had facets added are items spelled = record {
   solids = are.solids ++ added ∷ [];
   some = omega (arith, length-append are.solids (added ∷ []));
-  items = items ∙ ap (λ xs. xs ++ added) are.items
-      ∙ ap (λ xs. facets_of are.solids ++ xs) (sym (append-nil added)) ∙ sym (flat_map-append (λ xs. xs) are.solids (added ∷ []));
+  items = items ∙ ap (λ xs. xs ++ added) are.items ∙ facets-more are.solids added;
   spelled = subst (λ ps. Spells ps start next) (sym (tokens-more are.solids added))
       (spells_then (flat_map solid_tokens are.solids) (solid_tokens added) are.spelled spelled);
 }

@@ -1,5 +1,5 @@
 -- Facets that are written as a text are read back.
-use Rattle.std.proofs.Common.{◌≡◌, ℕ, ◌≤◌, Bool, true, false, ◌&&◌, not, List, [], ◌∷◌, ◌++◌, length, refl, sym, ◌∙◌, ap, arith, append_assoc}
+use Rattle.std.proofs.Common.{◌≡◌, ℕ, ◌≤◌, Bool, true, false, ◌&&◌, not, List, [], ◌∷◌, ◌++◌, length, refl, sym, ◌∙◌, ap, arith, append_assoc, append-nil, length-append}
 use Rattle.std.specs.Prelude.{Some, Ok, Err, flat_map, nat_lt}
 use Rattle.std.specs.Str.{str_to_ascii_lowercase}
 use Rattle.std.specs.Char.{to_ascii_lowercase}
@@ -15,7 +15,9 @@ use Rattle.stl_text.specs.declared.word.Word.{Word}
 use Rattle.stl_text.specs.declared.word.Word.TheVariants.{FacetOrEnd, Solid}
 use Rattle.geometry.specs.Facet.{Facet}
 use Rattle.stl_text.specs.Text.{Token, keyword, normal_part, coordinate, rest_of_line, end_word, facet_tokens, solid_tokens, is_white, is_line_end, is_read_as, begins_with, after_space, first_word, after_word, after_token, rest_behind, Reads, keyword_of, keyword_text, end_keyword}
-use Rattle.stl_text.specs.Written.{SpacedWord, is_word, are_white, laid_out, IsWordOf, AreWordsOf, IsApart, IsRemark, WrittenSolid, AreWrittenSolids, Written}
+use Rattle.stl_text.specs.Written.{Spaced, is_word, are_white, laid_out, IsWordOf, AreWordsOf, IsApart, IsRemark, IsLineBreak, IsEnd, WrittenSolid, AreWrittenSolids, Written}
+use Rattle.micro_num.proofs.lemmas.Grammar.{Starts, before-is, from-is}
+use Rattle.stl_text.proofs.lemmas.Solids.{facets-more, tokens-more}
 use Rattle.stl_text.proofs.lemmas.Steps.{spelled-append}
 
 -- white space in front is skipped
@@ -28,27 +30,6 @@ skip_white (b ∷ space) more h =
 not_not : (b : Bool) → not b ≡ true → b ≡ false
 not_not true h = cc
 not_not false h = refl
-
--- the bytes before the first one that passes a test, and those from it on
-ApartBy : (ℕ → Bool) → List ℕ → Type 0
-ApartBy p [] = Unit {0}
-ApartBy p (b ∷ bs) = p b ≡ true
-
-before_is : (p : ℕ → Bool) (front more : List ℕ) → list_all (λ b. not (p b)) front ≡ true → ApartBy p more → before_first p (front ++ more) ≡ front
-unfolding ApartBy
-before_is p [] [] h apart = refl
-before_is p [] (b ∷ more) h apart = rw apart refl
-before_is p (b ∷ front) more h apart =
-    let black : p b ≡ false = not_not (p b) (and_parts _ _ h).0 in
-    rw black (rw one-add (ap (λ bs. b ∷ bs) (before_is p front more (and_parts _ _ h).1 apart)))
-
-behind_is : (p : ℕ → Bool) (front more : List ℕ) → list_all (λ b. not (p b)) front ≡ true → ApartBy p more → from_first p (front ++ more) ≡ more
-unfolding ApartBy
-behind_is p [] [] h apart = refl
-behind_is p [] (b ∷ more) h apart = rw apart refl
-behind_is p (b ∷ front) more h apart =
-    let black : p b ≡ false = not_not (p b) (and_parts _ _ h).0 in
-    rw black (rw one-add (behind_is p front more (and_parts _ _ h).1 apart))
 
 all_black : (word : List ℕ) → is_word word ≡ true → list_all (λ b. not (is_white b)) word ≡ true
 all_black word h = (and_parts _ _ h).1
@@ -64,19 +45,19 @@ record ReadsWord (space word more : List ℕ) : Type 0 where
   first : first_word (space ++ (word ++ more)) ≡ word
   after : after_word (space ++ (word ++ more)) ≡ more
 
-word_read : (space word more : List ℕ) → are_white space ≡ true → is_word word ≡ true → ApartBy is_white more → ReadsWord space word more
+word_read : (space word more : List ℕ) → are_white space ≡ true → is_word word ≡ true → Starts is_white more → ReadsWord space word more
 word_read space word more white black apart =
     let front : after_space (space ++ (word ++ more)) ≡ word ++ more = skip_white space (word ++ more) white ∙ word_first word more black in
     record {
-      first = ap (before_first is_white) front ∙ before_is is_white word more (all_black word black) apart;
-      after = ap (from_first is_white) front ∙ behind_is is_white word more (all_black word black) apart;
+      first = ap (before_first is_white) front ∙ before-is is_white word more (all_black word black) apart;
+      after = ap (from_first is_white) front ∙ from-is is_white word more (all_black word black) apart;
     }
 
 record ReadsToken (unit : LengthUnit) (p : Token) (bytes more : List ℕ) : Type 0 where
   begins : begins_with unit p bytes ≡ true
   after : after_token p bytes ≡ more
 
-token_read : (unit : LengthUnit) (p : Token) (space word more : List ℕ) → are_white space ≡ true → is_word word ≡ true → ApartBy is_white more
+token_read : (unit : LengthUnit) (p : Token) (space word more : List ℕ) → are_white space ≡ true → is_word word ≡ true → Starts is_white more
     → IsWordOf unit p word → ReadsToken unit p (space ++ (word ++ more)) more
 token_read unit (keyword wanted text) space word more white black apart is =
     let read : ReadsWord space word more = word_read space word more white black apart in
@@ -97,8 +78,7 @@ step_on : (unit : LengthUnit) (p : Token) (ps : List Token) (bytes more last : L
     → rest_behind unit ps more ≡ Some last → rest_behind unit (p ∷ ps) bytes ≡ Some last
 step_on unit p ps bytes more last read on = rw read.begins (ap (rest_behind unit ps) read.after ∙ on)
 
-apart_white : (space more : List ℕ) → nat_lt 0 (length space) ≡ true → are_white space ≡ true → ApartBy is_white (space ++ more)
-unfolding ApartBy
+apart_white : (space more : List ℕ) → nat_lt 0 (length space) ≡ true → are_white space ≡ true → Starts is_white (space ++ more)
 apart_white [] more h white = cc
 apart_white (b ∷ space) more h white = (and_parts _ _ white).0
 
@@ -108,25 +88,25 @@ record Leaves (unit : LengthUnit) (ps : List Token) (bytes more : List ℕ) : Ty
   white : are_white space ≡ true
   spelled : rest_behind unit ps bytes ≡ Some (space ++ more)
 
-words_read : (unit : LengthUnit) (ps : List Token) (words : List SpacedWord) (space more : List ℕ) → AreWordsOf unit ps words
+words_read : (unit : LengthUnit) (ps : List Token) (words : List Spaced) (space more : List ℕ) → AreWordsOf unit ps words
     → are_white space ≡ true → Leaves unit ps (space ++ (laid_out words ++ more)) more
 words_read unit [] [] space more are white = record { space = space; white = white; spelled = refl }
 words_read unit [] (t ∷ words) space more are white = absurd are
 words_read unit (p ∷ ps) [] space more are white = absurd are
 words_read unit (p ∷ ps) (t ∷ words) space more are white =
-    let word : is_word t.word ≡ true = (and_parts _ _ are.0).0 in
+    let word : is_word t.text ≡ true = (and_parts _ _ are.0).0 in
     let gap : (nat_lt 0 (length t.space) ≡ true) × (are_white t.space ≡ true) = and_parts _ _ (and_parts _ _ are.0).1 in
     let behind : List ℕ = t.space ++ (laid_out words ++ more) in
-    let text : (((t.word ++ t.space) ++ laid_out words) ++ more) ≡ t.word ++ behind =
-    append_assoc (t.word ++ t.space) (laid_out words) more ∙ append_assoc t.word t.space (laid_out words ++ more) in
-    let read : ReadsToken unit p (space ++ (t.word ++ behind)) behind =
-    token_read unit p space t.word behind white word (apart_white t.space (laid_out words ++ more) gap.0 gap.1) are.1 in
+    let text : (((t.text ++ t.space) ++ laid_out words) ++ more) ≡ t.text ++ behind =
+    append_assoc (t.text ++ t.space) (laid_out words) more ∙ append_assoc t.text t.space (laid_out words ++ more) in
+    let read : ReadsToken unit p (space ++ (t.text ++ behind)) behind =
+    token_read unit p space t.text behind white word (apart_white t.space (laid_out words ++ more) gap.0 gap.1) are.1 in
     let on : Leaves unit ps behind more = words_read unit ps words t.space more are.2 gap.1 in
     record {
       space = on.space;
       white = on.white;
       spelled = ap (λ bs. rest_behind unit (p ∷ ps) (space ++ bs)) text
-          ∙ step_on unit p ps (space ++ (t.word ++ behind)) behind (on.space ++ more) read on.spelled;
+          ∙ step_on unit p ps (space ++ (t.text ++ behind)) behind (on.space ++ more) read on.spelled;
     }
 
 -- white space is the same in upper and lower case
@@ -139,92 +119,115 @@ black-lower (b ∷ word) =
     ap (λ w. not w && list_all (λ x. not (is_white x)) (str_to_ascii_lowercase word)) (white-lower b)
     ∙ ap (λ r. not (is_white b) && r) (black-lower word)
 
-some-lower : (word : List ℕ) → nat_lt 0 (length (str_to_ascii_lowercase word)) ≡ nat_lt 0 (length word)
+pub some-lower : (word : List ℕ) → nat_lt 0 (length (str_to_ascii_lowercase word)) ≡ nat_lt 0 (length word)
 some-lower [] = refl
 some-lower (b ∷ word) = lt-ltb _ _ (omega arith) ∙ sym (lt-ltb _ _ (omega arith))
 
-keyword_is_word : (word text : List ℕ) → str_to_ascii_lowercase word ≡ text → is_word text ≡ true → is_word word ≡ true
+pub keyword_is_word : (word text : List ℕ) → str_to_ascii_lowercase word ≡ text → is_word text ≡ true → is_word word ≡ true
 keyword_is_word word text is black =
     ap (λ r. r && list_all (λ b. not (is_white b)) word) (sym (some-lower word))
     ∙ ap (λ r. nat_lt 0 (length (str_to_ascii_lowercase word)) && r) (sym (black-lower word))
     ∙ ap is_word is ∙ black
 
-line_end_white : (b : ℕ) → is_line_end b ≡ true → is_white b ≡ true
+pub line_end_white : (b : ℕ) → is_line_end b ≡ true → is_white b ≡ true
 line_end_white b h = grind (arith, nat_tests)
 
-apart_remark : (remark : List ℕ) (e : ℕ) (more : List ℕ) → IsApart remark → is_line_end e ≡ true → ApartBy is_white (remark ++ (e ∷ more))
-unfolding ApartBy
-apart_remark [] e more apart ends = line_end_white e ends
-apart_remark (b ∷ remark) e more apart ends = apart
+-- a text that begins with the end of a line, or is empty
+abbrev pub EndsLine : List ℕ → Type 0
+EndsLine bytes = Starts is_line_end bytes
 
--- a keyword, the rest of its line, and the line's end
-line_read : (unit : LengthUnit) (kind : Word) (text space word remark : List ℕ) (e : ℕ) (more : List ℕ) → are_white space ≡ true
-    → str_to_ascii_lowercase word ≡ text → is_word text ≡ true → IsRemark remark → is_line_end e ≡ true
-    → rest_behind unit (keyword kind text ∷ rest_of_line ∷ []) (space ++ (word ++ (remark ++ (e ∷ more)))) ≡ Some (e ∷ more)
-unfolding ApartBy
-line_read unit kind text space word remark e more white is text_is remark_is ends =
-    step_on unit (keyword kind text) (rest_of_line ∷ []) (space ++ (word ++ (remark ++ (e ∷ more)))) (remark ++ (e ∷ more)) (e ∷ more)
-    (token_read unit (keyword kind text) space word (remark ++ (e ∷ more)) white (keyword_is_word word text is text_is)
-    (apart_remark remark e more remark_is.apart ends) is)
-    (ap Some (behind_is is_line_end remark (e ∷ more) remark_is.one_line (at_end ends)))
-  where
-    at_end : is_line_end e ≡ true → ApartBy is_line_end (e ∷ more)
-    at_end h = h
+ends_white : (bytes : List ℕ) → EndsLine bytes → Starts is_white bytes
+ends_white [] ends = ends
+ends_white (b ∷ bytes) ends = line_end_white b ends
 
-white_behind : (e : ℕ) (space : List ℕ) → is_line_end e ≡ true → are_white space ≡ true → are_white (e ∷ space) ≡ true
-white_behind e space ends white = ap (λ b. b && are_white space) (line_end_white e ends) ∙ white
+apart_remark : (remark more : List ℕ) → IsApart remark → EndsLine more → Starts is_white (remark ++ more)
+apart_remark [] more apart ends = ends_white more ends
+apart_remark (b ∷ remark) more apart ends = apart
+
+-- a keyword, and the rest of its line
+line_read : (unit : LengthUnit) (kind : Word) (text space word remark more : List ℕ) → are_white space ≡ true
+    → str_to_ascii_lowercase word ≡ text → is_word text ≡ true → IsRemark remark → EndsLine more
+    → rest_behind unit (keyword kind text ∷ rest_of_line ∷ []) (space ++ (word ++ (remark ++ more))) ≡ Some more
+line_read unit kind text space word remark more white is text_is remark_is ends =
+    step_on unit (keyword kind text) (rest_of_line ∷ []) (space ++ (word ++ (remark ++ more))) (remark ++ more) more
+    (token_read unit (keyword kind text) space word (remark ++ more) white (keyword_is_word word text is text_is)
+    (apart_remark remark more remark_is.apart ends) is)
+    (ap Some (from-is is_line_end remark more remark_is.one_line ends))
+
+break_white : (space : List ℕ) → IsLineBreak space → are_white space ≡ true
+break_white [] is = absurd is
+break_white (b ∷ space) is = ap (λ w. w && are_white space) (line_end_white b is.0) ∙ is.1
+
+break_ends : (space more : List ℕ) → IsLineBreak space → EndsLine (space ++ more)
+break_ends [] more is = absurd is
+break_ends (b ∷ space) more is = is.0
+
+end_white : (bytes : List ℕ) → IsEnd bytes → are_white bytes ≡ true
+end_white [] is = refl
+end_white (b ∷ bytes) is = break_white (b ∷ bytes) is
+
+end_ends : (bytes : List ℕ) → IsEnd bytes → EndsLine bytes
+end_ends [] is = tt
+end_ends (b ∷ bytes) is = is.0
 
 solid_read : (unit : LengthUnit) (facets : List Facet) (text space more : List ℕ) → WrittenSolid unit facets text → are_white space ≡ true
-    → Leaves unit (solid_tokens facets) (space ++ (text ++ more)) more
-solid_read unit facets text space more w white =
-    let last : List ℕ = w.behind ++ more in
-    let closing : List ℕ = w.closing ++ (w.remark ++ (w.remark_end ∷ last)) in
-    let body : List ℕ = w.space ++ (laid_out w.body ++ closing) in
-    let whole : text ++ more ≡ w.opening ++ (w.name ++ (w.name_end ∷ body)) = ap (λ t. t ++ more) w.text_is ∙ simp append_assoc in
-    let opened : rest_behind unit (keyword_of Solid ∷ rest_of_line ∷ []) (space ++ (w.opening ++ (w.name ++ (w.name_end ∷ body)))) ≡ Some (w.name_end ∷ body) =
-    line_read unit Solid (keyword_text Solid) space w.opening w.name w.name_end body white w.opening_is refl w.name_is w.name_ends in
-    let read : Leaves unit (flat_map facet_tokens facets) ((w.name_end ∷ w.space) ++ (laid_out w.body ++ closing)) closing =
-    words_read unit (flat_map facet_tokens facets) w.body (w.name_end ∷ w.space) closing w.body_is (white_behind w.name_end w.space w.name_ends w.space_is) in
-    let closed : rest_behind unit (end_word ∷ rest_of_line ∷ []) (read.space ++ closing) ≡ Some (w.remark_end ∷ last) =
-    line_read unit FacetOrEnd end_keyword read.space w.closing w.remark w.remark_end last read.white w.closing_is refl w.remark_is w.remark_ends in
-    record {
-      space = w.remark_end ∷ w.behind;
-      white = white_behind w.remark_end w.behind w.remark_ends w.behind_is;
-      spelled = ap (λ bs. rest_behind unit (solid_tokens facets) (space ++ bs)) whole
-          ∙ spelled-append unit ((keyword_of Solid ∷ rest_of_line ∷ []) ++ flat_map facet_tokens facets) (end_word ∷ rest_of_line ∷ [])
-          (space ++ (w.opening ++ (w.name ++ (w.name_end ∷ body)))) (read.space ++ closing) (w.remark_end ∷ last)
-          (spelled-append unit (keyword_of Solid ∷ rest_of_line ∷ []) (flat_map facet_tokens facets)
-          (space ++ (w.opening ++ (w.name ++ (w.name_end ∷ body)))) (w.name_end ∷ body) (read.space ++ closing) opened read.spelled)
-          closed;
-    }
+    → EndsLine more → rest_behind unit (solid_tokens facets) (space ++ (text ++ more)) ≡ Some more
+solid_read unit facets text space more w white ends =
+    let closing : List ℕ = w.closing ++ (w.remark ++ more) in
+    let body : List ℕ = w.line_break ++ (laid_out w.body ++ closing) in
+    let whole : text ++ more ≡ w.opening ++ (w.name ++ body) = ap (λ t. t ++ more) w.text_is ∙ simp append_assoc in
+    let opened : rest_behind unit (keyword_of Solid ∷ rest_of_line ∷ []) (space ++ (w.opening ++ (w.name ++ body))) ≡ Some body =
+    line_read unit Solid (keyword_text Solid) space w.opening w.name body white w.opening_is refl w.name_is
+    (break_ends w.line_break (laid_out w.body ++ closing) w.line_break_is) in
+    let read : Leaves unit (flat_map facet_tokens facets) body closing =
+    words_read unit (flat_map facet_tokens facets) w.body w.line_break closing w.body_is (break_white w.line_break w.line_break_is) in
+    let closed : rest_behind unit (end_word ∷ rest_of_line ∷ []) (read.space ++ closing) ≡ Some more =
+    line_read unit FacetOrEnd end_keyword read.space w.closing w.remark more read.white w.closing_is refl w.remark_is ends in
+    ap (λ bs. rest_behind unit (solid_tokens facets) (space ++ bs)) whole
+    ∙ spelled-append unit ((keyword_of Solid ∷ rest_of_line ∷ []) ++ flat_map facet_tokens facets) (end_word ∷ rest_of_line ∷ [])
+    (space ++ (w.opening ++ (w.name ++ body))) (read.space ++ closing) more
+    (spelled-append unit (keyword_of Solid ∷ rest_of_line ∷ []) (flat_map facet_tokens facets)
+    (space ++ (w.opening ++ (w.name ++ body))) body (read.space ++ closing) opened read.spelled)
+    closed
 
-solids_read : (unit : LengthUnit) (solids : List (List Facet)) (texts : List (List ℕ)) (space : List ℕ) → AreWrittenSolids unit solids texts
-    → are_white space ≡ true → Leaves unit (flat_map solid_tokens solids) (space ++ flat_map (λ t. t) texts) []
-solids_read unit [] [] space are white = record { space = space; white = white; spelled = refl }
-solids_read unit [] (text ∷ texts) space are white = absurd are
-solids_read unit (facets ∷ solids) [] space are white = absurd are
-solids_read unit (facets ∷ solids) (text ∷ texts) space are white =
-    let first : Leaves unit (solid_tokens facets) (space ++ (text ++ flat_map (λ t. t) texts)) (flat_map (λ t. t) texts) =
-    solid_read unit facets text space (flat_map (λ t. t) texts) are.0 white in
-    let on : Leaves unit (flat_map solid_tokens solids) (first.space ++ flat_map (λ t. t) texts) [] = solids_read unit solids texts first.space are.1 first.white in
+solids_read : (unit : LengthUnit) (solids : List (List Facet)) (texts : List Spaced) (space more : List ℕ) → AreWrittenSolids unit solids texts
+    → are_white space ≡ true → Leaves unit (flat_map solid_tokens solids) (space ++ (laid_out texts ++ more)) more
+solids_read unit [] [] space more are white = record { space = space; white = white; spelled = refl }
+solids_read unit [] (t ∷ texts) space more are white = absurd are
+solids_read unit (facets ∷ solids) [] space more are white = absurd are
+solids_read unit (facets ∷ solids) (t ∷ texts) space more are white =
+    let behind : List ℕ = t.space ++ (laid_out texts ++ more) in
+    let text : (((t.text ++ t.space) ++ laid_out texts) ++ more) ≡ t.text ++ behind =
+    append_assoc (t.text ++ t.space) (laid_out texts) more ∙ append_assoc t.text t.space (laid_out texts ++ more) in
+    let first : rest_behind unit (solid_tokens facets) (space ++ (t.text ++ behind)) ≡ Some behind =
+    solid_read unit facets t.text space behind are.0 white (break_ends t.space (laid_out texts ++ more) are.1) in
+    let on : Leaves unit (flat_map solid_tokens solids) behind more = solids_read unit solids texts t.space more are.2 (break_white t.space are.1) in
     record {
       space = on.space;
       white = on.white;
-      spelled = spelled-append unit (solid_tokens facets) (flat_map solid_tokens solids) (space ++ (text ++ flat_map (λ t. t) texts))
-          (first.space ++ flat_map (λ t. t) texts) (on.space ++ []) first.spelled on.spelled;
+      spelled = ap (λ bs. rest_behind unit (flat_map solid_tokens (facets ∷ solids)) (space ++ bs)) text
+          ∙ spelled-append unit (solid_tokens facets) (flat_map solid_tokens solids) (space ++ (t.text ++ behind))
+          behind (on.space ++ more) first on.spelled;
     }
 
 -- a text in which facets are written reads as these facets
 pub written_reads : (limit : ℕ) (unit : LengthUnit) (facets : List Facet) (text : List ℕ) → length facets ≤ limit → Written unit facets text
     → Reads limit unit text facets
 written_reads limit unit facets text few w =
-    let read : Leaves unit (flat_map solid_tokens w.solids) (w.lead ++ flat_map (λ t. t) w.texts) [] = solids_read unit w.solids w.texts w.lead w.texts_are w.lead_is in
+    let last : List ℕ = w.last_text ++ w.behind in
+    let before : Leaves unit (flat_map solid_tokens w.solids) (w.lead ++ (laid_out w.texts ++ last)) last =
+    solids_read unit w.solids w.texts w.lead last w.texts_are w.lead_is in
+    let read : rest_behind unit (solid_tokens w.last) (before.space ++ last) ≡ Some w.behind =
+    solid_read unit w.last w.last_text before.space w.behind w.last_is before.white (end_ends w.behind w.behind_is) in
     record {
-      solids = w.solids;
-      some = w.some;
-      each = w.each;
+      solids = w.solids ++ w.last ∷ [];
+      some = omega (arith, length-append w.solids (w.last ∷ []));
+      each = w.each ∙ facets-more w.solids w.last;
       few = few;
-      rest = read.space ++ [];
-      spelled = ap (rest_behind unit (flat_map solid_tokens w.solids)) w.text_is ∙ read.spelled;
-      whole = skip_white read.space [] read.white;
+      rest = w.behind;
+      spelled = ap (rest_behind unit (flat_map solid_tokens (w.solids ++ w.last ∷ []))) w.text_is
+          ∙ ap (λ ps. rest_behind unit ps (w.lead ++ (laid_out w.texts ++ last))) (tokens-more w.solids w.last)
+          ∙ spelled-append unit (flat_map solid_tokens w.solids) (solid_tokens w.last) (w.lead ++ (laid_out w.texts ++ last))
+          (before.space ++ last) w.behind before.spelled read;
+      whole = ap after_space (sym (append-nil w.behind)) ∙ skip_white w.behind [] (end_white w.behind w.behind_is);
     }
