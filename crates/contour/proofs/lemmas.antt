@@ -17,3 +17,4 @@ pub mod Cycles
 pub mod Unique
 pub mod LoopsClose
 pub mod LoopWinds
+pub mod LoopLaws

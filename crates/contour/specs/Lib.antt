@@ -1,5 +1,6 @@
 pub mod Active
 pub mod Link
 pub mod Loops
+pub mod Laws
 pub mod Segment
 pub mod Sweep

@@ -17,17 +17,20 @@
 //! - [`Sweep`]: a rising plane with its list of active facets, those that it cuts.
 //! - [`Loops`], [`Linker`], [`loops`]: the loops of a plane's segments. A linker keeps its memory from plane to plane.
 //! - [`loop_ray`]: the signed ray crossings of one loop's facets.
+//! - [`hold_loop_laws`]: states what holds of every loop.
 //!
 //! Heights are half-micrometres, in names that end in `2`; coordinates of a mesh are micrometres. A corner that lies
 //! in the plane counts as below it (the tie rule of `geometry`).
 #![tactic(auto)]
 
 mod active;
+mod laws;
 mod link;
 mod loop_list;
 mod segment;
 mod sweep;
 
+pub use laws::hold_loop_laws;
 pub use link::{Linker, loops};
 // The module is not called `loops`, since a module and a function of one name are refused.
 pub use loop_list::{Loops, loop_ray};

@@ -1,5 +1,5 @@
 -- The bounding box of a mesh: the least and the greatest x, y and z of its corners.
-use Rattle.std.specs.Prelude.{List, [], ◌∷◌, Option, Some, None, flat_map, fold}
+use Rattle.std.specs.Prelude.{List, [], ◌∷◌, Option, Some, None, Contains, flat_map, fold, map, ◌≤ℤ◌}
 use Rattle.std.specs.Int.{int_min, int_max}
 use Rattle.geometry.specs.Point.{Point}
 use Rattle.geometry.specs.Facet.{Facet, corners}
@@ -21,3 +21,18 @@ bounds_of (p ∷ ps) = Some (record { low = fold least_of p ps; high = fold grea
 -- none where there is no facet
 abbrev pub bounds : List Facet → Option Bounds
 bounds facets = bounds_of (flat_map corners facets)
+
+-- p lies in the box from low to high
+pub record IsInBox (low high p : Point) : Type 0 where
+  pub x_in : (low.x ≤ℤ p.x) × (p.x ≤ℤ high.x)
+  pub y_in : (low.y ≤ℤ p.y) × (p.y ≤ℤ high.y)
+  pub z_in : (low.z ≤ℤ p.z) × (p.z ≤ℤ high.z)
+
+-- each of the box's six coordinates is that of one of the points, so no smaller box holds them all
+pub record IsTight (low high : Point) (ps : List Point) : Type 0 where
+  pub low_x : Contains (map (λ (p : Point). p.x) ps) low.x
+  pub low_y : Contains (map (λ (p : Point). p.y) ps) low.y
+  pub low_z : Contains (map (λ (p : Point). p.z) ps) low.z
+  pub high_x : Contains (map (λ (p : Point). p.x) ps) high.x
+  pub high_y : Contains (map (λ (p : Point). p.y) ps) high.y
+  pub high_z : Contains (map (λ (p : Point). p.z) ps) high.z

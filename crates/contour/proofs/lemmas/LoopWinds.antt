@@ -133,7 +133,7 @@ runs_from facets z n (t ∷ ts) h =
       more,
     )
 
-segments_run : (facets : List Facet) (z : ℤ) → AllByRecursion (Runs facets z) (segments facets z)
+pub segments_run : (facets : List Facet) (z : ℤ) → AllByRecursion (Runs facets z) (segments facets z)
 segments_run facets z = runs_from facets z 0 facets (λ k l. (omega (arith, l), let y : 0 + k ≡ k = omega arith in ap (facet_at facets) y))
 
 -- ---- amounts that are opposite where an edge is taken back, and nothing where it isn't cut
@@ -189,6 +189,13 @@ turn_of-level : (u v z l : ℤ) → int_le u z ≡ int_le v z → turn_of u v z 
 unfolding turn_of
 turn_of-level u v z l e = grind (arith, ints)
 
+pub cycle_winds-cancel : (facets : List Facet) (y z : ℤ) (list loop : List Segment) → AllByRecursion (Runs facets z) loop → IsCycle list loop
+    → total (λ t. wind (twice t) y z) (loop_facets facets loop) ≡ pos 0
+unfolding wind
+cycle_winds-cancel facets y z list loop runs closes =
+    cycle_cancels facets z (λ u v. turn (half_micrometres_of u) (half_micrometres_of v) y z) (λ u v. turn-opposite (half_micrometres_of u) (half_micrometres_of v) y z)
+    (λ u v e. turn_of-level (height u) (height v) z _ e) list loop runs closes
+
 module _ (facets : List Facet) (numbers : List (List ℕ)) (count : ℕ) (numbered : AreEdgeNumbers facets numbers count) (balanced : IsBalanced facets)
     (c : Point) (list : List Segment) (k : ℕ) (is : slice_get (loops (segments facets c.z)) k ≡ Some list) where
   closes : IsCycle (segments facets c.z) list
@@ -202,10 +209,7 @@ module _ (facets : List Facet) (numbers : List (List ℕ)) (count : ℕ) (number
   runs = (in_loop (segments facets c.z) (Runs facets c.z) (All-from_recursion (Runs facets c.z) (segments facets c.z) (segments_run facets c.z)) k list is).0
 
   winds : total (λ t. wind (twice t) c.y c.z) (loop_facets facets list) ≡ pos 0
-  unfolding wind
-  winds =
-      cycle_cancels facets c.z (λ u v. turn (half_micrometres_of u) (half_micrometres_of v) c.y c.z) (λ u v. turn-opposite (half_micrometres_of u) (half_micrometres_of v) c.y c.z)
-      (λ u v e. turn_of-level (height u) (height v) c.z _ e) (segments facets c.z) list runs closes
+  winds = cycle_winds-cancel facets c.y c.z (segments facets c.z) list runs closes
 
   pub ray_from_back : neg_ray_back (loop_facets facets list) c ≡ ray (loop_facets facets list) c
   ray_from_back =

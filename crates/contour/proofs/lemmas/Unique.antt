@@ -16,7 +16,7 @@ use Rattle.contour.proofs.lemmas.Cycles.{NoneOf, onward, run-is}
 use Rattle.contour.proofs.lemmas.Links.{AreFrom, segments_ascend}
 use Rattle.contour.proofs.lemmas.Slots.{either}
 
-abbrev Has : Segment → List Segment → Type 0
+abbrev pub Has : Segment → List Segment → Type 0
 Has s [] = ⊥
 Has s (t ∷ list) = (s ≡ t) ⊎ Has s list
 
@@ -170,7 +170,7 @@ closed-rest list first s [] t h k = absurd k
 closed-rest list first s (u ∷ rest) t h (inl e) = subst (λ v. Has v list) (sym e) (follower-has list s u h.0)
 closed-rest list first s (u ∷ rest) t h (inr k) = closed-rest list first u rest t h.1 k
 
-cycle-has : (list part : List Segment) (t : Segment) → IsCycle list part → Has t part → Has t list
+pub cycle-has : (list part : List Segment) (t : Segment) → IsCycle list part → Has t part → Has t list
 cycle-has list [] t h k = absurd k
 cycle-has list (s ∷ rest) t h (inl e) = subst (λ v. Has v list) (sym e) (closed-first list s (s ∷ rest) h)
 cycle-has list (s ∷ rest) t h (inr k) = closed-rest list s s rest t h k

@@ -1,0 +1,109 @@
+-- The box of a list of points holds each of them, and each of its six coordinates is one of theirs.
+use Rattle.std.proofs.Common.{◌≡◌, zero, suc, get_or, List, [], ◌∷◌, ◌⊎◌, inl, inr, refl, sym, ◌∙◌, ap, subst, arith, map, fold}
+use Rattle.std.specs.Prelude.{All, Contains, Some, flat_map, slice_get, ℤ, ◌≤ℤ◌}
+use Rattle.std.specs.Int.{int_min, int_max}
+use Rattle.std.proofs.lemmas.Int.{fold-int_min_bounds, fold-int_min_reached, fold-int_max_bounds, fold-int_max_reached}
+use Rattle.std.proofs.lemmas.List.{get_or-map, length-map}
+use Rattle.std.proofs.lemmas.List.Elements.{All-cons, Contains-append_right}
+use Rattle.geometry.specs.Point.{Point}
+use Rattle.geometry.specs.Facet.{Facet, corners}
+use Rattle.geometry.specs.BoundingBox.{IsInBox, IsTight, greatest_of, least_of}
+
+unmapped : (pick : Point → ℤ) (P : ℤ → Type 0) (ps : List Point) → All P (map pick ps) → All (λ q. P (pick q)) ps
+unmapped pick P ps all k d l =
+    let long = length-map ps pick in
+    subst P (get_or-map pick ps k d (pick d) l) (all k (pick d) (omega (arith, l, long)))
+
+contained : (x r : ℤ) (xs : List ℤ) → (r ≡ x) ⊎ Contains xs r → Contains (x ∷ xs) r
+contained x r xs (inl e) = (0, omega arith, sym e)
+contained x r xs (inr h) = Contains-append_right (x ∷ []) xs r h
+
+-- a fold of points that does to one coordinate what g does to numbers
+module _ (pick : Point → ℤ) (f : Point → Point → Point) (g : ℤ → ℤ → ℤ) (each : (p q : Point) → pick (f p q) ≡ g (pick p) (pick q)) where
+  folded : (p : Point) (ps : List Point) → pick (fold f p ps) ≡ fold g (pick p) (map pick ps)
+  folded p [] = refl
+  folded p (q ∷ ps) = folded (f p q) ps ∙ ap (λ a. fold g a (map pick ps)) (each p q)
+
+module _ (pick : Point → ℤ) (each : (p q : Point) → pick (least_of p q) ≡ int_min (pick p) (pick q)) (p : Point) (ps : List Point) where
+  least-below : All (λ q. pick (fold least_of p ps) ≤ℤ pick q) (p ∷ ps)
+  least-below =
+      let r = pick (fold least_of p ps) in
+      let h = fold-int_min_bounds (pick p) (map pick ps) r (folded pick least_of int_min each p ps) in
+      All-cons (λ q. r ≤ℤ pick q) p ps h.0 (unmapped pick (λ x. r ≤ℤ x) ps h.1)
+
+  least-reached : Contains (map pick (p ∷ ps)) (pick (fold least_of p ps))
+  least-reached =
+      let r = pick (fold least_of p ps) in
+      contained (pick p) r (map pick ps) (fold-int_min_reached (pick p) (map pick ps) r (folded pick least_of int_min each p ps))
+
+module _ (pick : Point → ℤ) (each : (p q : Point) → pick (greatest_of p q) ≡ int_max (pick p) (pick q)) (p : Point) (ps : List Point) where
+  greatest-above : All (λ q. pick q ≤ℤ pick (fold greatest_of p ps)) (p ∷ ps)
+  greatest-above =
+      let r = pick (fold greatest_of p ps) in
+      let h = fold-int_max_bounds (pick p) (map pick ps) r (folded pick greatest_of int_max each p ps) in
+      All-cons (λ q. pick q ≤ℤ r) p ps h.0 (unmapped pick (λ x. x ≤ℤ r) ps h.1)
+
+  greatest-reached : Contains (map pick (p ∷ ps)) (pick (fold greatest_of p ps))
+  greatest-reached =
+      let r = pick (fold greatest_of p ps) in
+      contained (pick p) r (map pick ps) (fold-int_max_reached (pick p) (map pick ps) r (folded pick greatest_of int_max each p ps))
+
+abbrev x_of : Point → ℤ
+x_of p = p.x
+
+abbrev y_of : Point → ℤ
+y_of p = p.y
+
+abbrev z_of : Point → ℤ
+z_of p = p.z
+
+points-in : (p : Point) (ps : List Point) → All (IsInBox (fold least_of p ps) (fold greatest_of p ps)) (p ∷ ps)
+points-in p ps k d l = record {
+  x_in = (least-below x_of (λ a b. refl) p ps k d l, greatest-above x_of (λ a b. refl) p ps k d l);
+  y_in = (least-below y_of (λ a b. refl) p ps k d l, greatest-above y_of (λ a b. refl) p ps k d l);
+  z_in = (least-below z_of (λ a b. refl) p ps k d l, greatest-above z_of (λ a b. refl) p ps k d l);
+}
+
+points-tight : (p : Point) (ps : List Point) → IsTight (fold least_of p ps) (fold greatest_of p ps) (p ∷ ps)
+points-tight p ps = record {
+  low_x = least-reached x_of (λ a b. refl) p ps;
+  low_y = least-reached y_of (λ a b. refl) p ps;
+  low_z = least-reached z_of (λ a b. refl) p ps;
+  high_x = greatest-reached x_of (λ a b. refl) p ps;
+  high_y = greatest-reached y_of (λ a b. refl) p ps;
+  high_z = greatest-reached z_of (λ a b. refl) p ps;
+}
+
+-- what has been folded from the first point on, over all points
+module _ (ps : List Point) (start low high : Point) (low_is : low ≡ fold least_of start ps) (high_is : high ≡ fold greatest_of start ps) where
+  pub box-holds : All (IsInBox low high) ps
+  box-holds k d l =
+      let held : IsInBox (fold least_of start ps) (fold greatest_of start ps) (get_or ps k d) = points-in start ps (suc k) d (omega arith) in
+      subst (λ b. IsInBox b high (get_or ps k d)) (sym low_is) (subst (λ b. IsInBox (fold least_of start ps) b (get_or ps k d)) (sym high_is) held)
+
+  again : (pick : Point → ℤ) (r : ℤ) → slice_get ps 0 ≡ Some start → Contains (map pick (start ∷ ps)) r → Contains (map pick ps) r
+  again pick r first (zero, l, e) = by_points ps first
+    where
+      by_points : (qs : List Point) → slice_get qs 0 ≡ Some start → Contains (map pick qs) r
+      by_points [] h = absurd (cc)
+      by_points (q ∷ qs) h = (0, omega arith, (let same : q ≡ start = cc in ap pick same) ∙ e)
+  again pick r first (suc k, l, e) = (k, omega (arith, l), e)
+
+  pub box-tight : slice_get ps 0 ≡ Some start → IsTight low high ps
+  box-tight first =
+      let t = points-tight start ps in
+      let tight : IsTight (fold least_of start ps) (fold greatest_of start ps) ps = record {
+        low_x = again x_of _ first t.low_x;
+        low_y = again y_of _ first t.low_y;
+        low_z = again z_of _ first t.low_z;
+        high_x = again x_of _ first t.high_x;
+        high_y = again y_of _ first t.high_y;
+        high_z = again z_of _ first t.high_z;
+      } in
+      subst (λ b. IsTight b high ps) (sym low_is) (subst (λ b. IsTight (fold least_of start ps) b ps) (sym high_is) tight)
+
+-- the first corner of all is that of the first facet
+pub first-corner : (facets : List Facet) (t : Facet) (start : Point) → Some t ≡ slice_get facets 0 → start ≡ t.a
+    → slice_get (flat_map corners facets) 0 ≡ Some start
+first-corner [] t start e s = absurd (cc)
+first-corner (f ∷ facets) t start e s = let same : t ≡ f = cc in ap Some (sym (s ∙ ap (λ (u : Facet). u.a) same))
