@@ -123,7 +123,7 @@ pub some-lower : (word : List ℕ) → nat_lt 0 (length (str_to_ascii_lowercase 
 some-lower [] = refl
 some-lower (b ∷ word) = lt-ltb _ _ (omega arith) ∙ sym (lt-ltb _ _ (omega arith))
 
-pub keyword_is_word : (word text : List ℕ) → str_to_ascii_lowercase word ≡ text → is_word text ≡ true → is_word word ≡ true
+keyword_is_word : (word text : List ℕ) → str_to_ascii_lowercase word ≡ text → is_word text ≡ true → is_word word ≡ true
 keyword_is_word word text is black =
     ap (λ r. r && list_all (λ b. not (is_white b)) word) (sym (some-lower word))
     ∙ ap (λ r. nat_lt 0 (length (str_to_ascii_lowercase word)) && r) (sym (black-lower word))
