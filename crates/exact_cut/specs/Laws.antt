@@ -32,6 +32,10 @@ TurnsAreOpposite = (u v : Point) (y z : ℤ) → turn v u y z ≡ neg_ℤ (turn 
 abbrev pub WindsAreUnits : Type 0
 WindsAreUnits = (t : Facet) (y z : ℤ) → (wind t y z ≡ pos 0) ⊎ Winding t (wind t y z)
 
+-- where the winding isn't 0, the line along x through (y, z) meets the facet's plane
+abbrev pub CrossedLinesMeet : Type 0
+CrossedLinesMeet = (t : Facet) (y z : ℤ) → Winding t (wind t y z) → (num den : ℤ) × (pos 0 <ℤ den) × Meets t num den y z
+
 -- where the winding isn't 0, the facet's plane meets the line along x ahead of x exactly where wind * volume is above 0
 abbrev pub AheadIsAbove : Type 0
 AheadIsAbove = (t : Facet) (num den x y z : ℤ) → Winding t (wind t y z) → pos 0 <ℤ den → Meets t num den y z

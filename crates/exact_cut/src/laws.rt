@@ -1,13 +1,14 @@
 //! The laws that the crate's functions rely on. [`hold_laws`] does nothing when it runs: it is there for its clauses,
 //! since only what a public function promises is proved.
-ghost use Rattle.exact_cut.specs.Laws.{AheadIsAbove, CornerTurnsAreOpposite, CrossingsSplitRows, RaysDifferByEdges, StepsAlongXKeepHits, StepsAlongYKeepHits, TurnsAreOpposite, UncrossedRowsHaveNoHits, WalksTellHits, WindsAreUnits};
+ghost use Rattle.exact_cut.specs.Laws.{AheadIsAbove, CornerTurnsAreOpposite, CrossedLinesMeet, CrossingsSplitRows, RaysDifferByEdges, StepsAlongXKeepHits, StepsAlongYKeepHits, TurnsAreOpposite, UncrossedRowsHaveNoHits, WalksTellHits, WindsAreUnits};
 
 /// What holds of every facet's winding and of every ray: an edge and its opposite turn oppositely, a winding is 1, -1
-/// or 0, a crossing splits a row of centres in two, a walk tells the hits of all rays from a lattice's pixels, and a
+/// or 0, a line round which it isn't 0 meets the facet's plane, a crossing splits a row of centres in two, a walk tells the hits of all rays from a lattice's pixels, and a
 /// step that passes no point of a facet keeps its hit.
 pub fn hold_laws()
     ensures turns { TurnsAreOpposite }
     ensures winds { WindsAreUnits }
+    ensures meets { CrossedLinesMeet }
     ensures ahead { AheadIsAbove }
     ensures columns { CrossingsSplitRows }
     ensures walks { WalksTellHits }

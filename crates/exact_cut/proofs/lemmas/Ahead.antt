@@ -140,6 +140,51 @@ scaled w n k den v plane e z =
     mul_assoc w n k ∙ ap (λ x. w *ℤ x) (e ∙ ap (λ x. den *ℤ v +ℤ x) z)
     ∙ identity (w ∷ den ∷ v ∷ []) (search reads depth 40) refl
 
+-- how far (num / den, y, z) lies from the facet's plane, along its normal
+abbrev plane : Facet → ℤ → ℤ → ℤ → ℤ → ℤ
+plane t num den y z = normal_x t *ℤ (num -ℤ t.a.x *ℤ den) +ℤ normal_y t *ℤ ((y -ℤ t.a.y) *ℤ den) +ℤ normal_z t *ℤ ((z -ℤ t.a.z) *ℤ den)
+
+plane-split : (t : Facet) (num den x y z : ℤ) → normal_x t *ℤ (num -ℤ x *ℤ den) ≡ den *ℤ volume t (record { x = x; y = y; z = z }) +ℤ plane t num den y z
+plane-split t num den x y z =
+    identity (t.a.x ∷ t.a.y ∷ t.a.z ∷ t.b.x ∷ t.b.y ∷ t.b.z ∷ t.c.x ∷ t.c.y ∷ t.c.z ∷ x ∷ y ∷ z ∷ num ∷ den ∷ []) (search reads depth 40 fits 5000) refl
+
+-- ---- where the line meets the plane
+-- with the normal's x part and the wind as the denominator
+meeting : (n m l w a y z : ℤ) → n *ℤ (w *ℤ (a *ℤ n -ℤ m *ℤ y -ℤ l *ℤ z) -ℤ a *ℤ (w *ℤ n)) +ℤ m *ℤ (y *ℤ (w *ℤ n)) +ℤ l *ℤ (z *ℤ (w *ℤ n)) ≡ pos 0
+meeting n m l w a y z = identity (n ∷ m ∷ l ∷ w ∷ a ∷ y ∷ z ∷ []) (search reads depth 40 fits 5000) refl
+
+pub lines_meet : (t : Facet) (y z : ℤ) → Winding t (wind t y z) → (num den : ℤ) × (pos 0 <ℤ den) × Meets t num den y z
+lines_meet t y z h = (
+  wind t y z *ℤ (t.a.x *ℤ normal_x t -ℤ normal_y t *ℤ (y -ℤ t.a.y) -ℤ normal_z t *ℤ (z -ℤ t.a.z)),
+  wind t y z *ℤ normal_x t,
+  h.normal,
+  record { in_plane = meeting (normal_x t) (normal_y t) (normal_z t) (wind t y z) t.a.x (y -ℤ t.a.y) (z -ℤ t.a.z) },
+)
+
+plane-nothing : (n along den v over h : ℤ) → n *ℤ along ≡ den *ℤ v +ℤ over → along ≡ h *ℤ v → den ≡ h *ℤ n → over ≡ pos 0
+plane-nothing n along den v over h e f g =
+    identity (den ∷ v ∷ over ∷ []) (search reads depth 40) refl ∙ ap (λ s. s -ℤ den *ℤ v) (sym e)
+    ∙ (λ i. n *ℤ f i -ℤ g i *ℤ v) ∙ identity (n ∷ h ∷ v ∷ []) (search reads depth 40) refl
+
+-- the line through the cut points lies in the facet's plane
+pub meets : (t : Facet) (r s p q : Point) (y z : ℤ) → Passes t r s p q z → Meets t (num_of r s p q y z) (den_of r s p q z) y z
+meets t r s p q y z h = record {
+  in_plane =
+      plane-nothing (normal_x t) (num_of r s p q y z -ℤ pos 0 *ℤ den_of r s p q z) (den_of r s p q z) (volume t (record { x = pos 0; y = y; z = z }))
+      (plane t (num_of r s p q y z) (den_of r s p q z) y z) h.height
+      (plane-split t (num_of r s p q y z) (den_of r s p q z) (pos 0) y z) (h.num_is (pos 0) y) h.den_is;
+}
+
+negated : (n m l num den a y z : ℤ)
+    → n *ℤ (neg_ℤ num -ℤ a *ℤ neg_ℤ den) +ℤ m *ℤ (y *ℤ neg_ℤ den) +ℤ l *ℤ (z *ℤ neg_ℤ den) ≡ neg_ℤ (n *ℤ (num -ℤ a *ℤ den) +ℤ m *ℤ (y *ℤ den) +ℤ l *ℤ (z *ℤ den))
+negated n m l num den a y z = identity (n ∷ m ∷ l ∷ num ∷ den ∷ a ∷ y ∷ z ∷ []) (search reads depth 40 fits 5000) refl
+
+-- the same fraction with the other sign above and below
+pub meets-negated : (t : Facet) (num den y z : ℤ) → Meets t num den y z → Meets t (neg_ℤ num) (neg_ℤ den) y z
+meets-negated t num den y z h = record {
+  in_plane = negated (normal_x t) (normal_y t) (normal_z t) num den t.a.x (y -ℤ t.a.y) (z -ℤ t.a.z) ∙ ap neg_ℤ h.in_plane;
+}
+
 -- where the wind isn't 0, the plane meets the line through (x, y, z) along x ahead of x exactly where wind * volume is above 0
 pub ahead : (t : Facet) (num den x y z : ℤ) → Winding t (wind t y z) → pos 0 <ℤ den → Meets t num den y z → ((x *ℤ den) <ℤ num) ↔ (pos 0 <ℤ (wind t y z *ℤ volume t (record { x = x; y = y; z = z })))
 ahead t num den x y z h p m = (λ k. together n den (num -ℤ x *ℤ den) (w *ℤ v) h.normal p e (difference_from_lt (x *ℤ den) num k), λ k. lt_from_difference (x *ℤ den) num (together den n (w *ℤ v) (num -ℤ x *ℤ den) p h.normal (sym e) k))
@@ -153,14 +198,11 @@ ahead t num den x y z h p m = (λ k. together n den (num -ℤ x *ℤ den) (w *�
     n : ℤ
     n = w *ℤ normal_x t
 
-    plane : ℤ
-    plane = normal_x t *ℤ (num -ℤ t.a.x *ℤ den) +ℤ normal_y t *ℤ ((y -ℤ t.a.y) *ℤ den) +ℤ normal_z t *ℤ ((z -ℤ t.a.z) *ℤ den)
-
-    split : normal_x t *ℤ (num -ℤ x *ℤ den) ≡ den *ℤ v +ℤ plane
-    split = identity (t.a.x ∷ t.a.y ∷ t.a.z ∷ t.b.x ∷ t.b.y ∷ t.b.z ∷ t.c.x ∷ t.c.y ∷ t.c.z ∷ x ∷ y ∷ z ∷ num ∷ den ∷ []) (search reads depth 40 fits 5000) refl
+    split : normal_x t *ℤ (num -ℤ x *ℤ den) ≡ den *ℤ v +ℤ plane t num den y z
+    split = plane-split t num den x y z
 
     e : n *ℤ (num -ℤ x *ℤ den) ≡ den *ℤ (w *ℤ v)
-    e = scaled w (normal_x t) (num -ℤ x *ℤ den) den v plane split m.in_plane
+    e = scaled w (normal_x t) (num -ℤ x *ℤ den) den v (plane t num den y z) split m.in_plane
 
 -- ---- the crossing, as the code computes it
 factored : (w num den x h v : ℤ) → num -ℤ x *ℤ den ≡ h *ℤ v → w *ℤ num -ℤ x *ℤ (w *ℤ den) ≡ h *ℤ (w *ℤ v)
@@ -256,6 +298,9 @@ module _ (t : Facet) (r s p q : Point) (y z : ℤ) (h : Passes t r s p q z) (ax 
 
   den-is : den_of r s p q z ≡ den
   den-is = sym (den_is ∙ (λ i. b.y_is i *ℤ a.d_is i -ℤ a.y_is i *ℤ b.d_is i))
+
+  pub meets-by : Meets t num den y z
+  meets-by = subst (λ n. Meets t n den y z) num-is (subst (λ d. Meets t (num_of r s p q y z) d y z) den-is (meets t r s p q y z h))
 
   one_times : (x : ℤ) → pos 1 *ℤ x ≡ x
   one_times x = omega (arith, ints)

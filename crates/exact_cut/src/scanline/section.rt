@@ -1,10 +1,11 @@
 //! The segment in which the plane at a height cuts a facet, and where a scanline crosses the line through its ends.
-ghost use Rattle.std.specs.Prelude.{◌≡◌, ℤ, pos, MatchOption};
+ghost use Rattle.std.specs.Prelude.{◌≡◌, ◌↔◌, ℤ, pos, IfSome, IsSome, MatchOption};
 ghost use Rattle.exact_int.specs.Bounds.{IsAtMost};
 ghost use Rattle.geometry.specs.Facet.{twice};
 ghost use Rattle.geometry.specs.Winding.{wind};
 ghost use Rattle.exact_cut.specs.Bounds.{denominator_limit, numerator_limit};
 ghost use Rattle.exact_cut.specs.Crossing.{Crosses};
+ghost use Rattle.exact_cut.specs.Laws.{Meets};
 ghost use Rattle.exact_cut.specs.Section.{IsSection, den_between, num_between, slope_between};
 ghost use Rattle.geometry.specs.declared.limits.TheConstants.{CENTRE_LIMIT};
 
@@ -39,12 +40,15 @@ impl Section {
 /// Where the line along x at the height `z2` and the scanline `y2` crosses the facet's plane, or `None` exactly where
 /// the facet's winding round that line is 0. Both are in half-micrometres, -256,200,000 to 256,200,000.
 ///
-/// For every whole X the crossing lies ahead of a centre at X exactly where `X * den < num`.
+/// The fraction is exact: (`num / den`, `y2`, `z2`) lies in the facet's plane. For every whole X the crossing lies ahead of
+/// a centre at X exactly where `X * den < num`.
 pub fn crossing(f: &Facet, z2: i64, y2: i64) -> Option<Crossing>
     requires height_in { IsAtMost CENTRE_LIMIT z2 }
     requires scanline_in { IsAtMost CENTRE_LIMIT y2 }
-    ensures { MatchOption result (wind (twice f.now) y2 z2 ≡ pos 0)
+    ensures crosses { MatchOption result (wind (twice f.now) y2 z2 ≡ pos 0)
         (λ c. Crosses (twice f.now) y2 z2 c.sign c.num c.den) }
+    ensures some { IsSome result ↔ (wind (twice f.now) y2 z2 ≡ pos 0 → ⊥) }
+    ensures in_plane { IfSome result (λ c. Meets (twice f.now) c.num c.den y2 z2) }
 {
     let ends = Section::at_height(f, z2)?;
     let is_down_ahead = ends.down.is_ahead(y2);

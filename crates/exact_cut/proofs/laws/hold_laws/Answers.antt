@@ -1,5 +1,5 @@
 use Rattle.exact_cut.proofs.lemmas.Turns.{turn-opposite}
-use Rattle.exact_cut.proofs.lemmas.Ahead.{wind_values, ahead}
+use Rattle.exact_cut.proofs.lemmas.Ahead.{wind_values, lines_meet, ahead}
 use Rattle.exact_cut.proofs.lemmas.Walks.{splits, walks-hits, uncrossed-hits}
 use Rattle.exact_cut.proofs.lemmas.Touching.{ray-difference, corner_turn-opposite}
 use Rattle.exact_cut.proofs.lemmas.Steps.{step-x, step-y}
@@ -9,6 +9,7 @@ pub returns : goal.returns
 returns c = record {
   turns = turn-opposite;
   winds = wind_values;
+  meets = lines_meet;
   ahead = ahead;
   columns = splits;
   walks = walks-hits;

@@ -3,11 +3,11 @@ use Rattle.std.proofs.lemmas.Int.{to_z-of_z}
 use mir.Syntax.{w64, w128}
 use Rattle.exact_int.proofs.lemmas.Sizes.{sizes, fits}
 use Rattle.geometry.specs.Facet.{twice}
-use Rattle.exact_cut.proofs.lemmas.Sections.{same_side, up_alone, down_alone, crosses_as}
+use Rattle.exact_cut.proofs.lemmas.Sections.{same_side, up_alone, down_alone, up_meets, down_meets, crossed, crosses_as, meets_as}
 use Rattle.exact_cut.proofs.scanline.section.crossing.Goals as goal
 
-pub returns-then-is_up_ahead-is_down_ahead : goal.returns-then-is_up_ahead-is_down_ahead
-returns-then-is_up_ahead-is_down_ahead c =
+pub returns-then-is_up_ahead-is_down_ahead-clause-crosses : goal.returns-then-is_up_ahead-is_down_ahead-clause-crosses
+returns-then-is_up_ahead-is_down_ahead-clause-crosses c =
     let down = c.is_ahead-is_down_ahead in
     let up = c.is_ahead-is_up_ahead in
     let f1 = c.ranges.y2 in
@@ -33,8 +33,8 @@ of-requires-else-is_up_ahead-clause-den_positive c =
     let f1 : FitsSigned w128 m.result.1 = fits w128 (search (sizes, m.ensures.den_in)) refl in
     simp to_z-of_z (subst (λ d. pos 0 <ℤ d) (sym m.ensures.den) w.den_positive)
 
-pub returns-then-is_up_ahead : goal.returns-then-is_up_ahead
-returns-then-is_up_ahead c =
+pub returns-then-is_up_ahead-clause-crosses : goal.returns-then-is_up_ahead-clause-crosses
+returns-then-is_up_ahead-clause-crosses c =
     let down = c.is_ahead-is_down_ahead in
     let up = c.is_ahead-is_up_ahead in
     let m = c.meet-num in
@@ -46,8 +46,8 @@ returns-then-is_up_ahead c =
     let k = simp to_z-of_z at c.of.ensures in
     simp to_z-of_z at (crosses_as (ap (λ r. r.sign) k) (ap (λ r. r.num) k ∙ m.ensures.num) (ap (λ r. r.den) k ∙ m.ensures.den) w)
 
-pub returns-else-is_up_ahead : goal.returns-else-is_up_ahead
-returns-else-is_up_ahead c =
+pub returns-else-is_up_ahead-clause-crosses : goal.returns-else-is_up_ahead-clause-crosses
+returns-else-is_up_ahead-clause-crosses c =
     let down = c.is_ahead-is_down_ahead in
     let up = c.is_ahead-is_up_ahead in
     let m = c.meet-num-else-is_up_ahead in
@@ -58,3 +58,36 @@ returns-else-is_up_ahead c =
     let f4 : FitsSigned w128 m.result.1 = fits w128 (search (sizes, m.ensures.den_in)) refl in
     let k = simp to_z-of_z at c.of-else-is_up_ahead.ensures in
     simp to_z-of_z at (crosses_as (ap (λ r. r.sign) k) (ap (λ r. r.num) k ∙ m.ensures.num) (ap (λ r. r.den) k ∙ m.ensures.den) w)
+
+pub returns-then-is_up_ahead-clause-in_plane : goal.returns-then-is_up_ahead-clause-in_plane
+returns-then-is_up_ahead-clause-in_plane c =
+    let m = c.meet-num in
+    let w = up_meets (twice c.args.f.now) (to_z w64 (of_z w64 c.args.y2)) (to_z w64 (of_z w64 c.args.z2)) c.in_ok-ends.ends c.in_ok-ends.ensures in
+    let f1 = c.ranges.y2 in
+    let f2 = c.ranges.z2 in
+    let f3 : FitsSigned w128 m.result.0 = fits w128 (search (sizes, m.ensures.num_in)) refl in
+    let f4 : FitsSigned w128 m.result.1 = fits w128 (search (sizes, m.ensures.den_in)) refl in
+    let k = simp to_z-of_z at c.of.ensures in
+    simp to_z-of_z at (meets_as (ap (λ r. r.num) k ∙ m.ensures.num) (ap (λ r. r.den) k ∙ m.ensures.den) w)
+
+pub returns-else-is_up_ahead-clause-in_plane : goal.returns-else-is_up_ahead-clause-in_plane
+returns-else-is_up_ahead-clause-in_plane c =
+    let m = c.meet-num-else-is_up_ahead in
+    let w = down_meets (twice c.args.f.now) (to_z w64 (of_z w64 c.args.y2)) (to_z w64 (of_z w64 c.args.z2)) c.in_ok-ends.ends c.in_ok-ends.ensures in
+    let f1 = c.ranges.y2 in
+    let f2 = c.ranges.z2 in
+    let f3 : FitsSigned w128 m.result.0 = fits w128 (search (sizes, m.ensures.num_in)) refl in
+    let f4 : FitsSigned w128 m.result.1 = fits w128 (search (sizes, m.ensures.den_in)) refl in
+    let k = simp to_z-of_z at c.of-else-is_up_ahead.ensures in
+    simp to_z-of_z at (meets_as (ap (λ r. r.num) k ∙ m.ensures.num) (ap (λ r. r.den) k ∙ m.ensures.den) w)
+
+pub returns-then-is_up_ahead-is_down_ahead-clause-some : goal.returns-then-is_up_ahead-is_down_ahead-clause-some
+returns-then-is_up_ahead-is_down_ahead-clause-some c =
+    let not_crossed = returns-then-is_up_ahead-is_down_ahead-clause-crosses c in
+    (λ h. absurd (cc), λ some. absurd (some not_crossed))
+
+pub returns-then-is_up_ahead-clause-some : goal.returns-then-is_up_ahead-clause-some
+returns-then-is_up_ahead-clause-some c = (λ _. crossed (returns-then-is_up_ahead-clause-crosses c), λ _. refl)
+
+pub returns-else-is_up_ahead-clause-some : goal.returns-else-is_up_ahead-clause-some
+returns-else-is_up_ahead-clause-some c = (λ _. crossed (returns-else-is_up_ahead-clause-crosses c), λ _. refl)
