@@ -58,6 +58,10 @@ pub record Transcript : Type 0 where
 abbrev pub transcript : Option (List ℕ) → Option (List ℕ) → ℕ → ℕ → Transcript
 transcript old new failed_before failed = record { old = old; new = new; failed_before = failed_before; failed = failed }
 
+-- nothing was written, and no call failed
+abbrev pub IsUntouched : Transcript → Type 0
+IsUntouched transcript = Keeps transcript.old transcript.new × (transcript.failed ≡ transcript.failed_before)
+
 -- the first bytes of a text went out, as many as the fault counts, and the device failed
 abbrev pub IsUnwritten : Transcript → List ℕ → RunFault → Type 0
 IsUnwritten transcript text f =
@@ -71,4 +75,4 @@ IsWorkFault t input f = IsRunFault t input f × (f ≢ fault.Read) × ((written 
 -- nothing was written, or a part of the outcome was
 abbrev pub IsEnd : Task → List ℕ → Transcript → RunFault → Type 0
 IsEnd t input transcript f =
-    (IsWorkFault t input f × Keeps transcript.old transcript.new) ⊎ ((text : List ℕ) × IsOutcome t input (Ok text) × IsUnwritten transcript text f)
+    (IsWorkFault t input f × IsUntouched transcript) ⊎ ((text : List ℕ) × IsOutcome t input (Ok text) × IsUnwritten transcript text f)

@@ -14,6 +14,7 @@
 #![tactic(auto)]
 
 mod fault;
+mod laws;
 mod loading;
 mod placing;
 mod running;
@@ -21,6 +22,7 @@ mod write;
 
 pub use build_book::Piece;
 pub use fault::RunFault;
+pub use laws::one_answer;
 pub use layer_pool::Gate;
 pub use loading::load;
 pub use raster::{Counted, Failed, Failures, Sink, Source};

@@ -1,7 +1,7 @@
 //! What a run reads: the bytes of its input, and the closed mesh that they spell.
-ghost use Rattle.std.specs.Prelude.{◌≡◌, ◌≤◌, ◌⊎◌, Err, IfErr, IfOk, IfSome, List, OnOk, vec_len};
+ghost use Rattle.std.specs.Prelude.{◌≡◌, ◌≢◌, ◌≤◌, ◌⊎◌, Err, IfErr, IfOk, IfSome, List, OnOk, vec_len};
 ghost use Rattle.std.specs.Io.KnownBytes.{IsAtEnd};
-ghost use Rattle.raster.specs.Devices.{HasFailed};
+ghost use Rattle.raster.specs.Devices.{Fails};
 ghost use Rattle.stlslice.specs.declared.fault.RunFault.TheVariants.{Memory, Read, Stl};
 ghost use Rattle.mesh_weld.specs.Balance.{IsBalanced};
 ghost use Rattle.mesh_weld.specs.Solid.{solid_of};
@@ -82,7 +82,8 @@ pub(crate) fn read_all<A: Allocator + Copy + Send + Sync, I: Source>(
     ensures bytes { IfOk result (λ bytes. IfSome (I.remaining source.old) (λ input. bytes.items ≡ input)) }
     ensures whole { OnOk result (IsAtEnd (I.remaining source.new)) }
     ensures unread { result ≡ Err Read
-        → HasFailed (I.Failures.failure_count source.old) (I.Failures.failure_count source.new) }
+        → Fails (I.Failures.failure_count source.old) (I.Failures.failure_count source.new) }
+    ensures sound { result ≢ Err Read → I.Failures.failure_count source.new ≡ I.Failures.failure_count source.old }
     ensures only { IfErr result (λ fault. (fault ≡ Read) ⊎ (fault ≡ Memory)) }
 {
     let mut bytes = Vec::new(alloc);

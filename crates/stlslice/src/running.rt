@@ -5,6 +5,7 @@ ghost use Rattle.stlslice.specs.Outcome.{IsOutcome, grid_for};
 ghost use Rattle.stlslice.specs.Ending.{IsEnd, IsPlacingFault, IsSolidOf, transcript};
 ghost use Rattle.stlslice.specs.Run.{IsRun};
 ghost use Rattle.task_words.specs.Task.{IsInRange};
+ghost use Rattle.task_words.specs.declared.task.Task.TheVariants as task;
 ghost use Rattle.geometry.specs.declared.limits.TheConstants.{STEP_LIMIT};
 
 use crate::fault::RunFault;
@@ -26,9 +27,10 @@ use task_words::{Given, Task};
 /// Reads the whole input, does the task, and writes and flushes what it answers.
 ///
 /// Where it succeeds, all was read, and just the text of the outcome was written and flushed. A fault of the input is
-/// its outcome; the other faults come of a device or of memory. After a fault of the output the first `written` bytes
-/// of the outcome went out, after any other fault nothing did. Each call of a device is tried once, so an interruption
-/// is a fault too. An allocation can fail at each step before the first byte is written.
+/// its outcome, and where the outcome is a fault, no other fault of the input comes; the other faults come of a device or
+/// of memory. After a fault of the output the first `written` bytes of the outcome went out, after any other fault
+/// nothing did. Each call of a device is tried once, so an interruption is a fault too, and no call has failed unless the
+/// run ends with that device's fault. An allocation can fail at each step before the first byte is written.
 pub fn run<R: Threads + Wait + Sync, A: Allocator + Copy + Send + Sync, I: Source, O: Sink>(
     rt: &R,
     alloc: A,
@@ -76,15 +78,12 @@ fn respond<R: Threads + Wait + Sync, A: Allocator + Copy + Send + Sync, O: Sink,
     ensures flushed { OnOk result (O.is_settled sink.new ≡ true) }
     ensures ok { OnOk result ((text : List ℕ) × IsOutcome task.now input.items (Ok text)
         × Appends (O.contents sink.old) (O.contents sink.new) text) }
+    ensures same { OnOk result (O.Failures.failure_count sink.new ≡ O.Failures.failure_count sink.old) }
     ensures err { IfErr result (IsEnd task.now input.items
         (transcript (O.contents sink.old) (O.contents sink.new) (O.Failures.failure_count sink.old) (O.Failures.failure_count sink.new))) }
 {
     match task {
-        Task::Box { unit } => {
-            let facets = read_facets(alloc, input, *unit)?;
-            let line = box_line(alloc, &facets)?;
-            write_all(sink, line.as_bytes())
-        }
+        Task::Box { unit } => respond_box(alloc, *unit, input, sink),
         Task::Probe {
             unit,
             pitch,
@@ -93,11 +92,16 @@ fn respond<R: Threads + Wait + Sync, A: Allocator + Copy + Send + Sync, O: Sink,
             i,
             j,
             k,
-        } => {
-            let (solid, grid) = read_placed(alloc, input, *unit, *grid, *pitch, *layer)?;
-            let line = probe_voxel(alloc, &solid, &grid, *i, *j, *k)?;
-            write_all(sink, line.as_bytes())
-        }
+        } => respond_probe(
+            alloc,
+            *unit,
+            *pitch,
+            *layer,
+            *grid,
+            (*i, *j, *k),
+            input,
+            sink,
+        ),
         Task::Slice {
             unit,
             pitch,
@@ -113,6 +117,52 @@ fn respond<R: Threads + Wait + Sync, A: Allocator + Copy + Send + Sync, O: Sink,
             write_build(alloc, &build, Output::of(*report), sink)
         }
     }
+}
+
+/// Writes and flushes the box line of an input. It takes no handle, so that it returns is proved.
+fn respond_box<A: Allocator + Copy + Send + Sync, O: Sink>(
+    alloc: A,
+    unit: Unit,
+    input: Vec<u8, A>,
+    sink: &mut O,
+) -> Result<(), RunFault>
+    ensures flushed { OnOk result (O.is_settled sink.new ≡ true) }
+    ensures ok { OnOk result ((text : List ℕ) × IsOutcome (task.Box unit) input.items (Ok text)
+        × Appends (O.contents sink.old) (O.contents sink.new) text) }
+    ensures same { OnOk result (O.Failures.failure_count sink.new ≡ O.Failures.failure_count sink.old) }
+    ensures err { IfErr result (IsEnd (task.Box unit) input.items
+        (transcript (O.contents sink.old) (O.contents sink.new) (O.Failures.failure_count sink.old) (O.Failures.failure_count sink.new))) }
+{
+    let facets = read_facets(alloc, input, unit)?;
+    let line = box_line(alloc, &facets)?;
+    write_all(sink, line.as_bytes())
+}
+
+/// Writes and flushes the rays at a voxel, which is given by its column, row and layer. It takes no handle, so that it
+/// returns is proved.
+fn respond_probe<A: Allocator + Copy + Send + Sync, O: Sink>(
+    alloc: A,
+    unit: Unit,
+    pitch: u32,
+    layer: u32,
+    given: Option<Given>,
+    voxel: (u32, u32, u32),
+    input: Vec<u8, A>,
+    sink: &mut O,
+) -> Result<(), RunFault>
+    requires { IsInRange (task.Probe unit pitch layer given voxel.0 voxel.1 voxel.2) }
+    ensures flushed { OnOk result (O.is_settled sink.new ≡ true) }
+    ensures ok { OnOk result ((text : List ℕ)
+        × IsOutcome (task.Probe unit pitch layer given voxel.0 voxel.1 voxel.2) input.items (Ok text)
+        × Appends (O.contents sink.old) (O.contents sink.new) text) }
+    ensures same { OnOk result (O.Failures.failure_count sink.new ≡ O.Failures.failure_count sink.old) }
+    ensures err { IfErr result (IsEnd (task.Probe unit pitch layer given voxel.0 voxel.1 voxel.2) input.items
+        (transcript (O.contents sink.old) (O.contents sink.new) (O.Failures.failure_count sink.old) (O.Failures.failure_count sink.new))) }
+{
+    let (i, j, k) = voxel;
+    let (solid, grid) = read_placed(alloc, input, unit, given, pitch, layer)?;
+    let line = probe_voxel(alloc, &solid, &grid, i, j, k)?;
+    write_all(sink, line.as_bytes())
 }
 
 /// The closed mesh of an input, and the grid that was handed in, or else the one that the mesh fits in.

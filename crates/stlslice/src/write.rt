@@ -2,9 +2,9 @@
 //! a whole text is written and flushed.
 ghost use Rattle.std.specs.Prelude.{◌≡◌, ◌≤◌, IfErr, OnOk, length, true, ℕ, ◌⊎◌};
 ghost use Rattle.std.specs.Io.KnownBytes.{Appends, Keeps};
-ghost use Rattle.raster.specs.Devices.{AppendsFirst, HasFailed};
+ghost use Rattle.raster.specs.Devices.{AppendsFirst, Fails, HasFailed};
 ghost use Rattle.stlslice.specs.declared.fault.RunFault.TheVariants.{Write, Memory};
-ghost use Rattle.stlslice.specs.Ending.{IsUnwritten, transcript};
+ghost use Rattle.stlslice.specs.Ending.{IsUntouched, IsUnwritten, transcript};
 ghost use Rattle.stlslice.specs.SlicedText.{output_of, sliced_text};
 
 pub(crate) mod box_line;
@@ -52,7 +52,9 @@ pub(crate) fn write_build<A: Allocator + Copy + Send + Sync, O: Sink>(
     ensures flushed { OnOk result (O.is_settled sink.new ≡ true) }
     ensures ok { OnOk result (Appends (O.contents sink.old) (O.contents sink.new)
         (sliced_text output build.now.job.grid build.now.job.rule build.now.job.solid.facets)) }
-    ensures err { IfErr result (λ fault. ((fault ≡ Memory) × Keeps (O.contents sink.old) (O.contents sink.new))
+    ensures same { OnOk result (O.Failures.failure_count sink.new ≡ O.Failures.failure_count sink.old) }
+    ensures err { IfErr result (λ fault. ((fault ≡ Memory) × IsUntouched
+        (transcript (O.contents sink.old) (O.contents sink.new) (O.Failures.failure_count sink.old) (O.Failures.failure_count sink.new)))
         ⊎ IsUnwritten
         (transcript (O.contents sink.old) (O.contents sink.new) (O.Failures.failure_count sink.old) (O.Failures.failure_count sink.new))
         (sliced_text output build.now.job.grid build.now.job.rule build.now.job.solid.facets) fault) }
@@ -71,6 +73,7 @@ pub(crate) fn write_build<A: Allocator + Copy + Send + Sync, O: Sink>(
 pub(crate) fn write_all<O: Sink>(sink: &mut O, text: &[u8]) -> Result<(), RunFault>
     ensures flushed { OnOk result (O.is_settled sink.new ≡ true) }
     ensures ok { OnOk result (Appends (O.contents sink.old) (O.contents sink.new) text.now) }
+    ensures same { OnOk result (O.Failures.failure_count sink.new ≡ O.Failures.failure_count sink.old) }
     ensures err { IfErr result (λ fault. (written : ℕ) × (fault ≡ Write written) × (written ≤ length text.now)
         × AppendsFirst (O.contents sink.old) (O.contents sink.new) written text.now
         × HasFailed (O.Failures.failure_count sink.old) (O.Failures.failure_count sink.new)) }
@@ -87,8 +90,9 @@ pub(crate) fn write_all<O: Sink>(sink: &mut O, text: &[u8]) -> Result<(), RunFau
 pub(crate) fn settle<O: Sink>(sink: &mut O, written: u64) -> Result<(), RunFault>
     ensures flushed { OnOk result (O.is_settled sink.new ≡ true) }
     ensures kept { Keeps (O.contents sink.old) (O.contents sink.new) }
+    ensures same { OnOk result (O.Failures.failure_count sink.new ≡ O.Failures.failure_count sink.old) }
     ensures err { IfErr result (λ fault. (fault ≡ Write written)
-        × HasFailed (O.Failures.failure_count sink.old) (O.Failures.failure_count sink.new)) }
+        × Fails (O.Failures.failure_count sink.old) (O.Failures.failure_count sink.new)) }
 {
     match sink.settle() {
         Ok(()) => Ok(()),

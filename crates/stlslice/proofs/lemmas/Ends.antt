@@ -1,7 +1,7 @@
 -- How a run ends.
-use Rattle.std.proofs.Common.{◌≡◌, ◌≤◌, ◌⊎◌, ℕ, List, Option, Some, None, ap, inl, inr, length, refl, subst}
-use Rattle.std.specs.Prelude.{Bool, Err, IfErr, IsErrAnd, Ok, Result}
-use Rattle.std.specs.Io.KnownBytes.{Keeps}
+use Rattle.std.proofs.Common.{◌≡◌, ◌≢◌, ◌≤◌, ◌⊎◌, ℕ, List, Option, Some, None, ap, inl, inr, length, refl, subst}
+use Rattle.std.specs.Prelude.{Bool, Err, IfErr, IsErrAnd, MatchResult, Ok, OnOk, Result}
+use Rattle.std.specs.Io.KnownBytes.{Appends, Keeps}
 use Rattle.micro_num.specs.declared.unit.Unit.{Unit as LengthUnit}
 use Rattle.mesh_weld.specs.Solid.{Solid}
 use Rattle.raster.specs.Devices.{AppendsFirst}
@@ -14,8 +14,9 @@ use Rattle.task_words.specs.declared.task.Task.TheVariants as task
 use Rattle.stlslice.specs.declared.fault.RunFault.{RunFault}
 use Rattle.stlslice.specs.declared.fault.RunFault.TheVariants as fault
 use Rattle.stlslice.specs.Outcome.{IsOutcome, grid_for}
-use Rattle.stlslice.specs.Ending.{IsEnd, IsSolidOf, IsUnwritten, IsWorkFault, Transcript}
+use Rattle.stlslice.specs.Ending.{IsEnd, IsSolidOf, IsUntouched, IsUnwritten, IsWorkFault, Transcript}
 use Rattle.stlslice.specs.SlicedText.{output_of, sliced_text}
+use Rattle.stlslice.proofs.lemmas.OneAnswer.{one_outcome}
 use Rattle.stlslice.proofs.lemmas.Faults.{made_there}
 
 pub keeps_self : (a : Option (List ℕ)) → Keeps a a
@@ -26,7 +27,7 @@ pub no_memory : (t : Task) (input : List ℕ) (f : RunFault) → f ≡ fault.Mem
 no_memory t input f is = rw is (tt, (λ e. cc), (λ w e. cc))
 
 -- where a fault is passed on before the first byte is written, the run ends with it
-pub stopped : {T : Type 0} (r : Result T RunFault) (t : Task) (input : List ℕ) (transcript : Transcript) (f : RunFault) → Keeps transcript.old transcript.new
+pub stopped : {T : Type 0} (r : Result T RunFault) (t : Task) (input : List ℕ) (transcript : Transcript) (f : RunFault) → IsUntouched transcript
     → IsWorkFault t input f → IsErrAnd r (λ x. x ≡ f) → IfErr r (IsEnd t input transcript)
 stopped (Ok x) t input transcript f kept known is = tt
 stopped (Err x) t input transcript f kept known is = inl (rw is known, kept)
@@ -43,7 +44,7 @@ sliced_there unit pitch layer rule workers report given input solid g job s plac
 
 -- where writing an outcome failed, a part of it was written, or nothing for want of memory
 pub ended : (t : Task) (input : List ℕ) (transcript : Transcript) (text : List ℕ) (f : RunFault) → IsOutcome t input (Ok text)
-    → ((f ≡ fault.Memory) × Keeps transcript.old transcript.new) ⊎ IsUnwritten transcript text f → IsEnd t input transcript f
+    → ((f ≡ fault.Memory) × IsUntouched transcript) ⊎ IsUnwritten transcript text f → IsEnd t input transcript f
 ended t input transcript text f outcome (inl h) = inl (no_memory t input f h.0, h.1)
 ended t input transcript text f outcome (inr h) = inr (text, outcome, h)
 
@@ -60,3 +61,45 @@ first_end t input transcript written (inl h) = absurd (h.0.2 written refl)
 first_end t input transcript written (inr h) =
     let first = written_first transcript h.0 written h.2 in
     (h.0, h.1, first.0, first.1)
+
+-- Where the outcome is a fault.
+
+abbrev pub IsRefusal : {T : Type 0} → Result T RunFault → RunFault → Type 0
+IsRefusal r own = MatchResult r (λ _. ⊥) (λ f. (f ≡ own) ⊎ (f ≡ fault.Read) ⊎ (f ≡ fault.Memory))
+
+no_text : (t : Task) (input text : List ℕ) (own : RunFault) → IsOutcome t input (Err own) → IsOutcome t input (Ok text) → ⊥
+no_text t input text own is h = let e : Ok text ≡ Err own = one_outcome t input (Ok text) (Err own) h is in cc
+
+same_fault : (t : Task) (input : List ℕ) (f own : RunFault) → IsOutcome t input (Err own) → IsOutcome t input (Err f) → f ≡ own
+same_fault t input f own is h = let e : Err f ≡ Err own = one_outcome t input (Err f) (Err own) h is in cc
+
+own_fault : (t : Task) (input : List ℕ) (f own : RunFault) → IsOutcome t input (Err own) → IsWorkFault t input f
+    → (f ≡ own) ⊎ (f ≡ fault.Read) ⊎ (f ≡ fault.Memory)
+own_fault t input fault.Read own is h = inr (inl refl)
+own_fault t input (fault.Stl cause) own is h = inl (same_fault t input (fault.Stl cause) own is h.0)
+own_fault t input (fault.Open from to there back) own is h = inl (same_fault t input (fault.Open from to there back) own is h.0)
+own_fault t input (fault.Grid cause) own is h = inl (same_fault t input (fault.Grid cause) own is h.0)
+own_fault t input fault.Memory own is h = inr (inr refl)
+own_fault t input (fault.Write written) own is h = absurd (h.2 written refl)
+own_fault t input (fault.Outside columns rows layers) own is h =
+    inl (same_fault t input (fault.Outside columns rows layers) own is h.0)
+
+refused_end : (t : Task) (input : List ℕ) (transcript : Transcript) (f own : RunFault) → IsOutcome t input (Err own)
+    → IsEnd t input transcript f → (f ≡ own) ⊎ (f ≡ fault.Read) ⊎ (f ≡ fault.Memory)
+refused_end t input transcript f own is (inl h) = own_fault t input f own is h.0
+refused_end t input transcript f own is (inr h) = absurd (no_text t input h.0 own is h.1)
+
+-- a run that has read its input ends with this fault, or for want of memory
+pub refused : {T : Type 0} (r : Result T RunFault) (t : Task) (input : List ℕ) (old new : Option (List ℕ)) (transcript : Transcript)
+    → OnOk r ((text : List ℕ) × IsOutcome t input (Ok text) × Appends old new text) → IfErr r (IsEnd t input transcript)
+    → (own : RunFault) → IsOutcome t input (Err own) → IsRefusal r own
+refused (Ok x) t input old new transcript ok err own is = no_text t input ok.0 own is ok.1
+refused (Err f) t input old new transcript ok err own is = refused_end t input transcript f own is err
+
+-- the count of a sink's failed calls stays, unless the run ends with the sink's fault
+pub sound_end : {T : Type 0} (r : Result T RunFault) (t : Task) (input : List ℕ) (transcript : Transcript)
+    → OnOk r (transcript.failed ≡ transcript.failed_before) → IfErr r (IsEnd t input transcript)
+    → ((written : ℕ) → r ≢ Err (fault.Write written)) → transcript.failed ≡ transcript.failed_before
+sound_end (Ok x) t input transcript same err differ = same
+sound_end (Err f) t input transcript same (inl h) differ = h.1.1
+sound_end (Err f) t input transcript same (inr h) differ = absurd (differ h.2.0 (ap Err h.2.1))

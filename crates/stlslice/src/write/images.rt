@@ -22,6 +22,7 @@ pub(crate) fn write_images<A: Allocator, O: Sink>(
     ensures flushed { OnOk result (O.is_settled sink.new ≡ true) }
     ensures ok { OnOk result (Appends (O.contents sink.old) (O.contents sink.new)
         (pictures build.now.job.grid build.now.job.rule build.now.job.solid.facets)) }
+    ensures same { OnOk result (O.Failures.failure_count sink.new ≡ O.Failures.failure_count sink.old) }
     ensures err { IfErr result (λ fault. (written : ℕ) × (fault ≡ Write written)
         × (written ≤ length (pictures build.now.job.grid build.now.job.rule build.now.job.solid.facets))
         × AppendsFirst (O.contents sink.old) (O.contents sink.new) written

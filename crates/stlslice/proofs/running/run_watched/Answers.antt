@@ -1,11 +1,12 @@
 use Rattle.std.proofs.Common.{ℕ, ◌≤◌, List, length, rules}
-use Rattle.std.specs.Prelude.{Ok}
+use Rattle.std.specs.Prelude.{Err, Ok}
 use Rattle.std.specs.Io.KnownBytes.{Appends}
 use Rattle.std.proofs.lemmas.Result.{IfErr-at_err, on_ok_weaker}
 use Rattle.raster.specs.Devices.{AppendsFirst}
 use Rattle.stlslice.specs.Outcome.{IsOutcome}
+use Rattle.stlslice.specs.declared.fault.RunFault.{RunFault}
 use Rattle.stlslice.proofs.lemmas.Bytes.{of_input}
-use Rattle.stlslice.proofs.lemmas.Ends.{first_end}
+use Rattle.stlslice.proofs.lemmas.Ends.{IsRefusal, first_end, refused, sound_end}
 use Rattle.stlslice.proofs.running.run_watched.Goals as goal
 
 pub returns : goal.returns
@@ -19,6 +20,12 @@ returns g c = record {
       c.in_ok-input.ensures.bytes out)
       c.respond.ensures.ok;
   fault = search rules;
+  only = of_input _ c.in_ok-input.input.items
+      (λ (input : List ℕ). (own : RunFault) → IsOutcome c.args.task.now input (Err own) → IsRefusal c.respond.result own)
+      c.in_ok-input.ensures.bytes
+      (refused c.respond.result c.args.task.now c.in_ok-input.input.items _ _ _ c.respond.ensures.ok c.respond.ensures.err);
+  source_sound = λ _. c.in_ok-input.ensures.sound (λ e. cc);
+  sink_sound = sound_end c.respond.result c.args.task.now c.in_ok-input.input.items _ c.respond.ensures.same c.respond.ensures.err;
   unread = search rules;
   unwritten = search rules;
   first = λ written is.
