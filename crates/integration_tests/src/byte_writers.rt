@@ -2,37 +2,10 @@
 use crate::filling::layer;
 use crate::meshes::{CUBE, Part, WIDE_ROWS, solid_of};
 use raster::{Counted, Failures, Grid, Rule, Source, WriteFault, put_all, write_layer};
+use short_memory::{OneByteReader, SmallWriter};
 use std::alloc::{AllocError, Global};
-use std::io::{Error, ErrorKind, Read, Result as Written, Write};
+use std::io::ErrorKind;
 use std::test::Fail;
-
-// Takes at most `piece` bytes a call while it has room. Then it fails with `fault`; or, without one, it takes nothing
-// and calls that no error.
-#[derive(Drop)]
-struct SmallWriter {
-    taken: Vec<u8>,
-    piece: usize,
-    room: usize,
-    fault: Option<ErrorKind>,
-}
-
-impl Write for SmallWriter {
-    fn write(&mut self, buf: &[u8]) -> Written<usize> {
-        match self.fault {
-            Some(fault) if self.room == 0 => Err(Error::from(fault)),
-            _ => {
-                let count = buf.len().min(self.piece).min(self.room);
-                self.taken.extend_from_slice(&buf[..count])?;
-                self.room -= count;
-                Ok(count)
-            }
-        }
-    }
-
-    fn flush(&mut self) -> Written<()> {
-        Ok(())
-    }
-}
 
 // How many bytes a writer takes a call, and the fault with which it has no more room.
 type Way = (usize, Option<ErrorKind>);
@@ -46,13 +19,8 @@ const WAYS: [Way; 6] = [
     (5, None),
 ];
 
-fn writer(alloc: Global, (piece, fault): Way, room: usize) -> Counted<SmallWriter> {
-    Counted::new(SmallWriter {
-        taken: Vec::new(alloc),
-        piece,
-        room,
-        fault,
-    })
+fn writer(alloc: Global, (most_per_call, fault): Way, room: usize) -> Counted<SmallWriter> {
+    Counted::new(SmallWriter::new(alloc, room, most_per_call, fault, true))
 }
 
 // Whether the image of the lowest layer of a mesh went out to a writer of this way up to its room: the first bytes of
@@ -115,13 +83,28 @@ fn wide_image(alloc: Global) -> Result<Vec<u8>, AllocError> {
     Ok(image)
 }
 
+/// The length of the image of wide rows, in bytes.
+const WIDE_LEN: usize = 40_972;
+
+/// The length of the chunks in which an image goes out, in bytes.
+const CHUNK_LEN: usize = 16_384;
+
 #[test]
 fn an_image_beyond_one_chunk(rt: HostRuntime) -> Result<(), Fail> {
     let image = wide_image(rt.alloc())?;
     let bytes = image.as_slice();
-    assert_eq!(rt; bytes.len(), 40_972);
-    for room in [0, 16_383, 16_384, 16_385, 30_000, 40_971, 40_972, 50_000] {
-        for way in [(1, None), (1000, Some(ErrorKind::Other)), (50_000, None)] {
+    assert_eq!(rt; bytes.len(), WIDE_LEN);
+    for room in [
+        0,
+        CHUNK_LEN - 1,
+        CHUNK_LEN,
+        CHUNK_LEN + 1,
+        2 * CHUNK_LEN,
+        WIDE_LEN - 1,
+        WIDE_LEN,
+        WIDE_LEN + 1,
+    ] {
+        for way in [(1, None), (1000, Some(ErrorKind::Other)), (WIDE_LEN, None)] {
             assert_eq!(rt;
                 is_filled(rt.alloc(), WIDE_ROWS, bytes, way, room),
                 Some(true)
@@ -129,30 +112,6 @@ fn an_image_beyond_one_chunk(rt: HostRuntime) -> Result<(), Fail> {
         }
     }
     Ok(())
-}
-
-// Gives one byte a call, and fails after the first `calls`.
-#[derive(Drop)]
-struct OneByteReader<'a> {
-    bytes: &'a [u8],
-    calls: u64,
-}
-
-impl<'a> Read for OneByteReader<'a> {
-    fn read(&mut self, buf: &mut [u8]) -> Written<usize> {
-        if self.calls == 0 {
-            return Err(Error::from(ErrorKind::Interrupted));
-        }
-        self.calls -= 1;
-        match (self.bytes.split_first(), buf.first_mut()) {
-            (Some((byte, rest)), Some(place)) => {
-                *place = *byte;
-                self.bytes = rest;
-                Ok(1)
-            }
-            _ => Ok(0),
-        }
-    }
 }
 
 // Passes on what one call of a source gives: how many bytes, or `None` where either device failed.
@@ -181,6 +140,7 @@ fn passed(alloc: Global, calls: u64, room: usize) -> (bool, Vec<u8>, [u64; 2]) {
     let mut r = Counted::new(OneByteReader {
         bytes: SMALL,
         calls,
+        fault: ErrorKind::Interrupted,
     });
     let mut w = writer(alloc, (1, None), room);
     let ended = pass_all(&mut r, &mut w);

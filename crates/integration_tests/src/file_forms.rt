@@ -3,6 +3,7 @@ use crate::meshes::{
     CUBE, CUBE_AND_FLAT, CUBE_AND_PAIR, CUBE_OF_THREE, INWARD_CUBE, LONG_BEAM, OCTAHEDRON,
     ONE_INWARD, Part, SHEET, TOUCHING, TWO_CUBES, facets_of,
 };
+use crate::published::FARTHEST;
 use micro_num::Unit;
 use std::alloc::{AllocError, Global};
 use std::test::Fail;
@@ -97,13 +98,20 @@ endsolid t
 
 // The corners of its facets, in micrometres.
 static CORNERS: [[i32; 3]; 6] = [
-    [-2, 0, -12_345],
+    [-2, 0, -TWELVE],
     [0, -10, 100],
-    [-1000, -999, -10_001],
-    [-128_000_000, 128_000_000, -1],
-    [127_999_999, -127_999_999, 1],
-    [16_385, -16_385, 0],
+    [-1000, -999, -TEN],
+    [-FARTHEST, FARTHEST, -1],
+    [FARTHEST - 1, 1 - FARTHEST, 1],
+    [SIXTEEN, -SIXTEEN, 0],
 ];
+
+/// 10.001, 12.345 and 16.385 mm.
+const TEN: i32 = 10_001;
+
+const TWELVE: i32 = 12_345;
+
+const SIXTEEN: i32 = 16_385;
 
 #[test]
 fn numbers_below_zero(rt: HostRuntime) -> Result<(), Fail> {

@@ -1,7 +1,13 @@
 //! Walks along the rows of a lattice, beside a crossing and a column for each row alone.
+use crate::published::MOST_COLUMNS;
 use exact_cut::{Centre, Lattice, Walk, column, crossing};
 use std::test::Fail;
 use stl_text::{Facet, Point};
+
+/// The factor and the summand of Knuth's linear congruential generator for 64 bits.
+const MULTIPLIER: u64 = 6_364_136_223_846_793_005;
+
+const INCREMENT: u64 = 1_442_695_040_888_963_407;
 
 /// Numbers in no order, the same in each run.
 #[derive(Drop)]
@@ -11,10 +17,7 @@ struct Draws {
 
 impl Draws {
     fn next(&mut self) -> u64 {
-        self.state = self
-            .state
-            .wrapping_mul(6_364_136_223_846_793_005)
-            .wrapping_add(1_442_695_040_888_963_407);
+        self.state = self.state.wrapping_mul(MULTIPLIER).wrapping_add(INCREMENT);
         self.state >> 33
     }
 
@@ -45,6 +48,14 @@ impl Draws {
 
 // The lattices that facets are looked at in. Columns and rows of the first lie inside the range of coordinates, and
 // those of the others beyond it to some side.
+/// The first centres of a lattice at the ends of the range, in half-micrometres, and its step in micrometres.
+const FAR_START: i64 = -250_000_000;
+
+const FAR_STEP: u32 = 100_000;
+
+/// What small coordinates are multiplied by there.
+const FAR_SCALE: i32 = 10_000_000;
+
 const LATTICES: [Lattice; 4] = [
     Lattice {
         x2: -13,
@@ -68,10 +79,10 @@ const LATTICES: [Lattice; 4] = [
         rows: 40,
     },
     Lattice {
-        x2: -250_000_000,
-        y2: -250_000_000,
-        step: 100_000,
-        columns: 16_384,
+        x2: FAR_START,
+        y2: FAR_START,
+        step: FAR_STEP,
+        columns: MOST_COLUMNS,
         rows: 2500,
     },
 ];
@@ -140,6 +151,6 @@ fn walks_cross_what_rows_cross_alone(rt: HostRuntime) -> Result<(), Fail> {
     assert!(rt; all_crossed(2000, 1, &near) > Some(2000));
     assert!(rt; all_crossed(2000, 1, &coarse) > Some(1000));
     assert!(rt; all_crossed(2000, 1, &beside) > Some(100));
-    assert!(rt; all_crossed(20, 10_000_000, &far) > Some(200));
+    assert!(rt; all_crossed(20, FAR_SCALE, &far) > Some(200));
     Ok(())
 }

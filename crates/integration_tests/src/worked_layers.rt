@@ -6,6 +6,7 @@ use crate::filling::layer;
 use crate::meshes::{
     BEAM, CUBE_OF_THREE, INWARD_CUBE, NINE_IN_A_ROW, OCTAHEDRON, Part, SHEET, TOUCHING, solid_of,
 };
+use crate::published::MOST_COLUMNS;
 use mesh_weld::Solid;
 use raster::{Counted, Grid, Rule, Span, write_layer};
 use std::alloc::{AllocError, Global};
@@ -58,15 +59,14 @@ fn are_layers(alloc: Global, (parts, size, told): Worked<'_>, rule: Rule) -> Opt
     Some(g.layers() as usize == told.len())
 }
 
+/// The least of two by two by two pixels.
+const LEAST_OF_EIGHT: &[Layer] = &[
+    (&spans![0: 0, 1], b"P4\n2 2\n\x00\x80"),
+    (&[], b"P4\n2 2\n\x00\x00"),
+];
+
 // The centres lie at 1 and 3, and those at 3 in the far faces.
-static THREE_BY_TWOS: Worked = (
-    CUBE_OF_THREE,
-    2,
-    &[
-        (&spans![0: 0, 1], b"P4\n2 2\n\x00\x80"),
-        (&[], b"P4\n2 2\n\x00\x00"),
-    ],
-);
+static THREE_BY_TWOS: Worked = (CUBE_OF_THREE, 2, LEAST_OF_EIGHT);
 
 #[test]
 fn far_faces_hold_no_centre(rt: HostRuntime) -> Result<(), Fail> {
@@ -77,14 +77,7 @@ fn far_faces_hold_no_centre(rt: HostRuntime) -> Result<(), Fail> {
 }
 
 // The first centre is the far corner of one cube and the near corner of the other.
-static SHARED_CORNER: Worked = (
-    TOUCHING,
-    2,
-    &[
-        (&spans![0: 0, 1], b"P4\n2 2\n\x00\x80"),
-        (&[], b"P4\n2 2\n\x00\x00"),
-    ],
-);
+static SHARED_CORNER: Worked = (TOUCHING, 2, LEAST_OF_EIGHT);
 
 #[test]
 fn a_shared_corner_lies_in_one_cube(rt: HostRuntime) -> Result<(), Fail> {
@@ -161,10 +154,16 @@ fn widest_image(alloc: Global) -> Result<Vec<u8>, AllocError> {
     Ok(image)
 }
 
+const WIDEST: &[Span] = &[Span {
+    row: 0,
+    from: 0,
+    to: MOST_COLUMNS,
+}];
+
 #[test]
 fn the_widest_row(rt: HostRuntime) -> Result<(), Fail> {
     let image = widest_image(rt.alloc())?;
-    let layers: [Layer; 1] = [(&spans![0: 0, 16384], image.as_slice())];
+    let layers: [Layer; 1] = [(WIDEST, image.as_slice())];
     let told = (BEAM, 1, layers.as_slice());
     assert_eq!(rt; are_layers(rt.alloc(), told, Rule::EvenOdd), Some(true));
     Ok(())

@@ -1,7 +1,13 @@
-//! An allocator for tests that fails one allocation. A test repeats a call, and fails the first allocation, then the
-//! second, and so on, until the call has none left to fail.
+//! What fails where a test wants it: an allocator, a reader and a writer.
+//!
+//! [`ShortMemory`] fails one allocation. A test repeats a call, and fails the first allocation, then the second, and so
+//! on, until the call has none left to fail. [`OneByteReader`] and [`SmallWriter`] move few bytes a call, and fail at a
+//! call, or behind a byte, that the test chooses.
 #![tactic(auto)]
 
+mod devices;
+
+pub use devices::{OneByteReader, SmallWriter};
 use std::alloc::{AllocError, Allocator};
 use std::sync::atomic::AtomicU64;
 use std::sync::atomic::Ordering::SeqCst;

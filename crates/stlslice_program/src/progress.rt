@@ -31,7 +31,7 @@ impl Bar {
         done.checked_div(self.total).unwrap_or(0)
     }
 
-    /// The seconds that the stage will still take at its pace so far.
+    /// The seconds that the stage will still take at its rate so far.
     fn seconds_left(&self, now: Instant) -> Option<u64> {
         let millis = now.duration_since(self.begun?).as_millis();
         let left = u128::from(self.total.saturating_sub(self.done));

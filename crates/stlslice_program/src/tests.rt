@@ -5,7 +5,6 @@ mod allocation_runs;
 mod answers;
 mod box_runs;
 mod device_runs;
-mod devices;
 mod lines;
 mod loads;
 mod meshes;

@@ -1,9 +1,9 @@
 //! Runs over readers and writers that fail after each number of calls or bytes: contracts say what a fault leaves, and
 //! these show that the run goes on until there.
 use super::answers::end_of;
-use super::devices::{OneByteReader, SmallWriter};
 use super::meshes::Mesh::Facets;
 use super::meshes::{CUBE, mesh_text};
+use short_memory::{OneByteReader, SmallWriter};
 use std::io::ErrorKind;
 use std::sync::Wait;
 use std::thread::Threads;
@@ -87,7 +87,7 @@ fn first_other_room<R: Threads + Wait + Sync + AllocGlobal>(
     way: &Way,
 ) -> Option<usize> {
     let (line, text) = *row;
-    let (piece, fault, flushes) = *way;
+    let (most_per_call, fault, flushes) = *way;
     for room in 0..=text.len() {
         let end = if flushes && room == text.len() {
             Ok(())
@@ -95,7 +95,7 @@ fn first_other_room<R: Threads + Wait + Sync + AllocGlobal>(
             let written = room as u64;
             Err(RunFault::Write { written })
         };
-        let writer = SmallWriter::new(rt.alloc(), room, piece, fault, flushes);
+        let writer = SmallWriter::new(rt.alloc(), room, most_per_call, fault, flushes);
         if !is_taken(rt, line, writer, end, &text[..room]) {
             return Some(room);
         }

@@ -1,13 +1,16 @@
-//! A reader and a writer for tests: they move few bytes a call, and fail where a test wants it.
+//! A reader and a writer that move few bytes a call, and fail where a test wants it.
 use std::alloc::{Allocator, Global};
 use std::io::{Error, ErrorKind, Read, Result, Write};
 
 /// Gives one byte a call, and fails with `fault` at the call after the first `calls`.
 #[derive(Drop)]
-pub(crate) struct OneByteReader<'a> {
-    pub(crate) bytes: &'a [u8],
-    pub(crate) calls: u64,
-    pub(crate) fault: ErrorKind,
+pub struct OneByteReader<'a> {
+    /// The bytes that it still gives.
+    pub bytes: &'a [u8],
+    /// The calls before the one that fails.
+    pub calls: u64,
+    /// The fault of that call.
+    pub fault: ErrorKind,
 }
 
 impl<'a> Read for OneByteReader<'a> {
@@ -27,30 +30,35 @@ impl<'a> Read for OneByteReader<'a> {
     }
 }
 
-/// Takes at most `piece` bytes a call while it has room. Then it fails with `fault`; or, without one, it takes nothing
+/// Takes at most `most_per_call` bytes a call while it has room. Then it fails with `fault`; or, without one, it takes nothing
 /// and calls that no error.
 #[derive(Drop)]
-pub(crate) struct SmallWriter {
-    pub(crate) taken: Vec<u8>,
-    pub(crate) room: usize,
-    pub(crate) piece: usize,
-    pub(crate) fault: Option<ErrorKind>,
-    pub(crate) flushes: bool,
+pub struct SmallWriter {
+    /// The bytes that it took.
+    pub taken: Vec<u8>,
+    /// How many bytes it still takes.
+    pub room: usize,
+    /// The most that it takes a call.
+    pub most_per_call: usize,
+    /// The fault with which it has no more room.
+    pub fault: Option<ErrorKind>,
+    /// Whether a flush succeeds.
+    pub flushes: bool,
 }
 
 impl SmallWriter {
     /// One that has taken nothing.
-    pub(crate) fn new(
+    pub fn new(
         alloc: Global,
         room: usize,
-        piece: usize,
+        most_per_call: usize,
         fault: Option<ErrorKind>,
         flushes: bool,
     ) -> SmallWriter {
         SmallWriter {
             taken: Vec::new(alloc),
             room,
-            piece,
+            most_per_call,
             fault,
             flushes,
         }
@@ -62,7 +70,7 @@ impl Write for SmallWriter {
         match self.fault {
             Some(fault) if self.room == 0 => Err(Error::from(fault)),
             _ => {
-                let count = buf.len().min(self.piece).min(self.room);
+                let count = buf.len().min(self.most_per_call).min(self.room);
                 self.taken.extend_from_slice(&buf[..count])?;
                 self.room -= count;
                 Ok(count)
