@@ -4,6 +4,7 @@
 //! writes the images of all layers, a report, the box of the mesh, or the two rays of a voxel. A [`RunFault`] says why a
 //! run wrote nothing, or not all; its `Display` is the line on standard error, and its `status` the exit status.
 //! [`run_watched`] also tells a [`Gate`] of the layers as they are made.
+//! [`one_answer`] is a law: a task and an input have one outcome, whatever the number of workers.
 //!
 //! ```text
 //! let task = read_words(words)?;                    // --pitch 50 --layer 100
