@@ -50,7 +50,7 @@ const EXAMPLES: &str = "Examples:
 
 Exit status:
   0  done
-  2  the words
+  2  an option is wrong or missing
   3  the input is no ASCII STL
   4  the mesh is open
   5  there is no such grid, or no such voxel in it
@@ -115,7 +115,7 @@ fn rule<'a>(alloc: Global) -> Arg<'a> {
         .value_name("R")
         .default_value("evenodd")
         .help(
-            "Which pixels are filled, by the sum of the signed crossings\nof a ray from their centre: evenodd (an odd sum; hollows where\nshells overlap), nonzero (a sum other than 0; shells may be\ninside out) or positive (a sum above 0; several shells, as a\npart with supports)",
+            "Which pixels are filled where shells overlap: evenodd leaves\nthe overlap empty; positive fills it, as a part with supports\nor several shells wants; nonzero fills it too, and shells that\nare inside out",
         )
 }
 
