@@ -10,7 +10,8 @@
 # make examples   makes the bundled parts anew
 # make clean      removes build/
 
-VERSION := $(shell cat VERSION)
+# what --version prints, where it stands
+VERSION := $(shell sed -nE 's/^const VERSION: &str = "([^ ]+) .*/\1/p' crates/task_words/src/command.rt)
 DESTDIR ?=
 PREFIX ?= /usr/local
 FACETS ?= 200000

@@ -81,6 +81,7 @@ if [[ -n $words ]]; then
   exit
 fi
 
+[[ ! $2 -ef $part ]] || fail 1 "$2 is the part itself"
 command -v parallel > /dev/null || fail 1 "GNU parallel is missing (Debian: apt-get install parallel)"
 out=$2
 [[ ! -L $out && ( ! -e $out || -f $out ) ]] || fail 1 "$out is no plain file"

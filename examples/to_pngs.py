@@ -20,6 +20,8 @@ from layer_images import Refused, Sliced, ended, opened, words  # noqa: E402
 def main():
     given = words("Slices an ASCII STL into a folder of PNGs.", "the folder to make").parse_args()
     folder = given.output.rstrip("/") or "/"
+    if os.path.realpath(folder) == os.path.realpath(os.curdir):
+        raise Refused(f"{folder} is the current folder, which can't be made")
     if os.path.lexists(folder) and not (os.path.isdir(folder) and not os.listdir(folder)):
         raise Refused(f"{folder} is there already")
     with opened(given.part) as source:

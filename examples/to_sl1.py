@@ -33,11 +33,13 @@ def main():
     add("--first-exposure", type=seconds, default=25.0, metavar="S", help="the same of the first layers (%(default)s)")
     add("--fade", type=count, default=10, metavar="N",
         help="layers over which the exposure fades from the first to the other (%(default)s)")
-    add("--printer", default="SL1", metavar="MODEL", help="the printer's model, as SL1S or M1 (%(default)s)")
+    add("--printer", default="SL1S", metavar="MODEL", help="the printer's model, as SL1 or M1 (%(default)s)")
     add("--material", default="", metavar="NAME", help="the resin's name, for the printer to show")
     given = parser.parse_args()
     if os.path.lexists(given.output) and (os.path.islink(given.output) or not os.path.isfile(given.output)):
         raise Refused(f"{given.output} is no plain file")
+    if os.path.exists(given.output) and os.path.exists(given.part) and os.path.samefile(given.output, given.part):
+        raise Refused(f"{given.output} is the part itself")
     with opened(given.part) as source:
         sliced = Sliced(given, source)
         aside = f"{given.output}.{os.getpid()}.part"

@@ -1,6 +1,7 @@
 """What the tests share: the program's path, a folder where it is called stlslice, and how a test ends."""
 
 import os
+import re
 import subprocess
 import sys
 import tempfile
@@ -20,6 +21,11 @@ def skip(why):
 def text_of(name):
     with open(os.path.join(ROOT, name), encoding="utf-8") as file:
         return file.read()
+
+
+def version():
+    """The version that the program is built with, as it stands in the source."""
+    return re.search(r'(?m)^const VERSION: &str = "([^ ]+) ', text_of("crates/task_words/src/command.rt"))[1]
 
 
 def same(what, found, wanted):

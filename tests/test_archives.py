@@ -207,6 +207,21 @@ def output_that_is_no_plain_file_is_refused(program, folder):
     leaves_nothing(folder, ["link", "pipe"])
 
 
+def part_is_not_overwritten(program, folder):
+    part, link = os.path.join(folder, "part.stl"), os.path.join(folder, "link.stl")
+    with open(example("bracket.stl"), "rb") as file, open(part, "wb") as copy:
+        copy.write(file.read())
+    os.link(part, link)
+    for out in (part, link):
+        found = run(script(SL1, SMALL + ["--program", program, part, out]))
+        same(found, (1, b"", f"to_sl1.py: {out} is the part itself\n".encode()), "the part as its own archive")
+    with open(example("bracket.stl"), "rb") as file, open(part, "rb") as copy:
+        assert copy.read() == file.read(), "the part has changed"
+    found = run(script(PNGS, SMALL + ["--program", program, example("bracket.stl"), "."]), cwd=folder)
+    same(found, (1, b"", b"to_pngs.py: . is the current folder, which can't be made\n"), "the current folder")
+    leaves_nothing(folder, ["link.stl", "part.stl"])
+
+
 def pitch_of_quarters_is_exact(program, folder):
     """A pixel of 47.25: the part four times as large in x and y, with a pixel of 189, has the same image. The part is
     80 pixels wide but for a quarter of a micrometre, so any error of the pitch adds or takes a column."""
@@ -302,5 +317,5 @@ def pipes_and_units(program, folder):
 if __name__ == "__main__":
     main([archive_is_the_stream, settings_are_those_asked_for, large_layers_are_slow, part_is_upright_and_in_the_middle,
           folder_is_the_stream, large_part_is_refused, faults_are_handed_on, fault_keeps_what_was_there,
-          output_that_is_no_plain_file_is_refused,
+          output_that_is_no_plain_file_is_refused, part_is_not_overwritten,
           pitch_of_quarters_is_exact, broken_slicers_leave_nothing, stopped_script_leaves_nothing, pipes_and_units])

@@ -6,7 +6,7 @@ import glob
 import os
 import shutil
 
-from common import PROGRAM, ROOT, Room, holds, same, skip, text_of
+from common import PROGRAM, ROOT, Room, holds, same, skip, version
 
 PLACES = """./usr/bin/stlslice ./usr/share/man/man1/stlslice.1.gz ./usr/share/doc/stlslice/copyright
 ./usr/share/doc/stlslice/changelog.gz ./usr/share/doc/stlslice/examples/bracket.stl
@@ -15,7 +15,7 @@ PLACES = """./usr/bin/stlslice ./usr/share/man/man1/stlslice.1.gz ./usr/share/do
 
 
 def made(room, name):
-    ran = room.run("tools/deb", PROGRAM, text_of("VERSION").strip(), room.file(name))
+    ran = room.run("tools/deb", PROGRAM, version(), room.file(name))
     same("status of tools/deb", (ran.returncode, ran.stderr), (0, ""))
     package, = glob.glob(room.file(name, "*.deb"))
     with open(package, "rb") as file:

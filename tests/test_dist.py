@@ -8,7 +8,7 @@ import os
 import shutil
 import tarfile
 
-from common import PROGRAM, ROOT, Room, holds, same, text_of
+from common import PROGRAM, ROOT, Room, holds, same, version
 
 
 def made(room, name, umask):
@@ -18,8 +18,7 @@ def made(room, name, umask):
     for at, _, names in os.walk(copy):
         for it in names:
             os.utime(os.path.join(at, it), (umask * 1000, umask * 1000))
-    version = text_of("VERSION").strip()
-    ran = room.run("bash", "-c", f"umask {umask:03}; cd '{copy}'; tools/dist '{PROGRAM}' {version} '{copy}/out'")
+    ran = room.run("bash", "-c", f"umask {umask:03}; cd '{copy}'; tools/dist '{PROGRAM}' {version()} '{copy}/out'")
     same(f"status of tools/dist in {name}", (ran.returncode, ran.stderr), (0, ""))
     tarball, = glob.glob(f"{copy}/out/*.tar.gz")
     with open(tarball, "rb") as file:

@@ -88,6 +88,11 @@ def plot(program, folder):
     same(shown(os.path.join(folder, "area.png")), (640, 480, True), "the plot")
 
 
+def sheet_of_eight(program, folder):
+    width, height, varied = shown(os.path.join(folder, "eight.png"))
+    assert width > 100 and height > 100 and varied, "no picture"
+
+
 def streams(program, folder):
     whole = sliced(program, ["--pitch", "50", "--layer", "50"])
     for tool, name in (("zstd", "layers.zst"), ("gzip", "layers.gz")):
@@ -101,7 +106,7 @@ def slurm(program, folder):
 
 # What a block leaves, looked at beside what it prints; by the last file that it writes.
 LEFT = {"layers/%d.pbm": netpbm_pngs, "out.sl1\n": archive, "layer17.pbm": one_layer, "canvas.pbm": fixed_canvas,
-        "area.png": plot, "layers.gz": streams, "slabs/*.pbm": slurm}
+        "area.png": plot, "eight.png": sheet_of_eight, "layers.gz": streams, "slabs/*.pbm": slurm}
 
 
 def needs(block):
@@ -202,7 +207,7 @@ def canvas_that_is_too_small_is_refused(program, folder):
     block = next(block for block in blocks(PAGE) if block.head == "A fixed canvas" and block.language == "sh")
     assert block.body.count("W=2560 H=1620") == 1
     found = run(["bash", "-c", block.body.replace("W=2560 H=1620", "W=640 H=239")], cwd=here, env=env)
-    same(found, (0, b"", b"the part doesn't fit: 31964 x 12000 micrometres\n"), "a canvas that is too small")
+    same(found, (1, b"", b"the part doesn't fit: 31964 x 12000 micrometres\n"), "a canvas that is too small")
     same(sorted(os.listdir(here)), ["examples", "part.stl"], "files")
 
 

@@ -66,6 +66,16 @@ def batch_of_tasks_is_the_whole(program, folder):
         assert joined == whole(program, part, wanted), "bytes differ"
 
 
+def part_is_not_overwritten(program, folder):
+    env = environment(program, folder)
+    part, link = os.path.join(folder, "part.stl"), os.path.join(folder, "link.stl")
+    shutil.copy(example("bracket.stl"), part)
+    os.link(part, link)
+    for out in (part, link):
+        same(run([SLABS, part, out], env=env), (1, b"", f"slabs.sh: {out} is the part itself\n".encode()), "the part itself")
+    assert content(part) == content(example("bracket.stl")), "the part has changed"
+
+
 def task_that_fails_leaves_nothing(program, folder):
     env = environment(program, folder)
     slabs = os.path.join(folder, "slabs")
@@ -189,5 +199,5 @@ def missing_tools():
 
 
 if __name__ == "__main__":
-    main([words_are_slabs_of_the_whole, batch_of_tasks_is_the_whole, task_that_fails_leaves_nothing,
+    main([words_are_slabs_of_the_whole, part_is_not_overwritten, batch_of_tasks_is_the_whole, task_that_fails_leaves_nothing,
           wrong_words_are_refused])

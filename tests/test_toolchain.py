@@ -15,7 +15,7 @@ def main():
         holds(f"{place} tells the C library {told}", re.search(rf"(glibc|libc6 \(>=) {re.escape(told)}\b", text_of(place)))
     with Room() as room:
         os.mkdir(room.file("tools"))
-        for name in ("sh", "bash", "make", "cat", "find", "python3", "test", "dirname", "mktemp"):
+        for name in ("sh", "bash", "make", "cat", "find", "python3", "test", "dirname", "mktemp", "sed"):
             os.symlink(shutil.which(name), room.file("tools", name))
         room.environment["PATH"] = room.file("tools")
         for target in ("all", "test", "demo"):

@@ -119,6 +119,11 @@ def main():
         same(f"words that take a value for {shell}", sorted(taken), sorted(takers))
         for name in ("--rule", "--unit"):
             same(f"values of {name} for {shell}", sorted(choices[name]), sorted(choices_of(said[name])))
+        told = {"zsh": "completions/_stlslice", "fish": "completions/stlslice.fish"}.get(shell)
+        for name in ("--rule", "--unit", "--workers"):
+            if told:
+                stated = re.search(rf"(?m)^.*-l? ?{name.lstrip('-')}\b.*\(default (\w+)\)", text_of(told))
+                same(f"default of {name} for {shell}", stated and stated[1], default_of(said[name]))
         counts = sorted(map(int, choices["--workers"]))
         same(f"least and most workers for {shell}", (counts[0], counts[-1]), limits(said)["--workers"])
 

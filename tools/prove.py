@@ -7,8 +7,9 @@ FOLDER is the program's crate. `rt run` there proves the libraries one after ano
 N at a time, but gives each one job, and most of these crates stand on one another. This calls the toolchain's own
 library, as both of them do: of the libraries that can be built, the one with the longest chain of others above it
 chooses its jobs as under `rt run`, and those beside it get one job each, where processors and memory allow. The quick
-pass over all sources, with which `rt run` begins, goes on beside the first proofs. What is built here `rt run` takes as built, by its own stamps, and what isn't it builds itself: so where the toolchain's
-library is another than expected, this says so and leaves all to `rt run`.
+pass over all sources, with which `rt run` begins, goes on beside the first proofs. `rt run` takes what is built here as
+built, by its own stamps, and builds the rest itself. So where the toolchain's library is another than expected, this
+says so and leaves all to `rt run`.
 """
 
 import importlib.util
