@@ -8,7 +8,7 @@ use Rattle.std.proofs.lemmas.Bool.{and_from, and_parts, eqb-true, eq-eqb, true�
 use Rattle.std.proofs.lemmas.Cmp.{then_total, on_total}
 use Rattle.geometry.specs.Point.{Point, same, is_before}
 use Rattle.geometry.specs.Facet.{Facet, Edge, edge, edges}
-use Rattle.mesh_weld.specs.Balance.{IsBalanced, IsLeastOpen, edge_count, is_edge_before}
+use Rattle.mesh_weld.specs.Balance.{IsBalanced, IsLeastOpen, half_edge_count, is_edge_before}
 use Rattle.mesh_weld.proofs.lemmas.Edges.{IsBalanced-by_edges, is_even, is_past_both, least-by_edges}
 use Rattle.mesh_weld.proofs.lemmas.Order.{before-irreflexive, is_before-is, place_cmp, place_total, ranked, same-by_cmp, same-self}
 
@@ -153,7 +153,7 @@ nearer facets e es n =
 open_from : (facets : List Facet) (e : Edge) → is_even facets e ≡ false → IsOpen facets e ⊎ IsOpen facets (back e)
 open_from facets e h = by_cases (ranked e.from e.to)
   where
-    differs : edge_count facets e.from e.to ≡ edge_count facets e.to e.from → ⊥
+    differs : half_edge_count facets e.from e.to ≡ half_edge_count facets e.to e.from → ⊥
     differs is = let even : is_even facets e ≡ true = eq-eqb _ _ is in cc
 
     uneven_back : (b : Bool) → is_even facets (back e) ≡ b → is_even facets (back e) ≡ false
@@ -162,7 +162,7 @@ open_from facets e h = by_cases (ranked e.from e.to)
 
     by_cases : (is_before e.from e.to ≡ true) ⊎ ((e.from ≡ e.to) ⊎ (is_before e.to e.from ≡ true)) → IsOpen facets e ⊎ IsOpen facets (back e)
     by_cases (inl up) = inl (up, h)
-    by_cases (inr (inl one)) = absurd (differs (λ i. edge_count facets (one i) (sym one i)))
+    by_cases (inr (inl one)) = absurd (differs (λ i. half_edge_count facets (one i) (sym one i)))
     by_cases (inr (inr down)) = inr (down, uneven_back (is_even facets (back e)) refl)
 
 first_open : (facets : List Facet) (es : List Edge)
@@ -200,8 +200,8 @@ closed_or_open facets = by_cases (first_open facets (edges facets))
     by_cases (inr n) = inr (record {
       from = n.target.from;
       to = n.target.to;
-      there = edge_count facets n.target.from n.target.to;
-      back_there = edge_count facets n.target.to n.target.from;
+      there = half_edge_count facets n.target.from n.target.to;
+      back_there = half_edge_count facets n.target.to n.target.from;
       least = record {
         in_order = n.is_open.0;
         there_is = refl;
