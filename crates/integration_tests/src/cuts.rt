@@ -80,7 +80,7 @@ fn crosses_a_slanted_facet(rt: HostRuntime) {
     };
     assert!(rt; c.sign() == 1);
     assert!(rt; c.num() > c.den());
-    assert!(rt; c.num() <= 2 * c.den());
+    assert!(rt; c.num() <= c.den().wrapping_mul(2));
     assert!(rt; column(&c, 1, 1, 4) == 1);
 }
 
