@@ -2,9 +2,9 @@
 //! since only what a public function promises is proved.
 ghost use Rattle.exact_cut.specs.Laws.{AheadIsAbove, CornerTurnsAreOpposite, CrossedLinesMeet, CrossingsSplitRows, RaysDifferByEdges, StepsAlongXKeepHits, StepsAlongYKeepHits, TurnsAreOpposite, UncrossedRowsHaveNoHits, WalksTellHits, WindsAreUnits};
 
-/// What holds of every facet's winding and of every ray: an edge and its opposite turn oppositely, a winding is 1, -1
-/// or 0, a line round which it isn't 0 meets the facet's plane, a crossing splits a row of centres in two, a walk tells the hits of all rays from a lattice's pixels, and a
-/// step that passes no point of a facet keeps its hit.
+/// What holds of every facet's winding and of every ray. An edge and its opposite turn oppositely. A winding is 1, -1 or
+/// 0, and a line round which it isn't 0 meets the facet's plane. A crossing splits a row of centres in two. A walk tells
+/// the hits of all rays from a lattice's pixels. A step that passes no point of a facet keeps its hit.
 pub fn hold_laws()
     ensures turns { TurnsAreOpposite }
     ensures winds { WindsAreUnits }

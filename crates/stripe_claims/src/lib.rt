@@ -14,6 +14,8 @@
 //! - [`claims_laws`]: what holds after any number of draws, by any number of passes in any order.
 //! - [`PASS_LIMIT`]: the greatest count of passes.
 //!
+//! All numbers are counts of stripes, of passes or of draws; stripes count from 0.
+//!
 //! The definitions in `specs/Machine` speak of **hands**. A hand stands for one pass or for several: opening claims
 //! cuts the first hand, which stands for all passes, into passes (they are **dealt**), and closing joins them again.
 #![tactic(auto)]

@@ -1,5 +1,12 @@
 //! The words of the command, and the task that they stand for.
 //!
+//! ```text
+//! match read_words(alloc, words) {
+//!     Ok(task) => run(&rt, alloc, &task, &mut source, &mut sink),
+//!     Err(fault) => fault.status(),
+//! }
+//! ```
+//!
 //! [`read_words`] takes the words after the program's name, as `--pitch 50 --layer 100 --rule positive`, and answers a
 //! [`Task`], or a [`WordFault`] whose `Display` is the line on standard error and whose `status` the exit status.
 //! `--help` and `--version` come as the fault `Refused` with status 0. [`wants_progress`] says whether such words ask
