@@ -171,8 +171,3 @@ pop-clear heads starts finishes n l even left e =
     ∙ get_or_past (slots 0 e starts) (times e (take n finishes)) NONE
     (let all : times e (take n finishes) ≡ times e finishes = ap (times e) (take_all n finishes l) in
     let long = length-slots 0 e starts in let same = even e in omega (arith, all, long, same))
-
-pub all_clear : (n : ℕ) → IsClear (replicate n NONE)
-all_clear zero e = refl
-all_clear (suc n) zero = refl
-all_clear (suc n) (suc e) = all_clear n e
