@@ -1,4 +1,4 @@
-//! The closed mesh that the crates above slice, and its numbering.
+//! The closed mesh that the crates above slice.
 ghost use Rattle.std.specs.Prelude.{◌≡◌, ◌<◌, ◌≤◌, ◌↔◌, ℕ, IsTrue, List, Some, flat_map, length, option_map, slice_get, true};
 ghost use Rattle.std.specs.List.{AllPairs, Contains};
 ghost use Rattle.geometry.specs.BoundingBox.{bounds};
