@@ -6,7 +6,7 @@ use Rattle.build_book.specs.Piece.{Piece, IsPlaceOf}
 use Rattle.build_book.specs.Places.{IsTaken}
 use Rattle.build_book.specs.declared.file_fault.FileFault.{FileFault}
 use Rattle.build_book.specs.declared.file_fault.FileFault.TheVariants as fault
-use Rattle.build_book.specs.declared.limits.TheConstants.{STRIPE}
+use Rattle.build_book.specs.declared.limits.TheConstants.{STRIPE_LAYERS}
 
 pub record Book : Type 0 where
   pub job : Job
@@ -27,8 +27,8 @@ pub record Files (old : Book) (piece : Piece) (new : Book) : Type 0 where
   pub free : (k : ℕ) → IsPlaceOf piece k → slice_get old.places k ≡ Some None
   pub job : new.job ≡ old.job
   pub places : new.places
-      ≡ take (STRIPE * piece.stripe) old.places ++ map Some piece.layers
-      ++ drop (STRIPE * piece.stripe + length piece.layers) old.places
+      ≡ take (STRIPE_LAYERS * piece.stripe) old.places ++ map Some piece.layers
+      ++ drop (STRIPE_LAYERS * piece.stripe + length piece.layers) old.places
 
 -- the piece is of another job, or the layer is the least of its places that is taken
 abbrev pub IsFileFault : Book → Piece → FileFault → Type 0

@@ -6,7 +6,7 @@ use Rattle.mesh_weld.specs.Solid.{Solid}
 use Rattle.raster.specs.Grid.{Grid, grid_with}
 use Rattle.raster.specs.declared.rule.Rule.{Rule}
 use Rattle.raster.specs.declared.rule.Rule.TheVariants.{EvenOdd}
-use Rattle.build_book.specs.declared.limits.TheConstants.{STRIPE}
+use Rattle.build_book.specs.declared.limits.TheConstants.{STRIPE_LAYERS}
 
 -- what is to be sliced, in which grid, by which rule
 pub record Job : Type 0 where
@@ -14,13 +14,13 @@ pub record Job : Type 0 where
   pub grid : Grid
   pub rule : Rule
 
--- A stripe is a slab of `STRIPE` layers; the last one may have fewer.
+-- A stripe is a slab of `STRIPE_LAYERS` layers; the last one may have fewer.
 
 abbrev pub stripe_count : Grid → ℕ
-stripe_count g = div_ceil g.layers STRIPE
+stripe_count g = div_ceil g.layers STRIPE_LAYERS
 
 abbrev pub stripe_length : Grid → ℕ → ℕ
-stripe_length g s = min STRIPE (g.layers - STRIPE * s)
+stripe_length g s = min STRIPE_LAYERS (g.layers - STRIPE_LAYERS * s)
 
 -- an empty job, for where a type asks for a job and any will do
 abbrev pub no_job : Job

@@ -6,7 +6,7 @@ use Rattle.raster.specs.Grid.{centre, plane}
 use Rattle.contour.specs.Loops.{AreLoops, loops}
 use Rattle.contour.specs.Segment.{segments}
 use Rattle.raster.specs.Span.{AreSpans, covers}
-use Rattle.raster.specs.Fill.{is_filled, area_of}
+use Rattle.raster.specs.Filler.{is_filled, area_of}
 use Rattle.build_book.specs.Job.{Job}
 
 pub record Layer : Type 0 where

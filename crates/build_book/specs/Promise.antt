@@ -17,7 +17,7 @@ use Rattle.raster.specs.declared.rule.Rule.TheVariants.{EvenOdd, NonZero, Positi
 use Rattle.raster.specs.declared.span.Span.{Span}
 use Rattle.raster.specs.Grid.{Grid, centre, plane}
 use Rattle.raster.specs.Span.{AreSpans, covers}
-use Rattle.raster.specs.Fill.{below}
+use Rattle.raster.specs.Filler.{below}
 use Rattle.build_book.specs.Job.{Job}
 use Rattle.build_book.specs.Layer.{Layer}
 

@@ -1,10 +1,10 @@
 //! Jobs of slicing, and the stripes that they are cut into.
 ghost use Rattle.std.specs.Prelude.{◌≡◌, ◌↔◌, ◌+◌, ◌*◌, ◌<◌, ◌≤◌, IsTrue};
 ghost use Rattle.build_book.specs.Job.{stripe_count, stripe_length};
-ghost use Rattle.build_book.specs.declared.limits.TheConstants.{MOST_STRIPES, STRIPE};
+ghost use Rattle.build_book.specs.declared.limits.TheConstants.{MOST_STRIPES, STRIPE_LAYERS};
 ghost use Rattle.geometry.specs.declared.limits.TheConstants.{LAYER_LIMIT};
 
-use crate::limits::STRIPE;
+use crate::limits::STRIPE_LAYERS;
 use mesh_weld::Solid;
 use raster::{Grid, Rule};
 use std::alloc::Allocator;
@@ -69,25 +69,26 @@ impl<A: Allocator> Job<A> {
         self.grid == other.grid && self.rule == other.rule
     }
 
-    /// The number of stripes, at most 8,192. Stripe s is the layers from 8 s to 8 s + 7, as far as the grid has them.
+    /// The number of stripes, at most `MOST_STRIPES`. Stripe s is the `STRIPE_LAYERS` layers from `STRIPE_LAYERS * s` on, as
+    /// far as the grid has them.
     pub fn stripes(&self) -> u64
         ensures value { result ≡ stripe_count self.now.grid }
         ensures few { result ≤ MOST_STRIPES }
     {
-        u64::from(self.grid.layers().div_ceil(STRIPE))
+        u64::from(self.grid.layers().div_ceil(STRIPE_LAYERS))
     }
 
     /// The first layer of a stripe, and the one after its last.
     pub(crate) fn bounds(&self, s: u64) -> (u32, u32)
         requires { s < stripe_count self.now.grid }
-        ensures first { result.0 ≡ STRIPE * s }
-        ensures end { result.1 ≡ STRIPE * s + stripe_length self.now.grid s }
+        ensures first { result.0 ≡ STRIPE_LAYERS * s }
+        ensures end { result.1 ≡ STRIPE_LAYERS * s + stripe_length self.now.grid s }
         ensures some { result.0 < result.1 }
         ensures within { result.1 ≤ self.now.grid.layers }
         ensures few { result.1 ≤ LAYER_LIMIT }
     {
         let all = self.grid.layers();
-        let first = s as u32 * STRIPE;
-        (first, all.min(first + STRIPE))
+        let first = s as u32 * STRIPE_LAYERS;
+        (first, all.min(first + STRIPE_LAYERS))
     }
 }

@@ -23,8 +23,8 @@ pub fn one_layer()
 ///   voxel's centre are odd, or not zero, or above zero, by the rule.
 /// - `build`: so is each layer of a complete build, and `whole`: it has one for each number below the grid's count.
 /// - `only`: the promise leaves no choice of a layer.
-/// - `some_build`: a closed mesh of at most 1,048,576 facets has a complete build, and `one_build`: a job has one at most,
-///   so it is the same for every number of workers.
+/// - `some_build`: a closed mesh of at most `FACET_LIMIT` facets has a complete build, and `one_build`: a job has one at
+///   most, so it is the same for every number of workers.
 pub fn headline()
     ensures book { (facets : List Facet) (grid : Grid) (rule : Rule) (book : Book) (k : ℕ) (layer : Layer)
         → IsLawfulBook book → book.job ≡ job_of facets grid rule → slice_get book.places k ≡ Some (Some layer)

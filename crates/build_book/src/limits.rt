@@ -2,7 +2,7 @@
 use geometry::LAYER_LIMIT;
 
 /// How many layers a stripe has; the last one may have fewer.
-pub(crate) const STRIPE: u32 = 8;
+pub(crate) const STRIPE_LAYERS: u32 = 8;
 
-/// The count of stripes of a job with the most layers.
-pub(crate) const MOST_STRIPES: u32 = (LAYER_LIMIT + STRIPE - 1) / STRIPE;
+/// The count of stripes of a job with the most layers: 8,192.
+pub(crate) const MOST_STRIPES: u32 = (LAYER_LIMIT + STRIPE_LAYERS - 1) / STRIPE_LAYERS;

@@ -3,7 +3,7 @@ ghost use Rattle.std.specs.Prelude.{◌≡◌, ◌+◌, ◌*◌, ◌^◌, ◌<�
 ghost use Rattle.build_book.specs.Job.{stripe_count};
 ghost use Rattle.build_book.specs.Places.{AreFree, IsTaken, IsTakenAt, filled, or_layer, filed_count, place_area, total_area};
 ghost use Rattle.build_book.specs.Book.{IsLawfulBook};
-ghost use Rattle.build_book.specs.declared.limits.TheConstants.{STRIPE};
+ghost use Rattle.build_book.specs.declared.limits.TheConstants.{STRIPE_LAYERS};
 ghost use Rattle.geometry.specs.declared.limits.TheConstants.{LAYER_LIMIT};
 
 use crate::job::Job;
@@ -80,7 +80,7 @@ pub(crate) fn fill_gaps<A: Allocator>(
     layers: Vec<Layer<A>, A>,
 ) -> u32
     requires room { first + length layers.items ≤ length places.old }
-    requires few { length layers.items ≤ STRIPE }
+    requires few { length layers.items ≤ STRIPE_LAYERS }
     ensures places { places.new ≡ filled first layers.items places.old }
     ensures made { result + filed_count places.old ≡ filed_count places.new }
 {
@@ -137,9 +137,9 @@ fn make_stripe<A: Allocator + Copy + Send + Sync>(
     requires slicer { slicer.old ≡ job.now }
     requires stripe { s < stripe_count job.now.grid }
     requires lawful { IsLawfulBook (record { job = job.now; places = places.old }) }
-    requires below { (k : ℕ) → k < STRIPE * s → k < length places.old → IsTaken places.old k }
+    requires below { (k : ℕ) → k < STRIPE_LAYERS * s → k < length places.old → IsTaken places.old k }
     ensures lawful { IfOk result (λ made. IsLawfulBook (record { job = job.now; places = places.new })) }
-    ensures below { IfOk result (λ made. (k : ℕ) → k < STRIPE * (s + 1) → k < length places.new → IsTaken places.new k) }
+    ensures below { IfOk result (λ made. (k : ℕ) → k < STRIPE_LAYERS * (s + 1) → k < length places.new → IsTaken places.new k) }
     ensures made { IfOk result (λ made. made + filed_count places.old ≡ filed_count places.new) }
     ensures slicer { slicer.new ≡ slicer.old }
 {

@@ -1,7 +1,7 @@
 //! Slicing: the layers of a stripe from the lowest up, by one sweep.
 ghost use Rattle.std.specs.Prelude.{◌≡◌, ◌+◌, ◌<◌, ◌≤◌, ℕ, IfOk, OnOk, length, ◌-◌};
 ghost use Rattle.raster.specs.Span.{AreSpans, covers};
-ghost use Rattle.raster.specs.Fill.{area_of, is_filled};
+ghost use Rattle.raster.specs.Filler.{area_of, is_filled};
 ghost use Rattle.raster.specs.Grid.{centre, plane};
 ghost use Rattle.build_book.specs.Job.{stripe_count};
 ghost use Rattle.build_book.specs.Layer.{AreLawfulFrom, IsLawful};

@@ -56,7 +56,7 @@ fn relative(f: &Facet, c: &Centre) -> RelativeFacet
     }
 }
 
-/// `a * d - b * c`
+/// The cross product of two vectors in a plane, (a, b) and (c, d): `a * d - b * c`.
 fn cross(a: i64, b: i64, c: i64, d: i64) -> i128
     requires a { IsAtMost offset_limit a }
     requires b { IsAtMost offset_limit b }

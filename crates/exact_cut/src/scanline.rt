@@ -13,8 +13,8 @@ use exact_int::ceil_div;
 
 /// The first column whose centre is not left of the crossing, or `columns` where there is none.
 ///
-/// Column i has its centre at x = `first2 + 2 * step * i`, in half-micrometres. `first2` is -256,200,000 to
-/// 256,200,000; `step` is in micrometres, 1 to 100,000; there are at most 16,384 columns.
+/// Column i has its centre at x = `first2 + 2 * step * i`, in half-micrometres. `first2` lies within
+/// `CENTRE_LIMIT` of 0; `step` is in micrometres, 1 to `STEP_LIMIT`; there are at most `COLUMN_LIMIT` columns.
 pub fn column(c: &Crossing, first2: i64, step: u32, columns: u32) -> u32
     requires first_in { IsAtMost CENTRE_LIMIT first2 }
     requires step_above { 0 < step }

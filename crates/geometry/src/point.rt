@@ -9,7 +9,7 @@ use exact_int::is_at_most;
 use std::marker::Model;
 
 /// A point of a mesh, in micrometres. Each coordinate is in the range from -[`COORDINATE_LIMIT`] to
-/// [`COORDINATE_LIMIT`], which is 128,000,000. Points are ordered by x, then y, then z.
+/// [`COORDINATE_LIMIT`]. Points are ordered by x, then y, then z.
 #[derive(Clone, Copy, Debug, PartialEq, Eq, PartialOrd, Ord)]
 pub struct Point {
     x: i32,

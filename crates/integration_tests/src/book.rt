@@ -100,7 +100,7 @@ pub(crate) fn shown(book: &Book<'_, Global>) -> Shown {
 /// the book shows then.
 pub(crate) type Filing = (bool, u64, Refusal, Shown);
 
-// Whether such a stripe goes so.
+// Whether filing a stripe has this outcome.
 fn is_filed<'m>(
     alloc: Global,
     book: &mut Book<'m, Global>,
@@ -112,7 +112,7 @@ fn is_filed<'m>(
     Ok(refusal(book, piece) == refused && shown(book) == told)
 }
 
-// The number of the first stripe, filed in turn, that goes otherwise.
+// The number of the first stripe, filed in turn, with another outcome.
 fn first_other_filing<'m>(
     alloc: Global,
     job: &'m Job<Global>,
@@ -193,7 +193,7 @@ fn file_in_order<'m>(
 // Stripes, how many layers a book of them has, and how many are late at its end.
 type Order<'a> = (&'a [u64], u32, u32);
 
-// Whether a book of a job goes so where each layer is one voxel.
+// Whether a book of a job, each layer of which is one voxel, has these counts.
 fn is_finished(
     alloc: Global,
     job: &Job<Global>,
@@ -206,7 +206,7 @@ fn is_finished(
     Ok(is_filed && build.late() == late && build.total_area() == 17)
 }
 
-// The number of the first order in which the column goes otherwise.
+// The number of the first order in which the book of the column has other counts.
 fn first_other_order(alloc: Global, orders: &[Order<'_>]) -> Result<Option<usize>, AllocError> {
     let job = job_of(alloc, COLUMN, 1, Rule::EvenOdd)?;
     for (n, order) in orders.iter().enumerate() {
@@ -253,7 +253,7 @@ static OWN_FILINGS: [(u64, Refusal, u32); 5] = [
     (2, Some((FileFault::Double { layer: 16 }, 2)), 17),
 ];
 
-// The number of the first stripe of a job that goes otherwise.
+// The number of the first stripe of a job with another outcome.
 fn first_other_own(alloc: Global, job: &Job<Global>) -> Result<Option<usize>, AllocError> {
     let mut book = Book::open(alloc, job)?;
     for (n, (stripe, refused, filed)) in OWN_FILINGS.iter().enumerate() {

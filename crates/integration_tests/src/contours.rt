@@ -154,7 +154,7 @@ fn planes_of_one_linker(rt: HostRuntime) -> Result<(), Fail> {
 // A height of a sweep, how many facets it has passed there, and those that it cuts.
 type Stand<'a> = (u8, u32, &'a [u32]);
 
-// Raises a sweep to a height, where it isn't there, and answers whether it stands so then.
+// Raises a sweep to a height, unless it is there, and answers whether it is there with these facets then.
 fn stands_at(sweep: &mut Sweep<'_, Global>, (height, passed, active): Stand<'_>) -> Option<bool> {
     let height = i64::from(height);
     if sweep.height() < height {
@@ -163,7 +163,7 @@ fn stands_at(sweep: &mut Sweep<'_, Global>, (height, passed, active): Stand<'_>)
     Some(sweep.height() == height && sweep.passed() == passed && sweep.active() == active)
 }
 
-// Whether a sweep through two cubes stands so at these heights, in turn.
+// Whether a sweep through two cubes has these facets at each of these heights, in turn.
 fn are_stands(alloc: Global, stands: &[Stand<'_>]) -> Option<bool> {
     let solid = solid_of(alloc, TWO_CUBES).ok()?;
     let mut sweep = Sweep::start(alloc, &solid, 2).ok()?;

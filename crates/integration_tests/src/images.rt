@@ -270,7 +270,7 @@ fn written(calls: u64) -> Option<(u64, u64, u64)> {
     Some((fault.written, w.inner().taken, w.failures()))
 }
 
-// The least number of calls after which other than the stated count of bytes is written, or than all 9 of the image.
+// The least number of calls for which a count is wrong: each call before the failure takes one byte, and the image has 9.
 fn first_other_written() -> Option<u64> {
     for calls in 0..10 {
         let told = (calls < 9).then_some((calls, calls, 1));

@@ -251,7 +251,7 @@ fn each_allocation_of_a_build_fails_in_turn(rt: HostRuntime) -> Result<(), Fail>
     Ok(())
 }
 
-// Whether a stripe goes so that is filed under the lock, where the book is looked at under a later one.
+// Whether filing a stripe under the lock has this outcome. The book is looked at under a later lock.
 fn is_filed_between<'m, R: Wait>(
     rt: &R,
     alloc: Global,
@@ -265,7 +265,7 @@ fn is_filed_between<'m, R: Wait>(
     Ok(found == refused && shown(&book.lock(rt)) == told)
 }
 
-// The number of the first stripe that goes otherwise.
+// The number of the first stripe with another outcome.
 fn first_other_filing<'m, R: Wait>(
     rt: &R,
     alloc: Global,

@@ -24,8 +24,8 @@ fn stands_at<A: Allocator + Copy + Send + Sync>(
     sweep.height() == height && sweep.passed() == passed && sweep.active() == active
 }
 
-// Whether a rise was refused, and whether the sweep stood as before then, and above after the next rise; or stands above
-// at once.
+// Whether a rise failed for want of memory; and whether the sweep was as before then, and at the new height after the
+// rise that succeeded.
 fn risen<A: Allocator + Copy + Send + Sync>(
     alloc: A,
     solid: &Solid<A>,

@@ -118,7 +118,7 @@ fn scanline(lattice: &Lattice, row: u32) -> i64 {
         .wrapping_add(lattice.y2)
 }
 
-// How many rows of a lattice a facet crosses at a height; `None` where the walk goes otherwise there.
+// How many rows of a lattice a facet crosses at a height; `None` where the walk differs from the rows alone.
 fn rows_crossed(f: &Facet, z2: i64, lattice: &Lattice) -> Option<u32> {
     let start = Centre::new(0, 0, z2)?;
     let mut walk = Walk::start(f, start.z2(), lattice);
@@ -134,7 +134,7 @@ fn rows_crossed(f: &Facet, z2: i64, lattice: &Lattice) -> Option<u32> {
     Some(count)
 }
 
-// How many rows this many facets cross, of coordinates in a scale; `None` where a walk goes otherwise.
+// How many rows this many facets cross, of coordinates in a scale; `None` where a walk differs from the rows alone.
 fn all_crossed(facets: u32, scale: i32, lattice: &Lattice) -> Option<u32> {
     let mut draws = Draws { state: 7 };
     let mut count = 0u32;

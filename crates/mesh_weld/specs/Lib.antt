@@ -10,4 +10,4 @@ pub mod HeightOrder
 pub mod Numbering
 pub mod Welding
 pub mod Probing
-pub mod MeshLaws
+pub mod Laws

@@ -1,5 +1,5 @@
 //! The laws of closed meshes, stated once for the crates above.
-ghost use Rattle.mesh_weld.specs.MeshLaws.{AmountsCancel, DegenerateFacetsAreMissed, KeptAreClosed, KeptRaysAreAll, RayFromTheLeft, RaysAgree, StepsKeepRays, WindsAlongYCancel, WindsCancel};
+ghost use Rattle.mesh_weld.specs.Laws.{AmountsCancel, DegenerateFacetsAreMissed, KeptAreClosed, KeptRaysAreAll, RayFromTheLeft, RaysAgree, StepsKeepRays, WindsAlongYCancel, WindsCancel};
 
 /// States what holds of every closed mesh. A crate that calls it can use its clauses; it does nothing at run time.
 pub fn hold_mesh_laws()

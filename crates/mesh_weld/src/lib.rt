@@ -23,7 +23,6 @@ mod facets;
 mod half_edge;
 mod height_order;
 mod laws;
-mod numbering;
 mod packing;
 mod probing;
 mod run;

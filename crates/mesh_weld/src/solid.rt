@@ -26,6 +26,18 @@ pub struct Solid<A: Allocator> {
     pub(crate) dropped: u32,
 }
 
+/// What both ways of numbering give: a solid's vertices, the numbers of its facets' corners and edges, and the order of
+/// its facets by height.
+#[derive(Drop)]
+pub(crate) struct Numbering<A: Allocator> {
+    pub points: Vec<Point, A>,
+    pub numbers: Vec<[u32; 3], A>,
+    /// Three numbers for each facet, one facet after the other.
+    pub edges: Vec<u32, A>,
+    pub edge_count: u32,
+    pub order: Vec<u32, A>,
+}
+
 impl<A: Allocator> Model for Solid<A> {
     ghost use Rattle.geometry.specs.declared.limits.TheConstants.{FACET_LIMIT};
     ghost use Rattle.std.specs.Prelude.{◌≤◌, length};

@@ -11,13 +11,12 @@ ghost use Rattle.geometry.specs.declared.limits.TheConstants.{FACET_LIMIT};
 use crate::by_hash::hashed_numbering;
 use crate::by_sort::sorted_numbering;
 use crate::facets::{degenerate_facets, drop_degenerate};
-use crate::numbering::Numbering;
-use crate::solid::Solid;
+use crate::solid::{Numbering, Solid};
 use crate::weld_fault::WeldFault;
 use geometry::Facet;
 use std::alloc::Allocator;
 
-/// The solid of closed facets, at most 1,048,576 of them. Unless an allocation fails, it succeeds exactly where the
+/// The solid of closed facets, at most `FACET_LIMIT` of them. Unless an allocation fails, it succeeds exactly where the
 /// half-edges of all facets balance. Degenerate facets, those with two equal corners, are dropped. The list is consumed,
 /// also where welding fails.
 ///

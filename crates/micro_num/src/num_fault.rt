@@ -7,10 +7,10 @@ pub enum NumFault {
     /// The word is outside the grammar of numbers.
     #[error("not a number")]
     NotNumber = 1,
-    /// The word has more than 255 bytes, which is `WORD_LIMIT`.
+    /// The word has more than `WORD_LIMIT` bytes.
     #[error("too long")]
     TooLong = 2,
-    /// The rounded value is more than 128,000,000 micrometres, `COORDINATE_LIMIT`, from 0.
+    /// The rounded value is more than `COORDINATE_LIMIT` micrometres from 0.
     #[error("out of range")]
     OutOfRange = 3,
 }

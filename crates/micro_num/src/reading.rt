@@ -21,9 +21,9 @@ use geometry::COORDINATE_LIMIT;
 /// `strtod` reads. A number in inches is multiplied by 25,400, one in millimetres by 1,000, before it is rounded.
 ///
 /// # Errors
-/// - `TooLong` where the word has more than [`WORD_LIMIT`] bytes, which is 255,
+/// - `TooLong` where the word has more than [`WORD_LIMIT`] bytes,
 /// - else `NotNumber` where it is no number,
-/// - else `OutOfRange` where the rounded value is more than `COORDINATE_LIMIT`, 128,000,000 micrometres, from 0.
+/// - else `OutOfRange` where the rounded value is more than `COORDINATE_LIMIT` micrometres from 0.
 pub fn read_micro(word: &[u8], unit: Unit) -> Result<i32, NumFault>
     ensures exact { result ≡ coordinate_of unit word.now }
     ensures spelled { (n : Numeral) → IsNumeral n → word.now ≡ numeral_text n → length word.now ≤ WORD_LIMIT

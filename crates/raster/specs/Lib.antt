@@ -2,7 +2,7 @@ pub mod Devices
 pub mod Grid
 pub mod Rule
 pub mod Span
-pub mod Fill
+pub mod Filler
 pub mod Picture
 pub mod Bits
 pub mod Rows

@@ -5,7 +5,7 @@ use Rattle.std.specs.Int.{div_ceil}
 use Rattle.raster.specs.declared.rule.Rule.{Rule}
 use Rattle.geometry.specs.Facet.{Facet}
 use Rattle.raster.specs.Grid.{Grid, centre}
-use Rattle.raster.specs.Fill.{below, is_filled}
+use Rattle.raster.specs.Filler.{below, is_filled}
 
 -- the byte of eight pixels, from the m-th byte of a row on
 abbrev pub packed_byte : (ℕ → Bool) → ℕ → ℕ

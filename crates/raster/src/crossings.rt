@@ -23,14 +23,14 @@ use std::marker::Model;
 /// Where a scanline crosses the mesh: the column of the crossing, and its sign.
 #[derive(Clone, Copy, Debug, PartialEq, Eq)]
 pub(crate) struct RowCrossing {
-    /// The least column whose centre isn't left of the crossing; at most 16,384.
+    /// The least column whose centre isn't left of the crossing; at most `COLUMN_LIMIT`.
     pub(crate) column: u16,
     /// Whether the sign of the crossing is 1; else it is -1.
     pub(crate) is_up: bool,
 }
 
 /// The greatest capacity that a row keeps from one layer to the next, in crossings. A row with more gives its memory back.
-const KEPT: usize = 512;
+const KEPT_CAPACITY: usize = 512;
 
 /// The crossings of a layer's rows, those of each row in the order in which they were added.
 #[derive(Drop)]
@@ -121,11 +121,11 @@ fn make_room<A: Allocator + Copy>(
     Ok(())
 }
 
-/// Removes the crossings of a row, and frees its memory where its capacity is above `KEPT`.
+/// Removes the crossings of a row, and frees its memory where its capacity is above `KEPT_CAPACITY`.
 fn forget<A: Allocator + Copy>(alloc: A, crossings: &mut Vec<RowCrossing, A>)
     ensures { crossings.new.items ≡ [] }
 {
-    if crossings.capacity() > KEPT {
+    if crossings.capacity() > KEPT_CAPACITY {
         *crossings = Vec::new(alloc);
     } else {
         crossings.clear();

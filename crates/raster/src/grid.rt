@@ -17,7 +17,8 @@ pub enum GridFault {
     /// The mesh that the grid is to fit has no facet with three distinct corners.
     #[error("no facet is left")]
     EmptyMesh,
-    /// There are more than 16,384 columns, 16,384 rows or 65,535 layers. These are all three counts, as asked for.
+    /// There are more than `COLUMN_LIMIT` columns or rows, or more than `LAYER_LIMIT` layers. These are all three counts,
+    /// as asked for.
     #[error("grid too large: {columns} columns, {rows} rows, {layers} layers")]
     TooLarge {
         columns: u32,
@@ -27,13 +28,13 @@ pub enum GridFault {
     /// A count of a given grid is 0.
     #[error("grid has no cells")]
     NoCells,
-    /// The centre of the last column, row or layer of a given grid lies more than 128,100,000 micrometres from 0.
+    /// The centre of the last column, row or layer of a given grid lies more than `CENTRE_LIMIT` half-micrometres from 0.
     #[error("grid reaches too far")]
     FarCentre,
 }
 
 /// The voxels that a mesh is sliced into: columns along x, rows along y and layers along z, from an origin on. Lengths are
-/// in micrometres. Each coordinate of a voxel's centre lies within 128,100,000 micrometres of 0.
+/// in micrometres. Each coordinate of a voxel's centre lies within `CENTRE_LIMIT` half-micrometres of 0.
 #[derive(Clone, Copy, Debug, PartialEq, Eq)]
 pub struct Grid {
     pitch: u32,
@@ -64,11 +65,11 @@ impl Model for Grid {
 }
 
 impl Grid {
-    /// The grid of this pitch and layer height (micrometres, 1 to 100,000) that begins at the mesh's least x, y and z and
-    /// has the fewest columns, rows and layers that cover it, at least one of each.
+    /// The grid of this pitch and layer height (micrometres, 1 to `STEP_LIMIT`) that begins at the mesh's least x, y and z
+    /// and has the fewest columns, rows and layers that cover it, at least one of each.
     ///
-    /// `EmptyMesh` where the mesh has no facet; `TooLarge` where that takes more than 16,384 columns or rows or 65,535
-    /// layers.
+    /// `EmptyMesh` where the mesh has no facet; `TooLarge` where that takes more than `COLUMN_LIMIT` columns or rows, or
+    /// more than `LAYER_LIMIT` layers.
     pub fn fit<A: Allocator>(s: &Solid<A>, pitch: u32, layer_height: u32) -> Result<Grid, GridFault>
         requires pitch { 1 ≤ pitch }
         requires pitch_high { pitch ≤ STEP_LIMIT }
@@ -79,10 +80,11 @@ impl Grid {
         fit_corners(s.corners(), pitch, layer_height)
     }
 
-    /// The grid with this origin (micrometres), pitch and layer height (micrometres, 1 to 100,000) and these counts.
+    /// The grid with this origin (micrometres), pitch and layer height (micrometres, 1 to `STEP_LIMIT`) and these counts.
     ///
-    /// In this order: `NoCells` where a count is 0; `TooLarge` where there are more than 16,384 columns or rows or
-    /// 65,535 layers; `FarCentre` where the centre of the last column, row or layer is above 128,100,000 micrometres.
+    /// In this order: `NoCells` where a count is 0; `TooLarge` where there are more than `COLUMN_LIMIT` columns or rows, or
+    /// more than `LAYER_LIMIT` layers; `FarCentre` where the centre of the last column, row or layer lies more than
+    /// `CENTRE_LIMIT` half-micrometres from 0.
     pub fn given(
         origin: Point,
         pitch: u32,

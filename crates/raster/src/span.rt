@@ -10,8 +10,8 @@ pub struct Span {
     pub to: u32,
 }
 
-/// The number of pixels in the spans of one layer. The spans are in order, neither empty nor touching, and within 16,384
-/// columns and rows.
+/// The number of pixels in the spans of one layer. The spans are in order, neither empty nor touching, and within
+/// `COLUMN_LIMIT` columns and rows.
 pub fn area(spans: &[Span]) -> u64
     requires { IsLayerOfSpans spans.now }
     ensures { result ≡ span_area spans.now }

@@ -6,7 +6,7 @@ use Rattle.geometry.specs.Winding.{ray, ray_y}
 use Rattle.mesh_weld.specs.Balance.{IsBalanced}
 use Rattle.raster.specs.declared.rule.Rule.{Rule}
 use Rattle.raster.specs.Grid.{Grid, IsBox, centre}
-use Rattle.raster.specs.Fill.{is_filled}
+use Rattle.raster.specs.Filler.{is_filled}
 
 abbrev pub at : ℤ → ℤ → ℤ → Point
 at x y z = record { x = x; y = y; z = z }

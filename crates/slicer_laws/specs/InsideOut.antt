@@ -5,7 +5,7 @@ use Rattle.geometry.specs.Facet.{Facet, facet_with}
 use Rattle.geometry.specs.Winding.{ray, ray_y}
 use Rattle.raster.specs.declared.rule.Rule.{Rule}
 use Rattle.raster.specs.Grid.{Grid}
-use Rattle.raster.specs.Fill.{area_of}
+use Rattle.raster.specs.Filler.{area_of}
 use Rattle.raster.specs.Picture.{pictures}
 
 -- two corners exchanged

@@ -6,7 +6,7 @@ use Rattle.geometry.specs.Winding.{ray, ray_y}
 use Rattle.raster.specs.declared.rule.Rule.{Rule}
 use Rattle.raster.specs.declared.rule.Rule.TheVariants.{Positive}
 use Rattle.raster.specs.Grid.{Grid, centre}
-use Rattle.raster.specs.Fill.{area_of, is_filled}
+use Rattle.raster.specs.Filler.{area_of, is_filled}
 
 abbrev pub RaysAdd : Type 0
 RaysAdd = (a b : List Facet) (c : Point) → ray (a ++ b) c ≡ ray a c +ℤ ray b c

@@ -15,7 +15,7 @@ use std::alloc::Allocator;
 ///
 /// A text is one or more solids: `solid` and a name up to the end of its line, any number of facets, `endsolid` and
 /// the rest of its line. Keywords are read in any case, and a normal is any three words. The text's numbers are in
-/// `unit`; points are in whole micrometres. `limit` is at most [`FACET_LIMIT`], 1,048,576.
+/// `unit`; points are in whole micrometres. `limit` is at most [`FACET_LIMIT`].
 ///
 /// # Errors
 /// A text that spells no mesh has exactly one fault, which is the answer unless memory runs out. It is at the first

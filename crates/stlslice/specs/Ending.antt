@@ -3,8 +3,8 @@ use Rattle.std.specs.Prelude.{◌≡◌, ◌≢◌, ℕ, ◌≤◌, ◌⊎◌, L
 use Rattle.std.specs.Io.KnownBytes.{Keeps}
 use Rattle.raster.specs.Devices.{AppendsFirst, HasFailed}
 use Rattle.task_words.specs.declared.task.Task.{Task}
-use Rattle.stlslice.specs.declared.fault.RunFault.{RunFault}
-use Rattle.stlslice.specs.declared.fault.RunFault.TheVariants as fault
+use Rattle.stlslice.specs.declared.run_fault.RunFault.{RunFault}
+use Rattle.stlslice.specs.declared.run_fault.RunFault.TheVariants as fault
 use Rattle.micro_num.specs.declared.unit.Unit.{Unit as LengthUnit}
 use Rattle.stl_text.specs.Text.{IsFaultOf, Reads}
 use Rattle.geometry.specs.Facet.{Facet}
@@ -42,8 +42,8 @@ IsSolidOf unit bytes solid =
     (facets : List Facet) × Reads FACET_LIMIT unit bytes facets × IsBalanced facets × (solid ≡ solid_of facets)
 
 -- a text that is no closed mesh, or a closed mesh that has no grid
-abbrev pub IsPlacingFault : LengthUnit → Option Given → ℕ → ℕ → List ℕ → RunFault → Type 0
-IsPlacingFault unit given pitch layer bytes f =
+abbrev pub IsMeshOrGridFault : LengthUnit → Option Given → ℕ → ℕ → List ℕ → RunFault → Type 0
+IsMeshOrGridFault unit given pitch layer bytes f =
     IsLoadFault unit bytes f ⊎ ((solid : Solid) × IsSolidOf unit bytes solid
     × (cause : GridFault) × (f ≡ fault.Grid cause) × (grid_for given pitch layer solid.facets ≡ Err cause))
 

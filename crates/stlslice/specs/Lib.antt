@@ -1,4 +1,4 @@
-pub mod Status
+pub mod RunFault
 pub mod SlicedText
 pub mod Outcome
 pub mod Ending

@@ -17,8 +17,8 @@ use Rattle.stlslice.specs.SlicedText.{output_of, sliced_text}
 use Rattle.task_words.specs.declared.task.Given.{Given}
 use Rattle.task_words.specs.declared.task.Task.{Task}
 use Rattle.task_words.specs.declared.task.Task.TheVariants as task
-use Rattle.stlslice.specs.declared.fault.RunFault.{RunFault}
-use Rattle.stlslice.specs.declared.fault.RunFault.TheVariants as fault
+use Rattle.stlslice.specs.declared.run_fault.RunFault.{RunFault}
+use Rattle.stlslice.specs.declared.run_fault.RunFault.TheVariants as fault
 use Rattle.geometry.specs.declared.limits.TheConstants.{FACET_LIMIT}
 
 abbrev pub position_text : Point → List ℕ

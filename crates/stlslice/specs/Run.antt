@@ -3,8 +3,8 @@ use Rattle.std.specs.Prelude.{◌≡◌, ◌≢◌, ◌⊎◌, ℕ, ◌≤◌, B
 use Rattle.std.specs.Io.KnownBytes.{Appends, IsAtEnd, Keeps}
 use Rattle.raster.specs.Devices.{AppendsFirst, Fails, HasFailed}
 use Rattle.task_words.specs.declared.task.Task.{Task}
-use Rattle.stlslice.specs.declared.fault.RunFault.{RunFault}
-use Rattle.stlslice.specs.declared.fault.RunFault.TheVariants as cause
+use Rattle.stlslice.specs.declared.run_fault.RunFault.{RunFault}
+use Rattle.stlslice.specs.declared.run_fault.RunFault.TheVariants as cause
 use Rattle.stlslice.specs.Outcome.{IsOutcome}
 use Rattle.stlslice.specs.Ending.{IsRunFault, Transcript}
 

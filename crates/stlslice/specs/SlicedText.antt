@@ -5,7 +5,7 @@ use Rattle.contour.specs.Loops.{loops}
 use Rattle.contour.specs.Segment.{segments}
 use Rattle.raster.specs.declared.rule.Rule.{Rule}
 use Rattle.raster.specs.declared.span.Span.{Span}
-use Rattle.raster.specs.Fill.{area_of, below}
+use Rattle.raster.specs.Filler.{area_of, below}
 use Rattle.raster.specs.Span.{covers}
 use Rattle.raster.specs.Grid.{Grid, plane}
 use Rattle.raster.specs.Picture.{picture, pictures}

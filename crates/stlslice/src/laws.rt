@@ -6,7 +6,7 @@ ghost use Rattle.task_words.specs.declared.task.Given.{Given};
 ghost use Rattle.task_words.specs.declared.task.Task.{Task};
 ghost use Rattle.task_words.specs.declared.task.Task.TheVariants as task;
 ghost use Rattle.stlslice.specs.Outcome.{IsOutcome};
-ghost use Rattle.stlslice.specs.declared.fault.RunFault.{RunFault};
+ghost use Rattle.stlslice.specs.declared.run_fault.RunFault.{RunFault};
 
 /// A task and an input have exactly one outcome, a text or a fault, and slicing has the same with any number of workers.
 pub fn one_answer()

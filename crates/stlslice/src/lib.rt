@@ -14,19 +14,18 @@
 //! Pitch, layer height and the box are in micrometres.
 #![tactic(auto)]
 
-mod fault;
 mod laws;
 mod loading;
-mod placing;
+mod run_fault;
 mod running;
 mod write;
 
 pub use build_book::Piece;
-pub use fault::RunFault;
 pub use laws::one_answer;
 pub use layer_pool::Gate;
 pub use loading::load;
 pub use raster::{Counted, Failed, Failures, Sink, Source};
+pub use run_fault::RunFault;
 pub use running::{run, run_watched};
 pub use task_words::{Given, Task, Wanted, WordFault, read_words, wants_progress};
 pub use write::images::image_len;

@@ -2,7 +2,7 @@
 ghost use Rattle.std.specs.Prelude.{◌≡◌, ◌≢◌, ◌≤◌, ◌⊎◌, Err, IfErr, IfOk, IfSome, List, OnOk, vec_len};
 ghost use Rattle.std.specs.Io.KnownBytes.{IsAtEnd};
 ghost use Rattle.raster.specs.Devices.{Fails};
-ghost use Rattle.stlslice.specs.declared.fault.RunFault.TheVariants.{Memory, Read, Stl};
+ghost use Rattle.stlslice.specs.declared.run_fault.RunFault.TheVariants.{Memory, Read, Stl};
 ghost use Rattle.mesh_weld.specs.Balance.{IsBalanced};
 ghost use Rattle.mesh_weld.specs.Solid.{solid_of};
 ghost use Rattle.stl_text.specs.Text.{IsFaultOf, Reads};
@@ -11,7 +11,7 @@ ghost use Rattle.geometry.specs.Facet.{Facet};
 ghost use Rattle.stlslice.specs.Ending.{IsLoadFault, IsSolidOf};
 ghost use Rattle.geometry.specs.declared.limits.TheConstants.{FACET_LIMIT};
 
-use crate::fault::RunFault;
+use crate::run_fault::RunFault;
 use geometry::Facet;
 use mesh_weld::{Solid, weld};
 use micro_num::Unit;

@@ -3,7 +3,7 @@
 ghost use Rattle.std.specs.Prelude.{◌≡◌, ◌≤◌, IfErr, OnOk, length, true, ℕ, ◌⊎◌};
 ghost use Rattle.std.specs.Io.KnownBytes.{Appends, Keeps};
 ghost use Rattle.raster.specs.Devices.{AppendsFirst, Fails, HasFailed};
-ghost use Rattle.stlslice.specs.declared.fault.RunFault.TheVariants.{Write, Memory};
+ghost use Rattle.stlslice.specs.declared.run_fault.RunFault.TheVariants.{Write, Memory};
 ghost use Rattle.stlslice.specs.Ending.{IsUntouched, IsUnwritten, transcript};
 ghost use Rattle.stlslice.specs.SlicedText.{output_of, sliced_text};
 
@@ -12,7 +12,7 @@ pub(crate) mod images;
 pub(crate) mod probe_line;
 pub(crate) mod report;
 
-use crate::fault::RunFault;
+use crate::run_fault::RunFault;
 use crate::write::images::write_images;
 use crate::write::report::report;
 use build_book::Build;

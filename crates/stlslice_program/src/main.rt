@@ -5,7 +5,7 @@ mod progress;
 #[cfg(test)]
 mod tests;
 
-use crate::progress::{Progress, Watched};
+use crate::progress::{Progress, ProgressWriter};
 use clap::error::ErrorKind as RefusalKind;
 use std::env::{self, Env, FillError};
 use std::fmt::Display;
@@ -36,7 +36,7 @@ fn main(rt: HostRuntime) -> ExitCode {
     let mut source = Counted::new(rt.stdin());
     let end = if wants_progress(words.as_slice()) {
         let progress = Progress::new(&rt, &task, rt.stderr().is_terminal());
-        let mut sink = Counted::new(Watched {
+        let mut sink = Counted::new(ProgressWriter {
             to: rt.stdout(),
             progress: &progress,
         });

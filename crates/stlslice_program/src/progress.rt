@@ -44,7 +44,7 @@ impl Bar {
 
 /// The text on a bar. On a terminal it takes the place of the text before it; elsewhere it is a line.
 #[derive(Clone, Copy)]
-pub(crate) struct Shown {
+pub(crate) struct BarText {
     pub(crate) bar: Bar,
     pub(crate) seconds_left: Option<u64>,
     pub(crate) is_terminal: bool,
@@ -53,7 +53,7 @@ pub(crate) struct Shown {
 /// The number of cells of the bar that a terminal shows.
 const CELLS: u64 = 20;
 
-impl Display for Shown {
+impl Display for BarText {
     fn fmt<W: fmt::Write>(&self, f: &mut Formatter<W>) -> fmt::Result {
         if self.is_terminal {
             f.write_str("\r")?;
@@ -69,7 +69,7 @@ impl Display for Shown {
     }
 }
 
-impl Shown {
+impl BarText {
     fn fmt_cells<W: fmt::Write>(&self, f: &mut Formatter<W>) -> fmt::Result {
         let filled = self.bar.steps_done(CELLS);
         f.write_str("[")?;
@@ -96,7 +96,7 @@ impl Shown {
 }
 
 /// Shows how far a run is: on a terminal in one line, which is drawn anew at each percent, elsewhere by a line at each
-/// tenth. It is the gate of the workers; a [`Watched`] writer tells it of bytes.
+/// tenth. It is the gate of the workers; a [`ProgressWriter`] tells it of bytes.
 #[derive(Drop)]
 pub(crate) struct Progress<'r, R> {
     rt: &'r R,
@@ -167,7 +167,7 @@ impl<'r, R: Clock + Eprint + Wait> Progress<'r, R> {
             Some(now) => bar.seconds_left(now),
             None => None,
         };
-        let _ = self.rt.eprint(Shown {
+        let _ = self.rt.eprint(BarText {
             bar: *bar,
             seconds_left,
             is_terminal: self.is_terminal,
@@ -214,12 +214,12 @@ impl<'r, A: Allocator, R: Clock + Eprint + Wait> Gate<A> for Progress<'r, R> {
 
 /// A writer that tells a progress how many bytes it writes.
 #[derive(Drop)]
-pub(crate) struct Watched<'p, 'r, W, R> {
+pub(crate) struct ProgressWriter<'p, 'r, W, R> {
     pub(crate) to: W,
     pub(crate) progress: &'p Progress<'r, R>,
 }
 
-impl<'p, 'r, W: Write, R: Clock + Eprint + Wait> Write for Watched<'p, 'r, W, R> {
+impl<'p, 'r, W: Write, R: Clock + Eprint + Wait> Write for ProgressWriter<'p, 'r, W, R> {
     fn write(&mut self, buf: &[u8]) -> io::Result<usize> {
         if !self.progress.has_images {
             return self.to.write(buf);

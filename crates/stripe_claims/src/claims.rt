@@ -49,8 +49,8 @@ impl Model for Pass {
 }
 
 impl<A: Allocator + Copy> Claims<A> {
-    /// Claims to the numbers below `stripes`, of which there are at most 8,192, and 1 to `PASS_LIMIT` passes, none of
-    /// which has drawn. `Err` comes only where an allocation failed; nothing is left behind then.
+    /// Claims to the numbers below `stripes`, of which there are at most `STRIPE_LIMIT`, and 1 to `PASS_LIMIT` passes,
+    /// none of which has drawn. `Err` comes only where an allocation failed; nothing is left behind then.
     pub fn open(
         alloc: A,
         stripes: u64,

@@ -14,7 +14,7 @@ pub struct Given {
 }
 
 /// What the program is to do with the mesh on its input, whose numbers are in `unit`. Pitch and layer height are 1
-/// to 100,000 micrometres, and there are 1 to `PASS_LIMIT` workers.
+/// to `STEP_LIMIT` micrometres, and there are 1 to `PASS_LIMIT` workers.
 #[derive(Clone, Copy, Debug, PartialEq, Eq)]
 pub enum Task {
     /// Write how many facets there are, and their box.

@@ -27,18 +27,18 @@ pub(crate) fn read_unit(text: &str) -> Option<Unit> {
 /// A grid of the form `COLUMNS,ROWS,LAYERS,X0,Y0,Z0`.
 pub(crate) fn read_grid(text: &str) -> Option<Given> {
     let mut parts = text.split(',');
-    let counts = next_counts(&mut parts)?;
+    let (columns, rows, layers) = next_counts(&mut parts)?;
     let origin = next_point(&mut parts)?;
     let given = Given {
-        columns: counts.i,
-        rows: counts.j,
-        layers: counts.k,
+        columns,
+        rows,
+        layers,
         origin,
     };
     parts.next().is_none().then_some(given)
 }
 
-/// Three counts along x, y and z: the column, row and layer of a voxel, or how many of each a grid has.
+/// The column, row and layer of a voxel.
 #[derive(Clone, Copy)]
 pub(crate) struct Voxel {
     pub(crate) i: u32,
@@ -49,16 +49,16 @@ pub(crate) struct Voxel {
 /// A voxel of the form `I,J,K`.
 pub(crate) fn read_voxel(text: &str) -> Option<Voxel> {
     let mut parts = text.split(',');
-    let voxel = next_counts(&mut parts)?;
-    parts.next().is_none().then_some(voxel)
+    let (i, j, k) = next_counts(&mut parts)?;
+    parts.next().is_none().then_some(Voxel { i, j, k })
 }
 
-/// The next three parts as counts.
-fn next_counts(parts: &mut Split<'_, char>) -> Option<Voxel> {
-    let i = read_count(parts.next()?)?;
-    let j = read_count(parts.next()?)?;
-    let k = read_count(parts.next()?)?;
-    Some(Voxel { i, j, k })
+/// The next three parts as counts, along x, y and z.
+fn next_counts(parts: &mut Split<'_, char>) -> Option<(u32, u32, u32)> {
+    let along_x = read_count(parts.next()?)?;
+    let along_y = read_count(parts.next()?)?;
+    let along_z = read_count(parts.next()?)?;
+    Some((along_x, along_y, along_z))
 }
 
 /// The next three parts as a point.

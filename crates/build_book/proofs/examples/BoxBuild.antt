@@ -11,7 +11,7 @@ use Rattle.contour.specs.Segment.{segments}
 use Rattle.raster.specs.declared.rule.Rule.TheVariants.{Positive}
 use Rattle.raster.specs.declared.span.Span.{Span}
 use Rattle.raster.specs.Grid.{Grid, centre, grid_with, plane}
-use Rattle.raster.specs.Fill.{is_filled}
+use Rattle.raster.specs.Filler.{is_filled}
 use Rattle.raster.specs.Span.{covers}
 use Rattle.build_book.specs.Job.{Job}
 use Rattle.build_book.specs.Layer.{Layer, IsLawful}

@@ -9,7 +9,7 @@ use Rattle.std.proofs.lemmas.List.FromFn.{length-range_with_len}
 use Rattle.raster.specs.declared.span.Span.{Span}
 use Rattle.raster.specs.declared.rule.Rule.{Rule}
 use Rattle.raster.specs.Span.{AreSpans, covers, is_span_within, is_span_before, are_apart, span_area}
-use Rattle.raster.specs.Fill.{area_of, is_filled, below}
+use Rattle.raster.specs.Filler.{area_of, is_filled, below}
 use Rattle.raster.specs.Grid.{Grid, centre}
 use Rattle.geometry.specs.Facet.{Facet}
 use Rattle.build_book.proofs.lemmas.OneLayer.{holds, Holds, holds-is, none_later, UpTo, within-parts}

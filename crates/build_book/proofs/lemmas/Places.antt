@@ -11,7 +11,7 @@ use Rattle.build_book.specs.Piece.{IsStripe}
 use Rattle.build_book.specs.Places.{filed_count, filled, or_layer, IsTaken, AreFree}
 use Rattle.build_book.specs.Book.{IsLawfulPlace, IsLawfulBook}
 use Rattle.build_book.specs.Build.{IsComplete}
-use Rattle.build_book.specs.declared.limits.TheConstants.{MOST_STRIPES}
+use Rattle.build_book.specs.declared.limits.TheConstants.{MOST_STRIPES, STRIPE_LAYERS}
 use Rattle.geometry.specs.declared.limits.TheConstants.{LAYER_LIMIT}
 
 filled_none : (places : List (Option Layer)) → filled zero [] places ≡ places
@@ -289,7 +289,7 @@ stripe_filled job s first ys ps new lawful at stripe is below k near low =
     (omega (arith, at, stripe.whole, near, early, lawful.one_each)))
 
 pub few_layers : (job : Job) (ps : List (Option Layer)) → IsLawfulBook (record { job = job; places = ps }) → (n : ℕ) → n ≡ stripe_count job.grid → n ≤ MOST_STRIPES
-    → filed_count ps ≤ 65536
+    → filed_count ps ≤ STRIPE_LAYERS * MOST_STRIPES
 few_layers job ps lawful n is few = omega (arith, count_by-le-length is_some ps, lawful.one_each, is, few)
 
 -- free places of a stripe are those of its layers

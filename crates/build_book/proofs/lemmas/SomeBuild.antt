@@ -18,7 +18,7 @@ use Rattle.contour.specs.Loops.{AreLoops, loops}
 use Rattle.contour.proofs.lemmas.LoopsClose.{loops_close}
 use Rattle.raster.specs.declared.rule.Rule.{Rule}
 use Rattle.raster.specs.Grid.{Grid, centre, plane}
-use Rattle.raster.specs.Fill.{area_of, is_filled}
+use Rattle.raster.specs.Filler.{area_of, is_filled}
 use Rattle.build_book.specs.Layer.{Layer, IsLawful, AreLawfulFrom}
 use Rattle.build_book.specs.Build.{IsComplete}
 use Rattle.build_book.specs.Promise.{job_of}

@@ -25,9 +25,6 @@ times n xs = count_by (λ m. m == n) xs
 abbrev pub AreEven : List ℕ → List ℕ → Type 0
 AreEven starts finishes = (e : ℕ) → times e starts ≡ times e finishes
 
-one_if : Bool → ℕ
-one_if b = cond b 1 0
-
 eqb-own : (n : ℕ) → eqb n n ≡ true
 eqb-own n = grind (arith, nat_tests)
 

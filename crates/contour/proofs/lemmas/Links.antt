@@ -1,5 +1,5 @@
 -- The segments of a height: their facets and edges have numbers within bounds.
-use Rattle.std.proofs.Common.{◌≡◌, ℕ, zero, suc, ◌+◌, ◌*◌, ◌<◌, ◌≤◌, ◌++◌, Bool, true, false, cond, List, [], ◌∷◌, refl, sym, ◌∙◌, ap, subst, length, get_or, take, arith, map, Some, None}
+use Rattle.std.proofs.Common.{◌≡◌, ℕ, zero, suc, ◌+◌, ◌*◌, ◌^◌, ◌<◌, ◌≤◌, ◌++◌, Bool, true, false, cond, List, [], ◌∷◌, refl, sym, ◌∙◌, ap, subst, length, get_or, take, arith, map, Some, None}
 use Rattle.std.specs.Prelude.{Option, ℤ, filter_map, find, All}
 use Rattle.std.specs.List.{enumerate_from, cons_option}
 use Rattle.std.proofs.lemmas.List.{get_or_default, get_or-map, length-map, map_more}
@@ -110,7 +110,7 @@ segment_edges-length facets list starts finishes p =
 pub few-fits : (n : ℕ) → n ≤ FACET_LIMIT → Fits w64 n
 few-fits n h = record { fits = omega arith }
 
-pub offset-fits : (i n : ℕ) → i < n → n * 12 < 9223372036854775808 → Fits w64 (i * 12)
+pub offset-fits : (i n : ℕ) → i < n → n * 12 < 2 ^ 63 → Fits w64 (i * 12)
 offset-fits i n h k = record { fits = omega arith }
 
 pub in-triples : (facets : List Facet) (points : List (List ℕ)) (f : ℕ) → points ≡ triples facets → f < length facets → f < length points

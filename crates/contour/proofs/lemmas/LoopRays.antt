@@ -94,7 +94,7 @@ pub record Summed (facets : List Facet) (c : Point) (list : List Segment) (i : �
 abs_sum : (a b : ℤ) (m n : ℕ) → unsigned_abs a ≤ m → unsigned_abs b ≤ n → unsigned_abs (a +ℤ b) ≤ m + n
 abs_sum a b m n h k = grind (arith, ints)
 
-read_back : (n : ℕ) (z : ℤ) → IsAtMost n z → n ≤ 1048577 → to_z w32 (of_z w32 z) ≡ z
+read_back : (n : ℕ) (z : ℤ) → IsAtMost n z → n ≤ FACET_LIMIT + 1 → to_z w32 (of_z w32 z) ≡ z
 read_back n z small few = to_z-of_z w32 z (fits_signed_from_abs w32 z (below small.at_most))
   where
     below : unsigned_abs z ≤ n → unsigned_abs z < 2 ^ 31

@@ -11,7 +11,7 @@ use Rattle.geometry.specs.Winding.{hit, neg_ray_back, ray, total, turn, turn_of,
 use Rattle.mesh_weld.specs.Balance.{IsBalanced}
 use Rattle.mesh_weld.specs.EdgeNumbers.{AreEdgeNumbers, HaveSameEnds, edge_of}
 use Rattle.mesh_weld.specs.Solid.{facet_at, vertices}
-use Rattle.mesh_weld.specs.MeshLaws.{IsOpposite, round}
+use Rattle.mesh_weld.specs.Laws.{IsOpposite, round}
 use Rattle.mesh_weld.proofs.lemmas.Sums.{total-difference, total-map}
 use Rattle.exact_cut.proofs.lemmas.Turns.{turn-opposite}
 use Rattle.contour.specs.declared.segment.Segment.{Segment}

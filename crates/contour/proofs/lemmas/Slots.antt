@@ -1,6 +1,6 @@
 -- The slots of an edge in a list, and the linked lists that keep them: pushed from the last slot to the first, and popped
 -- from the first on.
-use Rattle.std.proofs.Common.{◌≡◌, ℕ, zero, suc, ◌+◌, ◌<◌, ◌≤◌, Bool, true, false, cond, eqb, List, [], ◌∷◌, ◌⊎◌, inl, inr, refl, sym, ◌∙◌, ap, subst, length, take, drop, get_or, set, replicate, arith, get_or-set_same, get_or-set_other}
+use Rattle.std.proofs.Common.{◌≡◌, ℕ, zero, suc, ◌+◌, ◌<◌, ◌≤◌, Bool, true, false, cond, eqb, List, [], ◌∷◌, ◌⊎◌, inl, inr, refl, sym, ◌∙◌, ap, subst, length, take, drop, get_or, set, arith, get_or-set_same, get_or-set_other}
 use Rattle.std.specs.Prelude.{◌==◌}
 use Rattle.std.proofs.lemmas.List.{drop_more, get_or_default, get_or_past, get_or-drop, take_all}
 use Rattle.std.proofs.lemmas.List.Sums.{count_by_more_yes, count_by_more_no}
@@ -171,8 +171,3 @@ pop-clear heads starts finishes n l even left e =
     ∙ get_or_past (slots 0 e starts) (times e (take n finishes)) NONE
     (let all : times e (take n finishes) ≡ times e finishes = ap (times e) (take_all n finishes l) in
     let long = length-slots 0 e starts in let same = even e in omega (arith, all, long, same))
-
-pub all_clear : (n : ℕ) → IsClear (replicate n NONE)
-all_clear zero e = refl
-all_clear (suc n) zero = refl
-all_clear (suc n) (suc e) = all_clear n e

@@ -1,5 +1,5 @@
 -- What a sweep keeps, at the start and at each step, and the segments of the facets that it cuts.
-use Rattle.std.proofs.Common.{◌≡◌, ℕ, ◌+◌, ◌<◌, ◌≤◌, Bool, true, false, cond, ◌&&◌, ◌||◌, List, [], ◌∷◌, ◌⊎◌, inl, inr, refl, sym, ◌∙◌, ap, subst, length, take, drop, arith, map, None}
+use Rattle.std.proofs.Common.{◌≡◌, ℕ, ◌+◌, ◌^◌, ◌<◌, ◌≤◌, Bool, true, false, cond, ◌&&◌, ◌||◌, List, [], ◌∷◌, ◌⊎◌, inl, inr, refl, sym, ◌∙◌, ap, subst, length, take, drop, arith, map, None}
 use Rattle.std.specs.Prelude.{All, OnErr, Result, Ok, Err, Option, filter, filter_map, IsPermutation, ℤ, ◌≤ℤ◌, ◌<ℤ◌, int_le, int_lt}
 use Rattle.std.specs.List.{range_with_len, prefix_len, enumerate_from, cons_option}
 use Rattle.std.specs.List.Sorted.{IsSorted}
@@ -155,10 +155,10 @@ active_segments facets z =
     ∙ sym (numbered (facet_at facets) (segment_of (vertices facets) z) 0 facets (Gives-get_or facets (facet_with origin origin origin)))
 
 -- the count of facets that the plane has reached fits the machine word
-pub step-fits : (p : ℕ → Bool) (rest : List ℕ) (passed count n : ℕ) → count ≡ prefix_len p rest → length rest + passed ≡ n → n < 18446744073709551616 → Fits w64 (passed + count)
+pub step-fits : (p : ℕ → Bool) (rest : List ℕ) (passed count n : ℕ) → count ≡ prefix_len p rest → length rest + passed ≡ n → n < 2 ^ 64 → Fits w64 (passed + count)
 step-fits p rest passed count n e h k = record { fits = small (prefix_len p rest) (length rest) (prefix_len-le-length p rest) e h k }
   where
-    small : (c m : ℕ) → c ≤ m → count ≡ c → m + passed ≡ n → n < 18446744073709551616 → passed + count < 18446744073709551616
+    small : (c m : ℕ) → c ≤ m → count ≡ c → m + passed ≡ n → n < 2 ^ 64 → passed + count < 2 ^ 64
     small c m l e h k = omega arith
 
 pub on-error : {T E P : Type 0} (r : Result T E) → P → OnErr r P

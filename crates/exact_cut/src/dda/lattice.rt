@@ -11,15 +11,15 @@ use exact_int::ceil_div;
 /// y = `y2 + 2 * step * j`, in half-micrometres.
 #[derive(Clone, Copy, Debug, PartialEq, Eq)]
 pub struct Lattice {
-    /// The x of the first column's centres in half-micrometres, -256,200,000 to 256,200,000.
+    /// The x of the first column's centres in half-micrometres, within `CENTRE_LIMIT` of 0.
     pub x2: i64,
-    /// The y of the first row's centres in half-micrometres, -256,200,000 to 256,200,000.
+    /// The y of the first row's centres in half-micrometres, within `CENTRE_LIMIT` of 0.
     pub y2: i64,
-    /// The distance from one pixel centre to the next in micrometres, 1 to 100,000.
+    /// The distance from one pixel centre to the next in micrometres, 1 to `STEP_LIMIT`.
     pub step: u32,
-    /// The number of columns, at most 16,384.
+    /// The number of columns, at most `COLUMN_LIMIT`.
     pub columns: u32,
-    /// The number of rows, at most 16,384. The y of the last row's centres is at most 256,200,000.
+    /// The number of rows, at most `COLUMN_LIMIT`. The y of the last row's centres is at most `CENTRE_LIMIT`.
     pub rows: u32,
     pub ghost x_in: { IsAtMost CENTRE_LIMIT x2 },
     pub ghost y_in: { IsAtMost CENTRE_LIMIT y2 },

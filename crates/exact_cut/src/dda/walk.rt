@@ -39,7 +39,7 @@ impl Model for Walk {
 
 impl Walk {
     /// The crossings of a facet at the height `z2` with the rows of a lattice, or `None` where it crosses none of them.
-    /// `z2` is in half-micrometres, -256,200,000 to 256,200,000.
+    /// `z2` is in half-micrometres, within `CENTRE_LIMIT` of 0.
     pub fn start(f: &Facet, z2: i64, lattice: &Lattice) -> Option<Walk>
         requires { IsAtMost CENTRE_LIMIT z2 }
         ensures { MatchOption result (IsUncrossed (twice f.now) z2 lattice.now)

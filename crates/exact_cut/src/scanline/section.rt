@@ -38,7 +38,7 @@ impl Section {
 }
 
 /// Where the line along x at the height `z2` and the scanline `y2` crosses the facet's plane, or `None` exactly where
-/// the facet's winding round that line is 0. Both are in half-micrometres, -256,200,000 to 256,200,000.
+/// the facet's winding round that line is 0. Both are in half-micrometres, within `CENTRE_LIMIT` of 0.
 ///
 /// The fraction is exact: (`num / den`, `y2`, `z2`) lies in the facet's plane. For every whole X the crossing lies ahead of
 /// a centre at X exactly where `X * den < num`.

@@ -16,7 +16,7 @@ use Rattle.exact_cut.specs.Laws.{corner_turn}
 use Rattle.exact_cut.proofs.lemmas.Touching.{ray-difference, corner_turn-opposite}
 use Rattle.exact_cut.proofs.lemmas.Steps.{step-x, step-y}
 use Rattle.mesh_weld.specs.Balance.{IsBalanced}
-use Rattle.mesh_weld.specs.MeshLaws.{round}
+use Rattle.mesh_weld.specs.Laws.{round}
 use Rattle.mesh_weld.specs.Probing.{NoneTouches, NoneBetween}
 use Rattle.mesh_weld.proofs.lemmas.Sums.{total-append, total-difference, amounts_cancel}
 use Rattle.geometry.specs.declared.limits.TheConstants.{FACET_LIMIT}

@@ -7,7 +7,7 @@ use Rattle.geometry.specs.Point.{Point, same, half_micrometres_of}
 use Rattle.geometry.specs.Facet.{Facet, Edge, edge, edges, half_edges, twice}
 use Rattle.geometry.specs.Winding.{total, turn, turn_x, wind, wind_y, hit, ray, neg_ray_back}
 use Rattle.mesh_weld.specs.Balance.{IsBalanced}
-use Rattle.mesh_weld.specs.MeshLaws.{IsOpposite, round}
+use Rattle.mesh_weld.specs.Laws.{IsOpposite, round}
 use Rattle.mesh_weld.proofs.lemmas.Edges.{count_by-cons, runs, runs-is}
 use Rattle.mesh_weld.proofs.lemmas.Order.{same-self}
 use Rattle.mesh_weld.proofs.lemmas.Degenerate.{and_swap, own_opposite}

@@ -20,7 +20,7 @@ use crate::by_hash::corners::{FacetNumbers, corners_by_id};
 use crate::by_hash::edges::grouped_numbers;
 use crate::half_edge::EdgeNumbering;
 use crate::height_order::order_by_height;
-use crate::numbering::Numbering;
+use crate::solid::Numbering;
 use geometry::Facet;
 use std::alloc::{AllocError, Allocator};
 

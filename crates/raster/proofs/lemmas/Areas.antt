@@ -71,8 +71,8 @@ begins-at_zero : (columns : ℕ) (spans : List Span) → Begins columns 0 spans
 begins-at_zero columns [] = tt
 begins-at_zero columns (s ∷ rest) = omega arith
 
--- there are at most 2 ^ 28 pixels
-pub span_area-fits : (spans : List Span) → IsLayerOfSpans spans → span_area spans ≤ 268435456
+-- the spans of a layer hold at most as many pixels as the largest layer has
+pub span_area-fits : (spans : List Span) → IsLayerOfSpans spans → span_area spans ≤ COLUMN_LIMIT * COLUMN_LIMIT
 span_area-fits spans h =
     let k : span_area spans + 0 ≤ h.columns * h.rows = span_area-le h.columns h.rows spans 0 (omega arith) (begins-at_zero h.columns spans) h.form.within h.form.apart in
     let m : h.columns * h.rows ≤ COLUMN_LIMIT * COLUMN_LIMIT = mul-le-mul h.few_columns h.few_rows in

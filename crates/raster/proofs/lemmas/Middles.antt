@@ -1,5 +1,5 @@
 -- The middle of a cell and the grid of a box, as the machine computes them.
-use Rattle.std.proofs.Common.{◌≡◌, ℕ, ◌+◌, ◌-◌, ◌*◌, ◌<◌, ◌≤◌, Bool, true, false, cond, ◌||◌, refl, ap, subst, sym, ◌∙◌, arith}
+use Rattle.std.proofs.Common.{◌≡◌, ℕ, ◌+◌, ◌-◌, ◌*◌, ◌^◌, ◌<◌, ◌≤◌, Bool, true, false, cond, ◌||◌, refl, ap, subst, sym, ◌∙◌, arith}
 use Rattle.std.specs.Prelude.{ℤ, pos, ◌+ℤ◌, ◌*ℤ◌, ◌≤ℤ◌, FitsSigned, int_lt, ◌==◌, Ok, Err}
 use Rattle.std.proofs.lemmas.Int.{ints, to_z-of_z}
 use Rattle.std.proofs.lemmas.Bool.Decides.{nat_tests}
@@ -19,16 +19,20 @@ double-fits n h = record { fits = omega arith }
 pub odd-fits : (n : ℕ) → n ≤ LAYER_LIMIT → Fits w64 (2 * n + 1)
 odd-fits n h = record { fits = omega arith }
 
-reach : (a b : ℕ) → a ≤ STEP_LIMIT → b ≤ LAYER_LIMIT → a * (2 * b + 1) ≤ 13107100000
-reach a b h k = let odd : 2 * b + 1 ≤ 131071 = omega arith in mul-le-mul h odd
+-- how far a middle can lie from the start: an odd number of half steps
+abbrev reach_limit : ℕ
+reach_limit = STEP_LIMIT * (2 * LAYER_LIMIT + 1)
+
+reach : (a b : ℕ) → a ≤ STEP_LIMIT → b ≤ LAYER_LIMIT → a * (2 * b + 1) ≤ reach_limit
+reach a b h k = let odd : 2 * b + 1 ≤ 2 * LAYER_LIMIT + 1 = omega arith in mul-le-mul h odd
 
 pub reach-fits : (a b : ℕ) → a ≤ STEP_LIMIT → b ≤ LAYER_LIMIT → Fits w64 (a * (2 * b + 1))
 reach-fits a b h k = record { fits = small (a * (2 * b + 1)) (reach a b h k) }
   where
-    small : (n : ℕ) → n ≤ 13107100000 → n < 18446744073709551616
+    small : (n : ℕ) → n ≤ reach_limit → n < 2 ^ 64
     small n h = omega arith
 
-reach-in : (a b : ℕ) → a ≤ STEP_LIMIT → b ≤ LAYER_LIMIT → IsAtMost 13107100000 (pos (a * (2 * b + 1)))
+reach-in : (a b : ℕ) → a ≤ STEP_LIMIT → b ≤ LAYER_LIMIT → IsAtMost reach_limit (pos (a * (2 * b + 1)))
 reach-in a b h k = record { at_most = reach a b h k }
 
 pub reach-signed : (a b : ℕ) → a ≤ STEP_LIMIT → b ≤ LAYER_LIMIT → FitsSigned w64 (pos (a * (2 * b + 1)))
@@ -41,7 +45,7 @@ pub middle-fits : (s : ℤ) (a b : ℕ) → IsAtMost COORDINATE_LIMIT s → a �
     → FitsSigned w64 (to_z w64 (of_z w64 (pos 2 *ℤ to_z w64 (of_z w64 s))) +ℤ to_z w64 (a * (2 * b + 1)))
 middle-fits s a b h k l =
     fits w64 (size_add (size_back w64 (pos 2 *ℤ to_z w64 (of_z w64 s)) (size_mul (size_pos 2) (size_back w64 s (size_known h))))
-    (size_known (cast_in w64 (a * (2 * b + 1)) 13107100000 (reach a b k l)))) refl
+    (size_known (cast_in w64 (a * (2 * b + 1)) reach_limit (reach a b k l)))) refl
 
 pub middle-read : (start s : ℤ) (step number a b : ℕ) → s ≡ start → a ≡ step → b ≡ number → IsAtMost COORDINATE_LIMIT s → a ≤ STEP_LIMIT → b ≤ LAYER_LIMIT
     → to_z w64 (of_z w64 (to_z w64 (of_z w64 (pos 2 *ℤ to_z w64 (of_z w64 s))) +ℤ to_z w64 (a * (2 * b + 1)))) ≡ middle start step number

@@ -16,7 +16,7 @@ use Rattle.raster.specs.declared.rule.Rule.{Rule}
 use Rattle.raster.specs.declared.span.Span.{Span}
 use Rattle.raster.specs.Crossings.{AreCrossingsWithin, row_passed}
 use Rattle.raster.specs.RowSpans.{AreSpansBelow}
-use Rattle.raster.specs.Fill.{IsFillOf, is_filled}
+use Rattle.raster.specs.Filler.{IsFillOf, is_filled}
 use Rattle.raster.specs.Rule.{is_inside}
 use Rattle.raster.specs.Span.{AreSpans, covers, is_span_within}
 use Rattle.raster.specs.Grid.{Grid, centre, middle, plane}

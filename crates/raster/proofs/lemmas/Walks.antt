@@ -13,6 +13,7 @@ use mir.Val.{Fits}
 use Rattle.geometry.specs.Point.{Point}
 use Rattle.geometry.specs.Facet.{Facet}
 use Rattle.geometry.specs.Winding.{hit, volume, wind}
+use Rattle.geometry.specs.declared.limits.TheConstants.{COLUMN_LIMIT}
 use Rattle.mesh_weld.proofs.lemmas.Sums.{total-append}
 use Rattle.exact_cut.specs.Walk.{Walk, IsWalkOf}
 use Rattle.exact_cut.specs.Lattice.{IsUncrossed, pixel, row_y}
@@ -224,9 +225,9 @@ nothing-more a w h = omega (arith, ints)
 pub some-left : (row end at n : ℕ) → row < end → row ≡ at → end ≡ at + n → 0 < n
 some-left row end at n h e f = omega arith
 
-pub first-fits : (columns rest : List ℕ) (c : ℕ) → columns ≡ c ∷ rest → All (λ x. x ≤ 16384) columns → Fits w16 c
+pub first-fits : (columns rest : List ℕ) (c : ℕ) → columns ≡ c ∷ rest → All (λ x. x ≤ COLUMN_LIMIT) columns → Fits w16 c
 first-fits columns rest c e h =
-    let low : c ≤ 16384 = subst (λ (l : List ℕ). All (λ x. x ≤ 16384) l) e h 0 0 (omega arith) in
+    let low : c ≤ COLUMN_LIMIT = subst (λ (l : List ℕ). All (λ x. x ≤ COLUMN_LIMIT) l) e h 0 0 (omega arith) in
     record { fits = omega arith }
 
 pub row-in : (row end n out old : ℕ) → row < end → end ≡ n → n ≤ old → out ≡ old → row < out
@@ -235,10 +236,10 @@ row-in row end n out old h e k f = omega arith
 pub falls-on : (n i : ℕ) → i < n → n - (i + 1) < n - i
 falls-on n i h = omega arith
 
-pub columns-few : (t : Facet) (z : ℤ) (l : Lattice) (c : Walk) → IsWalkOf t z l c → l.columns ≤ 16384 → All (λ x. x ≤ 16384) c.columns
+pub columns-few : (t : Facet) (z : ℤ) (l : Lattice) (c : Walk) → IsWalkOf t z l c → l.columns ≤ COLUMN_LIMIT → All (λ x. x ≤ COLUMN_LIMIT) c.columns
 columns-few t z l c h few k d low =
     let inside : slice_index c.columns k ≤ l.columns = (h.crossed k low).least.in_row in
-    subst (λ (x : ℕ). x ≤ 16384) (sym (get_or_default c.columns k d 0 low)) (omega arith)
+    subst (λ (x : ℕ). x ≤ COLUMN_LIMIT) (sym (get_or_default c.columns k d 0 low)) (omega arith)
 
 pub along-all : (row end at start : ℕ) (up sign : Bool) (columns all : List ℕ) (out old : List RowCrossing) (j : ℕ) → end ≤ row → row ≡ at → end ≡ at + length columns
     → out ++ crossings_along at up columns j ≡ old ++ crossings_along start up all j → up ≡ sign → out ≡ old ++ crossings_along start sign all j

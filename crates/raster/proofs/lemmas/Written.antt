@@ -1,5 +1,5 @@
 -- How much of an image went out, and how much is left.
-use Rattle.std.proofs.Common.{◌≡◌, ℕ, zero, suc, ◌+◌, ◌-◌, ◌*◌, ◌<◌, ◌≤◌, List, [], ◌∷◌, ◌++◌, Bool, length, take, drop, length-append, length-drop, append_assoc, refl, ap, sym, subst, ◌∙◌, arith}
+use Rattle.std.proofs.Common.{◌≡◌, ℕ, zero, suc, ◌+◌, ◌-◌, ◌*◌, ◌^◌, ◌<◌, ◌≤◌, List, [], ◌∷◌, ◌++◌, Bool, length, take, drop, length-append, length-drop, append_assoc, refl, ap, sym, subst, ◌∙◌, arith}
 use Rattle.std.specs.Prelude.{Option, reverse, flat_map, nat_lt, ◌&&◌}
 use Rattle.std.specs.List.{range_with_len}
 use Rattle.std.specs.Int.{div_ceil}
@@ -8,8 +8,9 @@ use Rattle.std.specs.Io.KnownBytes.{Appends}
 use Rattle.std.proofs.lemmas.List.{reverse-append}
 use Rattle.std.proofs.lemmas.List.Concat.{flat_map-cons}
 use Rattle.std.proofs.Math.Seq.{take-add}
+use Rattle.geometry.specs.declared.limits.TheConstants.{COLUMN_LIMIT}
 use Rattle.raster.specs.Devices.{AppendsFirst}
-use Rattle.raster.specs.Fill.{below}
+use Rattle.raster.specs.Filler.{below}
 use Rattle.raster.specs.Picture.{packed_byte, row_bytes}
 use Rattle.raster.proofs.lemmas.Sent.{appends-after}
 
@@ -92,7 +93,7 @@ under-way-step old now new width m n pixel text written total chunk room drawn n
 pub length-row : (width : ℕ) (pixel : ℕ → Bool) → length (row_bytes width pixel) ≡ div_ceil width 8
 length-row width pixel = length-map-range_with_len (packed_byte (λ i. nat_lt i width && pixel i)) 0 (div_ceil width 8)
 
-pub short-step : (width row rows written total : ℕ) (pixel : ℕ → Bool) (chunk room drawn : List ℕ) → width ≤ 16384 → 0 < row → written + length chunk + 2048 * row ≤ 15 + 2048 * rows → written ≤ total → total ≤ written + length chunk → room ≡ drop (total - written) chunk → drawn ≡ room ++ row_bytes width pixel → total + length drawn + 2048 * (row - 1) ≤ 15 + 2048 * rows
+pub short-step : (width row rows written total : ℕ) (pixel : ℕ → Bool) (chunk room drawn : List ℕ) → width ≤ COLUMN_LIMIT → 0 < row → written + length chunk + 2048 * row ≤ 15 + 2048 * rows → written ≤ total → total ≤ written + length chunk → room ≡ drop (total - written) chunk → drawn ≡ room ++ row_bytes width pixel → total + length drawn + 2048 * (row - 1) ≤ 15 + 2048 * rows
 short-step width row rows written total pixel chunk room drawn narrow some h low high kept row-is =
     let left : length room ≡ length chunk - (total - written) = ap (λ (l : List ℕ). length l) kept ∙ length-drop (total - written) chunk in
     let more : length drawn ≡ length room + length (row_bytes width pixel) = ap (λ (l : List ℕ). length l) row-is ∙ length-append room (row_bytes width pixel) in
@@ -100,7 +101,7 @@ short-step width row rows written total pixel chunk room drawn narrow some h low
     omega arith
 
 -- ---- row by row
-pub few-written : (written chunk row rows : ℕ) → written + chunk + 2048 * row ≤ 15 + 2048 * rows → rows ≤ 16384 → written ≤ 4294967296
+pub few-written : (written chunk row rows : ℕ) → written + chunk + 2048 * row ≤ 15 + 2048 * rows → rows ≤ COLUMN_LIMIT → written ≤ 2 ^ 32
 few-written written chunk row rows h k = omega arith
 
 pub row-under : (row rows : ℕ) → 0 < row → row ≤ rows → row - 1 < rows

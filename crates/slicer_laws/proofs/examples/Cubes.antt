@@ -8,7 +8,7 @@ use Rattle.raster.specs.declared.rule.Rule.TheVariants.{EvenOdd, NonZero, Positi
 use Rattle.exact_int.specs.Bounds.{IsAtMost}
 use Rattle.geometry.specs.declared.limits.TheConstants.{COORDINATE_LIMIT}
 use Rattle.raster.specs.Grid.{Grid, IsBox, IsGrid, grid_with}
-use Rattle.raster.specs.Fill.{area_of}
+use Rattle.raster.specs.Filler.{area_of}
 use Rattle.slicer_laws.specs.Boxes.{at, box}
 use Rattle.slicer_laws.specs.InsideOut.{inside_out}
 use Rattle.slicer_laws.specs.Moves.{moved_mesh}

@@ -14,7 +14,7 @@ use Rattle.raster.specs.declared.rule.Rule.{Rule}
 use Rattle.raster.specs.declared.rule.Rule.TheVariants.{EvenOdd, NonZero, Positive}
 use Rattle.raster.specs.Grid.{Grid, IsBox, centre}
 use Rattle.raster.specs.Rule.{is_inside}
-use Rattle.raster.specs.Fill.{is_filled}
+use Rattle.raster.specs.Filler.{is_filled}
 use Rattle.slicer_laws.proofs.lemmas.Shells.{ray-append}
 use Rattle.slicer_laws.specs.Boxes.{at, box, holds, is_between, side, sides_x, sides_y, sides_z}
 
@@ -222,9 +222,6 @@ module _ (x y1 y2 z1 z2 py pz : ℤ) (order : z1 ≤ℤ z2) where
 -- ---- the sides at the ends of y and z are edge-on
 no_hits : (f g : ℤ) → f ≡ pos 0 → g ≡ pos 0 → f +ℤ (g +ℤ pos 0) ≡ pos 0
 no_hits f g e h = omega (arith, ints)
-
-no_more : (f g h : ℤ) → g ≡ pos 0 → h ≡ pos 0 → f +ℤ (g +ℤ h) ≡ f
-no_more f g h d e = omega (arith, ints)
 
 level_y : (y x1 z1 x2 z2 x3 z3 : ℤ) (c : Point) → hit (twice (facet_with (at x1 y z1) (at x2 y z2) (at x3 y z3))) c ≡ pos 0
 level_y y x1 z1 x2 z2 x3 z3 c =

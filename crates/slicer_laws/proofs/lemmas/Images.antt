@@ -5,7 +5,7 @@ use Rattle.geometry.specs.Facet.{Facet}
 use Rattle.geometry.specs.Point.{Point}
 use Rattle.raster.specs.declared.rule.Rule.{Rule}
 use Rattle.raster.specs.Grid.{Grid, centre}
-use Rattle.raster.specs.Fill.{area_of, below, is_filled}
+use Rattle.raster.specs.Filler.{area_of, below, is_filled}
 use Rattle.raster.specs.Picture.{picture, pictures}
 
 pub same_images : (g : Grid) (rule : Rule) (a b : List Facet) → ((c : Point) → is_filled rule a c ≡ is_filled rule b c)

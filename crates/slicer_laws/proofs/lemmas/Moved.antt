@@ -10,7 +10,7 @@ use Rattle.exact_cut.proofs.lemmas.Shifts.{ahead_only, hit_from, hit_y_from, poi
 use Rattle.mesh_weld.proofs.lemmas.Sums.{total-map}
 use Rattle.raster.specs.declared.rule.Rule.{Rule}
 use Rattle.raster.specs.Grid.{Grid, centre, middle}
-use Rattle.raster.specs.Fill.{area_of, below, is_filled}
+use Rattle.raster.specs.Filler.{area_of, below, is_filled}
 use Rattle.raster.specs.Picture.{picture, pictures}
 use Rattle.raster.specs.Rule.{is_inside}
 use Rattle.slicer_laws.specs.Moves.{moved, moved_facet, moved_grid, moved_mesh}

@@ -13,7 +13,7 @@ use Rattle.mesh_weld.proofs.lemmas.Sums.{total-append}
 use Rattle.raster.specs.declared.rule.Rule.{Rule}
 use Rattle.raster.specs.declared.rule.Rule.TheVariants.{EvenOdd, NonZero, Positive}
 use Rattle.raster.specs.Grid.{Grid, centre}
-use Rattle.raster.specs.Fill.{area_of, is_filled}
+use Rattle.raster.specs.Filler.{area_of, is_filled}
 use Rattle.raster.specs.Rule.{is_inside}
 use Rattle.slicer_laws.specs.Shells.{AreApart, HasNoNegativeRay}
 

@@ -10,7 +10,7 @@ use Rattle.geometry.specs.Facet.{Facet}
 use Rattle.geometry.specs.declared.limits.TheConstants.{CENTRE_LIMIT, COORDINATE_LIMIT}
 use Rattle.raster.specs.declared.rule.Rule.{Rule}
 use Rattle.raster.specs.Grid.{Grid, IsGrid, centre, middle}
-use Rattle.raster.specs.Fill.{area_of, below, is_filled}
+use Rattle.raster.specs.Filler.{area_of, below, is_filled}
 use Rattle.raster.specs.Picture.{layer_picture, picture, pictures}
 use Rattle.slicer_laws.specs.Slabs.{first_layers, layers_from}
 

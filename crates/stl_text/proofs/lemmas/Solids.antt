@@ -39,14 +39,6 @@ pub record IsOpen (start : Reader) (had : List Facet) (now : Reader) (facets : L
   pub items : facets ≡ had ++ added
   pub spelled : Spells (open_tokens added) start now
 
-pub opened : (start mid now : Reader) (had : List Facet) → Spells (solid_word ∷ []) start mid → now ≡ left_at mid (after_line mid.rest)
-    → IsOpen start had now had
-opened start mid now had first line = record {
-  added = [];
-  items = sym (append-nil had);
-  spelled = spells_then (solid_word ∷ []) (rest_of_line ∷ []) first (line_passed mid now line);
-}
-
 open-more : (added : List Facet) (t : Facet) → open_tokens (added ++ t ∷ []) ≡ open_tokens added ++ ((facet_word ∷ []) ++ facet_tail t)
 open-more added t =
     ap (λ ps. solid_word ∷ rest_of_line ∷ ps)

@@ -11,8 +11,8 @@ use Rattle.build_book.specs.Job.{Job}
 use Rattle.task_words.specs.declared.task.Given.{Given}
 use Rattle.task_words.specs.declared.task.Task.{Task}
 use Rattle.task_words.specs.declared.task.Task.TheVariants as task
-use Rattle.stlslice.specs.declared.fault.RunFault.{RunFault}
-use Rattle.stlslice.specs.declared.fault.RunFault.TheVariants as fault
+use Rattle.stlslice.specs.declared.run_fault.RunFault.{RunFault}
+use Rattle.stlslice.specs.declared.run_fault.RunFault.TheVariants as fault
 use Rattle.stlslice.specs.Outcome.{IsOutcome, grid_for}
 use Rattle.stlslice.specs.Ending.{IsEnd, IsSolidOf, IsUntouched, IsUnwritten, IsWorkFault, Transcript}
 use Rattle.stlslice.specs.SlicedText.{output_of, sliced_text}

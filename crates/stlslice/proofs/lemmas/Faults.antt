@@ -15,11 +15,11 @@ use Rattle.raster.specs.Grid.{Grid}
 use Rattle.task_words.specs.declared.task.Given.{Given}
 use Rattle.task_words.specs.declared.task.Task.{Task}
 use Rattle.task_words.specs.declared.task.Task.TheVariants as task
-use Rattle.stlslice.specs.declared.fault.RunFault.{RunFault}
-use Rattle.stlslice.specs.declared.fault.RunFault.TheVariants as fault
+use Rattle.stlslice.specs.declared.run_fault.RunFault.{RunFault}
+use Rattle.stlslice.specs.declared.run_fault.RunFault.TheVariants as fault
 use Rattle.stlslice.specs.Outcome.{IsMade, IsOutcome, closed, grid_for, is_box, misread, open_mesh, outside, probed_text, unit_of}
-use Rattle.stlslice.specs.Status.{of_weld}
-use Rattle.stlslice.specs.Ending.{IsLoadFault, IsPlacingFault, IsSolidOf, IsWorkFault}
+use Rattle.stlslice.specs.RunFault.{of_weld}
+use Rattle.stlslice.specs.Ending.{IsLoadFault, IsMeshOrGridFault, IsSolidOf, IsWorkFault}
 use Rattle.geometry.specs.declared.limits.TheConstants.{FACET_LIMIT}
 
 abbrev pub IsTextFault : LengthUnit → List ℕ → RunFault → Type 0
@@ -34,11 +34,6 @@ told unit input (stl.Expected word at) f gives known = inr (stl.Expected word at
 told unit input (stl.Number cause at) f gives known = inr (stl.Number cause at, gives.1 (λ e. cc), known (λ e. cc))
 told unit input (stl.Ended word) f gives known = inr (stl.Ended word, gives.1 (λ e. cc), known (λ e. cc))
 told unit input (stl.TooMany at) f gives known = inr (stl.TooMany at, gives.1 (λ e. cc), known (λ e. cc))
-
--- a text that doesn't read as facets has no solid
-pub unread : (unit : LengthUnit) (input : List ℕ) (f : RunFault) → IsTextFault unit input f → IsLoadFault unit input f
-unread unit input f (inl is) = rw is tt
-unread unit input f (inr h) = rw h.1 h.2
 
 -- a mesh that is not closed has no solid
 pub unclosed : (unit : LengthUnit) (input : List ℕ) (facets : List Facet) (cause : WeldFault) (f : RunFault) → f ≡ of_weld cause
@@ -73,7 +68,7 @@ made_there t input solid answer other s made = closed s.0 s.1 other s.2 (subst (
 -- where there is no closed mesh or no grid, that is the outcome of a probe, and of slicing
 pub unplaced : (t : Task) (pitch layer : ℕ) (given : Option Given) (input : List ℕ) (f : RunFault) → is_box t ≡ false
     → ((solid : Solid) (cause : GridFault) → grid_for given pitch layer solid.facets ≡ Err cause → IsMade t solid (Err (fault.Grid cause)))
-    → IsPlacingFault (unit_of t) given pitch layer input f → IsWorkFault t input f
+    → IsMeshOrGridFault (unit_of t) given pitch layer input f → IsWorkFault t input f
 unplaced t pitch layer given input f other made (inl h) = unloaded t input f other h
 unplaced t pitch layer given input f other made (inr h) =
     rw h.3 (made_there t input h.0 (Err (fault.Grid h.2)) other h.1 (made h.0 h.2 h.4), (λ e. cc), (λ w e. cc))

@@ -15,8 +15,8 @@ use Rattle.raster.specs.declared.rule.Rule.{Rule}
 use Rattle.task_words.specs.declared.task.Given.{Given}
 use Rattle.task_words.specs.declared.task.Task.{Task}
 use Rattle.task_words.specs.declared.task.Task.TheVariants as task
-use Rattle.stlslice.specs.declared.fault.RunFault.{RunFault}
-use Rattle.stlslice.specs.declared.fault.RunFault.TheVariants as fault
+use Rattle.stlslice.specs.declared.run_fault.RunFault.{RunFault}
+use Rattle.stlslice.specs.declared.run_fault.RunFault.TheVariants as fault
 use Rattle.stlslice.specs.Outcome.{IsMade, IsOutcome, box_text, boxed, closed, is_box, misread, open_mesh, probed, sliced, unit_of}
 use Rattle.stlslice.proofs.lemmas.LeastOpen.{AnOpenEdge, closed_not_open, closed_or_open, one_open}
 

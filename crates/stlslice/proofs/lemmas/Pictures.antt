@@ -4,7 +4,7 @@ use Rattle.std.specs.Prelude.{codes, decimal, map, nat_lt, ◌&&◌}
 use Rattle.std.specs.Int.{div_ceil}
 use Rattle.std.proofs.Math.Path.{fun_ext}
 use Rattle.std.proofs.lemmas.Bool.{leb-true}
-use Rattle.raster.specs.Fill.{below}
+use Rattle.raster.specs.Filler.{below}
 use Rattle.raster.specs.Picture.{header, packed_byte, picture, row_bytes}
 use Rattle.raster.proofs.lemmas.Written.{length-row, lower_rows, rows-step}
 

@@ -13,7 +13,7 @@ use Rattle.contour.specs.Loops.{loops}
 use Rattle.contour.specs.Segment.{segments}
 use Rattle.contour.specs.declared.segment.Segment.{Segment}
 use Rattle.raster.specs.Devices.{AppendsFirst}
-use Rattle.raster.specs.Fill.{area_of, below, is_filled}
+use Rattle.raster.specs.Filler.{area_of, below, is_filled}
 use Rattle.raster.specs.Span.{covers}
 use Rattle.raster.specs.Grid.{centre, plane}
 use Rattle.raster.specs.Picture.{layer_picture}

@@ -27,8 +27,8 @@ fn line<A: Allocator + Copy + Send + Sync>(
     match corners {
         None => format!(in alloc; "facets {count}\n"),
         Some(corners) => {
-            let low = Place(corners.0);
-            let high = Place(corners.1);
+            let low = PointText(corners.0);
+            let high = PointText(corners.1);
             format!(in alloc; "facets {count} box {low} {high}\n")
         }
     }
@@ -36,10 +36,10 @@ fn line<A: Allocator + Copy + Send + Sync>(
 
 /// A point as it is written: its coordinates in micrometres.
 #[derive(Clone, Copy)]
-struct Place(Point);
+struct PointText(Point);
 
-impl Display for Place {
-    ghost output = { λ place. Some (position_text place.0) };
+impl Display for PointText {
+    ghost output = { λ text. Some (position_text text.0) };
 
     fn fmt<W: Write>(&self, f: &mut Formatter<W>) -> fmt::Result {
         let x = self.0.x();

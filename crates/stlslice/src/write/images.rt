@@ -5,9 +5,9 @@ ghost use Rattle.raster.specs.Devices.{AppendsFirst, HasFailed};
 ghost use Rattle.raster.specs.Span.{AreSpans};
 ghost use Rattle.raster.specs.Picture.{picture, pictures};
 ghost use Rattle.stlslice.specs.SlicedText.{image};
-ghost use Rattle.stlslice.specs.declared.fault.RunFault.TheVariants.{Write};
+ghost use Rattle.stlslice.specs.declared.run_fault.RunFault.TheVariants.{Write};
 
-use crate::fault::RunFault;
+use crate::run_fault::RunFault;
 use crate::write::settle;
 use build_book::Build;
 use raster::{Grid, Sink, Span, write_layer};
@@ -30,7 +30,7 @@ pub(crate) fn write_images<A: Allocator, O: Sink>(
         × HasFailed (O.Failures.failure_count sink.old) (O.Failures.failure_count sink.new)) }
 {
     let grid = build.job().grid();
-    // wakes the invariant (see CONTRIBUTING.md): a grid has at most 65535 layers, so the count of bytes fits
+    // wakes the invariant (see CONTRIBUTING.md): a grid has at most `LAYER_LIMIT` layers, so the count of bytes fits
     let _layers = grid.layers();
     let mut written = 0;
     for layer in build.layers() {

@@ -1,9 +1,9 @@
 //! The output of `--probe`: the rays along x and y at a voxel.
 ghost use Rattle.std.specs.Prelude.{◌≡◌, ◌⊎◌, Err, IfErr, IfOk, Ok, string_bytes};
 ghost use Rattle.stlslice.specs.Outcome.{outside, probed_text};
-ghost use Rattle.stlslice.specs.declared.fault.RunFault.TheVariants.{Memory};
+ghost use Rattle.stlslice.specs.declared.run_fault.RunFault.TheVariants.{Memory};
 
-use crate::fault::RunFault;
+use crate::run_fault::RunFault;
 use mesh_weld::{Solid, probe};
 use raster::Grid;
 use std::alloc::Allocator;

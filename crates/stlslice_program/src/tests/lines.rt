@@ -9,7 +9,7 @@ use stlslice::RunFault;
 /// A fault, and its status and its line.
 type Row<'a> = (RunFault, u8, &'a str);
 
-/// `Ok`, or the number of the first row that is told otherwise.
+/// `Ok`, or the number of the first row with another line or status.
 fn all_told(alloc: Global, rows: &[Row<'_>]) -> Result<(), usize> {
     for (n, (fault, status, line)) in rows.iter().enumerate() {
         if !is_told(alloc, fault, *status, line) {

@@ -1,13 +1,13 @@
 //! The texts that progress is shown by, on a terminal and elsewhere: no clause speaks of a `Display`.
-use crate::progress::{Bar, Shown, Stage};
+use crate::progress::{Bar, BarText, Stage};
 use std::alloc::Global;
 
 /// What is shown, and its text.
-type Row<'a> = (Shown, &'a str);
+type Row<'a> = (BarText, &'a str);
 
 const TEXTS: [Row; 4] = [
     (
-        Shown {
+        BarText {
             bar: Bar {
                 stage: Stage::Slicing,
                 done: 9,
@@ -20,7 +20,7 @@ const TEXTS: [Row; 4] = [
         "\r[#########           ] slicing 45 %, 9 of 20 layers, 12 s left\x1b[K",
     ),
     (
-        Shown {
+        BarText {
             bar: Bar {
                 stage: Stage::Writing,
                 done: 5_402_640,
@@ -33,7 +33,7 @@ const TEXTS: [Row; 4] = [
         "\r[####################] writing 100 %, 5402640 of 5402640 bytes\x1b[K",
     ),
     (
-        Shown {
+        BarText {
             bar: Bar {
                 stage: Stage::Writing,
                 done: 540_263,
@@ -46,7 +46,7 @@ const TEXTS: [Row; 4] = [
         "stlslice: writing 9 %, 540263 of 5402640 bytes, 0 s left\n",
     ),
     (
-        Shown {
+        BarText {
             bar: Bar {
                 stage: Stage::Slicing,
                 done: 0,
@@ -61,7 +61,7 @@ const TEXTS: [Row; 4] = [
 ];
 
 /// Whether this text is shown.
-fn is_text(alloc: Global, shown: &Shown, text: &str) -> bool {
+fn is_text(alloc: Global, shown: &BarText, text: &str) -> bool {
     match shown.to_string(alloc) {
         Ok(found) => found.as_str() == text,
         Err(_) => false,

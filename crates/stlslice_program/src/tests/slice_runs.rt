@@ -266,7 +266,7 @@ fn two_solids_in_another_spelling(rt: HostRuntime) -> Result<(), usize> {
     all_sliced(&rt, &SPELLED)
 }
 
-/// Whether the other spelling of the overlapping boxes begins so.
+/// Whether the text of the overlapping boxes, in the other spelling, begins with this front.
 fn is_loud(alloc: Global, front: &str) -> bool {
     match mesh_text(alloc, Loud(&NESTED)) {
         Ok(text) => text.starts_with(front),
@@ -457,7 +457,7 @@ fn slanted_facets_by_many_workers(rt: HostRuntime) {
     assert!(rt; images == Some(102 * (9 + 34 * 5)));
 }
 
-/// Whether what is written ends so, and the number of workers makes no difference.
+/// Whether what is written ends with this text, and the number of workers makes no difference.
 fn ends_by_each<R: Threads + Wait + Sync + AllocGlobal>(
     rt: &R,
     line: &str,

@@ -167,7 +167,7 @@ fn is_told(alloc: Global, fault: &WordFault, status: u8, told: &str) -> bool {
     }
 }
 
-/// Whether a line of words is no task, by a fault of status 2 that is told so.
+/// Whether a line of words is no task, by a fault of status 2 with this line.
 fn is_no_task(alloc: Global, line: &str, told: &str) -> bool {
     match task_of(alloc, line) {
         Ok(_) => false,
@@ -175,7 +175,7 @@ fn is_no_task(alloc: Global, line: &str, told: &str) -> bool {
     }
 }
 
-/// `Ok`, or the number of the first row whose words are a task or whose fault is told otherwise.
+/// `Ok`, or the number of the first row whose words are a task or whose fault has another line.
 fn all_no_task(alloc: Global, rows: &[(&str, &str)]) -> Result<(), usize> {
     for (n, (line, told)) in rows.iter().enumerate() {
         if !is_no_task(alloc, line, told) {
@@ -271,14 +271,14 @@ static REFUSED: [Refused; 16] = [
     ("-h", 0, ABOUT),
 ];
 
-/// Texts that begin with `-` behind a blank, which the command takes for options. How that is told is left open.
+/// Texts that begin with `-` behind a blank, which the command takes for options. The text of the refusal is left open.
 static DASHED: [Refused; 3] = [
     ("--grid -0,1,1,0,0,0 --box", 2, ""),
     ("--grid -1,1,1,0,0,0 --pitch 1 --layer 1", 2, ""),
     ("--probe -1,0,0 --pitch 1 --layer 1", 2, ""),
 ];
 
-/// Whether a fault is of the form of the command and has this status, and what is told of it begins so.
+/// Whether a fault is of the form of the command and has this status, and its text begins with this front.
 fn is_refusal(alloc: Global, fault: &WordFault, status: u8, front: &str) -> bool {
     match fault.to_string(alloc) {
         Ok(shown) => {

@@ -11,7 +11,7 @@ use Rattle.exact_cut.specs.Lattice.{IsUncrossed}
 use Rattle.raster.specs.Crossings.{row_passed, row_signs}
 use Rattle.raster.proofs.lemmas.Walks.{columns-few, nothing-more, passed-more, passed-none, signs-more, within-more}
 use Rattle.raster.proofs.crossings.push_facet.Goals as goal
-use Rattle.geometry.specs.declared.limits.TheConstants.{CENTRE_LIMIT}
+use Rattle.geometry.specs.declared.limits.TheConstants.{CENTRE_LIMIT, COLUMN_LIMIT}
 
 pub returns-in-Some-clause-signs : goal.returns-in-Some-clause-signs
 returns-in-Some-clause-signs g c =
@@ -37,7 +37,7 @@ pub start-requires : goal.start-requires
 start-requires g c = subst (IsAtMost CENTRE_LIMIT) (sym (to_z-of_z w64 c.args.z2 c.ranges.z2)) c.requires.height
 
 pub push_walk-requires-clause-few_rows : goal.push_walk-requires-clause-few_rows
-push_walk-requires-clause-few_rows g c = within _ c.args.lattice.now.rows 16384 c.in-Some.ensures.in_rows c.args.lattice.now.rows_in
+push_walk-requires-clause-few_rows g c = within _ c.args.lattice.now.rows COLUMN_LIMIT c.in-Some.ensures.in_rows c.args.lattice.now.rows_in
 
 pub push_walk-requires-clause-rows : goal.push_walk-requires-clause-rows
 push_walk-requires-clause-rows g c = within _ c.args.lattice.now.rows _ c.in-Some.ensures.in_rows c.requires.rows

@@ -1,6 +1,7 @@
 use Rattle.std.proofs.Common.{◌++◌, ◌∙◌, ap, length, arith, refl, rules}
 use Rattle.std.specs.Prelude.{pos}
 use Rattle.std.specs.Ordering.{int_eq}
+use Rattle.geometry.specs.declared.limits.TheConstants.{COLUMN_LIMIT}
 use Rattle.raster.specs.Crossings.{crossings_along, crossings_in}
 use Rattle.raster.proofs.lemmas.Walks.{along-all, along-more, columns-left, falls-on, first-fits, row-in, some-left}
 use Rattle.raster.proofs.crossings.push_walk.Goals as goal
@@ -13,7 +14,7 @@ loop-row-preserved g c =
       row = omega (arith, inv.row, next.row);
       end = omega (arith, inv.end, next.row, ap length next.column);
       rows = c.in_ok-push.ensures.rows ∙ inv.rows;
-      few_columns = columns-left 16384 _ c.loop-row.walk.columns c.next_column-column.new.self.columns next.column inv.few_columns;
+      few_columns = columns-left COLUMN_LIMIT _ c.loop-row.walk.columns c.next_column-column.new.self.columns next.column inv.few_columns;
       added = λ j. along-more c.loop-row.out c.push.new.self (crossings_in c.args.out.now j ++ crossings_along c.args.walk.row _ c.args.walk.columns j) c.loop-row.row c.loop-row.walk.row c.next_column-column.new.self.row c.next_column-column.result _ c.loop-row.walk.columns c.next_column-column.new.self.columns
           next.column inv.row next.row c.in_ok-push.ensures.here c.in_ok-push.ensures.elsewhere j (inv.added j);
     }

@@ -1,5 +1,6 @@
 use Rattle.std.proofs.Common.{◌≡◌, ◌≤◌, ◌+◌, ◌++◌, ℕ, length}
 use Rattle.std.specs.Prelude.{All}
+use Rattle.geometry.specs.declared.limits.TheConstants.{COLUMN_LIMIT}
 use Rattle.raster.specs.Crossings.{crossings_along, crossings_in}
 use Rattle.raster.proofs.crossings.push_walk.Given as goal
 
@@ -9,7 +10,7 @@ invariant-loop-row g l =
       row : l.row ≡ l.walk.row;
       end : l.row-end ≡ l.walk.row + length l.walk.columns;
       rows : length l.out ≡ length l.fn.out;
-      few_columns : All (λ column. column ≤ 16384) l.walk.columns;
+      few_columns : All (λ column. column ≤ COLUMN_LIMIT) l.walk.columns;
       added : (j : ℕ) → crossings_in l.out j ++ crossings_along l.walk.row l.is_up l.walk.columns j
           ≡ crossings_in l.fn.out j ++ crossings_along l.fn.walk.row l.is_up l.fn.walk.columns j;
     }

@@ -3,7 +3,7 @@ use Rattle.raster.specs.declared.rule.Rule.TheVariants.{EvenOdd, NonZero}
 use Rattle.geometry.specs.Facet.{Facet}
 use Rattle.geometry.specs.Point.{Point}
 use Rattle.geometry.specs.Winding.{ray}
-use Rattle.raster.specs.Fill.{is_filled}
+use Rattle.raster.specs.Filler.{is_filled}
 use Rattle.raster.specs.Rule.{is_inside}
 use Rattle.slicer_laws.specs.InsideOut.{inside_out}
 use Rattle.slicer_laws.proofs.lemmas.Images.{same_areas, same_images}

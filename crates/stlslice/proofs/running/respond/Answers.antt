@@ -5,7 +5,7 @@ use Rattle.build_book.specs.Job.{Job}
 use Rattle.stlslice.specs.Outcome.{IsOutcome}
 use Rattle.stlslice.specs.SlicedText.{sliced_text}
 use Rattle.task_words.specs.declared.task.Task.TheVariants as task
-use Rattle.stlslice.specs.declared.fault.RunFault.TheVariants as fault
+use Rattle.stlslice.specs.declared.run_fault.RunFault.TheVariants as fault
 use Rattle.stlslice.proofs.lemmas.Ends.{ended, keeps_self, no_memory, sliced_there, stopped}
 use Rattle.stlslice.proofs.lemmas.Faults.{unplaced}
 use Rattle.stlslice.proofs.running.respond.Goals as goal

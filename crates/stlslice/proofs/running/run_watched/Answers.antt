@@ -4,7 +4,7 @@ use Rattle.std.specs.Io.KnownBytes.{Appends}
 use Rattle.std.proofs.lemmas.Result.{IfErr-at_err, on_ok_weaker}
 use Rattle.raster.specs.Devices.{AppendsFirst}
 use Rattle.stlslice.specs.Outcome.{IsOutcome}
-use Rattle.stlslice.specs.declared.fault.RunFault.{RunFault}
+use Rattle.stlslice.specs.declared.run_fault.RunFault.{RunFault}
 use Rattle.stlslice.proofs.lemmas.Bytes.{of_input}
 use Rattle.stlslice.proofs.lemmas.Ends.{IsRefusal, first_end, refused, sound_end}
 use Rattle.stlslice.proofs.running.run_watched.Goals as goal

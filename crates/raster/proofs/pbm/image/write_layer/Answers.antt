@@ -1,5 +1,7 @@
 use Rattle.std.proofs.Common.{◌+◌, ◌-◌, ◌∙◌, ◌≤◌, arith, length, subst}
 use Rattle.std.proofs.lemmas.Result.{err_from_is_err_and}
+use Rattle.geometry.specs.declared.limits.TheConstants.{COLUMN_LIMIT}
+use Rattle.raster.specs.declared.pbm.chunk.TheConstants.{CHUNK_LEN}
 use Rattle.raster.specs.Span.{covers}
 use Rattle.raster.specs.Rows.{IsSplit}
 use Rattle.raster.specs.Picture.{picture}
@@ -53,10 +55,10 @@ loop-row-preserved g c =
     }
 
 pub make_room-requires-clause-before : goal.make_room-requires-clause-before
-make_room-requires-clause-before g c = few-written c.loop-row.written (length c.loop-row.chunk) c.loop-row.row c.args.g.now.rows c.loop-row.invariant.short (subst (λ n. n ≤ 16384) c.rows.ensures.value c.rows.ensures.high)
+make_room-requires-clause-before g c = few-written c.loop-row.written (length c.loop-row.chunk) c.loop-row.row c.args.g.now.rows c.loop-row.invariant.short (subst (λ n. n ≤ COLUMN_LIMIT) c.rows.ensures.value c.rows.ensures.high)
 
 pub send-requires : goal.send-requires
-send-requires g c = few-written c.loop-row.written (length c.loop-row.chunk) c.loop-row.row c.args.g.now.rows c.loop-row.invariant.short (subst (λ n. n ≤ 16384) c.rows.ensures.value c.rows.ensures.high)
+send-requires g c = few-written c.loop-row.written (length c.loop-row.chunk) c.loop-row.row c.args.g.now.rows c.loop-row.invariant.short (subst (λ n. n ≤ COLUMN_LIMIT) c.rows.ensures.value c.rows.ensures.high)
 
 pub push_row-end-requires-clause-row : goal.push_row-end-requires-clause-row
 push_row-end-requires-clause-row g c = row-under c.loop-row.row c.args.g.now.rows c.loop-row-test.true c.loop-row.invariant.rows
@@ -65,7 +67,7 @@ pub push_row-end-requires-clause-split : goal.push_row-end-requires-clause-split
 push_row-end-requires-clause-split g c = subst (IsSplit c.args.spans.now c.loop-row.end) (row-back c.loop-row.row c.loop-row-test.true) c.loop-row.invariant.split
 
 pub push_row-end-requires-clause-room : goal.push_row-end-requires-clause-room
-push_row-end-requires-clause-room g c = subst (λ n. length c.make_room.new.self + n ≤ 16384) c.loop-row.invariant.needed c.in_ok-written.ensures.room
+push_row-end-requires-clause-room g c = subst (λ n. length c.make_room.new.self + n ≤ CHUNK_LEN) c.loop-row.invariant.needed c.in_ok-written.ensures.room
 
 pub returns-clause-same : goal.returns-clause-same
 returns-clause-same g c = c.in_ok-send.ensures.same ∙ c.loop-row.invariant.same

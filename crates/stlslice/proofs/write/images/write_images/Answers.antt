@@ -1,8 +1,9 @@
 use Rattle.std.proofs.Common.{◌≡◌, ◌∙◌, ◌+◌, ◌++◌, ◌≤◌, ℕ, List, ap, arith, length, length-append, rules, subst, sym}
 use Rattle.std.specs.Prelude.{flat_map}
 use Rattle.std.specs.Io.KnownBytes.{Appends}
+use Rattle.geometry.specs.declared.limits.TheConstants.{LAYER_LIMIT}
 use Rattle.raster.specs.Devices.{AppendsFirst}
-use Rattle.raster.specs.Fill.{below}
+use Rattle.raster.specs.Filler.{below}
 use Rattle.raster.specs.Picture.{layer_picture}
 use Rattle.raster.proofs.lemmas.Sent.{appends-after}
 use Rattle.build_book.specs.Layer.{Layer}
@@ -20,7 +21,7 @@ write_image-requires-clause-form g c =
 
 pub write_image-requires-clause-before : goal.write_image-requires-clause-before
 write_image-requires-clause-before g c =
-    let few : length c.layers-layer-items.result.now ≤ 65535 = search rules in
+    let few : length c.layers-layer-items.result.now ≤ LAYER_LIMIT = search rules in
     omega (arith, few, c.loop-layer.invariant.small, c.loop-layer-test.true)
 
 pub loop-layer-preserved : goal.loop-layer-preserved

@@ -1,7 +1,7 @@
 use Rattle.std.proofs.Common.{◌≡◌, ◌≤◌, ◌*◌, ◌^◌, length}
 use Rattle.std.specs.Prelude.{flat_map}
 use Rattle.std.specs.Io.KnownBytes.{Appends}
-use Rattle.raster.specs.Fill.{below}
+use Rattle.raster.specs.Filler.{below}
 use Rattle.raster.specs.Picture.{layer_picture}
 use Rattle.stlslice.proofs.write.images.write_images.Given as goal
 

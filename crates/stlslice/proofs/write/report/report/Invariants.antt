@@ -1,6 +1,6 @@
 use Rattle.std.proofs.Common.{◌≡◌}
 use Rattle.std.specs.Prelude.{flat_map, string_bytes}
-use Rattle.raster.specs.Fill.{below}
+use Rattle.raster.specs.Filler.{below}
 use Rattle.stlslice.specs.SlicedText.{layer_line}
 use Rattle.stlslice.proofs.write.report.report.Given as goal
 

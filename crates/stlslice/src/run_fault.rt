@@ -1,8 +1,8 @@
 //! Why a run wrote no text, or not all of it.
 ghost use Rattle.std.specs.Prelude.{◌≡◌, ◌≢◌};
 ghost use Rattle.stl_text.specs.declared.stl_fault.StlFault.TheVariants as stl_fault;
-ghost use Rattle.stlslice.specs.Status.{of_weld, run_status};
-ghost use Rattle.stlslice.specs.declared.fault.RunFault.TheVariants.{Grid, Memory, Stl};
+ghost use Rattle.stlslice.specs.RunFault.{of_weld, run_status};
+ghost use Rattle.stlslice.specs.declared.run_fault.RunFault.TheVariants.{Grid, Memory, Stl};
 
 use geometry::Point;
 use mesh_weld::WeldFault;
