@@ -21,6 +21,7 @@
 
 mod grammar;
 mod laws;
+mod parts;
 mod reader;
 mod reading;
 mod scanning;
@@ -29,6 +30,6 @@ mod word;
 
 pub use geometry::{FACET_LIMIT, Facet, Point, extent, points_in_order};
 pub use laws::{one_outcome, reads_as_written};
-pub use reading::{read_stl, read_stl_at_most};
+pub use reading::{read_stl, read_stl_at_most, read_stl_by};
 pub use stl_fault::StlFault;
 pub use word::Word;

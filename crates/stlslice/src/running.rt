@@ -9,7 +9,7 @@ ghost use Rattle.task_words.specs.declared.task.Task.TheVariants as task;
 ghost use Rattle.geometry.specs.declared.limits.TheConstants.{STEP_LIMIT};
 
 use crate::fault::RunFault;
-use crate::loading::{read_all, read_facets, read_solid};
+use crate::loading::{read_all, read_facets, read_solid, read_solid_by};
 use crate::placing::grid_for;
 use crate::write::box_line::box_line;
 use crate::write::probe_line::probe_voxel;
@@ -111,7 +111,8 @@ fn respond<R: Threads + Wait + Sync, A: Allocator + Copy + Send + Sync, O: Sink,
             report,
             grid,
         } => {
-            let (solid, grid) = read_placed(alloc, input, *unit, *grid, *pitch, *layer)?;
+            let solid = read_solid_by(rt, alloc, input, *unit, *workers)?;
+            let grid = grid_for(&solid, *grid, *pitch, *layer)?;
             let job = Job::new(solid, grid, *rule);
             let build = build(rt, alloc, &job, *workers, gate)?;
             write_build(alloc, &build, Output::of(*report), sink)
@@ -160,29 +161,8 @@ fn respond_probe<A: Allocator + Copy + Send + Sync, O: Sink>(
         (transcript (O.contents sink.old) (O.contents sink.new) (O.Failures.failure_count sink.old) (O.Failures.failure_count sink.new))) }
 {
     let (i, j, k) = voxel;
-    let (solid, grid) = read_placed(alloc, input, unit, given, pitch, layer)?;
-    let line = probe_voxel(alloc, &solid, &grid, i, j, k)?;
-    write_all(sink, line.as_bytes())
-}
-
-/// The closed mesh of an input, and the grid that was handed in, or else the one that the mesh fits in.
-fn read_placed<A: Allocator + Copy + Send + Sync>(
-    alloc: A,
-    input: Vec<u8, A>,
-    unit: Unit,
-    given: Option<Given>,
-    pitch: u32,
-    layer: u32,
-) -> Result<(Solid<A>, Grid), RunFault>
-    requires pitch { 1 ≤ pitch }
-    requires pitch_high { pitch ≤ STEP_LIMIT }
-    requires layer { 1 ≤ layer }
-    requires layer_high { layer ≤ STEP_LIMIT }
-    ensures solid { IfOk result (λ placed. IsSolidOf unit input.items placed.0) }
-    ensures grid { IfOk result (λ placed. grid_for given pitch layer placed.0.facets ≡ Ok placed.1) }
-    ensures err { IfErr result (IsPlacingFault unit given pitch layer input.items) }
-{
     let solid = read_solid(alloc, input, unit)?;
     let grid = grid_for(&solid, given, pitch, layer)?;
-    Ok((solid, grid))
+    let line = probe_voxel(alloc, &solid, &grid, i, j, k)?;
+    write_all(sink, line.as_bytes())
 }
