@@ -1,6 +1,7 @@
 //! Triangle meshes read from ASCII STL.
 //!
 //! - [`read_stl`], [`read_stl_at_most`]: the facets of a text in file order, or its one fault.
+//! - [`read_stl_by`]: the same, read in parts by several workers.
 //! - [`StlFault`]: why a text is no mesh, with the byte offset of the fault; [`Word`]: what is wanted there.
 //! - [`one_outcome`], [`reads_as_written`]: laws. Each text has one outcome, and it reads as facets exactly where it is
 //!   these facets written as STL.
