@@ -154,8 +154,8 @@ fn behind_end_facet<'t>(text: &'t [u8], start: usize, len: usize) -> &'t [u8]
     }
 }
 
-/// The run of a part of a text: from behind the first `endfacet` that begins in the part, up to behind the first one that
-/// begins after it.
+/// The run of a part of a text, from behind the first `endfacet` that begins in the part. The facet that ends after the
+/// part is left to the reader of the text, which then stands where the next part's run begins.
 fn run_of<'t, A: Allocator>(
     alloc: A,
     text: &'t [u8],
@@ -171,10 +171,10 @@ fn run_of<'t, A: Allocator>(
     let mut reader = Reader::new(from, unit);
     let mut facets = Vec::new(alloc);
     let mut to = from;
-    'facets: while to.len() > left {
-        let Some(facet) = reader.next_facet() else {
+    'facets: while let Some(facet) = reader.next_facet() {
+        if reader.rest.len() <= left {
             break;
-        };
+        }
         facets.push(facet)?;
         to = reader.rest;
     }
