@@ -41,6 +41,8 @@ mod refused_welds;
 #[cfg(test)]
 mod stl_texts;
 #[cfg(test)]
+mod text_parts;
+#[cfg(test)]
 mod walks;
 #[cfg(test)]
 mod welding;

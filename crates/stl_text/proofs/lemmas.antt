@@ -5,5 +5,6 @@ pub mod OneFault
 pub mod Either
 pub mod Steps
 pub mod Solids
+pub mod Runs
 pub mod Written
 pub mod ReadIsWritten

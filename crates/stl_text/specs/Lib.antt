@@ -1,3 +1,4 @@
 pub mod Text
 pub mod Reader
+pub mod Parts
 pub mod Written

@@ -1,13 +1,15 @@
 //! The grammar of ASCII STL, from vertices to solids. Each rule is a method of the reader.
-ghost use Rattle.std.specs.Prelude.{◌≡◌, ◌≢◌, ◌-◌, ◌<◌, ◌≤◌, [], ◌∷◌, ◌++◌, length, flat_map, IfErr, IfOk, IsTrue, List, vec_len};
+ghost use Rattle.std.specs.Prelude.{◌≡◌, ◌≢◌, ◌-◌, ◌<◌, ◌≤◌, [], ◌∷◌, ◌++◌, length, flat_map, IfErr, IfOk, IfSome, IsTrue, List, vec_len};
 ghost use Rattle.std.specs.Bool.{MatchBool};
 ghost use Rattle.stl_text.specs.declared.stl_fault.StlFault.TheVariants.{Ended, Memory};
 ghost use Rattle.stl_text.specs.declared.word.Word.TheVariants.{Solid};
 ghost use Rattle.geometry.specs.Facet.{Facet};
 ghost use Rattle.geometry.specs.Point.{Point};
+ghost use Rattle.stl_text.specs.Parts.{Follows};
 ghost use Rattle.stl_text.specs.Reader.{Breaks, Spells, Stops, facet_tail};
-ghost use Rattle.stl_text.specs.Text.{after_space, end_word, facet_word, facets_of, loop_tokens, normal_tokens, solid_tokens, vertex_tokens};
+ghost use Rattle.stl_text.specs.Text.{after_space, end_word, facet_tokens, facet_word, facets_of, loop_tokens, normal_tokens, solid_tokens, vertex_tokens};
 
+use crate::parts::Runs;
 use crate::reader::Reader;
 use crate::scanning::{behind_keyword, is_keyword};
 use crate::stl_fault::StlFault;
@@ -109,14 +111,31 @@ impl<'t> Reader<'t> {
         Err(self.fault_at(word, Word::FacetOrEnd))
     }
 
+    /// Reads a facet, if one stands here. Where none does, the reader may be left anywhere.
+    pub(crate) fn next_facet(&mut self) -> Option<Facet>
+        ensures read { IfSome result (λ t. Spells (facet_tokens t) self.old self.new) }
+        ensures shorter { IfSome result (λ _. length self.new.rest < length self.old.rest) }
+    {
+        let Ok(true) = self.begins_facet(1) else {
+            return None;
+        };
+        match self.facet() {
+            Ok(facet) => Some(facet),
+            Err(_) => None,
+        }
+    }
+
     /// Reads a solid, from `solid` to the rest of the line of `endsolid`, and adds its facets to `facets`, which may
     /// have up to `limit` facets in all.
     fn solid<A: Allocator>(
         &mut self,
         limit: usize,
+        runs: &mut Runs<'t, A>,
         facets: &mut Vec<Facet, A>,
     ) -> Result<(), StlFault>
-        requires { vec_len facets.old ≤ limit }
+        requires few { vec_len facets.old ≤ limit }
+        requires runs { Follows runs.old self.old }
+        ensures runs { runs.new ≡ runs.old }
         ensures read { IfOk result (λ _. (added : List Facet) × (facets.new.items ≡ facets.old.items ++ added)
             × Spells (solid_tokens added) self.old self.new) }
         ensures few { IfOk result (λ _. vec_len facets.new ≤ limit) }
@@ -128,18 +147,22 @@ impl<'t> Reader<'t> {
         'facets: while self.begins_facet(limit - facets.len())? {
             let facet = self.facet()?;
             facets.push(facet)?;
+            self.jump(limit - facets.len(), runs, facets)?;
         }
         self.end_line();
         Ok(())
     }
 
-    /// Reads all solids of a text, and adds their facets to `facets`, which is empty before and may have up to `limit`.
+    /// Reads all solids of a text, of which some runs may be known, and adds their facets to `facets`, which is empty before
+    /// and may have up to `limit`.
     pub(crate) fn solids<A: Allocator>(
         &mut self,
         limit: usize,
+        runs: &mut Runs<'t, A>,
         facets: &mut Vec<Facet, A>,
     ) -> Result<(), StlFault>
-        requires { facets.old.items ≡ [] }
+        requires empty { facets.old.items ≡ [] }
+        requires runs { runs.old ≡ self.old }
         ensures read { IfOk result (λ _. (solids : List (List Facet)) × (0 < length solids)
             × (facets.new.items ≡ facets_of solids) × Spells (flat_map solid_tokens solids) self.old self.new) }
         ensures whole { IfOk result (λ _. after_space self.new.rest ≡ []) }
@@ -148,9 +171,9 @@ impl<'t> Reader<'t> {
             → (solids : List (List Facet)) × Stops limit (flat_map solid_tokens solids) self.old fault) }
         ensures no_solid { IfErr result (λ fault. fault ≡ Ended Solid → after_space self.old.rest ≡ []) }
     {
-        self.solid(limit, facets)?;
+        self.solid(limit, runs, facets)?;
         'solids: while !self.is_at_end() {
-            self.solid(limit, facets)?;
+            self.solid(limit, runs, facets)?;
         }
         Ok(())
     }

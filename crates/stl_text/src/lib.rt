@@ -1,6 +1,7 @@
 //! Triangle meshes read from ASCII STL.
 //!
 //! - [`read_stl`], [`read_stl_at_most`]: the facets of a text in file order, or its one fault.
+//! - [`read_stl_by`]: the same, read in parts by several workers.
 //! - [`StlFault`]: why a text is no mesh, with the byte offset of the fault; [`Word`]: what is wanted there.
 //! - [`one_outcome`], [`reads_as_written`]: laws. Each text has one outcome, and it reads as facets exactly where it is
 //!   these facets written as STL.
@@ -21,6 +22,7 @@
 
 mod grammar;
 mod laws;
+mod parts;
 mod reader;
 mod reading;
 mod scanning;
@@ -29,6 +31,6 @@ mod word;
 
 pub use geometry::{FACET_LIMIT, Facet, Point, extent, points_in_order};
 pub use laws::{one_outcome, reads_as_written};
-pub use reading::{read_stl, read_stl_at_most};
+pub use reading::{read_stl, read_stl_at_most, read_stl_by};
 pub use stl_fault::StlFault;
 pub use word::Word;

@@ -4,7 +4,7 @@ ghost use Rattle.stl_text.specs.declared.stl_fault.StlFault.TheVariants.{Memory}
 
 use crate::word::Word;
 use micro_num::NumFault;
-use std::alloc::AllocFailed;
+use std::alloc::{AllocError, AllocFailed};
 use thiserror::Error;
 
 /// Why a text is no mesh. `at` is a byte offset, from 0.
@@ -31,6 +31,14 @@ impl<T: Drop> From<AllocFailed<T>> for StlFault {
     ghost from_gives = { λ _ fault. fault ≡ Memory };
 
     fn from(_failed: AllocFailed<T>) -> StlFault {
+        StlFault::Memory
+    }
+}
+
+impl From<AllocError> for StlFault {
+    ghost from_gives = { λ _ fault. fault ≡ Memory };
+
+    fn from(_failed: AllocError) -> StlFault {
         StlFault::Memory
     }
 }

@@ -2,7 +2,7 @@
 ghost use Rattle.std.specs.Prelude.{◌≡◌, ◌≤◌, Err, IfErr, IfOk, List, Ok, OnOk, true, ℕ};
 ghost use Rattle.std.specs.Io.KnownBytes.{Appends};
 ghost use Rattle.stlslice.specs.Outcome.{IsOutcome, grid_for};
-ghost use Rattle.stlslice.specs.Ending.{IsEnd, IsMeshOrGridFault, IsSolidOf, transcript};
+ghost use Rattle.stlslice.specs.Ending.{IsEnd, transcript};
 ghost use Rattle.stlslice.specs.Run.{IsRun};
 ghost use Rattle.stlslice.specs.declared.run_fault.RunFault.TheVariants as run_fault;
 ghost use Rattle.raster.specs.declared.grid.GridFault.{GridFault};
@@ -10,7 +10,7 @@ ghost use Rattle.task_words.specs.Task.{IsInRange};
 ghost use Rattle.task_words.specs.declared.task.Task.TheVariants as task;
 ghost use Rattle.geometry.specs.declared.limits.TheConstants.{STEP_LIMIT};
 
-use crate::loading::{read_all, read_facets, read_solid};
+use crate::loading::{read_all, read_facets, read_solid, read_solid_by};
 use crate::run_fault::RunFault;
 use crate::write::box_line::box_line;
 use crate::write::probe_line::probe_voxel;
@@ -112,7 +112,8 @@ fn respond<R: Threads + Wait + Sync, A: Allocator + Copy + Send + Sync, O: Sink,
             report,
             grid,
         } => {
-            let (solid, grid) = read_solid_and_grid(alloc, input, *unit, *grid, *pitch, *layer)?;
+            let solid = read_solid_by(rt, alloc, input, *unit, *workers)?;
+            let grid = grid_for(&solid, *grid, *pitch, *layer)?;
             let job = Job::new(solid, grid, *rule);
             let build = build(rt, alloc, &job, *workers, gate)?;
             write_build(alloc, &build, Output::of(*report), sink)
@@ -161,31 +162,10 @@ fn respond_probe<A: Allocator + Copy + Send + Sync, O: Sink>(
         (transcript (O.contents sink.old) (O.contents sink.new) (O.Failures.failure_count sink.old) (O.Failures.failure_count sink.new))) }
 {
     let (i, j, k) = voxel;
-    let (solid, grid) = read_solid_and_grid(alloc, input, unit, given, pitch, layer)?;
-    let line = probe_voxel(alloc, &solid, &grid, i, j, k)?;
-    write_all(sink, line.as_bytes())
-}
-
-/// The closed mesh of an input, and the grid that was handed in, or else the one that the mesh fits in.
-fn read_solid_and_grid<A: Allocator + Copy + Send + Sync>(
-    alloc: A,
-    input: Vec<u8, A>,
-    unit: Unit,
-    given: Option<Given>,
-    pitch: u32,
-    layer: u32,
-) -> Result<(Solid<A>, Grid), RunFault>
-    requires pitch { 1 ≤ pitch }
-    requires pitch_high { pitch ≤ STEP_LIMIT }
-    requires layer { 1 ≤ layer }
-    requires layer_high { layer ≤ STEP_LIMIT }
-    ensures solid { IfOk result (λ read. IsSolidOf unit input.items read.0) }
-    ensures grid { IfOk result (λ read. grid_for given pitch layer read.0.facets ≡ Ok read.1) }
-    ensures err { IfErr result (IsMeshOrGridFault unit given pitch layer input.items) }
-{
     let solid = read_solid(alloc, input, unit)?;
     let grid = grid_for(&solid, given, pitch, layer)?;
-    Ok((solid, grid))
+    let line = probe_voxel(alloc, &solid, &grid, i, j, k)?;
+    write_all(sink, line.as_bytes())
 }
 
 /// The grid that was handed in, or else the one that the solid fits in.
