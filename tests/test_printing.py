@@ -9,19 +9,12 @@ import stat
 import zlib
 
 from pages import blocks
-from parts import (ROOT, box, environment, example, leave_out, main, p4_images, pixels_of_p4, pixels_of_png, run, same, text)
+from parts import (ROOT, batch_system, box, environment, example, leave_out, main, p4_images, pixels_of_p4, pixels_of_png, run,
+                   same, text)
 
 PAGE = os.path.join(ROOT, "docs", "printing.md")
 TOOLS = {"python3": ["python3"], "netpbm": ["pamsplit", "pnminvert", "pnmtopng"], "gnuplot-nox": ["gnuplot"],
          "imagemagick": ["montage", "identify"], "zstd": ["zstd"], "parallel": ["parallel"], "rsync": []}
-SBATCH = """#!/bin/bash
-# A stand-in for Slurm's sbatch: runs each task of the array, the last first.
-set -eu
-[[ $1 == --wait && $2 =~ ^--array=0-([0-9]+)$ ]]
-for ((task = BASH_REMATCH[1]; task >= 0; task--)); do
-  SLURM_ARRAY_TASK_ID=$task SLURM_JOB_ID=1 bash "${@:3}"
-done
-"""
 
 
 def content(*names):
@@ -145,9 +138,7 @@ def try_recipe(program, folder, env, recipe):
     number, block, wanted, check, refused = recipe
     here = folder_of(program, folder, number)
     if block.words == ["slurm"]:
-        with open(os.path.join(folder, "tools", "sbatch"), "w") as file:
-            file.write(SBATCH)
-            os.chmod(file.fileno(), 0o755)
+        env = batch_system(program, folder)
     status, told, fault = run(["bash", "-c", block.body], cwd=here, env=env)
     same(status, 1 if refused else 0, f"{block.head}: status ({fault.decode()})")
     if wanted is not None:
