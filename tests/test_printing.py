@@ -172,6 +172,27 @@ def recipes_with_tools_do_what_they_say(program, folder):
             try_recipe(program, folder, env, recipe)
 
 
+def recipes_follow_one_another(program, folder):
+    """The page pasted from its first block to its last, in one shell and one folder, by a reader who has all packages but
+    those that are missing here. Each block gives the same as alone."""
+    env = batch_system(program, folder)
+    here = os.path.join(folder, "here")
+    os.makedirs(os.path.join(here, "build"))
+    os.symlink(os.path.join(ROOT, "examples"), os.path.join(here, "examples"))
+    os.symlink(program, os.path.join(here, "build", "stlslice"))
+    setup = next(block for block in blocks(PAGE) if block.words == ["setup"])
+    pasted, wanted = "exec 2>&1\n" + setup.body, []
+    for number, block, told, _, refused in recipes():
+        if all(shutil.which(tool) for package in needs(block) for tool in TOOLS[package]):
+            pasted += f"{block.body}echo == $?\n"
+            wanted.append((block.head, told, 1 if refused else 0))
+    status, told, _ = run(["bash", "-c", pasted], cwd=here, env=env)
+    found = re.findall(r"(?s)(.*?)== (\d+)\n", told.decode())
+    same(len(found), len(wanted), "blocks that were run")
+    for (head, text, ended), (told, status) in zip(wanted, found):
+        same((int(status), told if text is not None else None), (ended, text), f"{head}, behind the others")
+
+
 def old_slabs_are_not_mixed_in(program, folder):
     """The lines for Slurm, in a folder where slabs of another part stand: nothing is run."""
     env, here = environment(program, folder), folder_of(program, folder, 0)
@@ -257,5 +278,5 @@ def examples_are_executable(program, folder):
 
 
 if __name__ == "__main__":
-    main([recipes_do_what_they_say, old_slabs_are_not_mixed_in, first_block_is_the_folder, canvas_that_is_too_small_is_refused,
-          refused_part_stops_recipes, rules_are_as_in_the_table, examples_are_executable])
+    main([recipes_do_what_they_say, recipes_follow_one_another, old_slabs_are_not_mixed_in, first_block_is_the_folder,
+          canvas_that_is_too_small_is_refused, refused_part_stops_recipes, rules_are_as_in_the_table, examples_are_executable])
