@@ -3,13 +3,14 @@
 is refused, and that a fault leaves nothing."""
 
 import os
+import re
 import signal
 import subprocess
 import sys
 import time
 import zipfile
 
-from parts import (box, environment, example, main, p4_images, pixels_of_p4, pixels_of_png, run, same, text)
+from parts import (ROOT, box, environment, example, main, p4_images, pixels_of_p4, pixels_of_png, run, same, text)
 
 SL1 = example("to_sl1.py")
 PNGS = example("to_pngs.py")
@@ -314,8 +315,32 @@ def pipes_and_units(program, folder):
     same((sum(255 in row for row in first), max(row.count(255) for row in first)), (127, 254), "a box of 2 x 1 inches")
 
 
+def options_are_those_of_the_page(program, folder):
+    """The table of docs/printing.md has the options of to_sl1.py, with their defaults; to_pngs.py has all but five."""
+    with open(os.path.join(ROOT, "docs", "printing.md"), encoding="utf-8") as file:
+        rows = re.findall(r"(?m)^\| (`--[^|]*) \| ([^|]*) \|", file.read())
+    told = {}
+    for names, defaults in rows:
+        names = re.findall(r"--[a-z-]+", names)
+        defaults = defaults.replace("`", "").split(", ")
+        told.update(zip(names, defaults if len(defaults) == len(names) else [None] * len(names)))
+    helps = [" ".join(run(script(path, ["--help"]), env={"COLUMNS": "80"})[1].decode().split()) for path in (SL1, PNGS)]
+    sl1, pngs = (set(re.findall(r"\[(--[a-z-]+)", it)) for it in helps)
+    same(set(told), sl1, "options of to_sl1.py")
+    same(sl1 - pngs, {"--exposure", "--first-exposure", "--fade", "--printer", "--material"}, "options of to_sl1.py alone")
+    tried = 0
+    for name, default in told.items():
+        said = re.search(rf"(?<!\[){name} (?:[A-Z][A-Za-z]*|\{{\S*\}}) .*?\(([^ ,)]+)", helps[0])
+        if default and re.match(r"[\dA-Z]|positive$|mm$", default):
+            number = re.fullmatch(r"[\d.]+", default)
+            same(float(said[1]) if number else said[1], float(default) if number else default, f"default of {name}")
+            tried += 1
+    same(tried, 10, "defaults that were compared")
+
+
 if __name__ == "__main__":
     main([archive_is_the_stream, settings_are_those_asked_for, large_layers_are_slow, part_is_upright_and_in_the_middle,
           folder_is_the_stream, large_part_is_refused, faults_are_handed_on, fault_keeps_what_was_there,
           output_that_is_no_plain_file_is_refused, part_is_not_overwritten,
-          pitch_of_quarters_is_exact, broken_slicers_leave_nothing, stopped_script_leaves_nothing, pipes_and_units])
+          pitch_of_quarters_is_exact, broken_slicers_leave_nothing, stopped_script_leaves_nothing, pipes_and_units,
+          options_are_those_of_the_page])
