@@ -1,9 +1,11 @@
 #!/usr/bin/env python3
-"""README's lines do as it says: the first run, each status with its line, the canvas."""
+"""README's lines do as it says: the first run, the archive, each status with its line, the canvas."""
 
 import os
 import re
 import shutil
+import struct
+import zipfile
 
 from common import ROOT, Room, holds, same, text_of
 
@@ -21,6 +23,22 @@ def first_run(room, readme):
         same(f"status of: {command}", ran.returncode, 0)
         same(f"output of: {command}", ran.stdout.rstrip("\n"), wanted.rstrip("\n"))
         same(f"faults of: {command}", ran.stderr, "")
+
+
+def archive(room, readme):
+    """The one command for a printer: an image a layer, and the settings."""
+    line = re.search(r"(?m)^    \$ (examples/to_sl1\.py .*)$", readme)[1]
+    canvas = re.search(r"--canvas (\d+)x(\d+)", line)
+    ran = room.run("bash", "-c", line, cwd=room.path)
+    told = re.fullmatch(r"part\.sl1: (\d+) layers, [\d.]+ ml\n", ran.stdout)
+    holds(f"status and output of: {line}", (ran.returncode, ran.stderr) == (0, "") and told)
+    with zipfile.ZipFile(room.file("part.sl1")) as made:
+        names = sorted(made.namelist())
+        same("names in the archive", names, ["config.ini"] + [f"part{k:05}.png" for k in range(int(told[1]))])
+        for name in names[1:]:
+            head = made.read(name)[16:24]
+            if struct.unpack(">II", head) != tuple(map(int, canvas.groups())):
+                same(f"size of {name}", struct.unpack(">II", head), canvas.groups())
 
 
 def statuses(room, readme):
@@ -64,6 +82,7 @@ def main():
     readme = text_of("README.md")
     with Room() as room:
         first_run(room, readme)
+        archive(room, readme)
         statuses(room, readme)
         canvas(room, readme)
 
