@@ -39,17 +39,24 @@ def stream(program, part, rule, shift=(0, 0)):
 
 
 def opened(path):
-    """The settings and the images of an archive, the lowest layer first."""
+    """The settings and the images of an archive, the lowest layer first. Its two files of settings agree."""
     with zipfile.ZipFile(path) as archive:
         same(archive.testzip(), None, "a damaged entry")
         names = archive.namelist()
         same(len(names), len(set(names)), "names that stand twice")
         lines = archive.read("config.ini").decode().splitlines()
         settings = dict(line.split(" = ", 1) for line in lines)
+        profile = dict(line.split(" = ", 1) for line in archive.read("prusaslicer.ini").decode().splitlines())
+        for one, other in (("expTime", "exposure_time"), ("expTimeFirst", "initial_exposure_time"), ("numFade", "faded_layers"),
+                           ("layerHeight", "layer_height"), ("printerModel", "printer_model")):
+            same(profile[other], settings[one], other)
         names.remove("config.ini")
+        names.remove("prusaslicer.ini")
         job = settings["jobDir"]
         same(names, [f"{job}{k:05}.png" for k in range(len(names))], "names of images")
-        return settings, [pixels_of_png(archive.read(name)) for name in names]
+        images = [pixels_of_png(archive.read(name)) for name in names]
+        same((profile["display_pixels_x"], profile["display_pixels_y"]), (str(len(images[0][0])), str(len(images[0]))), "screen")
+        return settings, images
 
 
 def leaves_nothing(folder, before):
@@ -89,6 +96,12 @@ def settings_are_those_asked_for(program, folder):
               "printerModel": "SL1S", "printerProfile": "SL1S", "printerVariant": "default",
               "prusaSlicerVersion": "stlslice", "usedMaterial": settings["usedMaterial"]}
     same(settings, wanted, "settings")
+    with zipfile.ZipFile(out) as archive:
+        lines = archive.read("prusaslicer.ini").decode().splitlines()
+    same([line for line in lines if line.startswith("display_")], [
+        "display_height = 40.6", "display_mirror_x = 0", "display_mirror_y = 0", "display_orientation = landscape",
+        "display_pixels_x = 331", "display_pixels_y = 203", "display_width = 66.2"], "the screen")
+    same(lines, sorted(lines), "the order of the names")
     with open(out, "rb") as file:
         first = file.read()
     run(script(SL1, words), env=env)

@@ -58,7 +58,7 @@ def netpbm_pngs(program, folder):
 def archive(program, folder):
     import zipfile
     with zipfile.ZipFile(os.path.join(folder, "out.sl1")) as file:
-        same(len(file.namelist()), 541, "entries")
+        same(len(file.namelist()), 542, "entries")
         rows = pixels_of_png(file.read("out00017.png"))
     same((len(rows), len(rows[0])), (1620, 2560), "canvas")
 

@@ -34,8 +34,8 @@ def archive(room, readme):
     holds(f"status and output of: {line}", (ran.returncode, ran.stderr) == (0, "") and told)
     with zipfile.ZipFile(room.file("part.sl1")) as made:
         names = sorted(made.namelist())
-        same("names in the archive", names, ["config.ini"] + [f"part{k:05}.png" for k in range(int(told[1]))])
-        for name in names[1:]:
+        same("names in the archive", names, ["config.ini"] + [f"part{k:05}.png" for k in range(int(told[1]))] + ["prusaslicer.ini"])
+        for name in names[1:-1]:
             head = made.read(name)[16:24]
             if struct.unpack(">II", head) != tuple(map(int, canvas.groups())):
                 same(f"size of {name}", struct.unpack(">II", head), canvas.groups())
