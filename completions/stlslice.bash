@@ -36,6 +36,11 @@ _stlslice() {
             for option in "${options[@]}"; do
                 [[ $option == "$word"* && $given != *" $option "* ]] && COMPREPLY+=("$option")
             done
+            # its numbers may be negative, which only an equals sign lets in
+            if [[ ${COMPREPLY[*]} == --grid ]]; then
+                COMPREPLY=(--grid=)
+                compopt -o nospace
+            fi
             ;;
     esac
 }

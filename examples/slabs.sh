@@ -10,7 +10,7 @@
 #   -n N       layers of a slab (64)
 #   -j JOBS    slabs at once on each machine, as GNU parallel takes it (one for each processor)
 #   -S HOSTS   machines, as GNU parallel takes them: host1,host2,: where : is this one
-#   -P PATH    the slicer, here and there (stlslice on PATH, else build/stlslice beside this folder)
+#   -P PATH    the slicer, here and there (stlslice on PATH, else the one built or unpacked beside this folder)
 #
 # The progress bar is GNU parallel's, shown where standard error is a terminal. The first slab that fails halts all
 # others; its line and status are handed on. The result is written aside and moved into place when it is whole. Needs
@@ -50,10 +50,11 @@ done
 part=$1
 [[ -r $part && ! -d $part ]] || fail 1 "$part can't be read"
 
-built=$(dirname "$(dirname "$(realpath "$0")")")/build/stlslice
+beside=$(dirname "$(dirname "$(realpath "$0")")")
 if [[ -z $program ]]; then
-  program=stlslice
-  command -v stlslice > /dev/null || program=$built
+  for program in stlslice "$beside/build/stlslice" "$beside/stlslice"; do
+    command -v "$program" > /dev/null && break
+  done
   command -v "$program" > /dev/null || fail 1 "stlslice is neither on PATH nor built; -P says where it is"
 elif [[ $program == */* ]]; then
   program=$(realpath "$program")

@@ -1,5 +1,6 @@
 #!/usr/bin/env python3
-"""Slices an ASCII STL for a resin printer: an SL1 archive, which is a zip of one PNG a layer and a config.ini.
+"""Slices an ASCII STL for a resin printer: an SL1 archive, which is a zip of one PNG a layer, a config.ini for the
+printer and a prusaslicer.ini for programs that read the archive again.
 
     to_sl1.py part.stl out.sl1
 
@@ -7,8 +8,8 @@ The part stands in the middle of the canvas, is white on black, and isn't turned
 its size. What the slicer refuses is told in its own line, with its own status. The archive is made aside and moved
 into place when it is whole, so a fault leaves what was there before.
 
-An SL1 archive is what PrusaSlicer writes for the Original Prusa SL1; UVtools and other tools turn it into the formats
-of other printers.
+An SL1 archive is what PrusaSlicer writes for the Original Prusa SL1; there are tools, as UVtools, that turn such
+archives into the formats of other printers.
 """
 
 import argparse
@@ -54,7 +55,7 @@ def main():
 
 
 def fill(archive, sliced, job):
-    """Writes a PNG for each layer, and the settings behind them."""
+    """Writes a PNG for each layer, and behind them the settings and the profile."""
     now = time.gmtime(int(os.environ.get("SOURCE_DATE_EPOCH", time.time())))
 
     def entry(name, body):
@@ -66,7 +67,8 @@ def fill(archive, sliced, job):
         entry(f"{job}{number:05}.png", png)
         slow += 2 * lit > columns * rows
     sliced.refuse_dark()
-    entry("config.ini", "".join(f"{name} = {value}\n" for name, value in settings(sliced, job, slow, now)))
+    for name, pairs in (("config.ini", settings(sliced, job, slow, now)), ("prusaslicer.ini", profile(sliced.given))):
+        entry(name, "".join(f"{key} = {value}\n" for key, value in pairs))
 
 
 def settings(sliced, job, slow, now):
@@ -93,6 +95,29 @@ def settings(sliced, job, slow, now):
         ("printerVariant", "default"),
         ("prusaSlicerVersion", "stlslice"),
         ("usedMaterial", f"{sliced.millilitres():.6f}"),
+    ]
+
+
+def profile(given):
+    """What stands in prusaslicer.ini, in the order of the names: the screen, from which the images can be placed in space
+    again, and the layers. The images are as the screen shows them, so its orientation is `landscape` for every canvas."""
+    columns, rows = given.canvas
+    return [
+        ("display_height", f"{float(rows * given.pitch / 1000):.10g}"),
+        ("display_mirror_x", int(given.mirror_x)),
+        ("display_mirror_y", int(given.mirror_y)),
+        ("display_orientation", "landscape"),
+        ("display_pixels_x", columns),
+        ("display_pixels_y", rows),
+        ("display_width", f"{float(columns * given.pitch / 1000):.10g}"),
+        ("exposure_time", f"{given.exposure:g}"),
+        ("faded_layers", given.fade),
+        ("gamma_correction", 0),
+        ("initial_exposure_time", f"{given.first_exposure:g}"),
+        ("initial_layer_height", f"{given.layer / 1000:g}"),
+        ("layer_height", f"{given.layer / 1000:g}"),
+        ("printer_model", one_line(given.printer)),
+        ("printer_technology", "SLA"),
     ]
 
 

@@ -3,13 +3,14 @@
 is refused, and that a fault leaves nothing."""
 
 import os
+import re
 import signal
 import subprocess
 import sys
 import time
 import zipfile
 
-from parts import (box, environment, example, main, p4_images, pixels_of_p4, pixels_of_png, run, same, text)
+from parts import (ROOT, box, environment, example, main, p4_images, pixels_of_p4, pixels_of_png, run, same, text)
 
 SL1 = example("to_sl1.py")
 PNGS = example("to_pngs.py")
@@ -38,17 +39,24 @@ def stream(program, part, rule, shift=(0, 0)):
 
 
 def opened(path):
-    """The settings and the images of an archive, the lowest layer first."""
+    """The settings and the images of an archive, the lowest layer first. Its two files of settings agree."""
     with zipfile.ZipFile(path) as archive:
         same(archive.testzip(), None, "a damaged entry")
         names = archive.namelist()
         same(len(names), len(set(names)), "names that stand twice")
         lines = archive.read("config.ini").decode().splitlines()
         settings = dict(line.split(" = ", 1) for line in lines)
+        profile = dict(line.split(" = ", 1) for line in archive.read("prusaslicer.ini").decode().splitlines())
+        for one, other in (("expTime", "exposure_time"), ("expTimeFirst", "initial_exposure_time"), ("numFade", "faded_layers"),
+                           ("layerHeight", "layer_height"), ("printerModel", "printer_model")):
+            same(profile[other], settings[one], other)
         names.remove("config.ini")
+        names.remove("prusaslicer.ini")
         job = settings["jobDir"]
         same(names, [f"{job}{k:05}.png" for k in range(len(names))], "names of images")
-        return settings, [pixels_of_png(archive.read(name)) for name in names]
+        images = [pixels_of_png(archive.read(name)) for name in names]
+        same((profile["display_pixels_x"], profile["display_pixels_y"]), (str(len(images[0][0])), str(len(images[0]))), "screen")
+        return settings, images
 
 
 def leaves_nothing(folder, before):
@@ -88,6 +96,12 @@ def settings_are_those_asked_for(program, folder):
               "printerModel": "SL1S", "printerProfile": "SL1S", "printerVariant": "default",
               "prusaSlicerVersion": "stlslice", "usedMaterial": settings["usedMaterial"]}
     same(settings, wanted, "settings")
+    with zipfile.ZipFile(out) as archive:
+        lines = archive.read("prusaslicer.ini").decode().splitlines()
+    same([line for line in lines if line.startswith("display_")], [
+        "display_height = 40.6", "display_mirror_x = 0", "display_mirror_y = 0", "display_orientation = landscape",
+        "display_pixels_x = 331", "display_pixels_y = 203", "display_width = 66.2"], "the screen")
+    same(lines, sorted(lines), "the order of the names")
     with open(out, "rb") as file:
         first = file.read()
     run(script(SL1, words), env=env)
@@ -314,8 +328,32 @@ def pipes_and_units(program, folder):
     same((sum(255 in row for row in first), max(row.count(255) for row in first)), (127, 254), "a box of 2 x 1 inches")
 
 
+def options_are_those_of_the_page(program, folder):
+    """The table of docs/printing.md has the options of to_sl1.py, with their defaults; to_pngs.py has all but five."""
+    with open(os.path.join(ROOT, "docs", "printing.md"), encoding="utf-8") as file:
+        rows = re.findall(r"(?m)^\| (`--[^|]*) \| ([^|]*) \|", file.read())
+    told = {}
+    for names, defaults in rows:
+        names = re.findall(r"--[a-z-]+", names)
+        defaults = defaults.replace("`", "").split(", ")
+        told.update(zip(names, defaults if len(defaults) == len(names) else [None] * len(names)))
+    helps = [" ".join(run(script(path, ["--help"]), env={"COLUMNS": "80"})[1].decode().split()) for path in (SL1, PNGS)]
+    sl1, pngs = (set(re.findall(r"\[(--[a-z-]+)", it)) for it in helps)
+    same(set(told), sl1, "options of to_sl1.py")
+    same(sl1 - pngs, {"--exposure", "--first-exposure", "--fade", "--printer", "--material"}, "options of to_sl1.py alone")
+    tried = 0
+    for name, default in told.items():
+        said = re.search(rf"(?<!\[){name} (?:[A-Z][A-Za-z]*|\{{\S*\}}) .*?\(([^ ,)]+)", helps[0])
+        if default and re.match(r"[\dA-Z]|positive$|mm$", default):
+            number = re.fullmatch(r"[\d.]+", default)
+            same(float(said[1]) if number else said[1], float(default) if number else default, f"default of {name}")
+            tried += 1
+    same(tried, 10, "defaults that were compared")
+
+
 if __name__ == "__main__":
     main([archive_is_the_stream, settings_are_those_asked_for, large_layers_are_slow, part_is_upright_and_in_the_middle,
           folder_is_the_stream, large_part_is_refused, faults_are_handed_on, fault_keeps_what_was_there,
           output_that_is_no_plain_file_is_refused, part_is_not_overwritten,
-          pitch_of_quarters_is_exact, broken_slicers_leave_nothing, stopped_script_leaves_nothing, pipes_and_units])
+          pitch_of_quarters_is_exact, broken_slicers_leave_nothing, stopped_script_leaves_nothing, pipes_and_units,
+          options_are_those_of_the_page])

@@ -15,6 +15,7 @@ LINES = {
     "stlslice --unit i": "stlslice --unit inch ",
     "stlslice --unit=m": "stlslice --unit=mm ",
     "stlslice --pitch 50 --workers 3": "stlslice --pitch 50 --workers 32 ",
+    "stlslice --gr": "stlslice --grid=",
     "stlslice --report --re": "stlslice --report --re",
     "stlslice --pitch 5": "stlslice --pitch 5",
     "stlslice --box < part-of-t": "stlslice --box < part-of-this-test.stl ",

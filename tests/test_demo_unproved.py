@@ -4,8 +4,10 @@ program gives. It builds nothing that stays, and takes about a minute. Where the
 empty program here, or takes more than four minutes for the demo, this test can't tell, and says so."""
 
 import os
+import resource
 import shutil
 import sys
+import time
 
 from common import PROGRAM, Room, holds, same, skip
 
@@ -29,8 +31,11 @@ def main():
         skip("rt is missing: it comes with the Rattle toolchain")
     with Room() as room:
         for program, out in ((PROGRAM, "built"), (room.file("none"), "unproved")):
+            began = time.monotonic()
             ran = room.run("timeout", str(SECONDS), sys.executable, "examples/demo.py", program, room.file(out))
+            used = resource.getrusage(resource.RUSAGE_CHILDREN)
             print(ran.stdout + ran.stderr)
+            print(f"{time.monotonic() - began:.0f} s, and so far {used.ru_utime + used.ru_stime:.0f} s of processors")
             if ran.returncode == OUT_OF_TIME:
                 skip(f"rt try takes more than {SECONDS} seconds here")
             if ran.returncode and out == "unproved" and runs_nothing(room):

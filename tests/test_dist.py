@@ -41,6 +41,11 @@ def main():
         with open(os.path.join(ROOT, "examples", "bracket.stl"), "rb") as part:
             told = room.run(os.path.join(folder, "stlslice"), "--box", stdin=part)
         holds("the program runs", told.returncode == 0 and told.stdout.startswith("facets "))
+        without = {name: value for name, value in room.environment.items() if name != "PATH"}
+        for words in (["examples/to_sl1.py", "examples/bracket.stl", "part.sl1", "--canvas", "800x400"],
+                      ["examples/slabs.sh", "--words", "examples/bracket.stl"]):
+            told = room.run(*words, cwd=folder, env={**without, "PATH": "/usr/local/bin:/usr/bin:/bin"})
+            same(f"{words[0]}, unpacked", (told.returncode, told.stderr), (0, ""))
         for name in ("README.md", "LICENSE", "stlslice.1", "completions/_stlslice", "docs/PROVED.md", "CONTRIBUTING.md",
                      "examples/to_sl1.py", "examples/bracket.stl"):
             holds(f"{name} is in it", os.path.exists(os.path.join(folder, name)))

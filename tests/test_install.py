@@ -3,6 +3,7 @@
 
 import gzip
 import os
+import re
 import shutil
 import stat
 
@@ -42,6 +43,11 @@ def main():
             same(f"mode of {place}", mode, 0o755 if source == PROGRAM else 0o644)
         manual = gzip.decompress(bytes_of(os.path.join(below, "share/man/man1/stlslice.1.gz")))
         same("the manual", manual, bytes_of("man/stlslice.1"))
+        named = re.findall(r"\bPa (\S+)", manual.decode())
+        holds("the manual names places", len(named) > 4)
+        for place in named:
+            found = place if place.startswith("share/") else os.path.join("share/doc/stlslice/docs", place)
+            holds(f"{place}, which the manual names, is there", os.path.exists(os.path.join(below, found)))
         for folder in ("docs", "examples"):
             wanted = sorted(it for it in os.listdir(os.path.join(ROOT, folder)) if "." in it)
             same(f"files of {folder}", sorted(os.listdir(os.path.join(below, "share/doc/stlslice", folder))), wanted)

@@ -9,19 +9,12 @@ import stat
 import zlib
 
 from pages import blocks
-from parts import (ROOT, box, environment, example, leave_out, main, p4_images, pixels_of_p4, pixels_of_png, run, same, text)
+from parts import (ROOT, batch_system, box, environment, example, leave_out, main, p4_images, pixels_of_p4, pixels_of_png, run,
+                   same, text)
 
 PAGE = os.path.join(ROOT, "docs", "printing.md")
 TOOLS = {"python3": ["python3"], "netpbm": ["pamsplit", "pnminvert", "pnmtopng"], "gnuplot-nox": ["gnuplot"],
          "imagemagick": ["montage", "identify"], "zstd": ["zstd"], "parallel": ["parallel"], "rsync": []}
-SBATCH = """#!/bin/bash
-# A stand-in for Slurm's sbatch: runs each task of the array, the last first.
-set -eu
-[[ $1 == --wait && $2 =~ ^--array=0-([0-9]+)$ ]]
-for ((task = BASH_REMATCH[1]; task >= 0; task--)); do
-  SLURM_ARRAY_TASK_ID=$task SLURM_JOB_ID=1 bash "${@:3}"
-done
-"""
 
 
 def content(*names):
@@ -65,7 +58,7 @@ def netpbm_pngs(program, folder):
 def archive(program, folder):
     import zipfile
     with zipfile.ZipFile(os.path.join(folder, "out.sl1")) as file:
-        same(len(file.namelist()), 541, "entries")
+        same(len(file.namelist()), 542, "entries")
         rows = pixels_of_png(file.read("out00017.png"))
     same((len(rows), len(rows[0])), (1620, 2560), "canvas")
 
@@ -145,9 +138,7 @@ def try_recipe(program, folder, env, recipe):
     number, block, wanted, check, refused = recipe
     here = folder_of(program, folder, number)
     if block.words == ["slurm"]:
-        with open(os.path.join(folder, "tools", "sbatch"), "w") as file:
-            file.write(SBATCH)
-            os.chmod(file.fileno(), 0o755)
+        env = batch_system(program, folder)
     status, told, fault = run(["bash", "-c", block.body], cwd=here, env=env)
     same(status, 1 if refused else 0, f"{block.head}: status ({fault.decode()})")
     if wanted is not None:
@@ -179,6 +170,27 @@ def recipes_with_tools_do_what_they_say(program, folder):
             leave_out(recipe[1].head, missing)
         else:
             try_recipe(program, folder, env, recipe)
+
+
+def recipes_follow_one_another(program, folder):
+    """The page pasted from its first block to its last, in one shell and one folder, by a reader who has all packages but
+    those that are missing here. Each block gives the same as alone."""
+    env = batch_system(program, folder)
+    here = os.path.join(folder, "here")
+    os.makedirs(os.path.join(here, "build"))
+    os.symlink(os.path.join(ROOT, "examples"), os.path.join(here, "examples"))
+    os.symlink(program, os.path.join(here, "build", "stlslice"))
+    setup = next(block for block in blocks(PAGE) if block.words == ["setup"])
+    pasted, wanted = "exec 2>&1\n" + setup.body, []
+    for number, block, told, _, refused in recipes():
+        if all(shutil.which(tool) for package in needs(block) for tool in TOOLS[package]):
+            pasted += f"{block.body}echo == $?\n"
+            wanted.append((block.head, told, 1 if refused else 0))
+    status, told, _ = run(["bash", "-c", pasted], cwd=here, env=env)
+    found = re.findall(r"(?s)(.*?)== (\d+)\n", told.decode())
+    same(len(found), len(wanted), "blocks that were run")
+    for (head, text, ended), (told, status) in zip(wanted, found):
+        same((int(status), told if text is not None else None), (ended, text), f"{head}, behind the others")
 
 
 def old_slabs_are_not_mixed_in(program, folder):
@@ -266,5 +278,5 @@ def examples_are_executable(program, folder):
 
 
 if __name__ == "__main__":
-    main([recipes_do_what_they_say, old_slabs_are_not_mixed_in, first_block_is_the_folder, canvas_that_is_too_small_is_refused,
-          refused_part_stops_recipes, rules_are_as_in_the_table, examples_are_executable])
+    main([recipes_do_what_they_say, recipes_follow_one_another, old_slabs_are_not_mixed_in, first_block_is_the_folder,
+          canvas_that_is_too_small_is_refused, refused_part_stops_recipes, rules_are_as_in_the_table, examples_are_executable])

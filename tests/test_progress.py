@@ -80,8 +80,8 @@ def line_on_a_terminal(words, below, output=os.devnull):
     same(f"what stands before the bar by {name}", drawn[0], "")
     holds(f"the bar is drawn often by {name}", len(drawn) > 20)
     for text in drawn[1:]:
-        shown = re.fullmatch(r"\[(#*) *\] " + SHOWN + r"\x1b\[K", text)
-        holds(f"a bar: {text!r}", shown and len(shown[1]) == int(shown[3]) // 5)
+        shown = re.fullmatch(r"\[((#*) *)\] " + SHOWN + r"\x1b\[K", text)
+        holds(f"a bar: {text!r}", shown and len(shown[2]) == int(shown[4]) * len(shown[1]) // 100)
 
 
 def main():

@@ -1,9 +1,11 @@
 #!/usr/bin/env python3
-"""README's lines do as it says: the first run, each status with its line, the canvas."""
+"""README's lines do as it says: the first run, the archive, each status with its line, the canvas."""
 
 import os
 import re
 import shutil
+import struct
+import zipfile
 
 from common import ROOT, Room, holds, same, text_of
 
@@ -23,6 +25,22 @@ def first_run(room, readme):
         same(f"faults of: {command}", ran.stderr, "")
 
 
+def archive(room, readme):
+    """The one command for a printer: an image a layer, and the settings."""
+    line = re.search(r"(?m)^    \$ (examples/to_sl1\.py .*)$", readme)[1]
+    canvas = re.search(r"--canvas (\d+)x(\d+)", line)
+    ran = room.run("bash", "-c", line, cwd=room.path)
+    told = re.fullmatch(r"part\.sl1: (\d+) layers, [\d.]+ ml\n", ran.stdout)
+    holds(f"status and output of: {line}", (ran.returncode, ran.stderr) == (0, "") and told)
+    with zipfile.ZipFile(room.file("part.sl1")) as made:
+        names = sorted(made.namelist())
+        same("names in the archive", names, ["config.ini"] + [f"part{k:05}.png" for k in range(int(told[1]))] + ["prusaslicer.ini"])
+        for name in names[1:-1]:
+            head = made.read(name)[16:24]
+            if struct.unpack(">II", head) != tuple(map(int, canvas.groups())):
+                same(f"size of {name}", struct.unpack(">II", head), canvas.groups())
+
+
 def statuses(room, readme):
     shutil.copy(os.path.join(ROOT, "README.md"), room.file("README.md"))
     table = readme.split("## Statuses")[1].split("##")[0]
@@ -37,19 +55,23 @@ def statuses(room, readme):
 
 
 def canvas(room, readme):
-    """The recipe for a canvas puts the part in its middle, whole."""
-    block = re.search(r"(?m)^    W=.*\n(?:    .*\n)+", readme)[0]
-    shutil.copy(os.path.join(ROOT, "examples", "bracket.stl"), room.file("part.stl"))
-    ran = room.run("bash", "-euc", block, cwd=room.path)
-    same("status and faults of the canvas", (ran.returncode, ran.stderr), (0, ""))
-    with open(room.file("layers.pbm"), "rb") as file:
-        stream = file.read()
+    """The canvas that README shows is the one that the recipe of docs/printing.md reckons for examples/bracket.stl: it holds
+    the part in its middle, whole."""
+    section = readme.split("## Units, pitch, canvas")[1].split("\n## ")[0]
+    grid = re.search(r"`--grid=([-\d,]+)`", section)[1]
+    holds("the recipe gives that canvas", f"\n{grid}\n" in text_of("docs/printing.md"))
+    columns, rows, layers, x0, y0, z0 = map(int, grid.split(","))
+    holds("README tells its size", f"{columns} x {rows} pixels and {layers} layers" in section)
+    holds("README tells its corner", f"{x0 / 1000:g}, {y0 / 1000:g}, {z0 / 1000:g} mm" in section)
+    words = "--pitch 50 --layer 50 --rule positive"
+    part = os.path.join(ROOT, "examples", "bracket.stl")
+    with open(part, "rb") as file:
+        stream = room.run("stlslice", *words.split(), f"--grid={grid}", stdin=file, text=False).stdout
     size = len(b"P4\n2560 1620\n") + 320 * 1620
-    same("layers of the canvas", (len(stream) % size, len(stream) // size), (0, 540))
-    box = [int(word) for word in room.run("bash", "-c", "stlslice --box < part.stl", cwd=room.path).stdout.split()[3:]]
-    x0, y0 = ((box[k] + box[k + 3] - side * 50) // 2 for k, side in ((0, 2560), (1, 1620)))
-    wider = f"2760,1820,560,{x0 - 5000},{y0 - 5000},{box[2] - 500}"
-    report = room.run("bash", "-c", f"stlslice --pitch 50 --layer 50 --grid={wider} --report < part.stl", cwd=room.path)
+    same("layers of the canvas", (len(stream) % size, len(stream) // size), (0, layers))
+    wider = f"2760,1820,{layers + 20},{x0 - 5000},{y0 - 5000},{z0 - 500}"
+    with open(part, "rb") as file:
+        report = room.run("stlslice", *words.split(), f"--grid={wider}", "--report", stdin=file)
     lit = sum(bin(int.from_bytes(stream[at + 13:at + size], "big")).count("1") for at in range(0, len(stream), size))
     same("nothing is cut: the pixels of the canvas, and of a wider one", f"total {lit}", report.stdout.splitlines()[-1])
     held = [k for k in range(1620) if any(stream[13 + 320 * k:333 + 320 * k])]
@@ -60,6 +82,7 @@ def main():
     readme = text_of("README.md")
     with Room() as room:
         first_run(room, readme)
+        archive(room, readme)
         statuses(room, readme)
         canvas(room, readme)
 

@@ -9,7 +9,7 @@ import socket
 import subprocess
 import time
 
-from parts import box, environment, example, main, run, same, text
+from parts import batch_system, box, environment, example, main, run, same, text
 
 SLABS = example("slabs.sh")
 BATCH = example("slabs.sbatch")
@@ -64,6 +64,41 @@ def batch_of_tasks_is_the_whole(program, folder):
         same(names, [f"{k:05}.pbm" for k in range(count)] + ["words"], "files")
         joined = b"".join(content(os.path.join(slabs, name)) for name in names[:-1])
         assert joined == whole(program, part, wanted), "bytes differ"
+
+
+def batch_system_runs_tasks(program, folder):
+    """By Slurm's sbatch where it is there: the slabs joined are the whole, also after one task was lost and ran again. Of a
+    part that is open each task fails, which sbatch tells by the program's status and the logs by its line."""
+    env = batch_system(program, folder)
+    here, slabs = os.path.join(folder, "a job"), os.path.join(folder, "a job", "its slabs")
+    os.makedirs(slabs)
+    part = os.path.join(here, "it's my part.stl")
+    shutil.copy(example("bracket.stl"), part)
+    status, told, _ = run([SLABS, "-p", "200", "-l", "300", "-n", "25", "--words", part], env=env)
+    same((status, len(told.splitlines())), (0, 4), "words")
+    with open(os.path.join(slabs, "words"), "wb") as file:
+        file.write(told)
+    sbatch = ["sbatch", "--wait", "--array=0-3", BATCH, os.path.basename(part), os.path.basename(slabs)]
+    status, told, fault = run(sbatch, cwd=here, env=env)
+    assert status == 0 and told.startswith(b"Submitted batch job "), f"sbatch: {status}, {told!r}, {fault!r}"
+    names = [f"{k:05}.pbm" for k in range(4)]
+    same(sorted(os.listdir(slabs)), names + ["words"], "files")
+    assert b"".join(content(os.path.join(slabs, name)) for name in names) == whole(program, part), "bytes differ"
+    same([content(log) for log in glob.glob(here + "/stlslice-*.log")], [b""] * 4, "logs of tasks that ended well")
+    before = content(os.path.join(slabs, names[2]))
+    os.remove(os.path.join(slabs, names[2]))
+    same(run([*sbatch[:2], "--array=2", *sbatch[3:]], cwd=here, env=env)[0], 0, "a task that runs again")
+    assert content(os.path.join(slabs, names[2])) == before, "bytes differ"
+    for log in glob.glob(here + "/stlslice-*.log"):
+        os.remove(log)
+    for name in names:
+        os.remove(os.path.join(slabs, name))
+    with open(part, "w") as file:
+        file.write(text(box((0, 0, 0), (1, 1, 1))[1:]))
+    same(run(sbatch, cwd=here, env=env)[0], 4, "status of sbatch with an open part")
+    same(os.listdir(slabs), ["words"], "files of tasks that failed")
+    logs = [content(log) for log in glob.glob(here + "/stlslice-*.log")]
+    same(logs, [b"stlslice: open edge 0 0 0 to 0 1000 0 there 0 back 1\n"] * 4, "logs of tasks that failed")
 
 
 def part_is_not_overwritten(program, folder):
@@ -199,5 +234,5 @@ def missing_tools():
 
 
 if __name__ == "__main__":
-    main([words_are_slabs_of_the_whole, part_is_not_overwritten, batch_of_tasks_is_the_whole, task_that_fails_leaves_nothing,
-          wrong_words_are_refused])
+    main([words_are_slabs_of_the_whole, part_is_not_overwritten, batch_of_tasks_is_the_whole, batch_system_runs_tasks,
+          task_that_fails_leaves_nothing, wrong_words_are_refused])

@@ -78,7 +78,9 @@ def of_fish(text):
             words.add("--" + name[1])
             taken |= {"--" + name[1]} if " -x" in line else set()
             found = re.search(r" -a '([^']*)'", line)
-            choices.update({"--" + name[1]: found[1].split()} if found else {})
+            # either ONE TWO or ONE\t"what it is" TWO\t"what it is"
+            values = re.sub(r'\\t"[^"]*"', "", found[1]).split() if found else []
+            choices.update({"--" + name[1]: values} if values else {})
     return words, choices, taken
 
 

@@ -39,6 +39,9 @@ def main():
                 same(f"{typed!r} and Tab", line[:-1] if line == wanted + "=" else line, wanted)
                 zsh.keys("\x15\r")
                 zsh.until("> $")
+            zsh.keys("stlslice --rule \t\t")
+            zsh.until(r"positive +-- overlaps are filled, as supports want")
+            print("each rule is told with what it is for")
 
 
 if __name__ == "__main__":
