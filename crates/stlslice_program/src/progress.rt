@@ -51,7 +51,7 @@ pub(crate) struct BarText {
 }
 
 /// The number of cells of the bar that a terminal shows.
-const CELLS: u64 = 20;
+const CELLS: u64 = 10;
 
 impl Display for BarText {
     fn fmt<W: fmt::Write>(&self, f: &mut Formatter<W>) -> fmt::Result {

@@ -17,7 +17,7 @@ const TEXTS: [Row; 4] = [
             seconds_left: Some(12),
             is_terminal: true,
         },
-        "\r[#########           ] slicing 45 %, 9 of 20 layers, 12 s left\x1b[K",
+        "\r[####      ] slicing 45 %, 9 of 20 layers, 12 s left\x1b[K",
     ),
     (
         BarText {
@@ -30,7 +30,7 @@ const TEXTS: [Row; 4] = [
             seconds_left: None,
             is_terminal: true,
         },
-        "\r[####################] writing 100 %, 5402640 of 5402640 bytes\x1b[K",
+        "\r[##########] writing 100 %, 5402640 of 5402640 bytes\x1b[K",
     ),
     (
         BarText {
