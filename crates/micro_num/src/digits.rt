@@ -101,14 +101,14 @@ pub(crate) fn few_digits(bytes: &[u8], before: Leading) -> Option<Digits>
     }
     let mut leading = before;
     for index in 0..FEW {
-        let byte = bytes[index];
-        if !byte.is_ascii_digit() {
+        let next = bytes[index];
+        if !next.is_ascii_digit() {
             return Some(Digits {
                 leading,
                 count: index,
             });
         }
-        leading = leading.extended(byte);
+        leading = leading.extended(next);
     }
     None
 }
