@@ -36,7 +36,7 @@ fn spellings(rt: HostRuntime) {
 
 #[test]
 fn numbers_at_the_front(rt: HostRuntime) {
-    let rows: [(&[u8], Option<(i32, usize)>); 6] = [
+    let rows: [(&[u8], Option<(i32, usize)>); 9] = [
         (
             b"1.422800e+01 5.552000e+01",
             Some((14 * MILLIMETRE + 228, 12)),
@@ -49,6 +49,16 @@ fn numbers_at_the_front(rt: HostRuntime) {
         (b"1.5.5", Some((1500, 3))),
         (b"1e9 2 3 4 5 6 7", None),
         (b"x", None),
+        // nine digits are few, and ten are not
+        (
+            b"-000000001.987654321e-000000001 and more",
+            Some((-199, 31)),
+        ),
+        (
+            b"0000000001.9876543210e-0000000001 and more",
+            Some((199, 33)),
+        ),
+        (b"000128000.000500000e+000000000 and more", None),
     ];
     for (text, wanted) in rows {
         assert!(rt; read_front(text, Unit::Millimetre) == wanted);
@@ -113,6 +123,66 @@ fn long_words(rt: HostRuntime) -> Result<(), Fail> {
     for (front, digit, wanted) in inches {
         let word = long_word(rt.alloc(), front, digit, 240, b"")?;
         assert!(rt; read_micro(&word, Unit::Inch) == Ok(wanted));
+    }
+    Ok(())
+}
+
+/// Whether `word` is read in the same way where the text goes on far behind it, where it ends soon, and by itself.
+fn is_read_alike(alloc: Global, word: &[u8], unit: Unit) -> Result<bool, AllocError> {
+    let far = long_word(alloc, word, b' ', 40, b"")?;
+    let near = long_word(alloc, word, b' ', 1, b"")?;
+    let found = read_front(&far, unit);
+    let whole = match read_micro(word, unit) {
+        Ok(z) => found == Some((z, word.len())),
+        Err(_) => true,
+    };
+    Ok(whole && found == read_front(&near, unit))
+}
+
+#[test]
+fn every_length_of_digits(rt: HostRuntime) -> Result<(), Fail> {
+    let before = *b"00000000000000012345";
+    let behind = *b"98765432101234567890";
+    let tails: [&[u8]; 7] = [
+        b"",
+        b"e0",
+        b"E-03",
+        b"e+01",
+        b"e-000000002",
+        b"e-0000000002",
+        b"e",
+    ];
+    for whole in 0..21 {
+        for fraction in 0..21 {
+            for tail in tails {
+                let mut word = Vec::new(rt.alloc());
+                if fraction % 2 == 1 {
+                    word.push(b'-')?;
+                }
+                word.extend_from_slice(&before[20 - whole..])?;
+                if whole != fraction {
+                    word.push(b'.')?;
+                }
+                word.extend_from_slice(&behind[..fraction])?;
+                word.extend_from_slice(tail)?;
+                assert!(rt; is_read_alike(rt.alloc(), &word, Unit::Millimetre)?);
+                assert!(rt; is_read_alike(rt.alloc(), &word, Unit::Inch)?);
+            }
+        }
+    }
+    Ok(())
+}
+
+#[test]
+fn every_byte_at_every_place(rt: HostRuntime) -> Result<(), Fail> {
+    let usual = *b"-123.4567891e+01";
+    for place in 0..16 {
+        for byte in 0..=255 {
+            let mut word = usual;
+            word[place] = byte;
+            assert!(rt; is_read_alike(rt.alloc(), &word, Unit::Millimetre)?);
+            assert!(rt; is_read_alike(rt.alloc(), &word, Unit::Inch)?);
+        }
     }
     Ok(())
 }

@@ -3,9 +3,9 @@ ghost use Rattle.std.specs.Prelude.{◌≡◌, ◌≤◌, ◌<◌, ◌+◌, ◌*
 ghost use Rattle.std.specs.List.{position_or_len};
 ghost use Rattle.std.specs.Char.{is_ascii_digit};
 ghost use Rattle.micro_num.specs.Scan.{IsLeading, digits_after, is_other};
-ghost use Rattle.micro_num.specs.declared.limits.TheConstants.{LEADING_ROOM, TEN_DIGITS_ROOM, WORD_LIMIT};
+ghost use Rattle.micro_num.specs.declared.limits.TheConstants.{FEW, LEADING_ROOM, TEN_DIGITS_ROOM, WORD_LIMIT};
 
-use crate::limits::{LEADING_ROOM, TEN_DIGITS_ROOM};
+use crate::limits::{FEW, LEADING_ROOM, TEN_DIGITS_ROOM};
 
 /// The value of the leading digits of a number: any zeros in front, then at most 16 digits. Further digits are dropped
 /// and only counted.
@@ -78,36 +78,37 @@ pub(crate) fn read_digits(bytes: &[u8], before: Leading) -> Digits
         → IsLeading result.leading.value result.leading.dropped (digits_after n (take result.count bytes.now)) }
     ensures few { result.leading.dropped ≤ before.dropped + result.count }
 {
-    match few_digits(bytes, before) {
-        Some(digits) => digits,
-        None => many_digits(bytes, before),
+    if bytes.len() >= FEW {
+        if let Some(digits) = few_digits(bytes, before) {
+            return digits;
+        }
     }
+    many_digits(bytes, before)
 }
-
-/// Fewer digits than this are read without testing whether each one still fits.
-const FEW: usize = 10;
 
 /// Like `read_digits`, where there are fewer than `FEW` digits and `FEW` of them fit. Else `None`.
 #[inline(always)]
-fn few_digits(bytes: &[u8], before: Leading) -> Option<Digits>
+pub(crate) fn few_digits(bytes: &[u8], before: Leading) -> Option<Digits>
+    requires { FEW ≤ length bytes.now }
+    ensures short { IfSome result (λ digits. digits.count < FEW) }
     ensures count { IfSome result (λ digits. digits.count ≡ position_or_len is_other bytes.now) }
     ensures leads { IfSome result (λ digits. (n : ℕ) → IsLeading before.value before.dropped n
         → IsLeading digits.leading.value digits.leading.dropped (digits_after n (take digits.count bytes.now))) }
     ensures few { IfSome result (λ digits. digits.leading.dropped ≡ before.dropped) }
 {
-    if bytes.len() < FEW || before.value >= TEN_DIGITS_ROOM {
+    if before.value >= TEN_DIGITS_ROOM {
         return None;
     }
     let mut leading = before;
     for index in 0..FEW {
-        let byte = bytes[index];
-        if !byte.is_ascii_digit() {
+        let next = bytes[index];
+        if !next.is_ascii_digit() {
             return Some(Digits {
                 leading,
                 count: index,
             });
         }
-        leading = leading.extended(byte);
+        leading = leading.extended(next);
     }
     None
 }

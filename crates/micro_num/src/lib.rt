@@ -25,6 +25,7 @@ mod mantissa;
 mod num_fault;
 mod reading;
 mod scaling;
+mod short;
 mod unit;
 
 pub use exact_int::ceil_div;

@@ -13,6 +13,7 @@ use crate::digits::{Leading, read_digits};
 pub(crate) fn split_sign(bytes: &[u8]) -> (bool, &[u8])
     ensures minus { (result.0 ≡ true) ↔ (sign_of bytes.now ≡ minus) }
     ensures behind { result.1.now ≡ after_sign bytes.now }
+    ensures within { length bytes.now ≤ length result.1.now + 1 }
 {
     let Some(first) = bytes.first() else {
         return (false, bytes);

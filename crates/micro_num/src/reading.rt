@@ -7,10 +7,11 @@ ghost use Rattle.micro_num.specs.declared.num_fault.NumFault.TheVariants.{NotNum
 ghost use Rattle.geometry.specs.declared.limits.TheConstants.{COORDINATE_LIMIT};
 ghost use Rattle.micro_num.specs.declared.limits.TheConstants.{WORD_LIMIT};
 
-use crate::limits::WORD_LIMIT;
+use crate::limits::{SHORT_ROOM, WORD_LIMIT};
 use crate::mantissa::{exponent_front, read_mantissa, split_sign};
 use crate::num_fault::NumFault;
 use crate::scaling::size_in;
+use crate::short::short_front;
 use crate::unit::Unit;
 use geometry::COORDINATE_LIMIT;
 
@@ -73,6 +74,23 @@ fn read_unsigned(text: &[u8], unit: Unit) -> Result<i32, NumFault>
 /// no such word.
 #[inline(always)]
 pub fn read_front(bytes: &[u8], unit: Unit) -> Option<(i32, usize)>
+    ensures exact { IfSome result (λ found. coordinate_of unit (take found.1 bytes.now) ≡ Ok found.0) }
+    ensures within { IfSome result (λ found. found.1 ≤ length bytes.now) }
+    ensures reads { (word rest : List ℕ) (z : ℤ) → bytes.now ≡ word ++ rest → IsEnded rest → coordinate_of unit word ≡ Ok z
+        → result ≡ Some (z, length word) }
+{
+    if bytes.len() >= SHORT_ROOM {
+        if let Some(found) = short_front(bytes, unit) {
+            return Some(found);
+        }
+    }
+    long_front(bytes, unit)
+}
+
+/// Like `read_front`, of a number of any length.
+#[cold]
+#[inline(never)]
+fn long_front(bytes: &[u8], unit: Unit) -> Option<(i32, usize)>
     ensures exact { IfSome result (λ found. coordinate_of unit (take found.1 bytes.now) ≡ Ok found.0) }
     ensures within { IfSome result (λ found. found.1 ≤ length bytes.now) }
     ensures reads { (word rest : List ℕ) (z : ℤ) → bytes.now ≡ word ++ rest → IsEnded rest → coordinate_of unit word ≡ Ok z

@@ -54,6 +54,16 @@ fn power_of_ten(power: u64) -> u64
     POWERS[power as usize]
 }
 
+/// `value` divided by `unit`, a power of ten, to the nearest whole number, halves upward.
+#[inline(always)]
+fn divided(value: u64, unit: u64) -> u64
+    requires some { 0 < unit }
+    requires small { value < SCALE_LIMIT }
+    ensures { (power : ℕ) → 0 < power → unit ≡ 10 ^ power → result ≡ rounded_quotient value power }
+{
+    (value + unit / 2) / unit
+}
+
 /// `value` divided by ten to the power `power`, to the nearest whole number, halves upward.
 #[inline(always)]
 fn shrunk(value: u64, power: u64) -> u64
@@ -61,12 +71,20 @@ fn shrunk(value: u64, power: u64) -> u64
     requires small { value < SCALE_LIMIT }
     ensures { result ≡ rounded_quotient value power }
 {
-    // each value here is less than half of ten to the power 20
-    if power > 19 {
-        return 0;
+    // The compiler makes a division by a constant a multiplication, and most numbers with an exponent have one of these
+    // powers.
+    if power == 2 {
+        divided(value, 100)
+    } else if power == 3 {
+        divided(value, THOUSAND)
+    } else if power == 4 {
+        divided(value, 10 * THOUSAND)
+    } else if power > 19 {
+        // each value here is less than half of ten to the power 20
+        0
+    } else {
+        divided(value, power_of_ten(power))
     }
-    let unit = power_of_ten(power);
-    (value + unit / 2) / unit
 }
 
 /// `value` times ten to the power `power`. A product above `COORDINATE_LIMIT` may be given as any other such number.

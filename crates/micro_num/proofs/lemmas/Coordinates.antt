@@ -233,7 +233,7 @@ module _ (unit : LengthUnit) (word : List ℕ) where
           ∙ ap (λ b. if b then Ok (micro unit n) else Err OutOfRange) (lt-leb (unsigned_abs (micro unit n)) COORDINATE_LIMIT far)
 
 -- A number at the front of a text, behind an optional sign, stands for its size with that sign.
-module _ (unit : LengthUnit) (text rest : List ℕ) (r : ℕ) (front : IsNumberFront unit (after_sign text) rest r) (short : length text ≤ 255) where
+module _ (unit : LengthUnit) (text rest : List ℕ) (r : ℕ) (front : IsNumberFront unit (after_sign text) rest r) (short : length text - length rest ≤ 255) where
   front_signed : coordinate_of unit (take (length text - length rest) text) ≡ signed (sign_of text) (size_or_fault (size unit front.number))
   front_signed =
       let n : Numeral = front.number in
@@ -248,7 +248,7 @@ module _ (unit : LengthUnit) (text rest : List ℕ) (r : ℕ) (front : IsNumberF
       let count : length (numeral_text k) ≡ length text - length rest = omega arith in
       let cut : take (length text - length rest) text ≡ numeral_text k =
       ap (take (length text - length rest)) spelled ∙ take_at (numeral_text k) rest (length text - length rest) count in
-      spelled_coordinate unit (take (length text - length rest) text) k front.is cut (omega (arith, ap length cut))
+      spelled_coordinate unit (take (length text - length rest) text) k front.is cut (omega (arith, ap length cut, count))
       ∙ sized s (size unit n)
 
   pub front_coordinate : r ≤ COORDINATE_LIMIT → coordinate_of unit (take (length text - length rest) text) ≡ Ok (turned (sign_of text) (pos r))
@@ -291,12 +291,16 @@ module _ (unit : LengthUnit) (text word rest : List ℕ) (count : ℕ) (spelled 
   read_word : coordinate_of unit (take count text) ≡ coordinate_of unit word
   read_word = ap (coordinate_of unit) (ap (take count) spelled ∙ take_at word rest count long)
 
-  pub found_word : (y z : ℤ) → coordinate_of unit (take count text) ≡ Ok y → coordinate_of unit word ≡ Ok z
-      → ◌≡◌ {A = Option (ℤ × ℕ)} (Some (y, count)) (Some (z, length word))
-  found_word y z read is =
+  pub found_pair : (y z : ℤ) → coordinate_of unit (take count text) ≡ Ok y → coordinate_of unit word ≡ Ok z
+      → ◌≡◌ {A = ℤ × ℕ} (y, count) (z, length word)
+  found_pair y z read is =
       let both : Ok y ≡ Ok z = sym read ∙ read_word ∙ is in
       let same : y ≡ z = cc in
-      λ i. Some (same i, sym long i)
+      λ i. (same i, sym long i)
+
+  pub found_word : (y z : ℤ) → coordinate_of unit (take count text) ≡ Ok y → coordinate_of unit word ≡ Ok z
+      → ◌≡◌ {A = Option (ℤ × ℕ)} (Some (y, count)) (Some (z, length word))
+  found_word y z read is = ap Some (found_pair y z read is)
 
   pub not_beyond : (z : ℤ) → coordinate_of unit (take count text) ≡ Err OutOfRange → coordinate_of unit word ≡ Ok z → ⊥
   not_beyond z read is = let both : Err OutOfRange ≡ Ok z = sym read ∙ read_word ∙ is in cc

@@ -1,6 +1,6 @@
-use Rattle.std.proofs.Common.{arith, sym, lit≤, ◌^◌, ◌≤◌, ◌/◌, ◌∙◌, ap, ◌+◌}
+use Rattle.std.proofs.Common.{arith, sym, lit≤, ◌^◌, ◌≤◌, ap}
 use Rattle.std.proofs.Math.Nat.{pow-le-pow_right}
-use Rattle.micro_num.proofs.lemmas.Powers.{power_above, rounded_quotient-is}
+use Rattle.micro_num.proofs.lemmas.Powers.{power_above}
 use Rattle.micro_num.proofs.lemmas.Magnitude.{rounded_quotient-small}
 use Rattle.micro_num.proofs.scaling.shrunk.Goals as goal
 
@@ -9,8 +9,17 @@ returns-then-power-gt19 c =
     let far : 10 ^ 20 ≤ 10 ^ c.args.power = pow-le-pow_right {n = 10} (lit≤ tt) {i = 20} {j = c.args.power} (omega arith) in
     sym (rounded_quotient-small c.args.value c.args.power (omega arith))
 
-pub nonzero_div-result-2 : goal.nonzero_div-result-2
-nonzero_div-result-2 c = omega (arith, power_above c.args.power)
+pub returns-then-power-eq2 : goal.returns-then-power-eq2
+returns-then-power-eq2 c = c.divided.ensures c.args.power c.requires.some (ap (λ k. 10 ^ k) (sym c.if-power-eq2.true))
 
-pub returns : goal.returns
-returns c = ap (λ u. (c.args.value + u / 2) / u) c.power_of_ten-unit.ensures ∙ rounded_quotient-is c.args.value c.args.power c.requires.some
+pub returns-then-power-eq3 : goal.returns-then-power-eq3
+returns-then-power-eq3 c = c.divided-then-power-eq3.ensures c.args.power c.requires.some (ap (λ k. 10 ^ k) (sym c.if-power-eq3.true))
+
+pub returns-then-power-eq4 : goal.returns-then-power-eq4
+returns-then-power-eq4 c = c.divided-then-power-eq4.ensures c.args.power c.requires.some (ap (λ k. 10 ^ k) (sym c.if-power-eq4.true))
+
+pub divided-requires-else-power-gt19-clause-some : goal.divided-requires-else-power-gt19-clause-some
+divided-requires-else-power-gt19-clause-some c = omega (arith, c.power_of_ten.ensures, power_above c.args.power)
+
+pub returns-else-power-gt19 : goal.returns-else-power-gt19
+returns-else-power-gt19 c = c.divided-else-power-gt19.ensures c.args.power c.requires.some c.power_of_ten.ensures

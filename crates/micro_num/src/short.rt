@@ -1,0 +1,109 @@
+//! Short numbers: those with few digits in each part, at the front of a text that goes on behind them. Almost all numbers of
+//! a mesh are short, and the end of the text is looked for once, not at each byte.
+ghost use Rattle.std.specs.Prelude.{◌≡◌, ◌≤◌, ◌<◌, ◌+◌, ◌*◌, ◌++◌, ℕ, ℤ, Ok, Option, List, length, take, true, IfSome, unsigned_abs};
+ghost use Rattle.std.specs.List.{before_first};
+ghost use Rattle.micro_num.specs.Numeral.{Exponent, IsNumeral, Numeral, exponent_text, fraction_digits, from_first, is_exponent, numeral_text, unsigned};
+ghost use Rattle.micro_num.specs.Micrometres.{coordinate_of, digits_value};
+ghost use Rattle.micro_num.specs.Scan.{IsEnded, IsExponentFront, IsLeading, IsNumberFront, digits_behind, is_other, rest_behind};
+ghost use Rattle.micro_num.specs.declared.limits.TheConstants.{FEW, LEADING_LIMIT, SHORT_ROOM};
+
+use crate::digits::{Leading, few_digits};
+use crate::mantissa::{Mantissa, split_sign};
+use crate::scaling::size_in;
+use crate::unit::Unit;
+use geometry::COORDINATE_LIMIT;
+
+/// Like `read_mantissa`, where there are fewer than `FEW` digits before the point and behind it. Else `None`.
+#[inline(always)]
+fn short_mantissa(bytes: &[u8]) -> Option<Mantissa<'_>>
+    requires { 2 * FEW ≤ length bytes.now }
+    ensures whole { IfSome result (λ m. m.whole.now ≡ before_first is_other bytes.now) }
+    ensures fraction { IfSome result (λ m. m.fraction.now ≡ fraction_digits (digits_behind (from_first is_other bytes.now))) }
+    ensures behind { IfSome result (λ m. m.behind.now ≡ rest_behind (from_first is_other bytes.now)) }
+    ensures leads { IfSome result (λ m. IsLeading m.leading.value m.leading.dropped (digits_value (m.whole.now ++ m.fraction.now))) }
+    ensures few { IfSome result (λ m. m.leading.dropped ≡ 0) }
+    ensures short { IfSome result (λ m. (length m.whole.now < FEW) × (length m.fraction.now < FEW)) }
+    ensures within { IfSome result (λ m. length bytes.now < length m.behind.now + 2 * FEW) }
+{
+    let digits = few_digits(bytes, Leading::NONE)?;
+    let (whole, behind) = bytes.split_at(digits.count);
+    if let Some((b'.', text)) = behind.split_first() {
+        let more = few_digits(text, digits.leading)?;
+        let (fraction, behind) = text.split_at(more.count);
+        Some(Mantissa {
+            leading: more.leading,
+            whole,
+            fraction,
+            behind,
+        })
+    } else {
+        Some(Mantissa {
+            leading: digits.leading,
+            whole,
+            fraction: &[],
+            behind,
+        })
+    }
+}
+
+/// Like `exponent_front`, where there are fewer than `FEW` digits. Else `None`.
+#[inline(always)]
+fn short_exponent(bytes: &[u8]) -> Option<(i64, &[u8])>
+    requires { FEW + 2 ≤ length bytes.now }
+    ensures front { IfSome result (λ found. IsExponentFront bytes.now found.1.now found.0) }
+    ensures small { IfSome result (λ found. unsigned_abs found.0 < LEADING_LIMIT) }
+    ensures reads { IfSome result (λ found. (x : Option Exponent) (rest : List ℕ) → is_exponent x ≡ true → bytes.now ≡ exponent_text x ++ rest
+        → IsEnded rest → found.1.now ≡ rest) }
+    ensures within { IfSome result (λ found. length bytes.now < length found.1.now + FEW + 2) }
+{
+    let Some((mark, text)) = bytes.split_first() else {
+        return None;
+    };
+    if *mark != b'e' && *mark != b'E' {
+        return Some((0, bytes));
+    }
+    let (negative, text) = split_sign(text);
+    let digits = few_digits(text, Leading::NONE)?;
+    if digits.count == 0 {
+        return None;
+    }
+    let size = digits.leading.value as i64;
+    let (_, behind) = text.split_at(digits.count);
+    Some((if negative { -size } else { size }, behind))
+}
+
+/// Like `size_front`, where the number is short. Else `None`.
+#[inline(always)]
+fn short_size(text: &[u8], unit: Unit) -> Option<(u64, &[u8])>
+    requires { SHORT_ROOM ≤ length text.now + 1 }
+    ensures front { IfSome result (λ found. IsNumberFront unit text.now found.1.now found.0) }
+    ensures reads { IfSome result (λ found. (n : Numeral) (rest : List ℕ) → IsNumeral n → n.sign ≡ unsigned → text.now ≡ numeral_text n ++ rest
+        → IsEnded rest → found.1.now ≡ rest) }
+    ensures within { IfSome result (λ found. length text.now < length found.1.now + SHORT_ROOM) }
+{
+    let mantissa = short_mantissa(text)?;
+    if mantissa.whole.len() + mantissa.fraction.len() == 0 {
+        return None;
+    }
+    let (exponent, behind) = short_exponent(mantissa.behind)?;
+    Some((size_in(&mantissa, exponent, unit), behind))
+}
+
+/// Like `read_front`, where the number is short. Else `None`.
+#[inline(always)]
+pub(crate) fn short_front(bytes: &[u8], unit: Unit) -> Option<(i32, usize)>
+    requires { SHORT_ROOM ≤ length bytes.now }
+    ensures exact { IfSome result (λ found. coordinate_of unit (take found.1 bytes.now) ≡ Ok found.0) }
+    ensures within { IfSome result (λ found. found.1 ≤ length bytes.now) }
+    ensures reads { IfSome result (λ found. (word rest : List ℕ) (z : ℤ) → bytes.now ≡ word ++ rest → IsEnded rest
+        → coordinate_of unit word ≡ Ok z → found ≡ (z, length word)) }
+{
+    let (negative, digits) = split_sign(bytes);
+    let (size, behind) = short_size(digits, unit)?;
+    if COORDINATE_LIMIT < size {
+        return None;
+    }
+    let size = size as i32;
+    let count = bytes.len() - behind.len();
+    Some((if negative { -size } else { size }, count))
+}
