@@ -17,6 +17,8 @@ mod corner_planes;
 #[cfg(test)]
 mod cuts;
 #[cfg(test)]
+mod dense_rows;
+#[cfg(test)]
 mod file_forms;
 #[cfg(test)]
 mod filling;

@@ -40,7 +40,7 @@ pub(crate) const BOX: &[[u8; 3]] = &[
 ];
 
 /// The same facets inward: each with its last two corners exchanged.
-const INWARD: &[[u8; 3]] = &[
+pub(crate) const INWARD: &[[u8; 3]] = &[
     [0, 6, 2],
     [0, 4, 6],
     [1, 7, 5],
@@ -139,7 +139,8 @@ fn corner(corners: &[[i32; 3]], number: u8) -> Result<Point, AllocError> {
     Point::new(x, y, z).ok_or(AllocError)
 }
 
-fn push_facets<A: Allocator>(
+/// Adds the facets of a part to a list.
+pub(crate) fn push_facets<A: Allocator>(
     list: &mut Vec<Facet, A>,
     (corners, facets): Part<'_>,
 ) -> Result<(), AllocError> {

@@ -15,3 +15,6 @@ pub mod Boxes
 pub mod Segs
 pub mod Pixels
 pub mod Middles
+pub mod Marks
+pub mod Turns
+pub mod ColumnSums

@@ -1,8 +1,9 @@
 -- The crossings of the scanlines of a layer with a mesh, each by the column that it falls into.
 --     signs crossings          the sum of the signs of the crossings of one row
 --     passed crossings i       the sum of the signs of those in column i or left of it
+--     passed_before crossings i    the sum of the signs of those left of column i
 --     crossings_in rows j      the crossings of row j
-use Rattle.std.specs.Prelude.{◌≡◌, ◌^◌, slice_index_or, ℕ, ◌+◌, Bool, true, List, [], ◌∷◌, ℤ, pos, negsuc, nat_le, ◌==◌, if◌then◌else◌}
+use Rattle.std.specs.Prelude.{◌≡◌, ◌^◌, slice_index_or, ℕ, ◌+◌, Bool, true, List, [], ◌∷◌, ℤ, pos, negsuc, nat_le, nat_lt, ◌==◌, if◌then◌else◌}
 use Rattle.std.specs.List.{list_all}
 use Rattle.geometry.specs.Winding.{total}
 use Rattle.raster.specs.declared.crossings.RowCrossing.{RowCrossing}
@@ -19,6 +20,10 @@ signs crossings = total sign_of crossings
 
 abbrev pub passed : List RowCrossing → ℕ → ℤ
 passed crossings i = total (λ m. if nat_le m.column i then sign_of m else pos 0) crossings
+
+-- of those left of column i
+abbrev pub passed_before : List RowCrossing → ℕ → ℤ
+passed_before crossings i = total (λ m. if nat_lt m.column i then sign_of m else pos 0) crossings
 
 -- the crossings of row j
 abbrev pub crossings_in : List (List RowCrossing) → ℕ → List RowCrossing

@@ -8,3 +8,4 @@ pub mod Bits
 pub mod Rows
 pub mod Crossings
 pub mod RowSpans
+pub mod ColumnSums

@@ -6,10 +6,12 @@ ghost use Rattle.geometry.specs.Facet.{twice};
 ghost use Rattle.geometry.specs.Winding.{hit, total, wind};
 ghost use Rattle.contour.specs.Segment.{segments};
 ghost use Rattle.exact_cut.specs.Lattice.{pixel, row_y};
+ghost use Rattle.raster.specs.ColumnSums.{AreZero};
 ghost use Rattle.raster.specs.Crossings.{AreCrossingsWithin, crossings_along, crossings_in, row_passed, row_signs, signs};
 ghost use Rattle.raster.specs.RowSpans.{AreRowSpans};
 ghost use Rattle.geometry.specs.declared.limits.TheConstants.{CENTRE_LIMIT, COLUMN_LIMIT};
 
+use crate::column_sums::ColumnSums;
 use crate::filler::fill_row;
 use crate::rule::Rule;
 use crate::span::Span;
@@ -83,16 +85,20 @@ impl<A: Allocator> RowCrossings<A> {
         &mut self,
         rule: Rule,
         row: u32,
+        columns: &mut ColumnSums<A>,
         out: &mut Vec<Span, A>,
     ) -> Result<(), AllocError>
         requires row { row < length self.old }
         requires balanced { signs (crossings_in self.old row) ≡ pos 0 }
+        requires between_rows { AreZero columns.old.sums.items }
+        ensures between_rows { AreZero columns.new.sums.items }
         ensures rows { length self.new ≡ length self.old }
         ensures elsewhere { (j : ℕ) → j ≢ row → crossings_in self.new j ≡ crossings_in self.old j }
         ensures kept { OnOk result (take (length out.old.items) out.new.items ≡ out.old.items) }
         ensures added { OnOk result (AreRowSpans rule row (crossings_in self.old row) (drop (length out.old.items) out.new.items)) }
     {
-        fill_row(rule, row, self.rows[row as usize].as_mut_slice(), out)
+        let crossings = self.rows[row as usize].as_mut_slice();
+        fill_row(rule, row, crossings, columns, out)
     }
 }
 

@@ -20,6 +20,7 @@
 //! such numbers end in `2`. Columns, rows and layers count from 0 along x, y and z.
 #![tactic(auto)]
 
+mod column_sums;
 mod crossings;
 mod devices;
 mod filler;

@@ -1,7 +1,8 @@
 -- The bits of one byte under a mask.
-use Rattle.std.proofs.Common.{◌≡◌, ℕ, ◌+◌, ◌-◌, ◌/◌, ◌%◌, ◌<◌, ◌≤◌, max, List, length, get_or, subst, sym, arith, take, drop, length-drop, ap, ◌++◌, ◌∙◌}
+use Rattle.std.proofs.Common.{◌≡◌, ℕ, ◌+◌, ◌*◌, ◌^◌, ◌-◌, ◌/◌, ◌%◌, ◌<◌, ◌≤◌, max, List, length, get_or, subst, sym, arith, take, drop, length-drop, ap, ◌++◌, ◌∙◌}
 use Rattle.std.specs.Prelude.{bit_and}
 use Rattle.std.specs.Int.{bit_at}
+use Rattle.std.proofs.lemmas.Nat.{shr-shr}
 use Rattle.std.proofs.lemmas.Nat.Bits.{bit_at_and, bit_at-lt, bit_at_ones}
 use Rattle.std.proofs.Math.ListN.{replicate}
 use borrow.Rule.Slice.PartMut.{put_mid}
@@ -42,3 +43,12 @@ black-inside row part a k i black size room low high =
 
 pub part-length : (row : List ℕ) (a b : ℕ) → a ≤ b → b ≤ length row → length (take (b - a) (drop a row)) ≡ b - a
 part-length row a b order room = length-take-le (b - a) (drop a row) (omega (arith, length-drop a row))
+
+-- the bits of byte k of a word, the first byte the highest
+pub bit_at-byte : (mask k b : ℕ) → k < 8 → b < 8 → bit_at (bit_and (mask / 2 ^ (56 - 8 * k)) 255) (7 - b) ≡ bit_at mask (63 - (8 * k + b))
+bit_at-byte mask k b small low =
+    let place : (56 - 8 * k) + (7 - b) ≡ 63 - (8 * k + b) = omega arith in
+    let one : bit_at 255 (7 - b) ≡ 1 = bit_at_ones 8 (7 - b) (omega arith) in
+    let both : bit_at (bit_and (mask / 2 ^ (56 - 8 * k)) 255) (7 - b) ≡ bit_at (mask / 2 ^ (56 - 8 * k)) (7 - b) =
+    omega (arith, bit_at_and (mask / 2 ^ (56 - 8 * k)) 255 (7 - b), one, bit_at-lt (mask / 2 ^ (56 - 8 * k)) (7 - b)) in
+    both ∙ ap (λ (m : ℕ). m % 2) (shr-shr mask (56 - 8 * k) (7 - b)) ∙ ap (λ (m : ℕ). bit_at mask m) place

@@ -13,6 +13,10 @@ pub(crate) fn set_pixels(row: &mut [u8], from: usize, to: usize)
 {
     let first = from / 8;
     let last = (to - 1) / 8;
+    if last < first + 8 && first + 8 <= row.len() {
+        set_word(row, first, mask_between(from % 8, to - 8 * first));
+        return;
+    }
     let head = mask_from(from);
     let tail = mask_through(to - 1);
     if first == last {
@@ -38,6 +42,29 @@ fn mask_through(column: usize) -> u8
     ensures outside { (b : ℕ) → b < 8 → column % 8 < b → bit_at result (7 - b) ≡ 0 }
 {
     0xff << (7 - column % 8)
+}
+
+/// The mask of those of 64 pixels in the columns from `from` up to and without `to`, the leftmost in the highest bit.
+fn mask_between(from: usize, to: usize) -> u64
+    requires some { from < to }
+    requires few { to ≤ 64 }
+    ensures inside { (b : ℕ) → from ≤ b → b < to → bit_at result (63 - b) ≡ 1 }
+    ensures left { (b : ℕ) → b < from → bit_at result (63 - b) ≡ 0 }
+    ensures right { (b : ℕ) → to ≤ b → b < 64 → bit_at result (63 - b) ≡ 0 }
+{
+    (u64::MAX >> from) & (u64::MAX << (64 - to))
+}
+
+/// Sets the pixels of the eight bytes from this index on that are in the mask.
+fn set_word(row: &mut [u8], first: usize, mask: u64)
+    requires { first + 8 ≤ length row.old }
+    ensures there { (i : ℕ) → first ≤ i / 8 → i / 8 < first + 8 → pixel_bit row.new i ≡ max (pixel_bit row.old i) (bit_at mask (63 - (i - 8 * first))) }
+    ensures left { (i : ℕ) → i / 8 < first → pixel_bit row.new i ≡ pixel_bit row.old i }
+    ensures right { (i : ℕ) → first + 8 ≤ i / 8 → pixel_bit row.new i ≡ pixel_bit row.old i }
+{
+    for k in 0..8 {
+        set_bits(row, first + k, (mask >> (56 - 8 * k) & 0xff) as u8);
+    }
 }
 
 /// Sets the pixels of the byte at this index that are in the mask.

@@ -15,12 +15,13 @@ loop-row-preserved g c =
     record {
       rows = done.rows ∙ inv.rows;
       left = λ j low. done.elsewhere j (λ same. omega (arith, low, same)) ∙ inv.left j (omega (arith, low));
+      between_rows = done.between_rows;
       spans = λ columns inside.
           spans-more c.args.rule columns c.loop-row.row c.args.crossings.now c.loop-row.out.items c.fill_row.new.out.items inside done.kept
           (rw (inv.left c.loop-row.row (omega arith)) at done.added) (inv.spans columns inside);
     }
 
-pub returns : goal.returns
-returns g c = λ columns inside.
+pub returns-clause-spans : goal.returns-clause-spans
+returns-clause-spans g c = λ columns inside.
     let all : c.loop-row.row ≡ c.args.rows = omega (arith, c.loop-row-test.false) in
     subst (λ (n : ℕ). AreSpansBelow c.args.rule columns n c.args.crossings.now c.loop-row.out.items) all (c.loop-row.invariant.spans columns inside)

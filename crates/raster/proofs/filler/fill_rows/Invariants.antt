@@ -1,4 +1,5 @@
 use Rattle.std.proofs.Common.{◌≡◌, ◌≤◌, ℕ, length}
+use Rattle.raster.specs.ColumnSums.{AreZero}
 use Rattle.raster.specs.Crossings.{AreCrossingsWithin, crossings_in}
 use Rattle.raster.specs.RowSpans.{AreSpansBelow}
 use Rattle.raster.proofs.filler.fill_rows.Given as goal
@@ -8,5 +9,6 @@ invariant-loop-row g l =
     record {
       rows : length l.crossings ≡ length l.fn.crossings;
       left : (j : ℕ) → l.row ≤ j → crossings_in l.crossings j ≡ crossings_in l.fn.crossings j;
+      between_rows : AreZero l.columns.sums.items;
       spans : (columns : ℕ) → AreCrossingsWithin columns l.fn.crossings → AreSpansBelow l.rule columns l.row l.fn.crossings l.out.items;
     }

@@ -22,7 +22,7 @@ returns g c =
     (λ spans e. fill-of c.args.s.now.facets c.args.rule c.args.g.now c.args.k c.push_facets.new.out spans.items
     c.count-closed.ensures.closed
     (spans-below c.args.rule c.args.g.now c.pixels-pixels.result c.rows.result c.push_facets.new.out c.fill_rows.new.out.items spans.items
-    same c.rows.ensures.value (e ∙ c.as_slice.ensures.value) c.in_ok-push_facets.ensures.within c.in_ok-fill_rows.ensures)
+    same c.rows.ensures.value (e ∙ c.as_slice.ensures.value) c.in_ok-push_facets.ensures.within c.in_ok-fill_rows.ensures.spans)
     (λ below. spans-swept c.args.s.now.facets c.args.g.now c.pixels-pixels.result c.args.k (to_z w64 (of_z w64 c.plane.result)) c.args.rule c.push_facets.new.out spans.items
     same (to_z-of_z w64 c.plane.result fits ∙ c.plane.ensures.value) c.in_ok-push_facets.ensures.passed below))
     c.copied.ensures
