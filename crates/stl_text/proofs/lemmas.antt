@@ -7,3 +7,6 @@ pub mod Steps
 pub mod Solids
 pub mod Written
 pub mod ReadIsWritten
+pub mod Stages
+pub mod Locality
+pub mod Pieces

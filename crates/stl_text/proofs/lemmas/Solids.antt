@@ -47,7 +47,7 @@ opened start mid now had first line = record {
   spelled = spells_then (solid_word ∷ []) (rest_of_line ∷ []) first (line_passed mid now line);
 }
 
-open-more : (added : List Facet) (t : Facet) → open_tokens (added ++ t ∷ []) ≡ open_tokens added ++ ((facet_word ∷ []) ++ facet_tail t)
+pub open-more : (added : List Facet) (t : Facet) → open_tokens (added ++ t ∷ []) ≡ open_tokens added ++ ((facet_word ∷ []) ++ facet_tail t)
 open-more added t =
     ap (λ ps. solid_word ∷ rest_of_line ∷ ps)
     (flat_map-append facet_tokens added (t ∷ []) ∙ ap (λ ps. flat_map facet_tokens added ++ ps) (append-nil (facet_tokens t)))
