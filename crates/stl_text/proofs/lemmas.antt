@@ -8,3 +8,6 @@ pub mod Solids
 pub mod Runs
 pub mod Written
 pub mod ReadIsWritten
+pub mod Stages
+pub mod Locality
+pub mod Pieces

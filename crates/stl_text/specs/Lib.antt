@@ -2,3 +2,5 @@ pub mod Text
 pub mod Reader
 pub mod Parts
 pub mod Written
+pub mod Stage
+pub mod Pieces

@@ -59,7 +59,7 @@ impl<'t> Reader<'t> {
     }
 
     /// Reads the rest of a facet, behind its keyword `facet`: a normal, a loop, `endfacet`.
-    fn facet(&mut self) -> Result<Facet, StlFault>
+    pub(crate) fn facet(&mut self) -> Result<Facet, StlFault>
         ensures read { IfOk result (λ t. Spells (facet_tail t) self.old self.new) }
         ensures fault { IfErr result (λ fault. (t : Facet) × Breaks (facet_tail t) self.old fault) }
     {

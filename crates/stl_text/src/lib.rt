@@ -2,6 +2,7 @@
 //!
 //! - [`read_stl`], [`read_stl_at_most`]: the facets of a text in file order, or its one fault.
 //! - [`read_stl_by`]: the same, read in parts by several workers.
+//! - [`TextReader`]: the same of a text that arrives in pieces, and is not held.
 //! - [`StlFault`]: why a text is no mesh, with the byte offset of the fault; [`Word`]: what is wanted there.
 //! - [`one_outcome`], [`reads_as_written`]: laws. Each text has one outcome, and it reads as facets exactly where it is
 //!   these facets written as STL.
@@ -26,11 +27,14 @@ mod parts;
 mod reader;
 mod reading;
 mod scanning;
+mod stage;
 mod stl_fault;
+mod text_reader;
 mod word;
 
 pub use geometry::{FACET_LIMIT, Facet, Point, extent, points_in_order};
 pub use laws::{one_outcome, reads_as_written};
 pub use reading::{read_stl, read_stl_at_most, read_stl_by};
 pub use stl_fault::StlFault;
+pub use text_reader::TextReader;
 pub use word::Word;

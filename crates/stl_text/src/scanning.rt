@@ -29,7 +29,7 @@ fn space_len(bytes: &[u8]) -> usize
 }
 
 /// The number of bytes before the first white space.
-fn word_len(bytes: &[u8]) -> usize
+pub(crate) fn word_len(bytes: &[u8]) -> usize
     ensures len { result ≡ position_or_len Text.is_white bytes.now }
     ensures within { result ≤ length bytes.now }
 {

@@ -4,6 +4,9 @@ ghost use Rattle.stl_text.specs.Text.{HasOneKeyword, keyword_text};
 
 use std::fmt::{Display, Error, Formatter, Write};
 
+/// The keyword that begins a solid, in lower case.
+pub(crate) const SOLID: &[u8] = b"solid";
+
 /// The keyword that begins a facet, in lower case.
 pub(crate) const FACET: &[u8] = b"facet";
 

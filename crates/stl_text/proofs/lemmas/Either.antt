@@ -202,7 +202,7 @@ from_first-le p bytes =
     let left : length (drop (position_or_len p bytes) bytes) ≡ length bytes - position_or_len p bytes = length-drop (position_or_len p bytes) bytes in
     omega (arith, left)
 
-after_space-le : (bytes : List ℕ) → length (after_space bytes) ≤ length bytes
+pub after_space-le : (bytes : List ℕ) → length (after_space bytes) ≤ length bytes
 after_space-le bytes =
     let left : length (drop (prefix_len is_white bytes) bytes) ≡ length bytes - prefix_len is_white bytes = length-drop (prefix_len is_white bytes) bytes in
     omega (arith, left)
@@ -290,7 +290,7 @@ cut_open solids facets =
     ∙ ap (λ r. flat_map solid_tokens solids ++ r) (append-nil (solid_tokens facets))
 
 -- cut before a token of the last facet
-cut_facet : (solids : List (List Facet)) (facets : List Facet) (t : Facet) (front : List Token) (p : Token) (more : List Token)
+pub cut_facet : (solids : List (List Facet)) (facets : List Facet) (t : Facet) (front : List Token) (p : Token) (more : List Token)
     → facet_tokens t ≡ front ++ p ∷ more
     → flat_map solid_tokens (solids ++ (facets ++ t ∷ []) ∷ [])
     ≡ ((flat_map solid_tokens solids ++ open_tokens facets) ++ front) ++ p ∷ (more ++ end_tokens)
@@ -317,7 +317,7 @@ facets_of-open solids facets =
     ∙ length-append (facets_of solids) (facets ++ [])
     ∙ ap (λ r. length (facets_of solids) + length r) (append-nil facets)
 
-facet_count-open : (solids : List (List Facet)) (facets : List Facet)
+pub facet_count-open : (solids : List (List Facet)) (facets : List Facet)
     → facet_count (flat_map solid_tokens solids ++ open_tokens facets) ≡ length (facets_of solids) + length facets
 facet_count-open solids facets =
     let f : Token → ℕ = λ x. cond (is_facet_word x) 1 0 in

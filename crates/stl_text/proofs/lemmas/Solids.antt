@@ -39,7 +39,7 @@ pub record IsOpen (start : Reader) (had : List Facet) (now : Reader) (facets : L
   pub items : facets ≡ had ++ added
   pub spelled : Spells (open_tokens added) start now
 
-open-more : (added : List Facet) (t : Facet) → open_tokens (added ++ t ∷ []) ≡ open_tokens added ++ ((facet_word ∷ []) ++ facet_tail t)
+pub open-more : (added : List Facet) (t : Facet) → open_tokens (added ++ t ∷ []) ≡ open_tokens added ++ ((facet_word ∷ []) ++ facet_tail t)
 open-more added t =
     ap (λ ps. solid_word ∷ rest_of_line ∷ ps)
     (flat_map-append facet_tokens added (t ∷ []) ∙ ap (λ ps. flat_map facet_tokens added ++ ps) (append-nil (facet_tokens t)))

@@ -1,0 +1,283 @@
+-- The stages of a reading: how a token leads from one to the next, and the fault where a word doesn't fit.
+use Rattle.std.proofs.Common.{◌≡◌, ℕ, ◌+◌, ◌<◌, ◌≤◌, Bool, true, false, cond, List, [], ◌∷◌, ◌++◌, length, take, drop, refl, sym, ◌∙◌, ap, subst, arith, append_assoc, append-nil, length-append, lit≤}
+use Rattle.std.specs.Prelude.{Option, Some, Ok, Err, ℤ, nat_lt, flat_map}
+use Rattle.std.specs.List.{before_first}
+use Rattle.std.specs.Ordering.{int_eq}
+use Rattle.std.proofs.lemmas.Bool.{lt-ltb}
+use Rattle.std.proofs.lemmas.Bool.Decides.{Decides-int_eq}
+use Rattle.std.proofs.lemmas.List.Sums.{sum_by-append}
+use Rattle.micro_num.specs.Micrometres.{coordinate_of}
+use Rattle.micro_num.specs.declared.unit.Unit.{Unit as LengthUnit}
+use Rattle.geometry.specs.Point.{origin}
+use Rattle.geometry.specs.Facet.{Facet, facet_with}
+use Rattle.stl_text.specs.declared.word.Word.TheVariants.{Solid}
+use Rattle.stl_text.specs.declared.stl_fault.StlFault.{StlFault}
+use Rattle.stl_text.specs.declared.stl_fault.StlFault.TheVariants as fault
+use Rattle.stl_text.specs.declared.stage.Stage.TheVariants as stage
+use Rattle.stl_text.specs.declared.stage.TheConstants.{LAST_WORD}
+use Rattle.stl_text.specs.Text.{Token, keyword_of, keyword_text, rest_of_line, facet_word, end_word, facet_keyword, end_keyword, facet_tokens, solid_tokens, is_keyword, is_facet_word, is_read_as, begins_with, after_token, rest_behind, first_word, after_space, after_word, after_line, facets_of, facet_count, is_white, IsFaultOf, Reads}
+use Rattle.stl_text.specs.Reader.{Reader, IsStop, Spells, start as begin, facet_tail, left_at}
+use Rattle.stl_text.specs.Stage.{Goes, IsForm, Stands, ReadInside, front, opened}
+use Rattle.stl_text.proofs.lemmas.OneFault.{facet_count-solids}
+use Rattle.stl_text.proofs.lemmas.Either.{cut_facet, facet_count-open}
+use Rattle.stl_text.proofs.lemmas.Solids.{facet_shorter, facets-more, fault_is, open-more, tokens-more}
+use Rattle.stl_text.proofs.lemmas.Steps.{spelled-append}
+
+abbrev end_tokens : List Token
+end_tokens = end_word ∷ rest_of_line ∷ []
+
+abbrev zero_facet : Facet
+zero_facet = facet_with origin origin origin
+
+-- one token behind others
+pub one_token : (unit : LengthUnit) (tokens : List Token) (p : Token) (text behind rest : List ℕ) → rest_behind unit tokens text ≡ Some behind
+    → begins_with unit p behind ≡ true → after_token p behind ≡ rest → rest_behind unit (tokens ++ p ∷ []) text ≡ Some rest
+one_token unit tokens p text behind rest spelled begins after =
+    spelled-append unit tokens (p ∷ []) text behind rest spelled
+    (rw begins (ap {B = Option (List ℕ)} Some after))
+
+-- `solid` and its line
+pub solid_read : (limit : ℕ) (unit : LengthUnit) (some : Bool) (facets : List Facet) (text behind : List ℕ)
+    → Stands limit unit (stage.Between some) facets text behind → is_keyword (keyword_text Solid) (first_word behind) ≡ true
+    → Stands limit unit stage.Facets facets text (after_line (after_word behind))
+solid_read limit unit true facets text behind s h = record {
+  solids = s.solids;
+  added = [];
+  items = s.items ∙ ap (λ a. facets_of s.solids ++ a) s.form.0;
+  form = s.form.2;
+  spelled = spelled-append unit (flat_map solid_tokens s.solids) (keyword_of Solid ∷ rest_of_line ∷ []) text behind (after_line (after_word behind)) s.spelled (rw h refl);
+}
+solid_read limit unit false facets text behind s h = record {
+  solids = s.solids;
+  added = [];
+  items = s.items ∙ ap (λ a. facets_of s.solids ++ a) s.form.0;
+  form = s.form.2;
+  spelled = spelled-append unit (flat_map solid_tokens s.solids) (keyword_of Solid ∷ rest_of_line ∷ []) text behind (after_line (after_word behind)) s.spelled (rw h refl);
+}
+
+-- `endsolid` and its line
+pub end_read : (limit : ℕ) (unit : LengthUnit) (facets : List Facet) (text behind : List ℕ)
+    → Stands limit unit stage.Facets facets text behind → is_keyword end_keyword (first_word behind) ≡ true
+    → Stands limit unit (stage.Between true) facets text (after_line (after_word behind))
+end_read limit unit facets text behind s h =
+    let P : List Token = flat_map solid_tokens s.solids in
+    let rest : List ℕ = after_line (after_word behind) in
+    let tokens : flat_map solid_tokens (s.solids ++ s.added ∷ []) ≡ (P ++ opened s.added) ++ end_tokens =
+    tokens-more s.solids s.added ∙ sym (append_assoc P (opened s.added) end_tokens) in
+    record {
+      solids = s.solids ++ s.added ∷ [];
+      added = [];
+      items = s.items ∙ facets-more s.solids s.added ∙ sym (append-nil (facets_of (s.solids ++ s.added ∷ [])));
+      form = (refl, omega (arith, length-append s.solids (s.added ∷ [])), s.form);
+      spelled = ap (λ ps. rest_behind unit ps text) tokens
+          ∙ spelled-append unit (P ++ opened s.added) end_tokens text behind rest s.spelled (rw h refl);
+    }
+
+-- `facet`
+pub facet_begun : (limit : ℕ) (unit : LengthUnit) (facets : List Facet) (t : Facet) (text behind : List ℕ)
+    → Stands limit unit stage.Facets facets text behind → is_keyword facet_keyword (first_word behind) ≡ true → length facets < limit
+    → Stands limit unit (stage.Inside 0 t) facets text (after_word behind)
+facet_begun limit unit facets t text behind s h room = record {
+  solids = s.solids;
+  added = s.added;
+  items = s.items;
+  form = (lit≤ tt, room);
+  spelled = one_token unit (front stage.Facets s.solids s.added) facet_word text behind (after_word behind) s.spelled h refl;
+}
+
+-- a whole facet
+facet_added : (limit : ℕ) (unit : LengthUnit) (facets : List Facet) (t : Facet) (text last : List ℕ) (solids : List (List Facet)) (added : List Facet)
+    → facets ≡ facets_of solids ++ added → length facets < limit
+    → rest_behind unit ((flat_map solid_tokens solids ++ opened added) ++ facet_tokens t) text ≡ Some last
+    → Stands limit unit stage.Facets (facets ++ t ∷ []) text last
+facet_added limit unit facets t text last solids added items room spelled =
+    let P : List Token = flat_map solid_tokens solids in
+    record {
+      solids = solids;
+      added = added ++ t ∷ [];
+      items = ap (λ xs. xs ++ t ∷ []) items ∙ append_assoc (facets_of solids) added (t ∷ []);
+      form = omega (arith, length-append facets (t ∷ []), room);
+      spelled = ap (λ ps. rest_behind unit ps text)
+          (ap (λ ps. P ++ ps) (open-more added t) ∙ sym (append_assoc P (opened added) (facet_tokens t)))
+          ∙ spelled;
+    }
+
+pub facet_read : (limit : ℕ) (unit : LengthUnit) (facets : List Facet) (t : Facet) (text behind last : List ℕ)
+    → Stands limit unit stage.Facets facets text behind → length facets < limit → rest_behind unit (facet_tokens t) behind ≡ Some last
+    → Stands limit unit stage.Facets (facets ++ t ∷ []) text last
+facet_read limit unit facets t text behind last s room spelled =
+    facet_added limit unit facets t text last s.solids s.added s.items room
+    (spelled-append unit (front stage.Facets s.solids s.added) (facet_tokens t) text behind last s.spelled spelled)
+
+-- one word of a facet
+inside_spelled : (limit : ℕ) (unit : LengthUnit) (words : ℕ) (facets : List Facet) (t u : Facet) (text behind : List ℕ)
+    (s : Stands limit unit (stage.Inside words t) facets text behind) → ReadInside unit words t behind u
+    → rest_behind unit ((flat_map solid_tokens s.solids ++ opened s.added) ++ facet_word ∷ take (words + 1) (facet_tail u)) text ≡ Some (after_word behind)
+inside_spelled limit unit words facets t u text behind s read =
+    let Q : List Token = flat_map solid_tokens s.solids ++ opened s.added in
+    ap (λ ps. rest_behind unit (Q ++ facet_word ∷ ps) text) read.goes.on
+    ∙ ap (λ ps. rest_behind unit ps text) (sym (append_assoc Q (facet_word ∷ take words (facet_tail t)) (read.token ∷ [])))
+    ∙ one_token unit (Q ++ facet_word ∷ take words (facet_tail t)) read.token text behind (after_word behind) s.spelled read.begins read.after
+
+pub inside_read : (limit : ℕ) (unit : LengthUnit) (words : ℕ) (facets : List Facet) (t u : Facet) (text behind : List ℕ)
+    → Stands limit unit (stage.Inside words t) facets text behind → ReadInside unit words t behind u → words < LAST_WORD
+    → Stands limit unit (stage.Inside (words + 1) u) facets text (after_word behind)
+inside_read limit unit words facets t u text behind s read more = record {
+  solids = s.solids;
+  added = s.added;
+  items = s.items;
+  form = (omega (arith, more), s.form.1);
+  spelled = inside_spelled limit unit words facets t u text behind s read;
+}
+
+pub inside_whole : (limit : ℕ) (unit : LengthUnit) (words : ℕ) (facets : List Facet) (t u : Facet) (text behind : List ℕ)
+    → Stands limit unit (stage.Inside words t) facets text behind → ReadInside unit words t behind u → (words < LAST_WORD → ⊥)
+    → Stands limit unit stage.Facets (facets ++ u ∷ []) text (after_word behind)
+inside_whole limit unit words facets t u text behind s read last =
+    let all : words + 1 ≡ 20 = omega (arith, s.form.0, last) in
+    let Q : List Token = flat_map solid_tokens s.solids ++ opened s.added in
+    facet_added limit unit facets u text (after_word behind) s.solids s.added s.items s.form.1
+    (subst (λ n. rest_behind unit (Q ++ facet_word ∷ take n (facet_tail u)) text ≡ Some (after_word behind)) all
+    (inside_spelled limit unit words facets t u text behind s read))
+
+-- Faults.
+
+stuck : (limit : ℕ) (unit : LengthUnit) (text behind : List ℕ) (solids : List (List Facet)) (tokens more : List Token) (p : Token) (f : StlFault)
+    → flat_map solid_tokens solids ≡ tokens ++ p ∷ more → rest_behind unit tokens text ≡ Some behind → facet_count tokens ≤ limit
+    → IsStop limit (begin unit text) p (facet_count tokens) behind f → (f ≡ fault.Ended Solid → after_space text ≡ [])
+    → IsFaultOf limit unit text f
+stuck limit unit text behind solids tokens more p f cut spelled few stop no_solid =
+    fault_is limit unit text solids f
+    (record { front = tokens; token = p; more = more; cut = cut; rest = behind; spelled = spelled; few = few; stop = stop })
+    no_solid
+
+form_few : (limit : ℕ) (some : Bool) (solids : List (List Facet)) (added : List Facet) (count : ℕ)
+    → IsForm limit (stage.Between some) solids added count → (added ≡ []) × (count ≤ limit)
+form_few limit true solids added count h = (h.0, h.2)
+form_few limit false solids added count h = (h.0, h.2)
+
+-- where `solid` is wanted
+pub stuck_between : (limit : ℕ) (unit : LengthUnit) (some : Bool) (facets : List Facet) (text behind : List ℕ) (f : StlFault)
+    → Stands limit unit (stage.Between some) facets text behind
+    → ((before : ℕ) → IsStop limit (begin unit text) (keyword_of Solid) before behind f)
+    → (f ≡ fault.Ended Solid → after_space text ≡ []) → IsFaultOf limit unit text f
+stuck_between limit unit some facets text behind f s stop no_solid =
+    let form : (s.added ≡ []) × (length facets ≤ limit) = form_few limit some s.solids s.added (length facets) s.form in
+    let P : List Token = flat_map solid_tokens s.solids in
+    let items : length facets ≡ length (facets_of s.solids) =
+    ap length (s.items ∙ ap (λ a. facets_of s.solids ++ a) form.0 ∙ append-nil (facets_of s.solids)) in
+    stuck limit unit text behind (s.solids ++ [] ∷ []) P (rest_of_line ∷ end_tokens) (keyword_of Solid) f (tokens-more s.solids []) s.spelled
+    (omega (arith, facet_count-solids s.solids, items, form.1)) (stop (facet_count P)) no_solid
+
+facets_count : (limit : ℕ) (unit : LengthUnit) (facets : List Facet) (solids : List (List Facet)) (added : List Facet)
+    → facets ≡ facets_of solids ++ added → facet_count (flat_map solid_tokens solids ++ opened added) ≡ length facets
+facets_count limit unit facets solids added items =
+    facet_count-open solids added ∙ sym (length-append (facets_of solids) added) ∙ ap length (sym items)
+
+-- where `facet` or `endsolid` is wanted
+pub stuck_facets : (limit : ℕ) (unit : LengthUnit) (facets : List Facet) (text behind : List ℕ) (f : StlFault)
+    → Stands limit unit stage.Facets facets text behind → IsStop limit (begin unit text) end_word (length facets) behind f
+    → (f ≡ fault.Ended Solid → after_space text ≡ []) → IsFaultOf limit unit text f
+stuck_facets limit unit facets text behind f s stop no_solid =
+    let P : List Token = flat_map solid_tokens s.solids in
+    let count : facet_count (P ++ opened s.added) ≡ length facets = facets_count limit unit facets s.solids s.added s.items in
+    stuck limit unit text behind (s.solids ++ s.added ∷ []) (P ++ opened s.added) (rest_of_line ∷ []) end_word f
+    (tokens-more s.solids s.added ∙ sym (append_assoc P (opened s.added) end_tokens)) s.spelled (omega (arith, count, s.form))
+    (subst (λ n. IsStop limit (begin unit text) end_word n behind f) (sym count) stop) no_solid
+
+-- where one facet too many begins
+pub too_many : (limit : ℕ) (unit : LengthUnit) (facets : List Facet) (text behind : List ℕ) (f : StlFault)
+    → Stands limit unit stage.Facets facets text behind → IsStop limit (begin unit text) facet_word (length facets) behind f
+    → (f ≡ fault.Ended Solid → after_space text ≡ []) → IsFaultOf limit unit text f
+too_many limit unit facets text behind f s stop no_solid =
+    let P : List Token = flat_map solid_tokens s.solids in
+    let Q : List Token = P ++ opened s.added in
+    let count : facet_count Q ≡ length facets = facets_count limit unit facets s.solids s.added s.items in
+    let more : List Token = facet_tail zero_facet ++ end_tokens in
+    stuck limit unit text behind (s.solids ++ (s.added ++ zero_facet ∷ []) ∷ []) Q more facet_word f
+    (cut_facet s.solids s.added zero_facet [] facet_word (facet_tail zero_facet) refl ∙ ap (λ r. r ++ facet_word ∷ more) (append-nil Q))
+    s.spelled (omega (arith, count, s.form))
+    (subst (λ n. IsStop limit (begin unit text) facet_word n behind f) (sym count) stop) no_solid
+
+-- inside a facet
+pub stuck_inside : (limit : ℕ) (unit : LengthUnit) (words : ℕ) (facets : List Facet) (t u : Facet) (p : Token) (text behind : List ℕ) (f : StlFault)
+    → Stands limit unit (stage.Inside words t) facets text behind → Goes words p t u
+    → ((before : ℕ) → IsStop limit (begin unit text) p before behind f)
+    → (f ≡ fault.Ended Solid → after_space text ≡ []) → IsFaultOf limit unit text f
+stuck_inside limit unit words facets t u p text behind f s goes stop no_solid =
+    let P : List Token = flat_map solid_tokens s.solids in
+    let Q : List Token = P ++ opened s.added in
+    let begun : List Token = facet_word ∷ take words (facet_tail t) in
+    let left : List Token = drop (words + 1) (facet_tail u) in
+    let count : facet_count Q ≡ length facets = facets_count limit unit facets s.solids s.added s.items in
+    let cut : facet_tokens u ≡ begun ++ p ∷ left = ap {B = List Token} (λ ps. facet_word ∷ ps) goes.cut in
+    let one : Token → ℕ = λ x. cond (is_facet_word x) 1 0 in
+    let split : facet_count (Q ++ begun) ≡ facet_count Q + facet_count begun = sum_by-append one Q begun in
+    let parts : facet_count (facet_tokens u) ≡ facet_count begun + facet_count (p ∷ left) = ap facet_count cut ∙ sum_by-append one begun (p ∷ left) in
+    let single : facet_count (facet_tokens u) ≡ 1 = refl in
+    stuck limit unit text behind (s.solids ++ (s.added ++ u ∷ []) ∷ []) (Q ++ begun) (left ++ end_tokens) p f
+    (cut_facet s.solids s.added u begun p left cut) s.spelled (omega (arith, split, parts, single, count, s.form.1))
+    (stop (facet_count (Q ++ begun))) no_solid
+
+-- the end of a text
+pub ended_word : (behind : List ℕ) → after_space behind ≡ [] → first_word behind ≡ []
+ended_word behind e = ap (before_first is_white) e
+
+pub ended_whole : (limit : ℕ) (unit : LengthUnit) (facets : List Facet) (text behind : List ℕ)
+    → Stands limit unit (stage.Between true) facets text behind → after_space behind ≡ [] → Reads limit unit text facets
+ended_whole limit unit facets text behind s e = record {
+  solids = s.solids;
+  some = s.form.1;
+  each = s.items ∙ ap (λ a. facets_of s.solids ++ a) s.form.0 ∙ append-nil (facets_of s.solids);
+  few = s.form.2;
+  rest = behind;
+  spelled = s.spelled;
+  whole = e;
+}
+
+pub ended_first : (limit : ℕ) (unit : LengthUnit) (facets : List Facet) (text behind : List ℕ)
+    → Stands limit unit (stage.Between false) facets text behind → after_space behind ≡ [] → IsFaultOf limit unit text (fault.Ended Solid)
+ended_first limit unit facets text behind s e =
+    stuck_between limit unit false facets text behind (fault.Ended Solid) s (λ before. (refl, ended_word behind e))
+    (λ _. ap after_space whole ∙ e)
+  where
+    some-is : {x y : List ℕ} → ◌≡◌ {A = Option (List ℕ)} (Some x) (Some y) → x ≡ y
+    some-is h = cc
+
+    whole : text ≡ behind
+    whole = some-is (sym (ap (λ solids. rest_behind unit (flat_map solid_tokens solids) text) s.form.1) ∙ s.spelled)
+
+-- Words.
+
+pub some_word : (bytes word : List ℕ) → first_word bytes ≡ word → 0 < length word → 0 < length (first_word bytes)
+some_word bytes word is some = subst (λ w. 0 < length w) (sym is) some
+
+-- a word of a normal
+pub reads_as : (bytes word : List ℕ) → first_word bytes ≡ word → 0 < length word → nat_lt 0 (length (first_word bytes)) ≡ true
+reads_as bytes word is some = lt-ltb 0 (length (first_word bytes)) (some_word bytes word is some)
+
+-- a coordinate
+pub reads_number : (unit : LengthUnit) (bytes word : List ℕ) (z : ℤ) → first_word bytes ≡ word → coordinate_of unit word ≡ Ok z
+    → is_read_as z (first_word bytes) unit ≡ true
+reads_number unit bytes word z is read =
+    ap (λ o. elim o [ Ok x ↦ int_eq x z | Err cause ↦ false ]) (ap (coordinate_of unit) is ∙ read) ∙ (Decides-int_eq z z).1 refl
+
+-- A whole facet at the front of a text.
+
+pub whole_facet : (unit other : LengthUnit) (t : Facet) (bytes behind rest last : List ℕ) → is_keyword facet_keyword (first_word bytes) ≡ true
+    → behind ≡ after_word bytes → rest_behind other (facet_tail t) behind ≡ Some last → other ≡ unit → last ≡ rest
+    → rest_behind unit (facet_tokens t) bytes ≡ Some rest
+whole_facet unit other t bytes behind rest last h behind_is spelled same last_is =
+    rw h
+    (ap (rest_behind unit (facet_tail t)) (sym behind_is) ∙ ap (λ u. rest_behind u (facet_tail t) behind) (sym same) ∙ spelled
+    ∙ ap {B = Option (List ℕ)} Some last_is)
+
+pub whole_shorter : (other : LengthUnit) (t : Facet) (bytes behind rest last : List ℕ) → is_keyword facet_keyword (first_word bytes) ≡ true
+    → behind ≡ after_word bytes → rest_behind other (facet_tail t) behind ≡ Some last → last ≡ rest → length rest < length bytes
+whole_shorter other t bytes behind rest last h behind_is spelled last_is =
+    let now : Reader = begin other bytes in
+    let mid : Reader = left_at now behind in
+    let next : Reader = left_at now last in
+    let first : Spells (facet_word ∷ []) now mid = record { spelled = rw h (ap {B = Option (List ℕ)} Some (sym behind_is)); same_unit = refl; same_whole = refl } in
+    let tail : Spells (facet_tail t) mid next = record { spelled = spelled; same_unit = refl; same_whole = refl } in
+    omega (arith, facet_shorter t now mid next first tail, ap length last_is)

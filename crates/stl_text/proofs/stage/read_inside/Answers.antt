@@ -1,0 +1,80 @@
+use Rattle.std.proofs.Common.{◌≡◌, false, FitsSigned, pos, rules, w32, refl, sym, ◌∙◌, ap}
+use Rattle.std.specs.Prelude.{Err}
+use Rattle.std.proofs.lemmas.Int.{to_z-of_z}
+use Rattle.micro_num.specs.Micrometres.{coordinate_of}
+use Rattle.stl_text.specs.Text.{coordinate, first_word, is_keyword, is_wanted, keyword_of, keyword_text, normal_part}
+use Rattle.stl_text.specs.Stage.{with_number}
+use Rattle.stl_text.proofs.lemmas.Steps.{NamesKeyword, coordinate-within-bits, names_keyword}
+use Rattle.stl_text.proofs.lemmas.Stages.{some_word, reads_as, reads_number}
+use Rattle.stl_text.proofs.stage.read_inside.Goals as goal
+
+pub returns-then-is_keyword-clause-read : goal.returns-then-is_keyword-clause-read
+returns-then-is_keyword-clause-read c = λ few behind word_is some.
+    let kind = c.in-Keyword.kind in
+    let word = c.args.word.now in
+    let text : c.as_bytes.result.now ≡ keyword_text kind = c.as_bytes.ensures.value ∙ c.text.ensures c.in-Keyword.ensures.plain in
+    record {
+      token = keyword_of kind;
+      goes = (c.in-Keyword.ensures.wanted few).1 c.args.facet;
+      begins = ap (is_keyword (keyword_text kind)) word_is ∙ ap (λ t. is_keyword t word) (sym text) ∙ sym c.is_keyword.ensures ∙ c.if-is_keyword.true;
+      after = refl;
+    }
+
+pub returns-else-is_keyword-clause-fault : goal.returns-else-is_keyword-clause-fault
+returns-else-is_keyword-clause-fault c = λ few behind word_is some.
+    let kind = c.in-Keyword.kind in
+    let word = c.args.word.now in
+    let names : NamesKeyword kind = names_keyword kind c.in-Keyword.ensures.plain in
+    let text : c.as_bytes.result.now ≡ keyword_text kind = c.as_bytes.ensures.value ∙ c.text.ensures c.in-Keyword.ensures.plain in
+    let other : is_wanted kind (first_word behind) ≡ false =
+    names.only (first_word behind) ∙ ap (is_keyword (keyword_text kind)) word_is ∙ ap (λ t. is_keyword t word) (sym text) ∙ sym c.is_keyword.ensures
+    ∙ c.if-is_keyword.false in
+    record {
+      token = keyword_of kind;
+      u = c.args.facet;
+      goes = (c.in-Keyword.ensures.wanted few).1 c.args.facet;
+      stop = λ room before text offset. (
+        refl,
+        names.no_number,
+        some_word behind c.args.word.now word_is some,
+        other,
+        offset,
+      );
+      other = λ e. cc;
+    }
+
+pub returns-in-Part-clause-read : goal.returns-in-Part-clause-read
+returns-in-Part-clause-read c = λ few behind word_is some.
+    record { token = normal_part; goes = c.in-Part.ensures.wanted few c.args.facet; begins = reads_as behind c.args.word.now word_is some; after = refl }
+
+pub put_in-requires : goal.put_in-requires
+put_in-requires c = coordinate-within-bits c.args.unit c.args.word.now c.in-Ok.value (sym c.read_micro.ensures.exact ∙ c.in-Ok.is)
+
+pub returns-in-Ok-clause-read : goal.returns-in-Ok-clause-read
+returns-in-Ok-clause-read c = λ few behind word_is some.
+    let value = c.in-Ok.value in
+    let fits : FitsSigned w32 value = search rules in
+    rw c.put_in.ensures
+    (record {
+      token = coordinate value;
+      goes = rw (to_z-of_z w32 value fits) (c.in-Number.ensures.wanted few c.args.facet value);
+      begins = reads_number c.args.unit behind c.args.word.now value word_is (sym c.read_micro.ensures.exact ∙ c.in-Ok.is);
+      after = refl;
+    })
+
+pub returns-in-Err-clause-fault : goal.returns-in-Err-clause-fault
+returns-in-Err-clause-fault c = λ few behind word_is some.
+    let refused : coordinate_of c.args.unit (first_word behind) ≡ Err c.in-Err.cause =
+    ap (coordinate_of c.args.unit) word_is ∙ sym c.read_micro.ensures.exact ∙ c.in-Err.is in
+    record {
+      token = coordinate (pos 0);
+      u = with_number c.in-Number.corner c.in-Number.axis (pos 0) c.args.facet;
+      goes = c.in-Number.ensures.wanted few c.args.facet (pos 0);
+      stop = λ room before text offset. (
+        (pos 0, refl),
+        some_word behind c.args.word.now word_is some,
+        refused,
+        offset,
+      );
+      other = λ e. cc;
+    }

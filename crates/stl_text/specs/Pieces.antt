@@ -1,0 +1,71 @@
+-- A text that is fed in pieces.
+--     Progress      what a reader of pieces keeps
+--     IsReading     it has read a text up to a part that it has at hand
+--     IsAfter       it was fed these bytes
+use Rattle.std.specs.Prelude.{◌≡◌, ◌≢◌, ℕ, ◌+◌, ◌≤◌, Bool, true, false, not, List, [], ◌++◌, length}
+use Rattle.std.specs.List.{list_all}
+use Rattle.micro_num.specs.declared.unit.Unit.{Unit as LengthUnit}
+use Rattle.geometry.specs.Facet.{Facet}
+use Rattle.stl_text.specs.declared.stl_fault.StlFault.TheVariants as fault
+use Rattle.stl_text.specs.declared.stage.Stage.{Stage}
+use Rattle.stl_text.specs.declared.stage.Place.{Place}
+use Rattle.stl_text.specs.declared.stage.Place.TheVariants as place
+use Rattle.stl_text.specs.Text.{after_space, after_word, after_line, is_white, IsFaultOf}
+use Rattle.stl_text.specs.Stage.{Stands}
+
+pub record Progress : Type 0 where
+  pub limit : ℕ
+  pub unit : LengthUnit
+  pub count : ℕ
+  pub place : Place
+  pub held : List ℕ
+  pub facets : List Facet
+
+-- what is left of a text, as a word or a rest of a line sees it
+abbrev pub Sees : Bool → List ℕ → List ℕ → Type 0
+Sees true behind rest = behind ≡ after_line rest
+Sees false behind rest = after_space behind ≡ after_space rest
+
+-- Whatever follows the text, the reader stands at a stage of it before the part at hand. `held` is the front of a word
+-- that isn't whole yet, and `count` the length of the text.
+pub record Waits (limit : ℕ) (unit : LengthUnit) (p : Progress) (stage : Stage) (in_line : Bool) (text part : List ℕ) : Type 0 where
+  pub limit_is : p.limit ≡ limit
+  pub unit_is : p.unit ≡ unit
+  pub count_is : p.count ≡ length text
+  pub within : length p.held + length part ≤ length text
+  pub clear : list_all (λ byte. not (is_white byte)) p.held ≡ true
+  pub behind : (more : List ℕ) → List ℕ
+  pub stands : (more : List ℕ) → Stands limit unit stage p.facets (text ++ more) (behind more)
+  pub sees : (more : List ℕ) → Sees in_line (behind more) (p.held ++ (part ++ more))
+
+abbrev pub IsReadingAt : ℕ → LengthUnit → Progress → Place → List ℕ → List ℕ → Type 0
+IsReadingAt limit unit p (place.Word stage) text part = Waits limit unit p stage false text part
+IsReadingAt limit unit p (place.Line stage) text part = Waits limit unit p stage true text part × (p.held ≡ [])
+IsReadingAt limit unit p (place.Stopped f) text part = f ≢ fault.Memory → (more : List ℕ) → IsFaultOf limit unit (text ++ more) f
+
+-- The reader has read a text up to its last part, which it has at hand. Where it stopped at a fault, the fault is that of
+-- the text, whatever follows it.
+abbrev pub IsReading : ℕ → LengthUnit → Progress → List ℕ → List ℕ → Type 0
+IsReading limit unit p text part = IsReadingAt limit unit p p.place text part
+
+-- the reader was fed these bytes
+abbrev pub IsAfter : ℕ → LengthUnit → Progress → List ℕ → Type 0
+IsAfter limit unit p fed = IsReading limit unit p fed []
+
+abbrev pub at_line : Stage → Place
+at_line stage = place.Line stage
+
+abbrev pub at_word : Stage → Place
+at_word stage = place.Word stage
+
+-- where the reading of a text stands behind a word
+abbrev pub StandsAt : ℕ → LengthUnit → Place → List Facet → List ℕ → List ℕ → Type 0
+StandsAt limit unit (place.Word stage) facets text behind = Stands limit unit stage facets text (after_word behind)
+StandsAt limit unit (place.Line stage) facets text behind = Stands limit unit stage facets text (after_line (after_word behind))
+StandsAt limit unit (place.Stopped f) facets text behind = f ≢ fault.Memory → IsFaultOf limit unit text f
+
+-- where the reading of a text stands at its end
+abbrev pub EndsAt : ℕ → LengthUnit → Place → List Facet → List ℕ → Type 0
+EndsAt limit unit (place.Word stage) facets text = (behind : List ℕ) × Stands limit unit stage facets text behind × (after_space behind ≡ [])
+EndsAt limit unit (place.Line stage) facets text = (behind : List ℕ) × Stands limit unit stage facets text behind × (after_space behind ≡ [])
+EndsAt limit unit (place.Stopped f) facets text = f ≢ fault.Memory → IsFaultOf limit unit text f

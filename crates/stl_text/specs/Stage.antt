@@ -1,0 +1,117 @@
+-- Where in the grammar the reading of a text stands, between two words.
+--     front            the tokens that were read
+--     Stands           a text is read up to a stage
+--     AtWord           it is, and this word comes next
+--     StandsAfter      a word leads to this step
+use Rattle.std.specs.Prelude.{◌≡◌, ◌≢◌, ℕ, ◌+◌, ◌<◌, ◌≤◌, Bool, true, false, List, [], ◌∷◌, ◌++◌, take, drop, length, Some, ℤ, flat_map}
+use Rattle.micro_num.specs.declared.unit.Unit.{Unit as LengthUnit}
+use Rattle.geometry.specs.Point.{Point}
+use Rattle.geometry.specs.Facet.{Facet, facet_with}
+use Rattle.stl_text.specs.declared.word.Word.TheVariants.{Solid}
+use Rattle.stl_text.specs.declared.stl_fault.StlFault.{StlFault}
+use Rattle.stl_text.specs.declared.stl_fault.StlFault.TheVariants as faults
+use Rattle.stl_text.specs.declared.stage.Axis.{Axis}
+use Rattle.stl_text.specs.declared.stage.Axis.TheVariants as axis
+use Rattle.stl_text.specs.declared.stage.Corner.{Corner}
+use Rattle.stl_text.specs.declared.stage.Corner.TheVariants as corner
+use Rattle.stl_text.specs.declared.stage.Wanted.{Wanted}
+use Rattle.stl_text.specs.declared.stage.Wanted.TheVariants as wanted
+use Rattle.stl_text.specs.declared.stage.Stage.{Stage}
+use Rattle.stl_text.specs.declared.stage.Stage.TheVariants as stage
+use Rattle.stl_text.specs.declared.stage.Step.{Step}
+use Rattle.stl_text.specs.declared.stage.Step.TheVariants as step
+use Rattle.stl_text.specs.declared.stage.TheConstants.{LAST_WORD}
+use Rattle.stl_text.specs.Text.{Token, keyword_of, normal_part, coordinate, rest_of_line, facet_word, facet_tokens, solid_tokens, HasOneKeyword, begins_with, after_token, rest_behind, first_word, after_space, after_word, after_line, facets_of}
+use Rattle.stl_text.specs.Reader.{IsStop, facet_tail, start}
+
+-- a point with another coordinate
+abbrev pub with_axis : Axis → ℤ → Point → Point
+with_axis axis.X value p = record { x = value; y = p.y; z = p.z }
+with_axis axis.Y value p = record { x = p.x; y = value; z = p.z }
+with_axis axis.Z value p = record { x = p.x; y = p.y; z = value }
+
+-- a facet with another coordinate
+abbrev pub with_number : Corner → Axis → ℤ → Facet → Facet
+with_number corner.A axis value t = facet_with (with_axis axis value t.a) t.b t.c
+with_number corner.B axis value t = facet_with t.a (with_axis axis value t.b) t.c
+with_number corner.C axis value t = facet_with t.a t.b (with_axis axis value t.c)
+
+-- Behind this number of the words that follow `facet` of t, the token comes, and t becomes u.
+pub record Goes (words : ℕ) (token : Token) (t u : Facet) : Type 0 where
+  pub cut : facet_tail u ≡ take words (facet_tail t) ++ token ∷ drop (words + 1) (facet_tail u)
+  pub on : take (words + 1) (facet_tail u) ≡ take words (facet_tail t) ++ token ∷ []
+
+-- what is wanted behind this number of the words that follow `facet`
+abbrev pub IsWantedAt : ℕ → Wanted → Type 0
+IsWantedAt words (wanted.Keyword kind) = (kind ≢ Solid) × ((t : Facet) → Goes words (keyword_of kind) t t)
+IsWantedAt words wanted.Part = (t : Facet) → Goes words normal_part t t
+IsWantedAt words (wanted.Number corner axis) = (t : Facet) (value : ℤ) → Goes words (coordinate value) t (with_number corner axis value t)
+
+-- a kind with one keyword, or no keyword
+abbrev pub IsPlain : Wanted → Type 0
+IsPlain (wanted.Keyword kind) = HasOneKeyword kind
+IsPlain wanted.Part = Unit {0}
+IsPlain (wanted.Number corner axis) = Unit {0}
+
+-- the text behind t begins with the next token, and then the facet is u
+pub record ReadInside (unit : LengthUnit) (words : ℕ) (t : Facet) (behind : List ℕ) (u : Facet) : Type 0 where
+  pub token : Token
+  pub goes : Goes words token t u
+  pub begins : begins_with unit token behind ≡ true
+  pub after : after_token token behind ≡ after_word behind
+
+-- the next word of the text behind t doesn't fit
+pub record StopsInside (unit : LengthUnit) (words : ℕ) (t : Facet) (behind : List ℕ) (at : ℕ) (fault : StlFault) : Type 0 where
+  pub token : Token
+  pub u : Facet
+  pub goes : Goes words token t u
+  pub stop : (room before : ℕ) (text : List ℕ) → at + length (after_space behind) ≡ length text
+      → IsStop room (start unit text) token before behind fault
+  pub other : fault ≢ faults.Ended Solid
+
+-- a solid that is open behind these facets
+abbrev pub opened : List Facet → List Token
+opened facets = keyword_of Solid ∷ rest_of_line ∷ flat_map facet_tokens facets
+
+abbrev pub between : Bool → Stage
+between some = stage.Between some
+
+abbrev pub in_facets : Stage
+in_facets = stage.Facets
+
+abbrev pub inside : ℕ → Facet → Stage
+inside words t = stage.Inside words t
+
+-- the tokens that were read: whole solids, and the front of one more with the facets `added`
+abbrev pub front : Stage → List (List Facet) → List Facet → List Token
+front (stage.Between some) solids added = flat_map solid_tokens solids
+front stage.Facets solids added = flat_map solid_tokens solids ++ opened added
+front (stage.Inside words t) solids added = (flat_map solid_tokens solids ++ opened added) ++ facet_word ∷ take words (facet_tail t)
+
+-- what a stage says of the solids, and of the number of facets so far
+abbrev pub IsForm : ℕ → Stage → List (List Facet) → List Facet → ℕ → Type 0
+IsForm limit (stage.Between true) solids added count = (added ≡ []) × (0 < length solids) × (count ≤ limit)
+IsForm limit (stage.Between false) solids added count = (added ≡ []) × (solids ≡ []) × (count ≤ limit)
+IsForm limit stage.Facets solids added count = count ≤ limit
+IsForm limit (stage.Inside words t) solids added count = (words ≤ LAST_WORD) × (count < limit)
+
+-- the text is read up to this stage, which leaves `behind`; these are the whole facets
+pub record Stands (limit : ℕ) (unit : LengthUnit) (stage : Stage) (facets : List Facet) (text behind : List ℕ) : Type 0 where
+  pub solids : List (List Facet)
+  pub added : List Facet
+  pub items : facets ≡ facets_of solids ++ added
+  pub form : IsForm limit stage solids added (length facets)
+  pub spelled : rest_behind unit (front stage solids added) text ≡ Some behind
+
+-- the text is read up to this stage, and this word comes next, at this byte offset
+pub record AtWord (limit : ℕ) (unit : LengthUnit) (stage : Stage) (facets : List Facet) (text behind word : List ℕ) (at : ℕ) : Type 0 where
+  pub stands : Stands limit unit stage facets text behind
+  pub word_is : first_word behind ≡ word
+  pub some : 0 < length word
+  pub at_is : at + length (after_space behind) ≡ length text
+
+-- the stage behind a word, to which this step leads
+abbrev pub StandsAfter : ℕ → LengthUnit → List Facet → List ℕ → List ℕ → Step → Type 0
+StandsAfter limit unit facets text behind (step.To s) = Stands limit unit s facets text (after_word behind)
+StandsAfter limit unit facets text behind (step.Line s) = Stands limit unit s facets text (after_line (after_word behind))
+StandsAfter limit unit facets text behind (step.Whole t) = Stands limit unit stage.Facets (facets ++ t ∷ []) text (after_word behind)

@@ -1,0 +1,302 @@
+//! Where in the grammar the reading of a text stands, and what the next word does there.
+ghost use Rattle.std.specs.Prelude.{◌≡◌, ◌-◌, ◌<◌, [], ◌≤◌, ℕ, Bool, List, IfErr, IfOk, length};
+ghost use Rattle.exact_int.specs.Bounds.{IsAtMost};
+ghost use Rattle.geometry.specs.Facet.{Facet};
+ghost use Rattle.geometry.specs.Point.{IsMeshPoint};
+ghost use Rattle.geometry.specs.declared.limits.TheConstants.{COORDINATE_LIMIT};
+ghost use Rattle.micro_num.specs.declared.unit.Unit.{Unit as LengthUnit};
+ghost use Rattle.stl_text.specs.Text.{IsFaultOf, Reads, after_space, first_word};
+ghost use Rattle.stl_text.specs.Stage.{AtWord, IsPlain, IsWantedAt, ReadInside, StandsAfter, Stands, StopsInside, between, in_facets, inside, with_axis, with_number};
+
+use crate::scanning::is_keyword;
+use crate::stl_fault::StlFault;
+use crate::word::{END_SOLID, FACET, SOLID, Word};
+use geometry::{Facet, Point};
+use micro_num::{Unit, read_micro};
+
+/// A coordinate of a point.
+#[derive(Clone, Copy, Debug, PartialEq, Eq)]
+pub(crate) enum Axis {
+    X,
+    Y,
+    Z,
+}
+
+/// A corner of a facet.
+#[derive(Clone, Copy, Debug, PartialEq, Eq)]
+pub(crate) enum Corner {
+    A,
+    B,
+    C,
+}
+
+/// What is wanted inside a facet.
+#[derive(Clone, Copy, Debug, PartialEq, Eq)]
+pub(crate) enum Wanted {
+    /// The one keyword of this kind.
+    Keyword(Word),
+    /// A word of a normal.
+    Part,
+    /// This coordinate of this corner.
+    Number(Corner, Axis),
+}
+
+/// Where in the grammar the reading of a text stands, between two words.
+#[derive(Clone, Copy, Debug, PartialEq, Eq)]
+pub(crate) enum Stage {
+    /// `solid` is wanted. `some` tells whether a whole solid was read.
+    Between { some: bool },
+    /// `facet` or `endsolid` is wanted.
+    Facets,
+    /// In a facet, behind `words` of the words that follow `facet`. The coordinates that were read are those of
+    /// `facet`.
+    Inside { words: usize, facet: Facet },
+}
+
+/// What a word does.
+#[derive(Clone, Copy, Debug, PartialEq, Eq)]
+pub(crate) enum Step {
+    /// The reading stands there behind the word.
+    To(Stage),
+    /// It stands there behind the rest of the word's line.
+    Line(Stage),
+    /// The word ends this facet.
+    Whole(Facet),
+}
+
+/// Where the reading of a text stands.
+#[derive(Clone, Copy, Debug, PartialEq, Eq)]
+pub(crate) enum Place {
+    /// Between two words, or in one.
+    Word(Stage),
+    /// In the rest of a line, with this stage behind it.
+    Line(Stage),
+    /// At a fault.
+    Stopped(StlFault),
+}
+
+/// The place of the last word of a facet behind `facet`.
+pub(crate) const LAST_WORD: usize = 19;
+
+/// The point with these coordinates.
+fn point_of(x: i32, y: i32, z: i32) -> Point
+    requires { IsMeshPoint (record { x = x; y = y; z = z }) }
+    ensures { result ≡ record { x = x; y = y; z = z } }
+{
+    let Some(point) = Point::new(x, y, z) else {
+        unreachable!();
+    };
+    point
+}
+
+/// A point with another coordinate.
+fn put(point: Point, axis: Axis, value: i32) -> Point
+    requires { IsAtMost COORDINATE_LIMIT value }
+    ensures { result ≡ with_axis axis value point }
+{
+    let x = point.x();
+    let y = point.y();
+    let z = point.z();
+    match axis {
+        Axis::X => point_of(value, y, z),
+        Axis::Y => point_of(x, value, z),
+        Axis::Z => point_of(x, y, value),
+    }
+}
+
+/// A facet with another coordinate.
+fn put_in(facet: Facet, corner: Corner, axis: Axis, value: i32) -> Facet
+    requires { IsAtMost COORDINATE_LIMIT value }
+    ensures { result ≡ with_number corner axis value facet }
+{
+    let a = facet.corner(0);
+    let b = facet.corner(1);
+    let c = facet.corner(2);
+    match corner {
+        Corner::A => Facet::of(put(a, axis, value), b, c),
+        Corner::B => Facet::of(a, put(b, axis, value), c),
+        Corner::C => Facet::of(a, b, put(c, axis, value)),
+    }
+}
+
+/// A facet at the origin, before its coordinates are read.
+fn unread_facet() -> Facet {
+    let origin = point_of(0, 0, 0);
+    Facet::of(origin, origin, origin)
+}
+
+/// What is wanted in a facet behind `words` of the words that follow `facet`.
+fn wanted_behind(words: usize) -> Wanted
+    ensures plain { IsPlain result }
+    ensures wanted { words ≤ LAST_WORD → IsWantedAt words result }
+{
+    match words {
+        0 => Wanted::Keyword(Word::Normal),
+        1 => Wanted::Part,
+        2 => Wanted::Part,
+        3 => Wanted::Part,
+        4 => Wanted::Keyword(Word::Outer),
+        5 => Wanted::Keyword(Word::Loop),
+        6 => Wanted::Keyword(Word::Vertex),
+        7 => Wanted::Number(Corner::A, Axis::X),
+        8 => Wanted::Number(Corner::A, Axis::Y),
+        9 => Wanted::Number(Corner::A, Axis::Z),
+        10 => Wanted::Keyword(Word::Vertex),
+        11 => Wanted::Number(Corner::B, Axis::X),
+        12 => Wanted::Number(Corner::B, Axis::Y),
+        13 => Wanted::Number(Corner::B, Axis::Z),
+        14 => Wanted::Keyword(Word::Vertex),
+        15 => Wanted::Number(Corner::C, Axis::X),
+        16 => Wanted::Number(Corner::C, Axis::Y),
+        17 => Wanted::Number(Corner::C, Axis::Z),
+        18 => Wanted::Keyword(Word::EndLoop),
+        _ => Wanted::Keyword(Word::EndFacet),
+    }
+}
+
+/// Reads a word of a facet behind `words` of the words that follow `facet`: the facet with this word's coordinate.
+fn read_inside(
+    words: usize,
+    facet: Facet,
+    word: &[u8],
+    at: usize,
+    unit: Unit,
+) -> Result<Facet, StlFault>
+    ensures read { words ≤ LAST_WORD → (behind : List ℕ) → first_word behind ≡ word.now → 0 < length word.now
+        → IfOk result (ReadInside unit words facet behind) }
+    ensures fault { words ≤ LAST_WORD → (behind : List ℕ) → first_word behind ≡ word.now → 0 < length word.now
+        → IfErr result (StopsInside unit words facet behind at) }
+{
+    match wanted_behind(words) {
+        Wanted::Keyword(kind) => {
+            if is_keyword(word, kind.text().as_bytes()) {
+                Ok(facet)
+            } else {
+                Err(StlFault::Expected { word: kind, at })
+            }
+        }
+        Wanted::Part => Ok(facet),
+        Wanted::Number(corner, axis) => match read_micro(word, unit) {
+            Ok(value) => Ok(put_in(facet, corner, axis, value)),
+            Err(cause) => Err(StlFault::Number { cause, at }),
+        },
+    }
+}
+
+/// Reads a word where `solid` is wanted.
+fn step_between(word: &[u8], at: usize) -> Result<Step, StlFault>
+    ensures read { (limit : ℕ) (unit : LengthUnit) (some : Bool) (facets : List Facet) (text behind : List ℕ)
+        → AtWord limit unit (between some) facets text behind word.now at
+        → IfOk result (StandsAfter limit unit facets text behind) }
+    ensures fault { (limit : ℕ) (unit : LengthUnit) (some : Bool) (facets : List Facet) (text behind : List ℕ)
+        → AtWord limit unit (between some) facets text behind word.now at
+        → IfErr result (IsFaultOf limit unit text) }
+{
+    if is_keyword(word, SOLID) {
+        Ok(Step::Line(Stage::Facets))
+    } else {
+        Err(StlFault::Expected {
+            word: Word::Solid,
+            at,
+        })
+    }
+}
+
+/// Reads a word where `facet` or `endsolid` is wanted, and `room` more facets may begin.
+fn step_facets(word: &[u8], at: usize, room: usize) -> Result<Step, StlFault>
+    ensures read { (limit : ℕ) (unit : LengthUnit) (facets : List Facet) (text behind : List ℕ)
+        → AtWord limit unit in_facets facets text behind word.now at → room ≡ limit - length facets
+        → IfOk result (StandsAfter limit unit facets text behind) }
+    ensures fault { (limit : ℕ) (unit : LengthUnit) (facets : List Facet) (text behind : List ℕ)
+        → AtWord limit unit in_facets facets text behind word.now at → room ≡ limit - length facets
+        → IfErr result (IsFaultOf limit unit text) }
+{
+    if is_keyword(word, FACET) {
+        if room == 0 {
+            return Err(StlFault::TooMany { at });
+        }
+        return Ok(Step::To(Stage::Inside {
+            words: 0,
+            facet: unread_facet(),
+        }));
+    }
+    if is_keyword(word, END_SOLID) {
+        return Ok(Step::Line(Stage::Between { some: true }));
+    }
+    Err(StlFault::Expected {
+        word: Word::FacetOrEnd,
+        at,
+    })
+}
+
+/// Reads a word inside a facet.
+fn step_inside(
+    words: usize,
+    facet: Facet,
+    word: &[u8],
+    at: usize,
+    unit: Unit,
+) -> Result<Step, StlFault>
+    ensures read { (limit : ℕ) (facets : List Facet) (text behind : List ℕ)
+        → AtWord limit unit (inside words facet) facets text behind word.now at
+        → IfOk result (StandsAfter limit unit facets text behind) }
+    ensures fault { (limit : ℕ) (facets : List Facet) (text behind : List ℕ)
+        → AtWord limit unit (inside words facet) facets text behind word.now at
+        → IfErr result (IsFaultOf limit unit text) }
+{
+    let read = read_inside(words, facet, word, at, unit)?;
+    if words < LAST_WORD {
+        Ok(Step::To(Stage::Inside {
+            words: words + 1,
+            facet: read,
+        }))
+    } else {
+        Ok(Step::Whole(read))
+    }
+}
+
+impl Stage {
+    /// Reads a word that begins at the byte offset `at`. `room` more facets may begin.
+    pub(crate) fn step(
+        self,
+        word: &[u8],
+        at: usize,
+        room: usize,
+        unit: Unit,
+    ) -> Result<Step, StlFault>
+        ensures read { (limit : ℕ) (facets : List Facet) (text behind : List ℕ)
+            → AtWord limit unit self facets text behind word.now at → room ≡ limit - length facets
+            → IfOk result (StandsAfter limit unit facets text behind) }
+        ensures fault { (limit : ℕ) (facets : List Facet) (text behind : List ℕ)
+            → AtWord limit unit self facets text behind word.now at → room ≡ limit - length facets
+            → IfErr result (IsFaultOf limit unit text) }
+    {
+        match self {
+            Stage::Between { .. } => step_between(word, at),
+            Stage::Facets => step_facets(word, at, room),
+            Stage::Inside { words, facet } => step_inside(words, facet, word, at, unit),
+        }
+    }
+
+    /// What the end of a text means here: the text is whole, or a word is wanted.
+    pub(crate) fn end(self) -> Result<(), StlFault>
+        ensures read { (limit : ℕ) (unit : LengthUnit) (facets : List Facet) (text behind : List ℕ)
+            → Stands limit unit self facets text behind → after_space behind ≡ []
+            → IfOk result (λ _. Reads limit unit text facets) }
+        ensures fault { (limit : ℕ) (unit : LengthUnit) (facets : List Facet) (text behind : List ℕ)
+            → Stands limit unit self facets text behind → after_space behind ≡ []
+            → IfErr result (IsFaultOf limit unit text) }
+    {
+        let word = match self {
+            Stage::Between { some: true } => return Ok(()),
+            Stage::Between { some: false } => Word::Solid,
+            Stage::Facets => Word::FacetOrEnd,
+            Stage::Inside { words, .. } => match wanted_behind(words) {
+                Wanted::Keyword(kind) => kind,
+                Wanted::Part => Word::Number,
+                Wanted::Number(_, _) => Word::Number,
+            },
+        };
+        Err(StlFault::Ended { word })
+    }
+}
