@@ -1,5 +1,6 @@
 pub mod Edges
 pub mod Order
+pub mod LeastOpen
 pub mod InOrder
 pub mod Points
 pub mod Parts

@@ -22,3 +22,6 @@ pub record IsLeastOpen (facets : List Facet) (from to : Point) (there back : ℕ
   pub differ : there ≢ back
   pub least : (e : Edge) → is_before e.from e.to ≡ true → half_edge_count facets e.from e.to ≢ half_edge_count facets e.to e.from
       → is_edge_before e (record { from = from; to = to }) ≡ false
+
+abbrev pub HasOpenEdge : List Facet → Type 0
+HasOpenEdge facets = (from : Point) × (to : Point) × (there : ℕ) × (back : ℕ) × IsLeastOpen facets from to there back

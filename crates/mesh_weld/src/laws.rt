@@ -1,4 +1,8 @@
 //! The laws of closed meshes, stated once for the crates above.
+ghost use Rattle.std.specs.Prelude.{◌≡◌, ◌⊎◌, List, ℕ};
+ghost use Rattle.geometry.specs.Facet.{Facet};
+ghost use Rattle.geometry.specs.Point.{Point};
+ghost use Rattle.mesh_weld.specs.Balance.{HasOpenEdge, IsBalanced, IsLeastOpen};
 ghost use Rattle.mesh_weld.specs.Laws.{AmountsCancel, DegenerateFacetsAreMissed, KeptAreClosed, KeptRaysAreAll, RayFromTheLeft, RaysAgree, StepsKeepRays, WindsAlongYCancel, WindsCancel};
 
 /// States what holds of every closed mesh. A crate that calls it can use its clauses; it does nothing at run time.
@@ -12,4 +16,13 @@ pub fn hold_mesh_laws()
     ensures closed { KeptAreClosed }
     ensures agree { RaysAgree }
     ensures steps { StepsKeepRays }
+{}
+
+/// Each list of facets is either closed or has a least open edge, and it has only one, with one count there and back.
+pub fn closed_or_open()
+    ensures either { (facets : List Facet) → IsBalanced facets ⊎ HasOpenEdge facets }
+    ensures not_both { (facets : List Facet) → IsBalanced facets → HasOpenEdge facets → ⊥ }
+    ensures one { (facets : List Facet) (from to other_from other_to : Point) (there back other_there other_back : ℕ)
+        → IsLeastOpen facets from to there back → IsLeastOpen facets other_from other_to other_there other_back
+        → (from ≡ other_from) × (to ≡ other_to) × (there ≡ other_there) × (back ≡ other_back) }
 {}

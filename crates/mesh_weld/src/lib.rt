@@ -10,7 +10,8 @@
 //! the numbers of corners and edges of each facet, and the order of the facets by height. Where the half-edges of a
 //! mesh don't balance it answers [`WeldFault::Open`] with the least pair of points between which they don't.
 //! [`probe`] and [`step`] count the signed crossings of a solid by rays. [`hold_mesh_laws`] states what holds of every
-//! closed mesh: for example, its signed crossings by a whole line sum to 0.
+//! closed mesh: for example, its signed crossings by a whole line sum to 0. [`closed_or_open`] states that each list of
+//! facets is closed or has one least open edge.
 //!
 //! Points are in micrometres, centres of rays in half-micrometres.
 //!
@@ -31,7 +32,7 @@ mod weld_fault;
 mod welding;
 
 pub use height_order::lowest;
-pub use laws::hold_mesh_laws;
+pub use laws::{closed_or_open, hold_mesh_laws};
 pub use probing::{probe, step};
 pub use solid::Solid;
 pub use weld_fault::WeldFault;

@@ -1,5 +1,5 @@
 //! The closed mesh that the crates above slice.
-ghost use Rattle.std.specs.Prelude.{◌≡◌, ◌<◌, ◌≤◌, ◌↔◌, ℕ, IsTrue, List, Some, flat_map, length, option_map, slice_get, true};
+ghost use Rattle.std.specs.Prelude.{◌≡◌, ◌≢◌, ◌<◌, ◌≤◌, ◌↔◌, ℕ, IsTrue, List, Some, flat_map, length, option_map, slice_get, true};
 ghost use Rattle.std.specs.List.{AllPairs, Contains};
 ghost use Rattle.geometry.specs.BoundingBox.{bounds};
 ghost use Rattle.geometry.specs.Facet.{corners};
@@ -122,10 +122,11 @@ impl<A: Allocator> Solid<A> {
         self.facets.len()
     }
 
-    /// The kept facet with this number, below `count`.
+    /// The kept facet with this number, below `count`. Its three corners are distinct.
     pub fn facet(&self, number: u32) -> Facet
         requires { number < length self.now.facets }
-        ensures { slice_get self.now.facets number ≡ Some result }
+        ensures value { slice_get self.now.facets number ≡ Some result }
+        ensures distinct { (result.a ≢ result.b) × (result.b ≢ result.c) × (result.c ≢ result.a) }
     {
         self.facets[number as usize]
     }

@@ -1,7 +1,6 @@
 pub mod Bytes
 pub mod Ends
 pub mod Faults
-pub mod LeastOpen
 pub mod OneAnswer
 pub mod Pictures
 pub mod Stream

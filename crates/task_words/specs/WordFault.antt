@@ -1,9 +1,19 @@
--- The exit status of a program that ends with a fault of its words.
+-- What the faults of words say, and the exit status of a program that ends with one.
 use Rattle.std.specs.Prelude.{◌≡◌, ◌≢◌, ℕ}
 use Rattle.clap.specs.Words.{kind_of}
-use Rattle.clap.specs.declared.error.kind.ErrorKind.TheVariants.{DisplayHelp, DisplayVersion}
+use Rattle.clap.specs.declared.error.kind.ErrorKind.TheVariants.{DisplayHelp, DisplayVersion, OutOfMemory}
 use Rattle.task_words.specs.declared.word_fault.WordFault.{WordFault}
 use Rattle.task_words.specs.declared.word_fault.WordFault.TheVariants as words
+
+-- a refusal is no want of memory, which has a fault of its own
+abbrev pub IsNoMemoryRefusal : WordFault → Type 0
+IsNoMemoryRefusal (words.Refused refusal) = kind_of refusal ≢ OutOfMemory
+IsNoMemoryRefusal (words.Missing option) = Unit {0}
+IsNoMemoryRefusal words.BadRule = Unit {0}
+IsNoMemoryRefusal words.Memory = Unit {0}
+IsNoMemoryRefusal words.BadUnit = Unit {0}
+IsNoMemoryRefusal words.BadGrid = Unit {0}
+IsNoMemoryRefusal words.BadProbe = Unit {0}
 
 -- 0 where the words ask for help or for the version, 6 where an allocation failed, else 2
 abbrev pub IsWordStatus : WordFault → ℕ → Type 0

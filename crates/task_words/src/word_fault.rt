@@ -3,7 +3,7 @@ ghost use Rattle.std.specs.Prelude.{◌≡◌, ◌≢◌};
 ghost use Rattle.clap.specs.Words.{kind_of};
 ghost use Rattle.clap.specs.declared.error.kind.ErrorKind.TheVariants.{OutOfMemory};
 ghost use Rattle.task_words.specs.declared.word_fault.WordFault.TheVariants.{Memory, Refused};
-ghost use Rattle.task_words.specs.WordFault.{IsWordStatus};
+ghost use Rattle.task_words.specs.WordFault.{IsNoMemoryRefusal, IsWordStatus};
 
 use clap::Error as Refusal;
 use clap::error::ErrorKind;
@@ -74,7 +74,7 @@ impl WordFault {
 
 impl From<Refusal> for WordFault {
     ghost from_gives = { λ refusal fault. (kind_of refusal ≡ OutOfMemory → fault ≡ Memory)
-        × (kind_of refusal ≢ OutOfMemory → fault ≡ Refused refusal) };
+        × (kind_of refusal ≢ OutOfMemory → fault ≡ Refused refusal) × IsNoMemoryRefusal fault };
 
     fn from(refusal: Refusal) -> WordFault {
         match refusal.kind() {

@@ -1,6 +1,8 @@
 //! From words to a task. Faults of options are looked for in a fixed order.
-ghost use Rattle.std.specs.Prelude.{◌≤◌, IfOk, IfSome};
+ghost use Rattle.std.specs.Prelude.{◌≡◌, ◌≤◌, IfErr, IfOk, IfSome};
 ghost use Rattle.task_words.specs.Task.{IsInRange};
+ghost use Rattle.task_words.specs.WordFault.{IsNoMemoryRefusal};
+ghost use Rattle.task_words.specs.declared.word_fault.WordFault.TheVariants.{BadGrid, BadProbe, BadRule, BadUnit, Missing};
 ghost use Rattle.geometry.specs.declared.limits.TheConstants.{STEP_LIMIT};
 
 use crate::command::{
@@ -20,8 +22,10 @@ use stripe_claims::PASS_LIMIT;
 ///
 /// Faults are looked for in this order: words that are not of the command's form, or ask for help or the version; the
 /// rule, the unit, the grid, the voxel; and, unless the task is the box, a missing pitch, then a missing layer height.
+/// `Memory` comes only where an allocation failed, and that is never told as `Refused`.
 pub fn read_words(alloc: Global, words: &[String]) -> Result<Task, WordFault>
-    ensures { IfOk result IsInRange }
+    ensures range { IfOk result IsInRange }
+    ensures refused { IfErr result IsNoMemoryRefusal }
 {
     let matches = command(alloc)?.try_get_matches_from(words)?;
     task_of(&matches)
@@ -37,7 +41,8 @@ pub fn wants_progress(words: &[String]) -> bool {
 
 /// The task of words that are of the command's form.
 fn task_of(matches: &ArgMatches<'_>) -> Result<Task, WordFault>
-    ensures { IfOk result IsInRange }
+    ensures range { IfOk result IsInRange }
+    ensures fault { IfErr result IsNoMemoryRefusal }
 {
     let rule = rule_of(matches)?;
     let unit = unit_of(matches)?;
@@ -70,28 +75,36 @@ fn task_of(matches: &ArgMatches<'_>) -> Result<Task, WordFault>
     })
 }
 
-fn rule_of(matches: &ArgMatches<'_>) -> Result<Rule, WordFault> {
+fn rule_of(matches: &ArgMatches<'_>) -> Result<Rule, WordFault>
+    ensures { IfErr result (λ fault. fault ≡ BadRule) }
+{
     match matches.get_str(RULE) {
         Some(text) => read_rule(text).ok_or(WordFault::BadRule),
         None => Ok(Rule::EvenOdd),
     }
 }
 
-fn unit_of(matches: &ArgMatches<'_>) -> Result<Unit, WordFault> {
+fn unit_of(matches: &ArgMatches<'_>) -> Result<Unit, WordFault>
+    ensures { IfErr result (λ fault. fault ≡ BadUnit) }
+{
     match matches.get_str(UNIT) {
         Some(text) => read_unit(text).ok_or(WordFault::BadUnit),
         None => Ok(Unit::Millimetre),
     }
 }
 
-fn grid_of(matches: &ArgMatches<'_>) -> Result<Option<Given>, WordFault> {
+fn grid_of(matches: &ArgMatches<'_>) -> Result<Option<Given>, WordFault>
+    ensures { IfErr result (λ fault. fault ≡ BadGrid) }
+{
     match matches.get_str(GRID) {
         Some(text) => read_grid(text).map(Some).ok_or(WordFault::BadGrid),
         None => Ok(None),
     }
 }
 
-fn voxel_of(matches: &ArgMatches<'_>) -> Result<Option<Voxel>, WordFault> {
+fn voxel_of(matches: &ArgMatches<'_>) -> Result<Option<Voxel>, WordFault>
+    ensures { IfErr result (λ fault. fault ≡ BadProbe) }
+{
     match matches.get_str(PROBE) {
         Some(text) => read_voxel(text).map(Some).ok_or(WordFault::BadProbe),
         None => Ok(None),
@@ -100,7 +113,8 @@ fn voxel_of(matches: &ArgMatches<'_>) -> Result<Option<Voxel>, WordFault> {
 
 /// The micrometres of an option that the task needs.
 fn wanted(matches: &ArgMatches<'_>, name: &str, option: Wanted) -> Result<u32, WordFault>
-    ensures { IfOk result (λ n. (1 ≤ n) × (n ≤ STEP_LIMIT)) }
+    ensures range { IfOk result (λ n. (1 ≤ n) × (n ≤ STEP_LIMIT)) }
+    ensures fault { IfErr result (λ fault. fault ≡ Missing option) }
 {
     number_of(matches, name, STEP_LIMIT).ok_or(WordFault::Missing { option })
 }

@@ -1,8 +1,9 @@
 -- Degenerate facets: their edges balance one another, and no ray crosses them. So a mesh without them has the same rays,
 -- and is closed exactly where the whole mesh is.
-use Rattle.std.proofs.Common.{◌≡◌, ℕ, ◌+◌, Bool, true, false, cond, not, ◌&&◌, ◌||◌, List, [], ◌∷◌, ◌⊎◌, ℤ, pos, ◌+ℤ◌, ◌*ℤ◌, neg_ℤ, refl, sym, ◌∙◌, ap, inl, inr, arith}
+use Rattle.std.proofs.Common.{◌≡◌, ◌≢◌, ℕ, ◌+◌, Bool, true, false, cond, not, ◌&&◌, ◌||◌, List, [], ◌∷◌, ◌⊎◌, ℤ, pos, ◌+ℤ◌, ◌*ℤ◌, neg_ℤ, refl, sym, ◌∙◌, ap, inl, inr, arith}
 use Rattle.std.specs.Prelude.{count_by, int_lt}
 use Rattle.std.proofs.lemmas.List.Sums.{sum_by-append}
+use Rattle.std.proofs.lemmas.Bool.{true≢false}
 use Rattle.std.proofs.lemmas.Int.{ints}
 use Rattle.geometry.specs.Point.{Point, same, half_micrometres_of}
 use Rattle.geometry.specs.Facet.{Facet, edges, half_edges, twice}
@@ -10,6 +11,7 @@ use Rattle.geometry.specs.Winding.{turn, turn_x, wind, hit, wind_y, hit_y, volum
 use Rattle.mesh_weld.specs.Balance.{half_edge_count, IsBalanced}
 use Rattle.mesh_weld.specs.Solid.{is_kept, kept_facets}
 use Rattle.mesh_weld.proofs.lemmas.Edges.{same-is}
+use Rattle.mesh_weld.proofs.lemmas.Order.{same-self}
 use Rattle.exact_cut.proofs.lemmas.Turns.{turn-opposite, turn_x-opposite}
 
 -- ---- which facets are dropped
@@ -29,6 +31,21 @@ dropped-is t h = by_corners (either_of_three (same t.a t.b) (same t.b t.c) (same
     by_corners (inl e) = inl (same-is t.a t.b e)
     by_corners (inr (inl e)) = inr (inl (same-is t.b t.c e))
     by_corners (inr (inr e)) = inr (inr (same-is t.c t.a e))
+
+-- ---- the others have three distinct corners
+none_of_three : (a b c : Bool) → not (a || b || c) ≡ true → (a ≡ false) × (b ≡ false) × (c ≡ false)
+none_of_three true b c h = cc
+none_of_three false true c h = cc
+none_of_three false false true h = cc
+none_of_three false false false h = (refl, refl, refl)
+
+apart : (u v : Point) → same u v ≡ false → u ≡ v → ⊥
+apart u v h e = absurd (true≢false (sym (same-self u) ∙ ap (same u) e ∙ h))
+
+pub kept-distinct : (t : Facet) → is_kept t ≡ true → (t.a ≢ t.b) × (t.b ≢ t.c) × (t.c ≢ t.a)
+kept-distinct t h =
+    let parts = none_of_three (same t.a t.b) (same t.b t.c) (same t.c t.a) h in
+    (apart t.a t.b parts.0, apart t.b t.c parts.1, apart t.c t.a parts.2)
 
 -- ---- an amount of edges that is opposite at opposite edges
 pub own_opposite : (z : ℤ) → z ≡ neg_ℤ z → z ≡ pos 0

@@ -9,8 +9,9 @@ use Rattle.stl_text.proofs.lemmas.OneFault.{not_both, one_fault}
 use Rattle.stl_text.proofs.lemmas.Either.{outcome}
 use Rattle.geometry.specs.Facet.{Facet}
 use Rattle.geometry.specs.declared.limits.TheConstants.{FACET_LIMIT}
-use Rattle.mesh_weld.specs.Balance.{IsBalanced, IsLeastOpen}
+use Rattle.mesh_weld.specs.Balance.{HasOpenEdge, IsBalanced, IsLeastOpen}
 use Rattle.mesh_weld.specs.Solid.{Solid, solid_of}
+use Rattle.mesh_weld.proofs.lemmas.LeastOpen.{closed_not_open, closed_or_open, one_open}
 use Rattle.raster.specs.declared.rule.Rule.{Rule}
 use Rattle.task_words.specs.declared.task.Given.{Given}
 use Rattle.task_words.specs.declared.task.Task.{Task}
@@ -18,7 +19,6 @@ use Rattle.task_words.specs.declared.task.Task.TheVariants as task
 use Rattle.stlslice.specs.declared.run_fault.RunFault.{RunFault}
 use Rattle.stlslice.specs.declared.run_fault.RunFault.TheVariants as fault
 use Rattle.stlslice.specs.Outcome.{IsMade, IsOutcome, box_text, boxed, closed, is_box, misread, open_mesh, probed, sliced, unit_of}
-use Rattle.stlslice.proofs.lemmas.LeastOpen.{AnOpenEdge, closed_not_open, closed_or_open, one_open}
 
 one_made : (t : Task) (solid : Solid) (answer other : Result (List ℕ) RunFault) → IsMade t solid answer → IsMade t solid other → answer ≡ other
 one_made (task.Box unit) solid answer other h k = absurd h
@@ -84,12 +84,12 @@ an_outcome t bytes = by_text (outcome FACET_LIMIT (unit_of t) bytes)
     An = (answer : Result (List ℕ) RunFault) × IsOutcome t bytes answer
 
     by_mesh : (facets : List Facet) → Reads FACET_LIMIT (unit_of t) bytes facets → is_box t ≡ false
-        → IsBalanced facets ⊎ AnOpenEdge facets → An
+        → IsBalanced facets ⊎ HasOpenEdge facets → An
     by_mesh facets reads other (inl balanced) =
         let made = a_made t (solid_of facets) other in
         (made.0, closed facets reads other balanced made.1)
     by_mesh facets reads other (inr o) =
-        (Err (fault.Open o.from o.to o.there o.back_there), open_mesh facets reads other o.from o.to o.there o.back_there o.least refl)
+        (Err (fault.Open o.0 o.1 o.2 o.3), open_mesh facets reads other o.0 o.1 o.2 o.3 o.4 refl)
 
     by_task : (facets : List Facet) → Reads FACET_LIMIT (unit_of t) bytes facets → (b : Bool) → is_box t ≡ b → An
     by_task facets reads true h = (Ok (box_text facets), boxed facets reads h refl)

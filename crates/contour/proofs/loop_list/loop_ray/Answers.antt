@@ -28,7 +28,7 @@ loop-segment-preserved g c =
     let many = c.count-facets.ensures.few in
     let below = c.loop-segment-test.true in
     sum_more c.args.s.now.facets c.args.c.now c.args.list.now c.loop-segment.segment-index _ c.facet.result _ c.ray_hit-sum.result
-    (omega arith) (omega arith) c.facet.ensures
+    (omega arith) (omega arith) c.facet.ensures.value
     (record { sum_is = c.loop-segment.invariant.sum_is; small = c.loop-segment.invariant.small })
     c.ray_hit-sum.ensures.value c.ray_hit-sum.ensures.unit
 

@@ -9,7 +9,7 @@ returns-in_err-cut-clause-segment g c = grind (arith, to_z-of_z, segment_at-none
 pub returns-in_err-cut-clause-some : goal.returns-in_err-cut-clause-some
 returns-in_err-cut-clause-some g c =
     let fits = c.ranges.z2 in
-    none-only c.from_residual.result c.args.s.now.facets c.args.z2 c.args.facet c.facet.result c.from_residual.ensures c.facet.ensures
+    none-only c.from_residual.result c.args.s.now.facets c.args.z2 c.args.facet c.facet.result c.from_residual.ensures c.facet.ensures.value
     (simp to_z-of_z at c.in_err-cut.ensures)
 
 pub returns-clause-segment : goal.returns-clause-segment
@@ -18,7 +18,7 @@ returns-clause-segment g c = grind (arith, to_z-of_z, segment_at-some, c.in_ok-c
 pub returns-clause-some : goal.returns-clause-some
 returns-clause-some g c =
     let fits = c.ranges.z2 in (
-      λ _. between-by_cut c.args.s.now.facets c.args.z2 c.args.facet c.facet.result c.in_ok-cut.cut c.facet.ensures
+      λ _. between-by_cut c.args.s.now.facets c.args.z2 c.args.facet c.facet.result c.in_ok-cut.cut c.facet.ensures.value
           (simp to_z-of_z at c.in_ok-cut.ensures),
       λ _. refl,
     )

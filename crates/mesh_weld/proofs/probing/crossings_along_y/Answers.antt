@@ -11,6 +11,6 @@ loop-number-preserved g c =
     let below = c.loop-number-test.true in
     let next : Summed (λ t. hit_y (twice t) c.args.centre.now) c.args.solid.now.facets (c.loop-number.number + 1) _ =
     sum_more (λ t. hit_y (twice t) c.args.centre.now) c.args.solid.now.facets c.loop-number.number c.facet.result _ c.ray_hit_y-sum.result
-    (omega arith) c.facet.ensures (record { sum_is = c.loop-number.invariant.sum_is; small = c.loop-number.invariant.small })
+    (omega arith) c.facet.ensures.value (record { sum_is = c.loop-number.invariant.sum_is; small = c.loop-number.invariant.small })
     c.ray_hit_y-sum.ensures.value c.ray_hit_y-sum.ensures.unit in
     record { sum_is = next.sum_is; small = next.small }

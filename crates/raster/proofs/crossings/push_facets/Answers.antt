@@ -16,7 +16,7 @@ facet-requires g c = below-all c.args.s.now.facets c.args.z2 c.args.list.now c.l
 pub loop-segment-preserved : goal.loop-segment-preserved
 loop-segment-preserved g c = record {
   pushed = pushed-more c.args.s.now.facets _ c.args.lattice.now c.args.list.now c.loop-segment.segment-index c.facet.result c.loop-segment.out c.push_facet.new.out
-      c.loop-segment-test.true c.facet.ensures c.in_ok-push_facet.ensures.signs c.in_ok-push_facet.ensures.passed c.in_ok-push_facet.ensures.within
+      c.loop-segment-test.true c.facet.ensures.value c.in_ok-push_facet.ensures.signs c.in_ok-push_facet.ensures.passed c.in_ok-push_facet.ensures.within
       c.loop-segment.invariant.pushed;
   rows = c.in_ok-push_facet.ensures.rows ∙ c.loop-segment.invariant.rows;
 }

@@ -8,7 +8,7 @@ use Rattle.std.proofs.lemmas.Bool.{and_from, and_parts, eqb-true, eq-eqb, true�
 use Rattle.std.proofs.lemmas.Cmp.{then_total, on_total}
 use Rattle.geometry.specs.Point.{Point, same, is_before}
 use Rattle.geometry.specs.Facet.{Facet, Edge, edge, edges}
-use Rattle.mesh_weld.specs.Balance.{IsBalanced, IsLeastOpen, half_edge_count, is_edge_before}
+use Rattle.mesh_weld.specs.Balance.{HasOpenEdge, IsBalanced, IsLeastOpen, half_edge_count, is_edge_before}
 use Rattle.mesh_weld.proofs.lemmas.Edges.{IsBalanced-by_edges, is_even, is_past_both, least-by_edges}
 use Rattle.mesh_weld.proofs.lemmas.Order.{before-irreflexive, is_before-is, place_cmp, place_total, ranked, same-by_cmp, same-self}
 
@@ -183,33 +183,25 @@ first_open facets (e ∷ es) = by_rest (first_open facets es)
     by_rest (inl rest) = by_test rest (is_even facets e) refl
     by_rest (inr n) = inr (nearer facets e es n)
 
--- a mesh with its least open edge
-pub record AnOpenEdge (facets : List Facet) : Type 0 where
-  pub from : Point
-  pub to : Point
-  pub there : ℕ
-  pub back_there : ℕ
-  pub least : IsLeastOpen facets from to there back_there
-
 -- a mesh is closed, or it has a least open edge
-pub closed_or_open : (facets : List Facet) → IsBalanced facets ⊎ AnOpenEdge facets
+pub closed_or_open : (facets : List Facet) → IsBalanced facets ⊎ HasOpenEdge facets
 closed_or_open facets = by_cases (first_open facets (edges facets))
   where
-    by_cases : (list_all (is_even facets) (edges facets) ≡ true) ⊎ Nearest facets (edges facets) → IsBalanced facets ⊎ AnOpenEdge facets
+    by_cases : (list_all (is_even facets) (edges facets) ≡ true) ⊎ Nearest facets (edges facets) → IsBalanced facets ⊎ HasOpenEdge facets
     by_cases (inl even) = inl (IsBalanced-by_edges facets even)
-    by_cases (inr n) = inr (record {
-      from = n.target.from;
-      to = n.target.to;
-      there = half_edge_count facets n.target.from n.target.to;
-      back_there = half_edge_count facets n.target.to n.target.from;
-      least = record {
+    by_cases (inr n) = inr (
+      n.target.from,
+      n.target.to,
+      half_edge_count facets n.target.from n.target.to,
+      half_edge_count facets n.target.to n.target.from,
+      record {
         in_order = n.is_open.0;
         there_is = refl;
         back_is = refl;
         differ = λ is. let even : is_even facets n.target ≡ true = eq-eqb _ _ is in let uneven = n.is_open.1 in cc;
         least = least-by_edges facets n.target n.past;
-      };
-    })
+      },
+    )
 
 -- not both
 pub closed_not_open : (facets : List Facet) (from to : Point) (there back : ℕ) → IsBalanced facets → IsLeastOpen facets from to there back → ⊥
