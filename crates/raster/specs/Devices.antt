@@ -1,18 +1,14 @@
 -- What a device's calls do to the count of its failures, and to the bytes that it holds.
-use Rattle.std.specs.Prelude.{◌≡◌, ℕ, Bool, ◌+◌, ◌-◌, ◌^◌, min, ◌<◌, ◌⊎◌, List, take, Option}
+use Rattle.std.specs.Prelude.{◌≡◌, ℕ, Bool, ◌+◌, ◌-◌, ◌^◌, min, List, take, Option}
 use Rattle.std.specs.Io.KnownBytes.{Appends}
 
 -- a count that stays once it is at the end of its range
 abbrev pub greatest_count : ℕ
 greatest_count = 2 ^ 64 - 1
 
--- one more failure
+-- just one call failed in between
 abbrev pub Fails : ℕ → ℕ → Type 0
 Fails old new = new ≡ min (old + 1) greatest_count
-
--- a call failed in between; a count at the end of its range passes for grown
-abbrev pub HasFailed : ℕ → ℕ → Type 0
-HasFailed old new = (old < new) ⊎ (new ≡ greatest_count)
 
 -- the first `written` bytes of a text went out
 abbrev pub AppendsFirst : Option (List ℕ) → Option (List ℕ) → ℕ → List ℕ → Type 0

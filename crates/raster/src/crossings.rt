@@ -1,5 +1,6 @@
 //! The crossings of a layer's rows with the mesh: where each scanline crosses which facet, by column, and with which sign.
-ghost use Rattle.std.specs.Prelude.{◌≡◌, ◌≢◌, ◌<◌, ◌≤◌, ◌++◌, ◌∷◌, ◌+◌, ◌+ℤ◌, ◌-ℤ◌, [], All, OnOk, drop, length, pos, take, ℕ};
+ghost use Rattle.std.specs.Prelude.{◌≡◌, ◌≢◌, ◌<◌, ◌≤◌, ◌++◌, ◌∷◌, ◌+◌, ◌+ℤ◌, ◌-ℤ◌, [], All, OnErr, OnOk, drop, length, pos, take, true, ℕ};
+ghost use Rattle.std.specs.Mem.{FitsInMemory};
 ghost use Rattle.std.specs.Ordering.{int_eq};
 ghost use Rattle.exact_int.specs.Bounds.{IsAtMost};
 ghost use Rattle.geometry.specs.Facet.{twice};
@@ -19,11 +20,13 @@ use contour::Segment;
 use exact_cut::{Lattice, Walk};
 use geometry::Facet;
 use mesh_weld::Solid;
+use smallvec::SmallVec;
 use std::alloc::{AllocError, Allocator};
 use std::marker::Model;
+use std::mem::{ManuallyDrop, size_of_val};
 
 /// Where a scanline crosses the mesh: the column of the crossing, and its sign.
-#[derive(Clone, Copy, Debug, PartialEq, Eq)]
+#[derive(Clone, Copy, Debug, Default, PartialEq, Eq)]
 pub(crate) struct RowCrossing {
     /// The least column whose centre isn't left of the crossing; at most `COLUMN_LIMIT`.
     pub(crate) column: u16,
@@ -34,10 +37,15 @@ pub(crate) struct RowCrossing {
 /// The greatest capacity that a row keeps from one layer to the next, in crossings. A row with more gives its memory back.
 const KEPT_CAPACITY: usize = 512;
 
+/// The crossings that a row has room for without an allocation. Most rows of a layer have two.
+const IN_PLACE: usize = 4;
+
+/// The crossings of a row.
+type Row<A> = SmallVec<RowCrossing, IN_PLACE, A>;
+
 /// The crossings of a layer's rows, those of each row in the order in which they were added.
-#[derive(Drop)]
 pub(crate) struct RowCrossings<A: Allocator> {
-    rows: Vec<Vec<RowCrossing, A>, A>,
+    rows: Vec<Row<A>, A>,
 }
 
 impl<A: Allocator> Model for RowCrossings<A> {
@@ -47,6 +55,16 @@ impl<A: Allocator> Model for RowCrossings<A> {
     ghost Value = { List (List RowCrossing) };
 
     ghost view = { λ m. map (λ row. row.items) m.rows.items };
+}
+
+impl<A: Allocator> Drop for RowCrossings<A> {
+    fn drop(self) {
+        let RowCrossings { rows } = self;
+        if !fits_in_memory::<Row<A>>() {
+            // never reached: rows of such a type can't be dropped, and there are none
+            let _rows = unsafe { ManuallyDrop::new_unchecked(rows) };
+        }
+    }
 }
 
 impl<A: Allocator + Copy> RowCrossings<A> {
@@ -62,23 +80,29 @@ impl<A: Allocator + Copy> RowCrossings<A> {
         ensures empty { OnOk result ((j : ℕ) → crossings_in self.new j ≡ []) }
         ensures rows { OnOk result (rows ≤ length self.new) }
     {
+        if !fits_in_memory::<Row<A>>() {
+            return Err(AllocError);
+        }
         forget_all(alloc, &mut self.rows);
         make_room(alloc, &mut self.rows, rows as usize)
     }
-}
 
-impl<A: Allocator> RowCrossings<A> {
     /// Adds a crossing to a row. On an error the rows are as before.
     pub(crate) fn push(&mut self, row: u32, crossing: RowCrossing) -> Result<(), AllocError>
         requires { row < length self.old }
         ensures rows { length self.new ≡ length self.old }
         ensures here { OnOk result (crossings_in self.new row ≡ crossings_in self.old row ++ crossing ∷ []) }
         ensures elsewhere { (j : ℕ) → j ≢ row → crossings_in self.new j ≡ crossings_in self.old j }
+        ensures failed { OnErr result (self.new ≡ self.old) }
     {
-        self.rows[row as usize].push(crossing)?;
-        Ok(())
+        if !fits_in_memory::<Row<A>>() {
+            return Err(AllocError);
+        }
+        push(&mut self.rows[row as usize], crossing)
     }
+}
 
+impl<A: Allocator> RowCrossings<A> {
     /// Adds the spans of a row, from the left, by its crossings, which are sorted in place. On an error `out` may have some
     /// of them.
     pub(crate) fn fill_row(
@@ -97,13 +121,28 @@ impl<A: Allocator> RowCrossings<A> {
         ensures kept { OnOk result (take (length out.old.items) out.new.items ≡ out.old.items) }
         ensures added { OnOk result (AreRowSpans rule row (crossings_in self.old row) (drop (length out.old.items) out.new.items)) }
     {
+        if !fits_in_memory::<Row<A>>() {
+            return Err(AllocError);
+        }
         let crossings = self.rows[row as usize].as_mut_slice();
         fill_row(rule, row, crossings, columns, out)
     }
 }
 
+/// Whether a value of a type takes less than half the address space. It does, whatever the type, and this is known when
+/// the program is compiled; but no proof knows it of the type of an allocator.
+fn fits_in_memory<T>() -> bool
+    ensures { result ≡ true → FitsInMemory T.row }
+{
+    let none: Option<T> = None;
+    let fits = size_of_val(&none) <= isize::MAX as usize;
+    // nothing is kept from being dropped: there is no `T` in it
+    let _none = unsafe { ManuallyDrop::new_unchecked(none) };
+    fits
+}
+
 /// Removes the crossings of all rows.
-fn forget_all<A: Allocator + Copy>(alloc: A, rows: &mut Vec<Vec<RowCrossing, A>, A>)
+fn forget_all<A: Allocator + Copy>(alloc: A, rows: &mut Vec<Row<A>, A>)
     ensures { All (λ row. row.items ≡ []) rows.new.items }
 {
     for row in 0..rows.len() {
@@ -114,7 +153,7 @@ fn forget_all<A: Allocator + Copy>(alloc: A, rows: &mut Vec<Vec<RowCrossing, A>,
 /// Adds empty rows until there are `count`.
 fn make_room<A: Allocator + Copy>(
     alloc: A,
-    rows: &mut Vec<Vec<RowCrossing, A>, A>,
+    rows: &mut Vec<Row<A>, A>,
     count: usize,
 ) -> Result<(), AllocError>
     requires { All (λ row. row.items ≡ []) rows.old.items }
@@ -122,25 +161,43 @@ fn make_room<A: Allocator + Copy>(
     ensures count { OnOk result (count ≤ length rows.new.items) }
 {
     for _row in rows.len()..count {
-        rows.push(Vec::new(alloc))?;
+        rows.push(SmallVec::new(alloc))?;
     }
     Ok(())
 }
 
 /// Removes the crossings of a row, and frees its memory where its capacity is above `KEPT_CAPACITY`.
-fn forget<A: Allocator + Copy>(alloc: A, crossings: &mut Vec<RowCrossing, A>)
+fn forget<A: Allocator + Copy>(alloc: A, crossings: &mut Row<A>)
     ensures { crossings.new.items ≡ [] }
 {
-    if crossings.capacity() > KEPT_CAPACITY {
-        *crossings = Vec::new(alloc);
-    } else {
+    if crossings.spilled() && crossings.capacity() <= KEPT_CAPACITY {
         crossings.clear();
+    } else {
+        *crossings = SmallVec::new(alloc);
+    }
+}
+
+/// Adds a crossing to those of a row. On an error they are as before.
+fn push<A: Allocator + Copy>(
+    crossings: &mut Row<A>,
+    crossing: RowCrossing,
+) -> Result<(), AllocError>
+    ensures added { OnOk result (crossings.new.items ≡ crossings.old.items ++ crossing ∷ []) }
+    ensures failed { OnErr result (crossings.new ≡ crossings.old) }
+{
+    // wakes the invariant: a row's capacity is at least `IN_PLACE`
+    let _capacity = crossings.capacity();
+    if crossings.len() < IN_PLACE {
+        crossings.push_reserved(crossing);
+        Ok(())
+    } else {
+        Ok(crossings.push(crossing)?)
     }
 }
 
 /// Adds the crossings of all facets with the rows of a lattice at the height `z2`, in half-micrometres, by the segments
 /// there: a facet without a segment crosses no row. On an error `out` may have some of them.
-pub(crate) fn push_facets<A: Allocator>(
+pub(crate) fn push_facets<A: Allocator + Copy>(
     s: &Solid<A>,
     z2: i64,
     lattice: &Lattice,
@@ -167,7 +224,7 @@ pub(crate) fn push_facets<A: Allocator>(
 
 /// Adds the crossings of a facet with the rows of a lattice at the height `z2`, in half-micrometres. On an error `out` may
 /// have some of them.
-fn push_facet<A: Allocator>(
+fn push_facet<A: Allocator + Copy>(
     facet: &Facet,
     z2: i64,
     lattice: &Lattice,
@@ -190,7 +247,10 @@ fn push_facet<A: Allocator>(
 }
 
 /// Adds the crossings of a walk, one in each of its rows. On an error `out` may have some of them.
-fn push_walk<A: Allocator>(mut walk: Walk, out: &mut RowCrossings<A>) -> Result<(), AllocError>
+fn push_walk<A: Allocator + Copy>(
+    mut walk: Walk,
+    out: &mut RowCrossings<A>,
+) -> Result<(), AllocError>
     requires few_rows { walk.row + length walk.columns ≤ COLUMN_LIMIT }
     requires few_columns { All (λ column. column ≤ COLUMN_LIMIT) walk.columns }
     requires rows { walk.row + length walk.columns ≤ length out.old }

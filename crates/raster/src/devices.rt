@@ -2,7 +2,7 @@
 //! over std's readers and writers, and `put_all`, which repeats a sink's short writes.
 ghost use Rattle.std.specs.Prelude.{◌≡◌, Bool, true, ◌≤◌, ◌<◌, IfErr, IfOk, List, OnErr, OnOk, Ok, Option, length, take, ℕ};
 ghost use Rattle.std.specs.Io.KnownBytes.{Appends, Consumes, IsAtEnd, Keeps};
-ghost use Rattle.raster.specs.Devices.{AppendsFirst, Fails, HasFailed};
+ghost use Rattle.raster.specs.Devices.{AppendsFirst, Fails};
 
 use std::io::{Read, Write};
 use std::marker::Model;
@@ -175,14 +175,14 @@ impl<T: Write> Sink for Counted<T> {
 
 /// Writes a whole chunk of bytes out, in as many calls of the sink as it takes.
 ///
-/// A call of the sink that fails isn't tried again: the first `written` bytes of the chunk went out, and no more; they are
-/// fewer than all. The sink isn't flushed, and no memory is allocated.
+/// A call of the sink that fails isn't tried again, so an error is one failed call: the first `written` bytes of the chunk
+/// went out, and no more; they are fewer than all. The sink isn't flushed, and no memory is allocated.
 pub fn put_all<W: Sink>(w: &mut W, chunk: &[u8]) -> Result<(), WriteFault>
     ensures ok { OnOk result (Appends (W.contents w.old) (W.contents w.new) chunk.now) }
     ensures same { OnOk result (W.Failures.failure_count w.new ≡ W.Failures.failure_count w.old) }
     ensures written { IfErr result (λ fault. AppendsFirst (W.contents w.old) (W.contents w.new) fault.written chunk.now) }
     ensures within { IfErr result (λ fault. fault.written < length chunk.now) }
-    ensures failed { OnErr result (HasFailed (W.Failures.failure_count w.old) (W.Failures.failure_count w.new)) }
+    ensures failed { OnErr result (Fails (W.Failures.failure_count w.old) (W.Failures.failure_count w.new)) }
 {
     let mut written = 0;
     while written < chunk.len() {

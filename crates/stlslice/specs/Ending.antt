@@ -1,7 +1,7 @@
 -- Which faults of a run come when, beside those of its devices and of memory.
 use Rattle.std.specs.Prelude.{◌≡◌, ◌≢◌, ℕ, ◌≤◌, ◌⊎◌, List, Option, Err, Ok, length}
 use Rattle.std.specs.Io.KnownBytes.{Keeps}
-use Rattle.raster.specs.Devices.{AppendsFirst, HasFailed}
+use Rattle.raster.specs.Devices.{AppendsFirst, Fails}
 use Rattle.task_words.specs.declared.task.Task.{Task}
 use Rattle.stlslice.specs.declared.run_fault.RunFault.{RunFault}
 use Rattle.stlslice.specs.declared.run_fault.RunFault.TheVariants as fault
@@ -62,11 +62,11 @@ transcript old new failed_before failed = record { old = old; new = new; failed_
 abbrev pub IsUntouched : Transcript → Type 0
 IsUntouched transcript = Keeps transcript.old transcript.new × (transcript.failed ≡ transcript.failed_before)
 
--- the first bytes of a text went out, as many as the fault counts, and the device failed
+-- the first bytes of a text went out, as many as the fault counts, and just one call failed
 abbrev pub IsUnwritten : Transcript → List ℕ → RunFault → Type 0
 IsUnwritten transcript text f =
     (written : ℕ) × (f ≡ fault.Write written) × (written ≤ length text) × AppendsFirst transcript.old transcript.new written text
-    × HasFailed transcript.failed_before transcript.failed
+    × Fails transcript.failed_before transcript.failed
 
 -- a fault of a run that read its input and has written nothing
 abbrev pub IsWorkFault : Task → List ℕ → RunFault → Type 0

@@ -1,7 +1,7 @@
 -- What a run promises, by what is left of its source and what its sink holds.
 use Rattle.std.specs.Prelude.{◌≡◌, ◌≢◌, ◌⊎◌, ℕ, ◌≤◌, Bool, List, MatchResult, Result, Err, IfErr, IfSome, Ok, OnOk, length, true}
 use Rattle.std.specs.Io.KnownBytes.{Appends, IsAtEnd, Keeps}
-use Rattle.raster.specs.Devices.{AppendsFirst, Fails, HasFailed}
+use Rattle.raster.specs.Devices.{AppendsFirst, Fails}
 use Rattle.task_words.specs.declared.task.Task.{Task}
 use Rattle.stlslice.specs.declared.run_fault.RunFault.{RunFault}
 use Rattle.stlslice.specs.declared.run_fault.RunFault.TheVariants as cause
@@ -18,11 +18,11 @@ pub record IsRun {T : Type 0} (t : Task) (result : Result T RunFault) (source si
   -- where the outcome is a fault, it is just that one which comes of the input, and the run does not succeed
   pub only : IfSome source.old (λ input. (own : RunFault) → IsOutcome t input (Err own)
       → MatchResult result (λ _. ⊥) (λ f. (f ≡ own) ⊎ (f ≡ cause.Read) ⊎ (f ≡ cause.Memory)))
-  -- a device's count of failed calls stays, unless the run ends with this device's fault; a failed read is one call
+  -- a device's count of failed calls stays, unless the run ends with this device's fault: then just one call failed
   pub source_sound : result ≢ Err cause.Read → source.failed ≡ source.failed_before
   pub sink_sound : ((written : ℕ) → result ≢ Err (cause.Write written)) → sink.failed ≡ sink.failed_before
   pub unread : result ≡ Err cause.Read → Fails source.failed_before source.failed
-  pub unwritten : (written : ℕ) → result ≡ Err (cause.Write written) → HasFailed sink.failed_before sink.failed
+  pub unwritten : (written : ℕ) → result ≡ Err (cause.Write written) → Fails sink.failed_before sink.failed
   -- after a fault of the output its first `written` bytes went out; after any other fault nothing did
   pub first : (written : ℕ) → result ≡ Err (cause.Write written) → IfSome source.old (λ input.
       (text : List ℕ) × IsOutcome t input (Ok text) × (written ≤ length text) × AppendsFirst sink.old sink.new written text)

@@ -2,7 +2,7 @@
 //! a whole text is written and flushed.
 ghost use Rattle.std.specs.Prelude.{◌≡◌, ◌≤◌, IfErr, OnOk, length, true, ℕ, ◌⊎◌};
 ghost use Rattle.std.specs.Io.KnownBytes.{Appends, Keeps};
-ghost use Rattle.raster.specs.Devices.{AppendsFirst, Fails, HasFailed};
+ghost use Rattle.raster.specs.Devices.{AppendsFirst, Fails};
 ghost use Rattle.stlslice.specs.declared.run_fault.RunFault.TheVariants.{Write, Memory};
 ghost use Rattle.stlslice.specs.Ending.{IsUntouched, IsUnwritten, transcript};
 ghost use Rattle.stlslice.specs.SlicedText.{output_of, sliced_text};
@@ -76,7 +76,7 @@ pub(crate) fn write_all<O: Sink>(sink: &mut O, text: &[u8]) -> Result<(), RunFau
     ensures same { OnOk result (O.Failures.failure_count sink.new ≡ O.Failures.failure_count sink.old) }
     ensures err { IfErr result (λ fault. (written : ℕ) × (fault ≡ Write written) × (written ≤ length text.now)
         × AppendsFirst (O.contents sink.old) (O.contents sink.new) written text.now
-        × HasFailed (O.Failures.failure_count sink.old) (O.Failures.failure_count sink.new)) }
+        × Fails (O.Failures.failure_count sink.old) (O.Failures.failure_count sink.new)) }
 {
     match put_all(sink, text) {
         Ok(()) => settle(sink, text.len() as u64),

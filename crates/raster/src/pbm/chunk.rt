@@ -2,7 +2,7 @@
 ghost use Rattle.std.specs.Prelude.{◌≡◌, ◌<◌, ◌≤◌, ◌+◌, ◌-◌, ◌^◌, [], ◌∷◌, ◌++◌, decimal, drop, length, OnOk, OnErr, IfErr, IfOk, true};
 ghost use Rattle.std.specs.Int.{div_ceil};
 ghost use Rattle.std.specs.Io.KnownBytes.{Appends};
-ghost use Rattle.raster.specs.Devices.{AppendsFirst, HasFailed};
+ghost use Rattle.raster.specs.Devices.{AppendsFirst, Fails};
 ghost use Rattle.raster.specs.Picture.{header, row_bytes};
 ghost use Rattle.raster.specs.Rows.{are_within, crosses};
 ghost use Rattle.raster.specs.declared.pbm.chunk.TheConstants.{CHUNK_LEN};
@@ -129,7 +129,7 @@ impl Chunk {
         ensures written { IfErr result (λ fault. AppendsFirst (W.contents w.old) (W.contents w.new) (fault.written - before) self.old) }
         ensures some { IfErr result (λ fault. before ≤ fault.written) }
         ensures within { IfErr result (λ fault. fault.written < before + length self.old) }
-        ensures failed { OnErr result (HasFailed (W.Failures.failure_count w.old) (W.Failures.failure_count w.new)) }
+        ensures failed { OnErr result (Fails (W.Failures.failure_count w.old) (W.Failures.failure_count w.new)) }
     {
         if self.room() < needed {
             self.send(w, before)
@@ -149,7 +149,7 @@ impl Chunk {
         ensures written { IfErr result (λ fault. AppendsFirst (W.contents w.old) (W.contents w.new) (fault.written - before) self.old) }
         ensures some { IfErr result (λ fault. before ≤ fault.written) }
         ensures within { IfErr result (λ fault. fault.written < before + length self.old) }
-        ensures failed { OnErr result (HasFailed (W.Failures.failure_count w.old) (W.Failures.failure_count w.new)) }
+        ensures failed { OnErr result (Fails (W.Failures.failure_count w.old) (W.Failures.failure_count w.new)) }
     {
         let filled = self.filled;
         match put_all(w, &self.bytes[..filled]) {

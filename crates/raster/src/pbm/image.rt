@@ -2,7 +2,7 @@
 ghost use Rattle.std.specs.Prelude.{◌≡◌, ◌<◌, ◌≤◌, ◌+◌, ◌++◌, length, IfErr, OnErr, OnOk};
 ghost use Rattle.std.specs.Int.{div_ceil};
 ghost use Rattle.std.specs.Io.KnownBytes.{Appends};
-ghost use Rattle.raster.specs.Devices.{AppendsFirst, HasFailed};
+ghost use Rattle.raster.specs.Devices.{AppendsFirst, Fails};
 ghost use Rattle.raster.specs.Span.{AreSpans, covers};
 ghost use Rattle.raster.specs.Picture.{picture, row_bytes};
 ghost use Rattle.raster.specs.Rows.{IsSplit};
@@ -27,7 +27,7 @@ pub fn write_layer<W: Sink>(g: &Grid, spans: &[Span], w: &mut W) -> Result<(), W
     ensures written { IfErr result (λ fault. AppendsFirst (W.contents w.old) (W.contents w.new) fault.written
         (picture g.now.columns g.now.rows (covers spans.now))) }
     ensures within { IfErr result (λ fault. fault.written < length (picture g.now.columns g.now.rows (covers spans.now))) }
-    ensures failed { OnErr result (HasFailed (W.Failures.failure_count w.old) (W.Failures.failure_count w.new)) }
+    ensures failed { OnErr result (Fails (W.Failures.failure_count w.old) (W.Failures.failure_count w.new)) }
 {
     let needed = g.columns().div_ceil(8) as usize;
     let mut chunk = Chunk::new();

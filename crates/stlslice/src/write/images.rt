@@ -1,7 +1,7 @@
 //! The output of slicing: the images of all layers, one after the other.
 ghost use Rattle.std.specs.Prelude.{◌≡◌, ◌≤◌, ◌+◌, ◌^◌, Bool, IfErr, IfOk, OnOk, decimal, length, true, ℕ};
 ghost use Rattle.std.specs.Io.KnownBytes.{Appends};
-ghost use Rattle.raster.specs.Devices.{AppendsFirst, HasFailed};
+ghost use Rattle.raster.specs.Devices.{AppendsFirst, Fails};
 ghost use Rattle.raster.specs.Span.{AreSpans};
 ghost use Rattle.raster.specs.Picture.{picture, pictures};
 ghost use Rattle.stlslice.specs.SlicedText.{image};
@@ -27,7 +27,7 @@ pub(crate) fn write_images<A: Allocator, O: Sink>(
         × (written ≤ length (pictures build.now.job.grid build.now.job.rule build.now.job.solid.facets))
         × AppendsFirst (O.contents sink.old) (O.contents sink.new) written
         (pictures build.now.job.grid build.now.job.rule build.now.job.solid.facets)
-        × HasFailed (O.Failures.failure_count sink.old) (O.Failures.failure_count sink.new)) }
+        × Fails (O.Failures.failure_count sink.old) (O.Failures.failure_count sink.new)) }
 {
     let grid = build.job().grid();
     // wakes the invariant (see CONTRIBUTING.md): a grid has at most `LAYER_LIMIT` layers, so the count of bytes fits
@@ -55,7 +55,7 @@ pub(crate) fn write_image<O: Sink>(
     ensures err { IfErr result (λ fault. (written : ℕ) × (fault ≡ Write (before + written))
         × (written ≤ length (image grid.now spans.now))
         × AppendsFirst (O.contents sink.old) (O.contents sink.new) written (image grid.now spans.now)
-        × HasFailed (O.Failures.failure_count sink.old) (O.Failures.failure_count sink.new)) }
+        × Fails (O.Failures.failure_count sink.old) (O.Failures.failure_count sink.new)) }
 {
     let image = image_len(grid);
     match write_layer(grid, spans, sink) {

@@ -1,4 +1,4 @@
-use Rattle.std.specs.Vec.{with_items}
+use Rattle.smallvec.specs.SmallVec.{with_items}
 use Rattle.raster.proofs.lemmas.RowCrossings.{changed-elsewhere}
 use Rattle.raster.proofs.crossings.RowCrossings.fill_row.Goals as goal
 
