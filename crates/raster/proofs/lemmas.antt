@@ -15,3 +15,4 @@ pub mod Boxes
 pub mod Segs
 pub mod Pixels
 pub mod Middles
+pub mod Pictures

@@ -3,5 +3,4 @@ pub mod Ends
 pub mod Faults
 pub mod LeastOpen
 pub mod OneAnswer
-pub mod Pictures
 pub mod Stream
