@@ -160,8 +160,8 @@ fn a_column_of_seventeen_layers(rt: HostRuntime) -> Result<(), Fail> {
     let session = open(rt.alloc(), COLUMN, &fitted(1, Rule::EvenOdd))?;
     assert!(rt; told(&session) == (12, [1, 1, 17], 3, Rule::EvenOdd));
     assert!(rt; session.layers() == 17);
-    assert!(rt; session.image(16)?.as_slice() == b"P4\n1 1\n\x80");
-    assert!(rt; session.stripe(2)?.as_slice() == b"P4\n1 1\n\x80");
+    assert!(rt; session.image(16)?.as_slice() == b"P4\n1 1\n\x80".as_slice());
+    assert!(rt; session.stripe(2)?.as_slice() == b"P4\n1 1\n\x80".as_slice());
     assert!(rt; session.stripe(1)?.len() == 64);
     assert!(rt; session.area(16)? == 1 && session.loops(16)?.count() == 1);
     assert!(rt; session.probe(0, 0, 16) == Ok((1, 1)));
@@ -198,8 +198,8 @@ fn a_given_grid(rt: HostRuntime) -> Result<(), Fail> {
     };
     let session = open(rt.alloc(), CUBE, &given)?;
     assert!(rt; told(&session) == (12, [3, 2, 4], 1, Rule::NonZero));
-    assert!(rt; session.image(0)?.as_slice() == b"P4\n3 2\n\x60\x60");
-    assert!(rt; session.image(2)?.as_slice() == b"P4\n3 2\n\x00\x00");
+    assert!(rt; session.image(0)?.as_slice() == b"P4\n3 2\n\x60\x60".as_slice());
+    assert!(rt; session.image(2)?.as_slice() == b"P4\n3 2\n\x00\x00".as_slice());
     assert!(rt; session.area(1)? == 4 && session.area(3)? == 0);
     assert!(rt; session.loops(1)?.count() == 1 && session.loops(3)?.count() == 0);
     assert!(rt; session.probe(0, 0, 0) == Ok((0, 0)) && session.probe(1, 0, 0) == Ok((1, 1)));
