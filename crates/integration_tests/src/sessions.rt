@@ -206,7 +206,15 @@ fn a_given_grid(rt: HostRuntime) -> Result<(), Fail> {
     Ok(())
 }
 
-// Each fault as it reads, and what has it.
+// Whether opening a mesh's text fails, and the fault reads so.
+fn fails_with(alloc: Global, parts: &[Part<'_>], setup: &Setup, line: &str) -> Option<bool> {
+    let fault = open(alloc, parts, setup).err()?;
+    Some(format!(in alloc; "{fault}").ok()?.as_str() == line)
+}
+
+const STEP: &str = "pitch and layer height take 1 to 100000 micrometres";
+
+// The step goes before the mesh, and the mesh before the grid.
 #[test]
 fn faults_read_as_the_program_s(rt: HostRuntime) -> Result<(), Fail> {
     let alloc = rt.alloc();
@@ -226,28 +234,21 @@ fn faults_read_as_the_program_s(rt: HostRuntime) -> Result<(), Fail> {
         ..setup
     };
     let open_box: &[Part] = &[(CORNERS, &BOX[1..])];
-    for (parts, setup, line) in [
-        (
-            CUBE,
-            none,
-            "pitch and layer height take 1 to 100000 micrometres",
-        ),
-        (
-            open_box,
-            coarse,
-            "pitch and layer height take 1 to 100000 micrometres",
-        ),
-        (
-            open_box,
-            no_cells,
-            "open edge 0 0 0 to 0 2 0 there 0 back 1",
-        ),
-        (CUBE, no_cells, "grid has no cells"),
-        (&[], setup, "no facet is left"),
-    ] {
-        let fault = open(alloc, parts, &setup).err().ok_or("no fault")?;
-        assert_eq!(rt; format!(in alloc; "{fault}")?.as_str(), line);
-    }
+    let open_edge = "open edge 0 0 0 to 0 2 0 there 0 back 1";
+    assert_eq!(rt; fails_with(alloc, CUBE, &none, STEP), Some(true));
+    assert_eq!(rt; fails_with(alloc, open_box, &coarse, STEP), Some(true));
+    assert_eq!(rt;
+        fails_with(alloc, open_box, &no_cells, open_edge),
+        Some(true)
+    );
+    assert_eq!(rt;
+        fails_with(alloc, CUBE, &no_cells, "grid has no cells"),
+        Some(true)
+    );
+    assert_eq!(rt;
+        fails_with(alloc, &[], &setup, "no facet is left"),
+        Some(true)
+    );
     let misread = Session::open(alloc, b"solid\nendloop", &no_cells).err();
     let wanted = StlFault::Expected {
         word: Word::FacetOrEnd,
@@ -286,10 +287,11 @@ fn nothing_lies_outside_the_grid(rt: HostRuntime) -> Result<(), Fail> {
 fn answers(memory: &ShortMemory<Global>) -> Result<(usize, usize, u64, usize), SessionFault> {
     let text = text_of(memory, TWO_CUBES)?;
     let session = Session::open(memory, text.as_bytes(), &fitted(1, Rule::NonZero))?;
-    answers_of(&session).or_else(|fault| match fault {
-        SessionFault::Memory => answers_of(&session),
-        other => Err(other),
-    })
+    let first = answers_of(&session);
+    if first == Err(SessionFault::Memory) {
+        return answers_of(&session);
+    }
+    first
 }
 
 // The lengths of an image and of a stripe, an area and a count of loops.
@@ -315,10 +317,12 @@ fn refused(alloc: Global) -> Option<(u32, u32)> {
         if !memory.has_refused() {
             return (found == Ok(usual)).then_some((told, tried));
         }
-        match found {
-            Err(SessionFault::Memory) => told = told.saturating_add(1),
-            Ok(answers) if answers == usual => tried = tried.saturating_add(1),
-            _ => return None,
+        if found == Err(SessionFault::Memory) {
+            told = told.saturating_add(1);
+        } else if found == Ok(usual) {
+            tried = tried.saturating_add(1);
+        } else {
+            return None;
         }
     }
     None
