@@ -7,3 +7,4 @@ pub mod Totals
 pub mod Promise
 pub mod SomeSpans
 pub mod SomeBuild
+pub mod Images

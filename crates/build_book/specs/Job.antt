@@ -19,6 +19,10 @@ pub record Job : Type 0 where
 abbrev pub stripe_count : Grid → ℕ
 stripe_count g = div_ceil g.layers STRIPE_LAYERS
 
+-- the number of its first layer
+abbrev pub stripe_start : ℕ → ℕ
+stripe_start s = STRIPE_LAYERS * s
+
 abbrev pub stripe_length : Grid → ℕ → ℕ
 stripe_length g s = min STRIPE_LAYERS (g.layers - STRIPE_LAYERS * s)
 

@@ -41,6 +41,8 @@ mod refused_rises;
 #[cfg(test)]
 mod refused_welds;
 #[cfg(test)]
+mod sessions;
+#[cfg(test)]
 mod stl_texts;
 #[cfg(test)]
 mod text_parts;

@@ -18,3 +18,4 @@ pub mod Middles
 pub mod Marks
 pub mod Turns
 pub mod ColumnSums
+pub mod Pictures

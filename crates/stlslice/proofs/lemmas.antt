@@ -2,5 +2,4 @@ pub mod Bytes
 pub mod Ends
 pub mod Faults
 pub mod OneAnswer
-pub mod Pictures
 pub mod Stream

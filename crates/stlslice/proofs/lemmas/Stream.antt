@@ -1,38 +1,27 @@
 -- The text of slicing, layer by layer.
 use Rattle.std.proofs.Common.{◌≡◌, ℕ, zero, suc, ◌+◌, ◌<◌, ◌≤◌, List, [], ◌∷◌, ◌++◌, Option, length, length-append, take, ap, sym, subst, ◌∙◌, arith, append_assoc, slice_index_or, refl}
-use Rattle.std.specs.Prelude.{flat_map, map, sum_by}
+use Rattle.std.specs.Prelude.{flat_map, sum_by}
 use Rattle.std.specs.Io.KnownBytes.{Appends}
 use Rattle.std.specs.List.{range_with_len}
-use Rattle.std.proofs.lemmas.List.{flat_map_more, take-append-le}
+use Rattle.std.proofs.lemmas.List.{take-append-le}
 use Rattle.std.proofs.lemmas.List.Concat.{flat_map-cons}
-use Rattle.std.proofs.lemmas.List.Folds.{flat_map-map}
-use Rattle.std.proofs.lemmas.List.FromFn.{map-range_with_len_more}
 use Rattle.std.proofs.lemmas.List.Sums.{sum_by-cons}
 use Rattle.std.proofs.Math.Seq.{take-append-add}
 use Rattle.contour.specs.Loops.{loops}
 use Rattle.contour.specs.Segment.{segments}
 use Rattle.contour.specs.declared.segment.Segment.{Segment}
 use Rattle.raster.specs.Devices.{AppendsFirst}
-use Rattle.raster.specs.Filler.{area_of, below, is_filled}
-use Rattle.raster.specs.Span.{covers}
-use Rattle.raster.specs.Grid.{centre, plane}
+use Rattle.raster.specs.Filler.{area_of, below}
+use Rattle.raster.specs.Grid.{plane}
 use Rattle.raster.specs.Picture.{layer_picture}
 use Rattle.raster.proofs.lemmas.Sent.{appends-after}
 use Rattle.build_book.specs.Layer.{AreLawfulFrom, IsLawful, Layer, layers_area}
 use Rattle.build_book.specs.Build.{IsComplete}
 use Rattle.build_book.specs.Job.{Job}
+use Rattle.build_book.proofs.lemmas.Images.{lawful_at, part_more, picture_of}
 use Rattle.stlslice.specs.SlicedText.{image, layer_line, line_of_layer, report_text, total_line}
-use Rattle.stlslice.proofs.lemmas.Pictures.{same-picture}
 
 -- the layer in a place of a complete build is the lawful one of that number
-
-lawful_at : (job : Job) (k : ℕ) (xs : List Layer) (i : ℕ) (x : Layer) → AreLawfulFrom job k xs → i < length xs
-    → x ≡ slice_index_or xs i x → IsLawful job (k + i) x
-lawful_at job k [] i x lawful h is = absurd (omega arith)
-lawful_at job k (y ∷ ys) zero x lawful h is =
-    subst (λ (z : Layer). IsLawful job (k + 0) z) (sym is) (subst (λ (n : ℕ). IsLawful job n y) (omega arith) lawful.0)
-lawful_at job k (y ∷ ys) (suc i) x lawful h is =
-    subst (λ (n : ℕ). IsLawful job n x) (omega arith) (lawful_at job (k + 1) ys i x lawful.1 (omega arith) is)
 
 pub layer_at : (job : Job) (xs : List Layer) (i : ℕ) (x : Layer) → IsComplete job xs → i < length xs
     → x ≡ slice_index_or xs i x → IsLawful job i x
@@ -42,9 +31,7 @@ layer_at job xs i x complete h is =
 -- the image of its spans is that of its filled voxels
 pub picture_at : (job : Job) (xs : List Layer) (i : ℕ) (x : Layer) → IsComplete job xs → i < length xs
     → x ≡ slice_index_or xs i x → image job.grid x.spans ≡ layer_picture job.grid job.rule job.solid.facets i
-picture_at job xs i x complete h is =
-    same-picture job.grid.columns job.grid.rows (covers x.spans)
-    (λ m n. is_filled job.rule job.solid.facets (centre job.grid m n i)) (layer_at job xs i x complete h is).filled
+picture_at job xs i x complete h is = picture_of job i x (layer_at job xs i x complete h is)
 
 pub line_at : (job : Job) (xs : List Layer) (i : ℕ) (x : Layer) → IsComplete job xs → i < length xs
     → x ≡ slice_index_or xs i x
@@ -71,11 +58,7 @@ areas_of job xs complete =
 
 -- the part of a number behind the parts of all before it
 pub one_more : (f : ℕ → List ℕ) (n : ℕ) → flat_map f (below (n + 1)) ≡ flat_map f (below n) ++ f n
-one_more f n =
-    sym (flat_map-map f (λ (m : ℕ). m) (below (n + 1)))
-    ∙ ap (λ (l : List ℕ). flat_map f l) (map-range_with_len_more (λ (m : ℕ). m) 0 n n (omega arith))
-    ∙ sym (flat_map_more f [] (map (λ (m : ℕ). m) (below n)) n)
-    ∙ ap (λ (l : List ℕ). l ++ f n) (flat_map-map f (λ (m : ℕ). m) (below n))
+one_more f n = part_more f 0 n n (omega arith)
 
 pub line_more : (f : ℕ → List ℕ) (n : ℕ) (old new line : List ℕ) → old ≡ flat_map f (below n) → new ≡ old ++ line → line ≡ f n
     → new ≡ flat_map f (below (n + 1))

@@ -1,5 +1,5 @@
 use Rattle.std.proofs.Common.{◌∙◌, rules}
-use Rattle.stlslice.proofs.lemmas.Pictures.{length-picture}
+use Rattle.raster.proofs.lemmas.Pictures.{length-picture}
 use Rattle.stlslice.proofs.write.images.image_len.Goals as goal
 
 pub returns-clause-value : goal.returns-clause-value

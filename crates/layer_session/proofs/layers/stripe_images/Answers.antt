@@ -1,0 +1,32 @@
+use Rattle.std.proofs.Common.{◌≡◌, ◌∙◌, ◌+◌, ◌++◌, List, ℕ, ap, refl, sym}
+use Rattle.raster.specs.Picture.{picture}
+use Rattle.raster.specs.Span.{covers}
+use Rattle.build_book.specs.Job.{Job, stripe_start}
+use Rattle.build_book.specs.Layer.{IsLawful}
+use Rattle.build_book.proofs.lemmas.Images.{lawful_at, part_more, picture_of}
+use Rattle.layer_session.specs.Answers.{image_of}
+use Rattle.layer_session.proofs.layers.stripe_images.Goals as goal
+
+pub put_image-requires : goal.put_image-requires
+put_image-requires g c =
+    rw (c.grid.ensures, c.spans.ensures, sym c.in_ok-piece.ensures.job)
+    (lawful_at c.in_ok-piece.piece.job (stripe_start c.in_ok-piece.piece.stripe) c.layers-layer-items.result.now
+    c.loop-layer.layer-index c.layer-item.result
+    (rw c.layers-layer-items.ensures.value c.layers-layer-items.ensures.lawful.lawful) c.loop-layer-test.true c.layer-item.is).spans
+
+pub loop-layer-preserved : goal.loop-layer-preserved
+loop-layer-preserved g c =
+    let job : Job = c.args.job.now in
+    let k : ℕ = stripe_start c.args.s + c.loop-layer.layer-index in
+    let lawful : IsLawful job k c.layer-item.result =
+    rw (← c.in_ok-piece.ensures.job, ← c.in_ok-piece.ensures.stripe)
+    (lawful_at c.in_ok-piece.piece.job (stripe_start c.in_ok-piece.piece.stripe) c.layers-layer-items.result.now
+    c.loop-layer.layer-index c.layer-item.result
+    (rw c.layers-layer-items.ensures.value c.layers-layer-items.ensures.lawful.lawful) c.loop-layer-test.true c.layer-item.is) in
+    let drawn : picture c.grid.result.now.columns c.grid.result.now.rows (covers c.spans.result.now) ≡ image_of job k =
+    rw (c.grid.ensures, c.spans.ensures) (picture_of job k c.layer-item.result lawful) in
+    let before : List ℕ = c.loop-layer.sink.device.items in
+    c.in_ok-put_image.ensures
+    ∙ ap (λ (l : List ℕ). before ++ l) drawn
+    ∙ ap (λ (l : List ℕ). l ++ image_of job k) c.loop-layer.invariant
+    ∙ sym (part_more (image_of job) (stripe_start c.args.s) c.loop-layer.layer-index k refl)

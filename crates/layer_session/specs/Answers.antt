@@ -1,0 +1,40 @@
+-- What a session answers, and when it answers a fault.
+use Rattle.std.specs.Prelude.{◌≡◌, ◌⊎◌, ◌<◌, ◌≤◌, ℕ, ℤ, List, Result, Ok, Err, ◌&&◌, nat_lt, flat_map, if◌then◌else◌, Bool}
+use Rattle.std.specs.List.{range_with_len}
+use Rattle.geometry.specs.Facet.{Facet}
+use Rattle.geometry.specs.Winding.{ray, ray_y}
+use Rattle.raster.specs.Grid.{Grid, centre}
+use Rattle.raster.specs.Picture.{layer_picture}
+use Rattle.raster.specs.declared.rule.Rule.{Rule}
+use Rattle.build_book.specs.Job.{Job, stripe_count, stripe_length, stripe_start}
+use Rattle.layer_session.specs.declared.session_fault.SessionFault.{SessionFault}
+use Rattle.layer_session.specs.declared.session_fault.SessionFault.TheVariants as fault
+
+-- the image of layer k of a job
+abbrev pub image_of : Job → ℕ → List ℕ
+image_of job k = layer_picture job.grid job.rule job.solid.facets k
+
+-- the images of the layers of stripe s, from the lowest up
+abbrev pub stripe_images : Job → ℕ → List ℕ
+stripe_images job s = flat_map (image_of job) (range_with_len (stripe_start s) (stripe_length job.grid s))
+
+abbrev pub outside : Grid → SessionFault
+outside g = fault.Outside g.columns g.rows g.layers
+
+abbrev pub is_voxel : Grid → ℕ → ℕ → ℕ → Bool
+is_voxel g i j k = nat_lt i g.columns && nat_lt j g.rows && nat_lt k g.layers
+
+-- the rays along x and y from the centre of a voxel
+abbrev pub probed : Job → ℕ → ℕ → ℕ → Result (ℤ × ℤ) SessionFault
+probed job i j k =
+    if is_voxel job.grid i j k
+    then Ok (ray job.solid.facets (centre job.grid i j k), ray_y job.solid.facets (centre job.grid i j k))
+    else Err (outside job.grid)
+
+-- no memory for a layer of the grid, or none of the grid's layers
+abbrev pub IsLayerFault : Grid → ℕ → SessionFault → Type 0
+IsLayerFault g k f = ((f ≡ fault.Memory) × (k < g.layers)) ⊎ ((f ≡ outside g) × (g.layers ≤ k))
+
+-- no memory for a stripe of the grid, or none of the grid's stripes
+abbrev pub IsStripeFault : Grid → ℕ → SessionFault → Type 0
+IsStripeFault g s f = ((f ≡ fault.Memory) × (s < stripe_count g)) ⊎ ((f ≡ outside g) × (stripe_count g ≤ s))

@@ -1,0 +1,107 @@
+//! What is made of a job's layers: loops, filled pixels and their number, and images.
+ghost use Rattle.std.specs.Prelude.{◌≡◌, ◌<◌, IfOk, OnOk};
+ghost use Rattle.std.specs.Io.KnownBytes.{Appends};
+ghost use Rattle.build_book.specs.Job.{stripe_count};
+ghost use Rattle.contour.specs.Loops.{AreLoops, loops};
+ghost use Rattle.contour.specs.Segment.{segments};
+ghost use Rattle.raster.specs.Filler.{IsFillOf, area_of};
+ghost use Rattle.raster.specs.Grid.{plane};
+ghost use Rattle.raster.specs.Picture.{picture};
+ghost use Rattle.raster.specs.Span.{AreSpans, covers};
+ghost use Rattle.layer_session.specs.Answers.{image_of, stripe_images};
+
+use build_book::{Job, slice_stripe};
+use contour::{Linker, Loops, segments};
+use raster::{Counted, Grid, Sink, Span, area, fill, write_layer};
+use std::alloc::{AllocError, Allocator};
+
+/// The loops of layer k of a job.
+pub(crate) fn layer_loops<A: Allocator + Copy + Send + Sync>(
+    alloc: A,
+    job: &Job<A>,
+    k: u32,
+) -> Result<Loops<A>, AllocError>
+    requires { k < job.now.grid.layers }
+    ensures loops { IfOk result (λ found. found ≡ loops (segments job.now.solid.facets (plane job.now.grid k))) }
+    ensures closed { IfOk result (AreLoops (segments job.now.solid.facets (plane job.now.grid k))) }
+{
+    let list = segments(alloc, job.solid(), job.grid().plane(k))?;
+    Linker::new(alloc, job.solid())?.loops(job.solid(), list.as_slice())
+}
+
+/// The filled pixels of layer k of a job.
+fn layer_spans<A: Allocator + Copy + Send + Sync>(
+    alloc: A,
+    job: &Job<A>,
+    k: u32,
+) -> Result<Vec<Span, A>, AllocError>
+    requires { k < job.now.grid.layers }
+    ensures { IfOk result (λ spans. IsFillOf job.now.grid job.now.rule job.now.solid.facets k spans.items) }
+{
+    let list = segments(alloc, job.solid(), job.grid().plane(k))?;
+    fill(
+        alloc,
+        job.solid(),
+        job.grid(),
+        job.rule(),
+        k,
+        list.as_slice(),
+    )
+}
+
+/// The number of the filled pixels of layer k of a job.
+pub(crate) fn layer_area<A: Allocator + Copy + Send + Sync>(
+    alloc: A,
+    job: &Job<A>,
+    k: u32,
+) -> Result<u64, AllocError>
+    requires { k < job.now.grid.layers }
+    ensures { IfOk result (λ area. area ≡ area_of job.now.grid job.now.rule job.now.solid.facets k) }
+{
+    let spans = layer_spans(alloc, job, k)?;
+    // wakes the invariant: `area` requires counts within their limits
+    let _columns = job.grid().columns();
+    let _rows = job.grid().rows();
+    Ok(area(spans.as_slice()))
+}
+
+/// The image of layer k of a job.
+pub(crate) fn layer_image<A: Allocator + Copy + Send + Sync>(
+    alloc: A,
+    job: &Job<A>,
+    k: u32,
+) -> Result<Vec<u8, A>, AllocError>
+    requires { k < job.now.grid.layers }
+    ensures { IfOk result (λ image. image.items ≡ image_of job.now k) }
+{
+    let spans = layer_spans(alloc, job, k)?;
+    let mut sink = Counted::new(Vec::new(alloc));
+    put_image(job.grid(), spans.as_slice(), &mut sink)?;
+    Ok(sink.into_inner())
+}
+
+/// The images of the layers of stripe s of a job, from the lowest up.
+pub(crate) fn stripe_images<A: Allocator + Copy + Send + Sync>(
+    alloc: A,
+    job: &Job<A>,
+    s: u64,
+) -> Result<Vec<u8, A>, AllocError>
+    requires { s < stripe_count job.now.grid }
+    ensures { IfOk result (λ images. images.items ≡ stripe_images job.now s) }
+{
+    let piece = slice_stripe(alloc, job, s)?;
+    let mut sink = Counted::new(Vec::new(alloc));
+    for layer in piece.layers() {
+        put_image(job.grid(), layer.spans(), &mut sink)?;
+    }
+    Ok(sink.into_inner())
+}
+
+/// Puts the image of the pixels in these spans behind what a sink in memory has.
+fn put_image<W: Sink>(grid: &Grid, spans: &[Span], sink: &mut W) -> Result<(), AllocError>
+    requires { AreSpans grid.now.columns grid.now.rows spans.now }
+    ensures { OnOk result (Appends (W.contents sink.old) (W.contents sink.new)
+        (picture grid.now.columns grid.now.rows (covers spans.now))) }
+{
+    write_layer(grid, spans, sink).map_err(|_| AllocError)
+}

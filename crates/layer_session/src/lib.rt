@@ -1,0 +1,40 @@
+//! Sessions: a mesh that is read once and then asked layer by layer, in any order, as a preview asks.
+//!
+//! ```text
+//! let setup = Setup {
+//!     unit: Unit::Millimetre,
+//!     pitch: 50,                                  // micrometres
+//!     layer: 100,
+//!     rule: Rule::NonZero,
+//!     placing: Placing::Fitted,
+//! };
+//! let session = Session::open(alloc, text, &setup)?;
+//! for k in 0..session.layers() {
+//!     let image = session.image(k)?;              // raw PBM, just as the program writes it
+//!     let pixels = session.area(k)?;              // how many of its pixels are filled
+//!     let found = session.loops(k)?;              // the closed loops of its plane
+//! }
+//! let (along_x, along_y) = session.probe(3, 4, 5)?;
+//! ```
+//!
+//! - [`Session`]: the closed mesh of an ASCII STL text, in its grid, with a rule. Whatever it is asked, it stays as it is.
+//! - [`Setup`]: what a text is opened with; [`Placing`]: a grid that fits the mesh, or a given one.
+//! - [`SessionFault`]: why there is no session, or no answer. Its `Display` is what the program writes for that behind
+//!   `stlslice: `.
+//!
+//! Pitch, layer height, origin and box are in micrometres. Columns, rows and layers count from 0 along x, y and z, and
+//! stripes, which are eight layers each, from the lowest up.
+#![tactic(auto)]
+
+mod layers;
+mod opening;
+mod session;
+mod session_fault;
+mod setup;
+
+pub use contour::{Loops, Node, Segment};
+pub use micro_num::Unit;
+pub use raster::{Grid, Rule};
+pub use session::Session;
+pub use session_fault::SessionFault;
+pub use setup::{Placing, Setup};
