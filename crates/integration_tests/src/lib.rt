@@ -31,6 +31,8 @@ mod meshes;
 #[cfg(test)]
 mod number_texts;
 #[cfg(test)]
+mod pieces;
+#[cfg(test)]
 mod pool;
 #[cfg(test)]
 mod published;

@@ -71,7 +71,7 @@ fn put_cube(out: &mut Vec<u8>, style: &Style, low: &[u8], high: &[u8]) -> Result
 }
 
 // The file of the cube from 0 to 2 micrometres.
-fn cube_file(alloc: Global) -> Result<Vec<u8>, AllocError> {
+pub(crate) fn cube_file(alloc: Global) -> Result<Vec<u8>, AllocError> {
     let mut out = Vec::new(alloc);
     put_cube(&mut out, &PLAIN, b"0.000", b"0.002")?;
     Ok(out)
