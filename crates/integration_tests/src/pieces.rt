@@ -2,6 +2,7 @@
 ghost use Rattle.std.specs.Prelude.{◌<◌};
 
 use crate::stl_texts::cube_file;
+use crate::text_parts::are_same;
 use micro_num::Unit;
 use short_memory::ShortMemory;
 use std::alloc::{AllocError, Global};
@@ -14,15 +15,6 @@ const LIMIT: u32 = 13;
 const TWO: &[u8] = b" solid endfacet facet\r\n\x0bfacet normal nan facet 1e9\touter loop\r\
     vertex 0 0 0\nvertex 1.5 -2 3e1 vertex 1e-3 2E1 +.5\n\n endloop endfacet FACET normal a b c outer\nloop vertex\n1\n2\n3\n\
     vertex 4 5 6 vertex 7 8 9 endloop endfacet endsolid facet normal\n\rsolid\nendsolid";
-
-// Two answers to one text.
-fn same(one: &Result<Vec<Facet>, StlFault>, other: &Result<Vec<Facet>, StlFault>) -> bool {
-    match (one, other) {
-        (Ok(facets), Ok(others)) => facets.as_slice() == others.as_slice(),
-        (Err(fault), Err(other)) => *fault == *other,
-        _ => false,
-    }
-}
 
 // The answer to a text that is fed in two pieces.
 fn in_two(alloc: Global, front: &[u8], back: &[u8]) -> Result<Vec<Facet>, StlFault> {
@@ -47,7 +39,7 @@ fn in_pieces(alloc: Global, text: &[u8], size: usize) -> Result<Vec<Facet>, StlF
 fn is_chopped_well(alloc: Global, text: &[u8]) -> bool {
     let whole = read_stl_at_most(alloc, text, LIMIT, Unit::Millimetre);
     for size in 1..=17 {
-        if !same(&in_pieces(alloc, text, size), &whole) {
+        if !are_same(&in_pieces(alloc, text, size), &whole) {
             return false;
         }
     }
@@ -59,7 +51,7 @@ fn is_cut_well(alloc: Global, text: &[u8]) -> bool {
     let whole = read_stl_at_most(alloc, text, LIMIT, Unit::Millimetre);
     for cut in 0..=text.len() {
         let (front, back) = text.split_at(cut);
-        if !same(&in_two(alloc, front, back), &whole) {
+        if !are_same(&in_two(alloc, front, back), &whole) {
             return false;
         }
     }

@@ -37,7 +37,7 @@ fn put_solid(out: &mut Vec<u8>, name: &[u8], count: u32) -> Result<(), AllocErro
 }
 
 // Whether two answers are the same.
-fn are_same<A: Allocator, B: Allocator>(
+pub(crate) fn are_same<A: Allocator, B: Allocator>(
     one: &Result<Vec<Facet, A>, StlFault>,
     other: &Result<Vec<Facet, B>, StlFault>,
 ) -> bool {
