@@ -12,6 +12,9 @@ pub(crate) const MOST_COLUMNS: u32 = 16_384;
 /// The greatest count of layers.
 pub(crate) const MOST_LAYERS: u32 = 65_535;
 
+/// The greatest pitch, and the greatest layer height, in micrometres.
+pub(crate) const GREATEST_STEP: u32 = 100_000;
+
 /// A millimetre, in micrometres.
 pub(crate) const MILLIMETRE: i32 = 1_000;
 

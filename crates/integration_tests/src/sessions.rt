@@ -8,6 +8,7 @@ use crate::meshes::{
     BOX, COLUMN, CORNERS, CUBE, CUBE_AND_FLAT, INWARD_CUBE, NINE_IN_A_ROW, OCTAHEDRON, ONE_INWARD,
     Part, SHEET, TWO_CUBES,
 };
+use crate::published::GREATEST_STEP;
 use build_book::{Job, slice_stripe};
 use layer_session::{Placing, Session, SessionFault, Setup};
 use micro_num::Unit;
@@ -221,7 +222,7 @@ fn faults_read_as_the_program_s(rt: HostRuntime) -> Result<(), Fail> {
     let setup = fitted(1, Rule::NonZero);
     let none = Setup { pitch: 0, ..setup };
     let coarse = Setup {
-        layer: 100001,
+        layer: GREATEST_STEP + 1,
         ..setup
     };
     let no_cells = Setup {

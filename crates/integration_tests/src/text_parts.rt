@@ -11,6 +11,12 @@ use stl_text::{FACET_LIMIT, Facet, StlFault, read_stl_at_most, read_stl_by};
 
 const WORKERS: [u32; 5] = [1, 2, 3, 7, 64];
 
+// The least length of the texts here, in bytes: longer than the shortest text that is read in parts.
+const LONG: usize = 65_537;
+
+// Where a text is broken: in its first line, and in each of several parts.
+const BREAKS: [usize; 6] = [9, 20_011, 40_002, 50_123, 60_700, 65_003];
+
 // A facet whose first number is `digit`, spelled in another way for each other digit.
 fn put_facet(out: &mut Vec<u8>, digit: u8) -> Result<(), AllocError> {
     if digit % 2 == 0 {
@@ -69,7 +75,7 @@ fn any_workers<R: Threads + Sync>(rt: &R, alloc: Global, text: &[u8], limit: u32
 fn one_long_solid(rt: HostRuntime) -> Result<(), Fail> {
     let mut text = Vec::new(rt.alloc());
     put_solid(&mut text, b"part", 1500)?;
-    assert!(rt; 131_072 < text.len());
+    assert!(rt; LONG < text.len());
     let facets = read_stl_by(&rt, rt.alloc(), &text, FACET_LIMIT, Unit::Millimetre, 4);
     assert!(rt; facets.is_ok_and(|facets| facets.len() == 1500));
     assert!(rt; any_workers(&rt, rt.alloc(), &text, FACET_LIMIT));
@@ -88,7 +94,7 @@ fn names_that_spell_facets(rt: HostRuntime) -> Result<(), Fail> {
     for count in [1, 40, 0, 7] {
         put_solid(&mut text, &name, count)?;
     }
-    assert!(rt; 120_000 < text.len());
+    assert!(rt; LONG < text.len());
     let facets = read_stl_by(&rt, rt.alloc(), &text, FACET_LIMIT, Unit::Millimetre, 3);
     assert!(rt; facets.is_ok_and(|facets| facets.len() == 48));
     assert!(rt; any_workers(&rt, rt.alloc(), &text, FACET_LIMIT));
@@ -106,16 +112,18 @@ fn solids_of_one_facet(rt: HostRuntime) -> Result<(), Fail> {
     Ok(())
 }
 
-// A byte is replaced in each part, or the text ends there. The fault is the first one, as for one reader.
+// Bytes are replaced in this part and in each later one, or the text ends there. The fault is the first one, as for one
+// reader.
 #[test]
 fn a_fault_in_each_part(rt: HostRuntime) -> Result<(), Fail> {
     let mut text = Vec::new(rt.alloc());
     put_solid(&mut text, b"part", 900)?;
-    for at in [9, 20_011, 40_002, 50_123, 60_700, 69_995] {
+    assert!(rt; LONG < text.len());
+    for at in BREAKS {
         let mut broken = Vec::new(rt.alloc());
         broken.extend_from_slice(&text)?;
-        for later in [at, 65_003] {
-            if later < broken.len() {
+        for later in BREAKS {
+            if at <= later && later < broken.len() {
                 broken[later] = b'#';
             }
         }
@@ -144,13 +152,13 @@ fn a_limit_in_each_part(rt: HostRuntime) -> Result<(), Fail> {
 #[test]
 fn each_allocation_of_a_reading_fails_in_turn(rt: HostRuntime) -> Result<(), Fail> {
     let mut text = Vec::new(rt.alloc());
-    put_solid(&mut text, b"part", 700)?;
+    put_solid(&mut text, b"part", 800)?;
     for turn in 1..200 {
         let memory = ShortMemory::new(rt.alloc(), turn);
         let facets = read_stl_by(&rt, &memory, &text, FACET_LIMIT, Unit::Millimetre, 3);
         if !memory.has_refused() {
             assert!(rt; turn > 10);
-            assert!(rt; facets.is_ok_and(|facets| facets.len() == 700));
+            assert!(rt; facets.is_ok_and(|facets| facets.len() == 800));
             return Ok(());
         }
         assert!(rt; facets.err() == Some(StlFault::Memory));
