@@ -45,10 +45,9 @@ impl<A: Allocator + Copy + Send + Sync> Session<A> {
     /// Opens an ASCII STL text: reads it, drops the facets with two equal corners, welds the others and lays the grid.
     ///
     /// # Errors
-    /// Memory aside, a text and a setup have one answer. In this order: `Step` where pitch or layer height is out of
-    /// range, `Stl` where the text doesn't read as facets, `Weld` where the edges of all its facets don't balance, `Grid`
-    /// where there is no grid, else the session. `Memory` comes only where an allocation failed, and never in place of
-    /// `Step`; `Outside` doesn't come.
+    /// In this order: `Step` where pitch or layer height is out of range, `Stl` where the text doesn't read as facets,
+    /// `Weld` where the edges of all its facets don't balance, `Grid` where there is no grid, else the session. `Memory`
+    /// comes only where an allocation failed, and never in place of `Step`; `Outside` doesn't come.
     pub fn open(alloc: A, bytes: &[u8], setup: &Setup) -> Result<Session<A>, SessionFault>
         ensures found { IfOk result (IsSessionOf setup.now bytes.now) }
         ensures fault { IfErr result (IsOpenFault setup.now bytes.now) }
@@ -86,7 +85,7 @@ impl<A: Allocator + Copy + Send + Sync> Session<A> {
         self.job.rule()
     }
 
-    /// The number of layers, 1 to 65,535.
+    /// The number of layers, 1 to `LAYER_LIMIT`.
     pub fn layers(&self) -> u32
         ensures value { result ≡ self.now.job.grid.layers }
         ensures some { 1 ≤ result }
@@ -95,7 +94,7 @@ impl<A: Allocator + Copy + Send + Sync> Session<A> {
         self.job.grid().layers()
     }
 
-    /// The number of stripes, at most 8,192. Stripe s is the layers from 8 s to 8 s + 7, as far as the grid has them.
+    /// The number of stripes, as of [`Job::stripes`]. Stripe s is the layers from 8 s to 8 s + 7, as far as the grid has them.
     pub fn stripes(&self) -> u64
         ensures { result ≡ stripe_count self.now.job.grid }
     {

@@ -26,9 +26,9 @@ pub enum Placing {
 pub struct Setup {
     /// The unit of the text's numbers.
     pub unit: Unit,
-    /// The length of a voxel along x and along y, in micrometres: 1 to 100,000.
+    /// The length of a voxel along x and along y, in micrometres: 1 to `STEP_LIMIT`.
     pub pitch: u32,
-    /// The length of a voxel along z, in micrometres: 1 to 100,000.
+    /// The length of a voxel along z, in micrometres: 1 to `STEP_LIMIT`.
     pub layer: u32,
     /// Which sums of signed crossings count as inside.
     pub rule: Rule,

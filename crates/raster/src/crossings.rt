@@ -103,8 +103,8 @@ impl<A: Allocator + Copy> RowCrossings<A> {
 }
 
 impl<A: Allocator> RowCrossings<A> {
-    /// Adds the spans of a row, from the left, by its crossings, which are sorted in place. On an error `out` may have some
-    /// of them.
+    /// Adds the spans of a row, from the left, by its crossings, which may be sorted in place. On an error `out` may have
+    /// some of them.
     pub(crate) fn fill_row(
         &mut self,
         rule: Rule,

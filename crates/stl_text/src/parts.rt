@@ -154,8 +154,8 @@ fn behind_end_facet<'t>(text: &'t [u8], start: usize, len: usize) -> &'t [u8]
     }
 }
 
-/// The run of a part of a text, from behind the first `endfacet` that begins in the part. The facet that ends after the
-/// part is left to the reader of the text, which then stands where the next part's run begins.
+/// The run of a part of a text, from behind the first `endfacet`, in small letters, that stands whole in the part. The
+/// facet that ends after the part is left to the reader of the text, which then stands where the next part's run begins.
 fn run_of<'t, A: Allocator>(
     alloc: A,
     text: &'t [u8],

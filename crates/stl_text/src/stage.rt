@@ -75,7 +75,7 @@ pub(crate) enum Place {
     Stopped(StlFault),
 }
 
-/// The place of the last word of a facet behind `facet`.
+/// The number of words that stand between a facet's `facet` and its last word, `endfacet`.
 pub(crate) const LAST_WORD: usize = 19;
 
 /// The point with these coordinates.

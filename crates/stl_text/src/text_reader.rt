@@ -89,7 +89,7 @@ fn read_word<A: Allocator>(
 
 /// A reader of an ASCII STL text that arrives in pieces, cut anywhere: also in a word, a number, a name or a line break.
 /// It keeps the facets and, between two pieces, no more of the text than the front of a word that isn't whole yet. Names,
-/// rests of lines and white space take nothing, and nor does what follows a fault.
+/// rests of lines and white space take nothing, and nor does what follows a fault. A word is kept whole, however long it is.
 #[derive(Drop)]
 pub struct TextReader<A: Allocator> {
     /// The number of facets that the text may have.
@@ -115,8 +115,7 @@ impl<A: Allocator> Model for TextReader<A> {
 }
 
 impl<A: Allocator + Copy> TextReader<A> {
-    /// A reader of a text that may have up to `limit` facets, at most [`FACET_LIMIT`], 1,048,576. Its numbers are in
-    /// `unit`.
+    /// A reader of a text that may have up to `limit` facets, at most [`FACET_LIMIT`]. Its numbers are in `unit`.
     pub fn new(alloc: A, limit: u32, unit: Unit) -> TextReader<A>
         requires { limit ≤ FACET_LIMIT }
         ensures { IsAfter limit unit result [] }
