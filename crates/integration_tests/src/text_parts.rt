@@ -15,7 +15,7 @@ const WORKERS: [u32; 5] = [1, 2, 3, 7, 64];
 const LONG: usize = 65_537;
 
 // Where a text is broken: in its first line, and in each of several parts.
-const BREAKS: [usize; 6] = [9, 20_011, 40_002, 50_123, 60_700, 65_003];
+const BREAKS: [usize; 8] = [9, 20_011, 40_002, 50_123, 60_700, 65_003, 70_001, 80_003];
 
 // A facet whose first number is `digit`, spelled in another way for each other digit.
 fn put_facet(out: &mut Vec<u8>, digit: u8) -> Result<(), AllocError> {
@@ -108,6 +108,7 @@ fn solids_of_one_facet(rt: HostRuntime) -> Result<(), Fail> {
     for _ in 0..800 {
         put_solid(&mut text, b"one", 1)?;
     }
+    assert!(rt; LONG < text.len());
     assert!(rt; any_workers(&rt, rt.alloc(), &text, FACET_LIMIT));
     Ok(())
 }
@@ -140,6 +141,7 @@ fn a_fault_in_each_part(rt: HostRuntime) -> Result<(), Fail> {
 fn a_limit_in_each_part(rt: HostRuntime) -> Result<(), Fail> {
     let mut text = Vec::new(rt.alloc());
     put_solid(&mut text, b"part", 900)?;
+    assert!(rt; LONG < text.len());
     for limit in [0, 1, 100, 225, 226, 450, 899, 900, 901] {
         assert!(rt; any_workers(&rt, rt.alloc(), &text, limit));
     }
@@ -153,6 +155,7 @@ fn a_limit_in_each_part(rt: HostRuntime) -> Result<(), Fail> {
 fn each_allocation_of_a_reading_fails_in_turn(rt: HostRuntime) -> Result<(), Fail> {
     let mut text = Vec::new(rt.alloc());
     put_solid(&mut text, b"part", 800)?;
+    assert!(rt; LONG < text.len());
     for turn in 1..200 {
         let memory = ShortMemory::new(rt.alloc(), turn);
         let facets = read_stl_by(&rt, &memory, &text, FACET_LIMIT, Unit::Millimetre, 3);
