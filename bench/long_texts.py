@@ -1,0 +1,129 @@
+#!/usr/bin/env python3
+"""Runs the built program on texts that are long in one place: white space, a name, the rest of a line, a word, a number.
+
+    bench/long_texts.py PROGRAM [PART]
+
+The full sizes are 2 GB of white space, names and lines of 300 MB, words and numbers of 100 MB; PART takes one part in
+PART of them. Each text is written to the program as it takes it, and stands nowhere. The answer has to be right, and
+the memory at most 20 MB, beside the word's own length where a whole word is long. A line a text: its length, seconds,
+seconds a gigabyte, the most memory. A text of half the length tells whether the time grows with the length alone.
+"""
+
+import os
+import subprocess
+import sys
+import time
+
+sys.path.insert(0, os.path.join(os.path.dirname(os.path.dirname(os.path.abspath(__file__))), "tests"))
+from parts import box, facet, text  # noqa: E402
+
+MB = 1_000_000
+SPACE, LINE, WORD = 2_000 * MB, 300 * MB, 100 * MB
+# what the program takes beside a long word, in bytes
+ROOM = 20 * MB
+# the seconds within which two times aren't told apart
+NOISE = 0.2
+SLICE = ["--pitch", "100", "--layer", "1000"]
+
+CUBE = box((0, 0, 0), (1, 1, 1))
+MESH = text(CUBE).encode()
+FACETS = "".join(facet(*corners) for corners in CUBE).encode()
+HEAD = b"solid part\nfacet normal 0 0 "
+TAIL = facet(*CUBE[0]).encode()[len("facet normal 0 0 0"):] + "".join(facet(*it) for it in CUBE[1:]).encode() + b"endsolid\n"
+BOX = b"facets 12 box 0 0 0 1000 1000 1000\n"
+IMAGE = b"P4\n10 10\n" + b"\xff\xc0" * 10
+
+
+class Text:
+    """A text whose middle is one filling, `length` times the byte `fill`."""
+
+    def __init__(self, name, front, fill, length, back, holds, words, answer):
+        self.name, self.front, self.fill, self.length, self.back = name, front, fill, length, back
+        self.holds, self.words, self.answer = holds, words, answer
+
+
+def texts(part):
+    """Every text with its length, the part of it that may be held, the words, and status, output and fault."""
+    space, line, word = SPACE // part, LINE // part, WORD // part
+    done, image = (0, BOX, b""), (0, IMAGE, b"")
+
+    def fault(said):
+        return 3, b"", b"stlslice: " + said + b"\n"
+
+    number = b"solid part\nfacet normal 0 0 0 outer loop vertex 0 0 "
+    for words, good in ((["--box"], done), ([*SLICE, "--workers", "4"], image)):
+        yield Text("white space in a mesh", MESH[:-len(b"endsolid part\n")], b" ", space, b"endsolid part\n", 0, words, good)
+        yield Text("a name", b"solid ", b"a", line, b"\n" + FACETS + b"endsolid\n", 0, words, good)
+        yield Text("the rest of a line", MESH[:-1], b"b", line, b"\n", 0, words, good)
+        yield Text("a word of a normal", HEAD, b"7", word, TAIL, word, words, good)
+        yield Text("a number", number, b"1", word, b" x", word, words, fault(b"number at byte %d: too long" % len(number)))
+        yield Text("a word for facet", b"solid part\n", b"f", word, b"", word, words,
+                   fault(b"expected facet or endsolid at byte 11"))
+    yield Text("white space alone", b"", b"\n", space, b"", 0, ["--box"], fault(b"input ended before solid"))
+    yield Text("white space behind a fault", b"solid part\nfacets", b" ", space, b"", 0, ["--box"],
+               fault(b"expected facet or endsolid at byte 11"))
+
+
+def pieces(text, length):
+    """The text with a filling of this length, in pieces."""
+    yield text.front
+    whole = text.fill * min(length, 4 * MB)
+    for _ in range(length // len(whole) if whole else 0):
+        yield whole
+    yield whole[:length % len(whole)] if whole else b""
+    yield text.back
+
+
+def most_memory(child):
+    """The most memory that a running program has taken so far, in bytes; 0 where it has ended."""
+    try:
+        with open(f"/proc/{child.pid}/status") as status:
+            found = [line for line in status if line.startswith("VmHWM:")]
+    except OSError:
+        found = []
+    return int(found[0].split()[1]) * 1024 if found else 0
+
+
+def run(program, text, length):
+    """Seconds, the most memory, and status, output and fault of a run."""
+    start = time.perf_counter()
+    with subprocess.Popen([program, *text.words], stdin=subprocess.PIPE, stdout=subprocess.PIPE,
+                          stderr=subprocess.PIPE) as child:
+        for piece in pieces(text, length):
+            child.stdin.write(piece)
+        child.stdin.flush()
+        memory = most_memory(child)
+        child.stdin.close()
+        while now := most_memory(child):
+            memory = max(memory, now)
+            time.sleep(0.001)
+        said, fault = child.stdout.read(), child.stderr.read()
+    return time.perf_counter() - start, memory, (child.returncode, said, fault)
+
+
+def try_all(program, part):
+    """Tries every text; answers what went wrong, a line each."""
+    wrong = []
+    for text in texts(part):
+        half, _, _ = run(program, text, text.length // 2)
+        seconds, memory, answer = run(program, text, text.length)
+        label = f"{text.name}, {text.words[0]}"
+        print(f"{label:40} {text.length / MB:8.0f} MB {seconds:7.2f} s {seconds / text.length * 1000 * MB:6.2f} s/GB "
+              f"{memory / MB:7.1f} MB", flush=True)
+        if answer != text.answer:
+            wrong.append(f"{label}: {answer} in place of {text.answer}")
+        if memory > text.holds + ROOM:
+            wrong.append(f"{label}: {memory} bytes of memory")
+        if seconds > 3 * half + NOISE:
+            wrong.append(f"{label}: {seconds:.2f} s, and {half:.2f} s for half the length")
+    return wrong
+
+
+def main():
+    part = int(sys.argv[2]) if len(sys.argv) > 2 else 1
+    wrong = try_all(os.path.abspath(sys.argv[1]), part)
+    sys.exit("\n".join(wrong) or 0)
+
+
+if __name__ == "__main__":
+    main()
