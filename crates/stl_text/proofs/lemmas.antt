@@ -11,3 +11,4 @@ pub mod ReadIsWritten
 pub mod Stages
 pub mod Locality
 pub mod Pieces
+pub mod Layouts

@@ -23,6 +23,7 @@
 
 mod grammar;
 mod laws;
+mod layout;
 mod parts;
 mod reader;
 mod reading;

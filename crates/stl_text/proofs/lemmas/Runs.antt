@@ -1,5 +1,5 @@
 -- Runs of facets, and where the reader of a text jumps over one.
-use Rattle.std.proofs.Common.{◌≡◌, ℕ, ◌+◌, ◌-◌, ◌<◌, ◌≤◌, Bool, true, false, List, [], ◌∷◌, ◌++◌, length, drop, refl, sym, ◌∙◌, ap, subst, arith, append_assoc, append-nil, drop-drop, length-drop}
+use Rattle.std.proofs.Common.{◌≡◌, ℕ, ◌+◌, ◌-◌, ◌≤◌, Bool, true, false, List, [], ◌∷◌, ◌++◌, length, drop, refl, sym, ◌∙◌, ap, subst, arith, append_assoc, append-nil, drop-drop, length-drop}
 use Rattle.std.proofs.Common.{zero, suc, leb-true, leb-false}
 use lib.Seq.{drop-nil}
 use Rattle.std.specs.Prelude.{Some, None, flat_map, if◌then◌else◌, nat_le}
@@ -7,9 +7,9 @@ use Rattle.std.specs.List.{position_or_len, prefix_len}
 use Rattle.std.proofs.lemmas.Grind.{flat_map-append}
 use Rattle.micro_num.specs.declared.unit.Unit.{Unit as LengthUnit}
 use Rattle.geometry.specs.Facet.{Facet}
-use Rattle.stl_text.specs.Parts.{Follows, IsRestOf, IsRun}
-use Rattle.stl_text.specs.Reader.{Reader, Spells, facet_tail, start as begin}
-use Rattle.stl_text.specs.Text.{Token, keyword, normal_part, coordinate, rest_of_line, after_line, after_space, after_token, after_word, begins_with, is_line_end, is_white, keyword_of, facet_tokens, facet_word, rest_behind}
+use Rattle.stl_text.specs.Parts.{Follows, IsRestOf}
+use Rattle.stl_text.specs.Reader.{Reader, Spells, facet_tail}
+use Rattle.stl_text.specs.Text.{Token, keyword, normal_part, coordinate, rest_of_line, after_space, after_token, after_word, begins_with, is_line_end, is_white, keyword_of, facet_tokens, facet_word, rest_behind}
 use Rattle.stl_text.specs.declared.word.Word.TheVariants.{Solid}
 use Rattle.stl_text.proofs.lemmas.Either.{open_tokens}
 use Rattle.stl_text.proofs.lemmas.Solids.{IsOpen}

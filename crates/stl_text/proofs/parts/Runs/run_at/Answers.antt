@@ -1,7 +1,7 @@
-use Rattle.std.proofs.Common.{◌≡◌, ◌+◌, ◌-◌, ◌<◌, Some, flat_map, length, arith, sym, ◌∙◌, ap, subst, slice_index_or, take, vec_len}
+use Rattle.std.proofs.Common.{◌≡◌, ◌-◌, ◌<◌, flat_map, arith, sym, ◌∙◌, ap, slice_index_or, take, vec_len}
 use Rattle.std.proofs.lemmas.List.Elements.{All-take, All-same}
 use Rattle.stl_text.specs.Parts.{IsRestOf, IsRun}
-use Rattle.stl_text.specs.Text.{facet_tokens, rest_behind}
+use Rattle.stl_text.specs.Text.{facet_tokens}
 use Rattle.stl_text.proofs.lemmas.Either.{rest-le}
 use Rattle.stl_text.proofs.lemmas.Runs.{same_rest}
 use Rattle.stl_text.proofs.parts.Runs.run_at.Goals as goal

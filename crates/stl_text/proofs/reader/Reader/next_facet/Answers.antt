@@ -1,4 +1,3 @@
-use Rattle.std.proofs.Common.{◌∷◌, []}
 use Rattle.std.proofs.lemmas.Bool.Decides.{when_true}
 use Rattle.stl_text.proofs.lemmas.Runs.{one_facet}
 use Rattle.stl_text.proofs.lemmas.Solids.{facet_shorter}
