@@ -13,6 +13,7 @@ use Rattle.stl_text.specs.declared.stage.Place.{Place}
 use Rattle.stl_text.specs.declared.stage.Place.TheVariants as place
 use Rattle.stl_text.specs.Text.{after_space, after_word, after_line, is_white, IsFaultOf}
 use Rattle.stl_text.specs.Stage.{Stands}
+use Rattle.stl_text.specs.Parts.{IsRestOf}
 
 pub record Progress : Type 0 where
   pub limit : ℕ
@@ -38,12 +39,13 @@ abbrev pub Sees : Bool → List ℕ → List ℕ → Type 0
 Sees true behind rest = behind ≡ after_line rest
 Sees false behind rest = after_space behind ≡ after_space rest
 
--- Whatever follows the text, the reader stands at a stage of it before the part at hand. `held` is the front of a word
--- that isn't whole yet, and `count` the length of the text.
+-- Whatever follows the text, the reader stands at a stage of it before the part at hand, which is a rest of the text. `held`
+-- is the front of a word that isn't whole yet, and `count` the length of the text.
 pub record Waits (limit : ℕ) (unit : LengthUnit) (p : Progress) (stage : Stage) (in_line : Bool) (text part : List ℕ) : Type 0 where
   pub limit_is : p.limit ≡ limit
   pub unit_is : p.unit ≡ unit
   pub count_is : p.count ≡ length text
+  pub at_hand : IsRestOf text part
   pub within : length p.held + length part ≤ length text
   pub clear : list_all (λ byte. not (is_white byte)) p.held ≡ true
   pub behind : (more : List ℕ) → List ℕ

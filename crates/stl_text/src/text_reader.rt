@@ -1,42 +1,33 @@
 //! The reader of a text that is fed in pieces.
-ghost use Rattle.std.specs.Prelude.{◌≡◌, ◌≢◌, ◌<◌, ◌≤◌, ◌+◌, ℕ, [], ◌∷◌, ◌++◌, List, IfErr, IfOk, IfSome, MatchResult, None, Some, length};
+ghost use Rattle.std.specs.Prelude.{◌≡◌, ◌≢◌, ◌<◌, ◌≤◌, ◌+◌, ℕ, [], ◌∷◌, ◌++◌, All, List, IfErr, IfOk, IfSome, IsTrue, MatchResult, None, length};
 ghost use Rattle.geometry.specs.Facet.{Facet};
 ghost use Rattle.geometry.specs.declared.limits.TheConstants.{FACET_LIMIT};
 ghost use Rattle.micro_num.specs.declared.unit.Unit.{Unit as LengthUnit};
 ghost use Rattle.stl_text.specs.declared.stl_fault.StlFault.TheVariants.{Memory};
-ghost use Rattle.stl_text.specs.Text.{IsFaultOf, Reads, facet_tokens, rest_behind};
+ghost use Rattle.stl_text.specs.Text.{IsFaultOf, Reads};
+ghost use Rattle.stl_text.specs.Parts.{IsFacetRun};
 ghost use Rattle.stl_text.specs.Stage.{AtWord, in_facets};
 ghost use Rattle.stl_text.specs.Pieces.{EndsAt, IsAfter, IsReading, StandsAt, at_line, at_word};
 
-use crate::reader::Reader;
-use crate::scanning::{behind_keyword, skip_line, skip_space, word_len};
+use crate::grammar::front_facet;
+use crate::parts::Run;
+use crate::scanning::{skip_line, skip_space, word_len};
 use crate::stage::{Place, Stage, Step};
 use crate::stl_fault::StlFault;
-use crate::word::FACET;
 use geometry::{FACET_LIMIT, Facet};
 use micro_num::Unit;
 use std::alloc::Allocator;
 use std::marker::Model;
+use std::thread::Threads;
 
-/// The whole facet at the front of a text, from `facet` to `endfacet`, and the text behind it, which is not empty.
-/// `None` says nothing about the text.
-#[inline(always)]
-fn front_facet(bytes: &[u8], unit: Unit) -> Option<(Facet, &[u8])>
-    ensures read { IfSome result (λ found. rest_behind unit (facet_tokens found.0) bytes.now ≡ Some found.1.now) }
-    ensures some { IfSome result (λ found. 0 < length found.1.now) }
-    ensures shorter { IfSome result (λ found. length found.1.now < length bytes.now) }
+/// The length of the shortest piece that is read by several workers, in bytes.
+const LEAST_DIVIDED: usize = 1 << 16;
+
+/// Whether `facet` or `endsolid` is wanted.
+fn is_among_facets(place: Place) -> bool
+    ensures { IsTrue result → place ≡ at_word in_facets }
 {
-    let mut reader = Reader::new(bytes, unit);
-    let behind = behind_keyword(bytes, FACET)?;
-    reader.rest = behind;
-    let Ok(facet) = reader.facet() else {
-        return None;
-    };
-    let rest = reader.rest;
-    if rest.is_empty() {
-        return None;
-    }
-    Some((facet, rest))
+    matches!(place, Place::Word(Stage::Facets))
 }
 
 /// Adds a facet, where memory suffices.
@@ -46,6 +37,15 @@ fn add<A: Allocator>(facets: &mut Vec<Facet, A>, facet: Facet) -> Result<(), Stl
     ensures fault { IfErr result (λ fault. fault ≡ Memory) }
 {
     facets.push(facet)?;
+    Ok(())
+}
+
+/// Adds the facets of a run, where memory suffices.
+fn add_all<A: Allocator>(facets: &mut Vec<Facet, A>, run: &[Facet]) -> Result<(), StlFault>
+    ensures added { IfOk result (λ _. facets.new.items ≡ facets.old.items ++ run.now) }
+    ensures fault { IfErr result (λ fault. fault ≡ Memory) }
+{
+    facets.extend_from_slice(run)?;
     Ok(())
 }
 
@@ -140,10 +140,66 @@ impl<A: Allocator> TextReader<A> {
             → IsAfter limit unit taken self.new (fed ++ piece.now) }
     {
         self.count_piece(piece);
+        let rest = self.resume(piece);
+        self.read_to(rest, 0);
+    }
+
+    /// Reads the next piece of the text, of which some runs are known, in the order in which they begin.
+    fn feed_runs<'p>(&mut self, piece: &'p [u8], runs: &[Run<'p, A>])
+        ensures { (limit : ℕ) (unit : LengthUnit) (taken : List Facet) (fed : List ℕ)
+            → IsAfter limit unit taken self.old fed
+            → All (λ run. IsFacetRun unit piece.now run.facets.items run.from.now run.to.now) runs.now
+            → IsAfter limit unit taken self.new (fed ++ piece.now) }
+    {
+        self.count_piece(piece);
         let mut rest = self.resume(piece);
-        'piece: while !rest.is_empty() {
+        for run in runs {
+            rest = self.read_to(rest, run.from.len());
+            rest = self.jump(rest, run);
+        }
+        self.read_to(rest, 0);
+    }
+
+    /// Jumps over a run, if it begins where this part does, `facet` or `endsolid` is wanted here and the limit has room for
+    /// its facets: answers the text behind it. Else it answers the part.
+    fn jump<'p>(&mut self, part: &'p [u8], run: &Run<'p, A>) -> &'p [u8]
+        requires free { 0 < length part.now → self.old.held ≡ [] }
+        ensures read { (limit : ℕ) (unit : LengthUnit) (taken : List Facet) (fed piece : List ℕ)
+            → IsFacetRun unit piece run.now.facets.items run.now.from.now run.now.to.now
+            → IsReading limit unit taken self.old (fed ++ piece) part.now
+            → IsReading limit unit taken self.new (fed ++ piece) result.now }
+        ensures free { 0 < length result.now → self.new.held ≡ [] }
+    {
+        if part.is_empty() || part.len() != run.from.len() {
+            return part;
+        }
+        if !is_among_facets(self.place) {
+            return part;
+        }
+        if self.limit.saturating_sub(self.facets.len()) < run.facets.len() {
+            return part;
+        }
+        let rest = run.to;
+        if let Err(fault) = add_all(&mut self.facets, &run.facets) {
+            self.place = Place::Stopped(fault);
+            return rest;
+        }
+        rest
+    }
+
+    /// Reads a part of a text until at most `left` bytes of it are left: answers these.
+    fn read_to<'p>(&mut self, part: &'p [u8], left: usize) -> &'p [u8]
+        requires free { 0 < length part.now → self.old.held ≡ [] }
+        ensures read { (limit : ℕ) (unit : LengthUnit) (taken : List Facet) (text : List ℕ)
+            → IsReading limit unit taken self.old text part.now → IsReading limit unit taken self.new text result.now }
+        ensures free { 0 < length result.now → self.new.held ≡ [] }
+        ensures left { length result.now ≤ left }
+    {
+        let mut rest = part;
+        'part: while rest.len() > left {
             rest = self.advance(rest);
         }
+        rest
     }
 
     /// The facets that were read and not forgotten, in file order. They are facets of the text only if its end has no
@@ -365,5 +421,25 @@ impl<A: Allocator> TextReader<A> {
             &mut self.facets,
         );
         self.place
+    }
+}
+
+impl<A: Allocator + Copy + Send + Sync> TextReader<A> {
+    /// Reads the next piece of the text, a long one in parts by up to `workers` workers at the same time. The answer is
+    /// that of [`TextReader::feed`], for every number of workers.
+    pub fn feed_by<R: Threads + Sync>(&mut self, rt: &R, piece: &[u8], workers: u32)
+        ensures { (limit : ℕ) (unit : LengthUnit) (taken : List Facet) (fed : List ℕ)
+            → IsAfter limit unit taken self.old fed → IsAfter limit unit taken self.new (fed ++ piece.now) }
+    {
+        let stopped = matches!(self.place, Place::Stopped(_));
+        if stopped || workers < 2 || piece.len() < LEAST_DIVIDED {
+            self.feed(piece);
+            return;
+        }
+        let alloc = *self.facets.allocator();
+        match Run::found_by(rt, alloc, piece, self.unit, workers) {
+            Ok(runs) => self.feed_runs(piece, &runs),
+            Err(_) => self.feed(piece),
+        }
     }
 }

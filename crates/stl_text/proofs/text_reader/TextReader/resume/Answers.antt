@@ -3,6 +3,7 @@ use Rattle.std.proofs.lemmas.Bool.{eqb-false}
 use Rattle.stl_text.specs.Pieces.{IsReading, IsReadingAt, Progress, Waits}
 use Rattle.stl_text.proofs.lemmas.Steps.{empty-list}
 use Rattle.stl_text.proofs.lemmas.Pieces.{kept_on, kept_word, moved_by, nil-of-length}
+use Rattle.stl_text.proofs.lemmas.Runs.{drop_rest, rest_then}
 use Rattle.stl_text.proofs.text_reader.TextReader.resume.Goals as goal
 
 pub returns-then-is_empty-2-clause-read : goal.returns-then-is_empty-2-clause-read
@@ -50,4 +51,4 @@ returns-clause-read g c = λ limit unit taken text is.
     (kept_word limit unit p stage text piece kept word rest c.saturating_sub-at.result c.word_len.result w some
     c.word_len.ensures.len c.split_at.ensures.front c.split_at.ensures.back (c.as_slice.ensures.value ∙ c.in_default-hold.ensures.held) left at_is)
     (c.read_word-self-inside.ensures taken) w.count_is c.clear.ensures.items
-    (omega (arith, w.within, c.split_at.ensures.back_len))
+    (rest_then text piece rest w.at_hand (drop_rest c.word_len.result piece rest c.split_at.ensures.back))

@@ -1,8 +1,11 @@
 use Rattle.std.proofs.Common.{◌≡◌, false, ◌+◌, ◌<◌, [], ◌++◌, length, refl, sym, ◌∙◌, ap, subst, arith}
 use Rattle.std.proofs.lemmas.Bool.{eqb-false}
+use Rattle.std.specs.List.{prefix_len}
+use Rattle.stl_text.specs.Text.{is_white}
 use Rattle.stl_text.specs.Pieces.{IsReading, IsReadingAt, Progress, Waits, whole, at_word}
 use Rattle.stl_text.proofs.lemmas.Steps.{empty-list}
 use Rattle.stl_text.proofs.lemmas.Pieces.{front_held, front_le, front_word, moved_by, space_passed, word_some}
+use Rattle.stl_text.proofs.lemmas.Runs.{drop_rest, rest_then}
 use Rattle.stl_text.proofs.text_reader.TextReader.word.Goals as goal
 
 pub returns-then-is_empty-clause-read : goal.returns-then-is_empty-clause-read
@@ -59,7 +62,9 @@ returns-clause-read g c = λ limit unit taken text is.
     (front_word limit unit p c.args.stage text part front word rest c.saturating_sub-at.result c.word_len.result w free c.skip_space-front.ensures
     c.word_len.ensures.len c.split_at.ensures.front c.split_at.ensures.back left c.saturating_sub-at.ensures)
     (c.read_word-self-inside.ensures taken) w.count_is free
-    (omega (arith, w.within, front_le part front c.skip_space-front.ensures, c.split_at.ensures.back_len))
+    (rest_then text part rest w.at_hand
+    (rest_then part front rest (drop_rest (prefix_len is_white part) part front c.skip_space-front.ensures)
+    (drop_rest c.word_len.result front rest c.split_at.ensures.back)))
 
 pub returns-clause-shorter : goal.returns-clause-shorter
 returns-clause-shorter g c =
