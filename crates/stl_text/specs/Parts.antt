@@ -1,26 +1,35 @@
--- A text that is read in parts: runs of facets, found anywhere in the text, over which a reader jumps.
---     IsRestOf      the rest of a text from some byte on
---     IsRun         facets that stand one behind another in a text
---     Follows       a reader of the same text, further on
-use Rattle.std.specs.Prelude.{◌≡◌, ℕ, List, drop, flat_map, Some}
+-- A text that is read in parts: runs of facets, found anywhere in the text, over which its reader jumps.
+--     IsRestOf        the rest of a text from some byte on
+--     StandsBefore    a text is read up to this rest of it, among the facets of a solid
+--     IsFacetRun      facets that stand one behind another in a text
+use Rattle.std.specs.Prelude.{◌≡◌, ◌+◌, ◌≤◌, ℕ, List, [], ◌∷◌, ◌++◌, drop, length}
 use Rattle.micro_num.specs.declared.unit.Unit.{Unit as LengthUnit}
 use Rattle.geometry.specs.Facet.{Facet}
-use Rattle.stl_text.specs.Reader.{Reader}
-use Rattle.stl_text.specs.Text.{facet_tokens, rest_behind}
+use Rattle.stl_text.specs.declared.word.Word.TheVariants.{Solid}
+use Rattle.stl_text.specs.Text.{Token, after_space, end_word, keyword_of, rest_of_line}
+use Rattle.stl_text.specs.Stage.{Stands, in_facets}
 
 -- the rest of a text from some byte on
 pub record IsRestOf (text rest : List ℕ) : Type 0 where
   pub skipped : ℕ
   pub rest_is : rest ≡ drop skipped text
 
--- Behind some byte of the text these facets stand, one behind another. `from` is the text from there on, and `to` the text
--- behind the facets. It says nothing of what the text wants at that byte.
-pub record IsRun (unit : LengthUnit) (text : List ℕ) (facets : List Facet) (from to : List ℕ) : Type 0 where
-  pub begins : IsRestOf text from
-  pub spelled : rest_behind unit (flat_map facet_tokens facets) from ≡ Some to
+-- the end of a solid, and the beginning of the next
+abbrev pub next_solid : List Token
+next_solid = end_word ∷ rest_of_line ∷ keyword_of Solid ∷ rest_of_line ∷ []
 
--- a reader of the same text, further on
-pub record Follows (old new : Reader) : Type 0 where
-  pub same_unit : new.unit ≡ old.unit
-  pub same_whole : new.whole ≡ old.whole
-  pub rest : IsRestOf old.rest new.rest
+-- the text is read up to this rest of it, where `facet` or `endsolid` is wanted; these are the facets so far
+pub record StandsBefore (limit : ℕ) (unit : LengthUnit) (facets : List Facet) (text rest : List ℕ) : Type 0 where
+  pub behind : List ℕ
+  pub stands : Stands limit unit in_facets facets text behind
+  pub sees : after_space behind ≡ after_space rest
+
+-- Behind some byte of the text these facets stand, one behind another, in one solid or in several. `from` is the text from
+-- there on, and `to` the text behind the facets. A reading that stands before `from`, where `facet` or `endsolid` is wanted,
+-- stands before `to` with these facets more, whatever follows, if the limit has room for them. That it ever stands before
+-- `from` isn't said.
+pub record IsFacetRun (unit : LengthUnit) (text : List ℕ) (facets : List Facet) (from to : List ℕ) : Type 0 where
+  pub begins : IsRestOf text from
+  pub ends : IsRestOf from to
+  pub leads : (limit : ℕ) (had : List Facet) (whole more : List ℕ) → StandsBefore limit unit had whole (from ++ more)
+      → length had + length facets ≤ limit → StandsBefore limit unit (had ++ facets) whole (to ++ more)

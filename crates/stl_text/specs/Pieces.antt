@@ -1,5 +1,6 @@
 -- A text that is fed in pieces.
 --     Progress      what a reader of pieces keeps
+--     whole         it, with the facets that were taken off the reader
 --     IsReading     it has read a text up to a part that it has at hand
 --     IsAfter       it was fed these bytes
 use Rattle.std.specs.Prelude.{◌≡◌, ◌≢◌, ℕ, ◌+◌, ◌≤◌, Bool, true, false, not, List, [], ◌++◌, length}
@@ -12,6 +13,7 @@ use Rattle.stl_text.specs.declared.stage.Place.{Place}
 use Rattle.stl_text.specs.declared.stage.Place.TheVariants as place
 use Rattle.stl_text.specs.Text.{after_space, after_word, after_line, is_white, IsFaultOf}
 use Rattle.stl_text.specs.Stage.{Stands}
+use Rattle.stl_text.specs.Parts.{IsRestOf}
 
 pub record Progress : Type 0 where
   pub limit : ℕ
@@ -21,17 +23,29 @@ pub record Progress : Type 0 where
   pub held : List ℕ
   pub facets : List Facet
 
+-- what a reader would keep if these facets, the first of the text, had not been taken off it
+abbrev pub whole : List Facet → Progress → Progress
+whole taken p = record {
+  limit = length taken + p.limit;
+  unit = p.unit;
+  count = p.count;
+  place = p.place;
+  held = p.held;
+  facets = taken ++ p.facets;
+}
+
 -- what is left of a text, as a word or a rest of a line sees it
 abbrev pub Sees : Bool → List ℕ → List ℕ → Type 0
 Sees true behind rest = behind ≡ after_line rest
 Sees false behind rest = after_space behind ≡ after_space rest
 
--- Whatever follows the text, the reader stands at a stage of it before the part at hand. `held` is the front of a word
--- that isn't whole yet, and `count` the length of the text.
+-- Whatever follows the text, the reader stands at a stage of it before the part at hand, which is a rest of the text. `held`
+-- is the front of a word that isn't whole yet, and `count` the length of the text.
 pub record Waits (limit : ℕ) (unit : LengthUnit) (p : Progress) (stage : Stage) (in_line : Bool) (text part : List ℕ) : Type 0 where
   pub limit_is : p.limit ≡ limit
   pub unit_is : p.unit ≡ unit
   pub count_is : p.count ≡ length text
+  pub at_hand : IsRestOf text part
   pub within : length p.held + length part ≤ length text
   pub clear : list_all (λ byte. not (is_white byte)) p.held ≡ true
   pub behind : (more : List ℕ) → List ℕ
@@ -43,14 +57,14 @@ IsReadingAt limit unit p (place.Word stage) text part = Waits limit unit p stage
 IsReadingAt limit unit p (place.Line stage) text part = Waits limit unit p stage true text part × (p.held ≡ [])
 IsReadingAt limit unit p (place.Stopped f) text part = f ≢ fault.Memory → (more : List ℕ) → IsFaultOf limit unit (text ++ more) f
 
--- The reader has read a text up to its last part, which it has at hand. Where it stopped at a fault, the fault is that of
--- the text, whatever follows it.
-abbrev pub IsReading : ℕ → LengthUnit → Progress → List ℕ → List ℕ → Type 0
-IsReading limit unit p text part = IsReadingAt limit unit p p.place text part
+-- The reader has read a text up to its last part, which it has at hand, and these facets were taken off it. Where it
+-- stopped at a fault, the fault is that of the text, whatever follows it.
+abbrev pub IsReading : ℕ → LengthUnit → List Facet → Progress → List ℕ → List ℕ → Type 0
+IsReading limit unit taken p text part = IsReadingAt limit unit (whole taken p) p.place text part
 
--- the reader was fed these bytes
-abbrev pub IsAfter : ℕ → LengthUnit → Progress → List ℕ → Type 0
-IsAfter limit unit p fed = IsReading limit unit p fed []
+-- the reader was fed these bytes, and these facets were taken off it
+abbrev pub IsAfter : ℕ → LengthUnit → List Facet → Progress → List ℕ → Type 0
+IsAfter limit unit taken p fed = IsReading limit unit taken p fed []
 
 abbrev pub at_line : Stage → Place
 at_line stage = place.Line stage

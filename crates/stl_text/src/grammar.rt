@@ -1,20 +1,22 @@
-//! The grammar of ASCII STL, from vertices to solids. Each rule is a method of the reader.
-ghost use Rattle.std.specs.Prelude.{◌≡◌, ◌≢◌, ◌-◌, ◌<◌, ◌≤◌, [], ◌∷◌, ◌++◌, length, flat_map, IfErr, IfOk, IfSome, IsTrue, List, vec_len};
+//! The grammar of ASCII STL, from vertices to solids. Each rule is a method of the reader. And what stands at the front of a
+//! text: a facet, or where one solid ends and the next begins.
+ghost use Rattle.std.specs.Prelude.{◌≡◌, ◌≢◌, ◌-◌, ◌<◌, ◌≤◌, [], ◌∷◌, ◌++◌, length, flat_map, IfErr, IfOk, IfSome, IsTrue, List, Some, vec_len};
 ghost use Rattle.std.specs.Bool.{MatchBool};
 ghost use Rattle.stl_text.specs.declared.stl_fault.StlFault.TheVariants.{Ended, Memory};
 ghost use Rattle.stl_text.specs.declared.word.Word.TheVariants.{Solid};
 ghost use Rattle.geometry.specs.Facet.{Facet};
 ghost use Rattle.geometry.specs.Point.{Point};
-ghost use Rattle.stl_text.specs.Parts.{Follows};
 ghost use Rattle.stl_text.specs.Reader.{Breaks, Spells, Stops, facet_tail};
-ghost use Rattle.stl_text.specs.Text.{after_space, end_word, facet_tokens, facet_word, facets_of, loop_tokens, normal_tokens, solid_tokens, vertex_tokens};
+ghost use Rattle.micro_num.specs.declared.unit.Unit.{Unit as LengthUnit};
+ghost use Rattle.stl_text.specs.Parts.{next_solid};
+ghost use Rattle.stl_text.specs.Text.{after_space, end_word, facet_tokens, facet_word, facets_of, loop_tokens, normal_tokens, rest_behind, solid_tokens, vertex_tokens};
 
-use crate::parts::Runs;
 use crate::reader::Reader;
-use crate::scanning::{behind_keyword, is_keyword};
+use crate::scanning::{behind_keyword, is_keyword, skip_line};
 use crate::stl_fault::StlFault;
-use crate::word::{END_SOLID, FACET, Word};
+use crate::word::{END_SOLID, FACET, SOLID, Word};
 use geometry::{Facet, Point};
+use micro_num::Unit;
 use std::alloc::Allocator;
 
 impl<'t> Reader<'t> {
@@ -111,31 +113,14 @@ impl<'t> Reader<'t> {
         Err(self.fault_at(word, Word::FacetOrEnd))
     }
 
-    /// Reads a facet, if one stands here. Where none does, the reader may be left anywhere.
-    pub(crate) fn next_facet(&mut self) -> Option<Facet>
-        ensures read { IfSome result (λ t. Spells (facet_tokens t) self.old self.new) }
-        ensures shorter { IfSome result (λ _. length self.new.rest < length self.old.rest) }
-    {
-        let Ok(true) = self.begins_facet(1) else {
-            return None;
-        };
-        match self.facet() {
-            Ok(facet) => Some(facet),
-            Err(_) => None,
-        }
-    }
-
     /// Reads a solid, from `solid` to the rest of the line of `endsolid`, and adds its facets to `facets`, which may
     /// have up to `limit` facets in all.
     fn solid<A: Allocator>(
         &mut self,
         limit: usize,
-        runs: &mut Runs<'t, A>,
         facets: &mut Vec<Facet, A>,
     ) -> Result<(), StlFault>
-        requires few { vec_len facets.old ≤ limit }
-        requires runs { Follows runs.old self.old }
-        ensures runs { runs.new ≡ runs.old }
+        requires { vec_len facets.old ≤ limit }
         ensures read { IfOk result (λ _. (added : List Facet) × (facets.new.items ≡ facets.old.items ++ added)
             × Spells (solid_tokens added) self.old self.new) }
         ensures few { IfOk result (λ _. vec_len facets.new ≤ limit) }
@@ -147,22 +132,18 @@ impl<'t> Reader<'t> {
         'facets: while self.begins_facet(limit - facets.len())? {
             let facet = self.facet()?;
             facets.push(facet)?;
-            self.jump(limit - facets.len(), runs, facets)?;
         }
         self.end_line();
         Ok(())
     }
 
-    /// Reads all solids of a text, of which some runs may be known, and adds their facets to `facets`, which is empty before
-    /// and may have up to `limit`.
+    /// Reads all solids of a text, and adds their facets to `facets`, which is empty before and may have up to `limit`.
     pub(crate) fn solids<A: Allocator>(
         &mut self,
         limit: usize,
-        runs: &mut Runs<'t, A>,
         facets: &mut Vec<Facet, A>,
     ) -> Result<(), StlFault>
-        requires empty { facets.old.items ≡ [] }
-        requires runs { runs.old ≡ self.old }
+        requires { facets.old.items ≡ [] }
         ensures read { IfOk result (λ _. (solids : List (List Facet)) × (0 < length solids)
             × (facets.new.items ≡ facets_of solids) × Spells (flat_map solid_tokens solids) self.old self.new) }
         ensures whole { IfOk result (λ _. after_space self.new.rest ≡ []) }
@@ -171,10 +152,47 @@ impl<'t> Reader<'t> {
             → (solids : List (List Facet)) × Stops limit (flat_map solid_tokens solids) self.old fault) }
         ensures no_solid { IfErr result (λ fault. fault ≡ Ended Solid → after_space self.old.rest ≡ []) }
     {
-        self.solid(limit, runs, facets)?;
+        self.solid(limit, facets)?;
         'solids: while !self.is_at_end() {
-            self.solid(limit, runs, facets)?;
+            self.solid(limit, facets)?;
         }
         Ok(())
     }
+}
+
+/// The whole facet at the front of a text, from `facet` to `endfacet`, and the text behind it, which is not empty.
+/// `None` says nothing about the text.
+#[inline(always)]
+pub(crate) fn front_facet(bytes: &[u8], unit: Unit) -> Option<(Facet, &[u8])>
+    ensures read { IfSome result (λ found. rest_behind unit (facet_tokens found.0) bytes.now ≡ Some found.1.now) }
+    ensures some { IfSome result (λ found. 0 < length found.1.now) }
+    ensures shorter { IfSome result (λ found. length found.1.now < length bytes.now) }
+{
+    let mut reader = Reader::new(bytes, unit);
+    let behind = behind_keyword(bytes, FACET)?;
+    reader.rest = behind;
+    let Ok(facet) = reader.facet() else {
+        return None;
+    };
+    let rest = reader.rest;
+    if rest.is_empty() {
+        return None;
+    }
+    Some((facet, rest))
+}
+
+/// The text behind the end of a solid and the beginning of the next, if these are at the front of a text and the text
+/// behind them is not empty. `None` says nothing about the text.
+pub(crate) fn behind_solid(bytes: &[u8]) -> Option<&[u8]>
+    ensures read { IfSome result (λ rest. (unit : LengthUnit) → rest_behind unit next_solid bytes.now ≡ Some rest.now) }
+    ensures some { IfSome result (λ rest. 0 < length rest.now) }
+    ensures shorter { IfSome result (λ rest. length rest.now < length bytes.now) }
+{
+    let remark = behind_keyword(bytes, END_SOLID)?;
+    let name = behind_keyword(skip_line(remark), SOLID)?;
+    let inside = skip_line(name);
+    if inside.is_empty() {
+        return None;
+    }
+    Some(inside)
 }

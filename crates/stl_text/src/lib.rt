@@ -2,7 +2,7 @@
 //!
 //! - [`read_stl`], [`read_stl_at_most`]: the facets of a text in file order, or its one fault.
 //! - [`read_stl_by`]: the same, read in parts by several workers.
-//! - [`TextReader`]: the same of a text that arrives in pieces, and is not held.
+//! - [`TextReader`]: the same of a text that arrives in pieces, and is not held; several workers may read each piece.
 //! - [`StlFault`]: why a text is no mesh, with the byte offset of the fault; [`Word`]: what is wanted there.
 //! - [`one_outcome`], [`reads_as_written`]: laws. Each text has one outcome, and it reads as facets exactly where it is
 //!   these facets written as STL.

@@ -1,21 +1,17 @@
 //! The reader of a whole text: the main function of this crate.
 ghost use Rattle.std.specs.Prelude.{◌≡◌, ◌≢◌, ◌≤◌, IfErr, IfOk, List, MatchResult};
 ghost use Rattle.stl_text.specs.declared.stl_fault.StlFault.TheVariants.{Memory};
-ghost use Rattle.stl_text.specs.Reader.{start};
 ghost use Rattle.stl_text.specs.Text.{IsFaultOf, Reads};
 ghost use Rattle.geometry.specs.Facet.{Facet};
 ghost use Rattle.geometry.specs.declared.limits.TheConstants.{FACET_LIMIT};
 
-use crate::parts::Runs;
 use crate::reader::Reader;
 use crate::stl_fault::StlFault;
+use crate::text_reader::TextReader;
 use geometry::{FACET_LIMIT, Facet};
 use micro_num::Unit;
 use std::alloc::Allocator;
 use std::thread::Threads;
-
-/// The length of the shortest text that is read by several workers, in bytes. A shorter one is read before they start.
-const LEAST_DIVIDED: usize = 1 << 16;
 
 /// The facets of an ASCII STL text in file order, at most `limit` of them.
 ///
@@ -44,26 +40,8 @@ pub fn read_stl_at_most<A: Allocator + Copy + Send + Sync>(
         → MatchResult result (λ found. found.items ≡ facets) (λ fault. fault ≡ Memory) }
     ensures fault { IfErr result (λ fault. fault ≢ Memory → IsFaultOf limit unit bytes.now fault) }
 {
-    read_with(alloc, bytes, limit, unit, Runs::none(alloc, bytes, unit))
-}
-
-/// The facets of a text, of which some runs are known.
-fn read_with<'t, A: Allocator + Copy + Send + Sync>(
-    alloc: A,
-    bytes: &'t [u8],
-    limit: u32,
-    unit: Unit,
-    mut runs: Runs<'t, A>,
-) -> Result<Vec<Facet, A>, StlFault>
-    requires limit { limit ≤ FACET_LIMIT }
-    requires runs { runs ≡ start unit bytes.now }
-    ensures found { IfOk result (λ facets. Reads limit unit bytes.now facets.items) }
-    ensures only { (facets : List Facet) → Reads limit unit bytes.now facets
-        → MatchResult result (λ found. found.items ≡ facets) (λ fault. fault ≡ Memory) }
-    ensures fault { IfErr result (λ fault. fault ≢ Memory → IsFaultOf limit unit bytes.now fault) }
-{
     let mut facets = Vec::new(alloc);
-    Reader::new(bytes, unit).solids(limit as usize, &mut runs, &mut facets)?;
+    Reader::new(bytes, unit).solids(limit as usize, &mut facets)?;
     Ok(facets)
 }
 
@@ -99,9 +77,7 @@ pub fn read_stl_by<R: Threads + Sync, A: Allocator + Copy + Send + Sync>(
         → MatchResult result (λ found. found.items ≡ facets) (λ fault. fault ≡ Memory) }
     ensures fault { IfErr result (λ fault. fault ≢ Memory → IsFaultOf limit unit bytes.now fault) }
 {
-    if workers == 1 || bytes.len() < LEAST_DIVIDED {
-        return read_stl_at_most(alloc, bytes, limit, unit);
-    }
-    let runs = Runs::of(rt, alloc, bytes, unit, workers)?;
-    read_with(alloc, bytes, limit, unit, runs)
+    let mut reader = TextReader::new(alloc, limit, unit);
+    reader.feed_by(rt, bytes, workers);
+    reader.finish()
 }

@@ -1,42 +1,33 @@
 //! The reader of a text that is fed in pieces.
-ghost use Rattle.std.specs.Prelude.{◌≡◌, ◌≢◌, ◌<◌, ◌≤◌, ℕ, [], ◌∷◌, ◌++◌, List, IfErr, IfOk, IfSome, MatchResult, None, Some, length};
+ghost use Rattle.std.specs.Prelude.{◌≡◌, ◌≢◌, ◌<◌, ◌≤◌, ◌+◌, ℕ, [], ◌∷◌, ◌++◌, All, List, IfErr, IfOk, IfSome, IsTrue, MatchResult, None, length};
 ghost use Rattle.geometry.specs.Facet.{Facet};
 ghost use Rattle.geometry.specs.declared.limits.TheConstants.{FACET_LIMIT};
 ghost use Rattle.micro_num.specs.declared.unit.Unit.{Unit as LengthUnit};
 ghost use Rattle.stl_text.specs.declared.stl_fault.StlFault.TheVariants.{Memory};
-ghost use Rattle.stl_text.specs.Text.{IsFaultOf, Reads, facet_tokens, rest_behind};
+ghost use Rattle.stl_text.specs.Text.{IsFaultOf, Reads};
+ghost use Rattle.stl_text.specs.Parts.{IsFacetRun};
 ghost use Rattle.stl_text.specs.Stage.{AtWord, in_facets};
 ghost use Rattle.stl_text.specs.Pieces.{EndsAt, IsAfter, IsReading, StandsAt, at_line, at_word};
 
-use crate::reader::Reader;
-use crate::scanning::{behind_keyword, skip_line, skip_space, word_len};
+use crate::grammar::front_facet;
+use crate::parts::Run;
+use crate::scanning::{skip_line, skip_space, word_len};
 use crate::stage::{Place, Stage, Step};
 use crate::stl_fault::StlFault;
-use crate::word::FACET;
 use geometry::{FACET_LIMIT, Facet};
 use micro_num::Unit;
 use std::alloc::Allocator;
 use std::marker::Model;
+use std::thread::Threads;
 
-/// The whole facet at the front of a text, from `facet` to `endfacet`, and the text behind it, which is not empty.
-/// `None` says nothing about the text.
-#[inline(always)]
-fn front_facet(bytes: &[u8], unit: Unit) -> Option<(Facet, &[u8])>
-    ensures read { IfSome result (λ found. rest_behind unit (facet_tokens found.0) bytes.now ≡ Some found.1.now) }
-    ensures some { IfSome result (λ found. 0 < length found.1.now) }
-    ensures shorter { IfSome result (λ found. length found.1.now < length bytes.now) }
+/// The length of the shortest piece that is read by several workers, in bytes.
+const LEAST_DIVIDED: usize = 1 << 16;
+
+/// Whether `facet` or `endsolid` is wanted.
+fn is_among_facets(place: Place) -> bool
+    ensures { IsTrue result → place ≡ at_word in_facets }
 {
-    let mut reader = Reader::new(bytes, unit);
-    let behind = behind_keyword(bytes, FACET)?;
-    reader.rest = behind;
-    let Ok(facet) = reader.facet() else {
-        return None;
-    };
-    let rest = reader.rest;
-    if rest.is_empty() {
-        return None;
-    }
-    Some((facet, rest))
+    matches!(place, Place::Word(Stage::Facets))
 }
 
 /// Adds a facet, where memory suffices.
@@ -46,6 +37,15 @@ fn add<A: Allocator>(facets: &mut Vec<Facet, A>, facet: Facet) -> Result<(), Stl
     ensures fault { IfErr result (λ fault. fault ≡ Memory) }
 {
     facets.push(facet)?;
+    Ok(())
+}
+
+/// Adds the facets of a run, where memory suffices.
+fn add_all<A: Allocator>(facets: &mut Vec<Facet, A>, run: &[Facet]) -> Result<(), StlFault>
+    ensures added { IfOk result (λ _. facets.new.items ≡ facets.old.items ++ run.now) }
+    ensures fault { IfErr result (λ fault. fault ≡ Memory) }
+{
+    facets.extend_from_slice(run)?;
     Ok(())
 }
 
@@ -69,8 +69,9 @@ fn read_word<A: Allocator>(
     unit: Unit,
     facets: &mut Vec<Facet, A>,
 ) -> Place
-    ensures { (text behind : List ℕ) → AtWord limit unit stage facets.old.items text behind word.now at
-        → StandsAt limit unit result facets.new.items text behind }
+    ensures { (taken : List Facet) (text behind : List ℕ)
+        → AtWord (length taken + limit) unit stage (taken ++ facets.old.items) text behind word.now at
+        → StandsAt (length taken + limit) unit result (taken ++ facets.new.items) text behind }
 {
     let room = limit.saturating_sub(facets.len());
     let step = match stage.step(word, at, room, unit) {
@@ -88,11 +89,12 @@ fn read_word<A: Allocator>(
 }
 
 /// A reader of an ASCII STL text that arrives in pieces, cut anywhere: also in a word, a number, a name or a line break.
-/// It keeps the facets and, between two pieces, no more of the text than the front of a word that isn't whole yet. Names,
-/// rests of lines and white space take nothing, and nor does what follows a fault. A word is kept whole, however long it is.
+/// It keeps the facets until they are forgotten and, between two pieces, no more of the text than the front of a word that
+/// isn't whole yet. Names, rests of lines and white space take nothing, and nor does what follows a fault. A word is kept
+/// whole, however long it is.
 #[derive(Drop)]
 pub struct TextReader<A: Allocator> {
-    /// The number of facets that the text may have.
+    /// The number of facets that the text may have beside those that were forgotten.
     limit: usize,
     /// The unit of its numbers.
     unit: Unit,
@@ -102,7 +104,7 @@ pub struct TextReader<A: Allocator> {
     place: Place,
     /// The front of a word that isn't whole yet.
     held: Vec<u8, A>,
-    /// The facets so far.
+    /// The facets so far that were not forgotten.
     facets: Vec<Facet, A>,
 }
 
@@ -118,7 +120,7 @@ impl<A: Allocator + Copy> TextReader<A> {
     /// A reader of a text that may have up to `limit` facets, at most [`FACET_LIMIT`]. Its numbers are in `unit`.
     pub fn new(alloc: A, limit: u32, unit: Unit) -> TextReader<A>
         requires { limit ≤ FACET_LIMIT }
-        ensures { IsAfter limit unit result [] }
+        ensures { IsAfter limit unit [] result [] }
     {
         TextReader {
             limit: limit as usize,
@@ -134,40 +136,110 @@ impl<A: Allocator + Copy> TextReader<A> {
 impl<A: Allocator> TextReader<A> {
     /// Reads the next piece of the text. Where it is cut from the next doesn't matter.
     pub fn feed(&mut self, piece: &[u8])
-        ensures { (limit : ℕ) (unit : LengthUnit) (fed : List ℕ) → IsAfter limit unit self.old fed
-            → IsAfter limit unit self.new (fed ++ piece.now) }
+        ensures { (limit : ℕ) (unit : LengthUnit) (taken : List Facet) (fed : List ℕ) → IsAfter limit unit taken self.old fed
+            → IsAfter limit unit taken self.new (fed ++ piece.now) }
     {
-        self.begin(piece);
-        let mut rest = self.resume(piece);
-        'piece: while !rest.is_empty() {
-            rest = self.advance(rest);
-        }
+        self.count_piece(piece);
+        let rest = self.resume(piece);
+        self.read_to(rest, 0);
     }
 
-    /// The facets of the text that was fed, in file order.
+    /// Reads the next piece of the text, of which some runs are known, in the order in which they begin.
+    fn feed_runs<'p>(&mut self, piece: &'p [u8], runs: &[Run<'p, A>])
+        ensures { (limit : ℕ) (unit : LengthUnit) (taken : List Facet) (fed : List ℕ)
+            → IsAfter limit unit taken self.old fed
+            → All (λ run. IsFacetRun unit piece.now run.facets.items run.from.now run.to.now) runs.now
+            → IsAfter limit unit taken self.new (fed ++ piece.now) }
+    {
+        self.count_piece(piece);
+        let mut rest = self.resume(piece);
+        for run in runs {
+            rest = self.read_to(rest, run.from.len());
+            rest = self.jump(rest, run);
+        }
+        self.read_to(rest, 0);
+    }
+
+    /// Jumps over a run, if it begins where this part does, `facet` or `endsolid` is wanted here and the limit has room for
+    /// its facets: answers the text behind it. Else it answers the part.
+    fn jump<'p>(&mut self, part: &'p [u8], run: &Run<'p, A>) -> &'p [u8]
+        requires free { 0 < length part.now → self.old.held ≡ [] }
+        ensures read { (limit : ℕ) (unit : LengthUnit) (taken : List Facet) (fed piece : List ℕ)
+            → IsFacetRun unit piece run.now.facets.items run.now.from.now run.now.to.now
+            → IsReading limit unit taken self.old (fed ++ piece) part.now
+            → IsReading limit unit taken self.new (fed ++ piece) result.now }
+        ensures free { 0 < length result.now → self.new.held ≡ [] }
+    {
+        if part.is_empty() || part.len() != run.from.len() {
+            return part;
+        }
+        if !is_among_facets(self.place) {
+            return part;
+        }
+        if self.limit.saturating_sub(self.facets.len()) < run.facets.len() {
+            return part;
+        }
+        let rest = run.to;
+        if let Err(fault) = add_all(&mut self.facets, &run.facets) {
+            self.place = Place::Stopped(fault);
+            return rest;
+        }
+        rest
+    }
+
+    /// Reads a part of a text until at most `left` bytes of it are left: answers these.
+    fn read_to<'p>(&mut self, part: &'p [u8], left: usize) -> &'p [u8]
+        requires free { 0 < length part.now → self.old.held ≡ [] }
+        ensures read { (limit : ℕ) (unit : LengthUnit) (taken : List Facet) (text : List ℕ)
+            → IsReading limit unit taken self.old text part.now → IsReading limit unit taken self.new text result.now }
+        ensures free { 0 < length result.now → self.new.held ≡ [] }
+        ensures left { length result.now ≤ left }
+    {
+        let mut rest = part;
+        'part: while rest.len() > left {
+            rest = self.advance(rest);
+        }
+        rest
+    }
+
+    /// The facets that were read and not forgotten, in file order. They are facets of the text only if its end has no
+    /// fault either.
+    pub fn facets(&self) -> &[Facet]
+        ensures { result.now ≡ self.now.facets }
+    {
+        self.facets.as_slice()
+    }
+
+    /// Forgets the facets that were read, and keeps their room. They still count for the limit.
+    pub fn forget(&mut self)
+        ensures after { (limit : ℕ) (unit : LengthUnit) (taken : List Facet) (fed : List ℕ) → IsAfter limit unit taken self.old fed
+            → IsAfter limit unit (taken ++ self.old.facets) self.new fed }
+        ensures none { self.new.facets ≡ [] }
+    {
+        self.limit = self.limit.saturating_sub(self.facets.len());
+        self.facets.clear();
+    }
+
+    /// The facets of the text that was fed, in file order, without those that were forgotten.
     ///
     /// # Errors
     /// A text that spells no mesh has exactly one fault, which is the answer unless memory runs out, as of
     /// [`read_stl_at_most`](crate::read_stl_at_most). `Memory` comes only if an allocation failed, or behind
     /// `usize::MAX` bytes.
     pub fn finish(self) -> Result<Vec<Facet, A>, StlFault>
-        ensures found { (limit : ℕ) (unit : LengthUnit) (fed : List ℕ) → IsAfter limit unit self fed
-            → IfOk result (λ facets. Reads limit unit fed facets.items) }
-        ensures only { (limit : ℕ) (unit : LengthUnit) (fed : List ℕ) → IsAfter limit unit self fed
+        ensures found { (limit : ℕ) (unit : LengthUnit) (taken : List Facet) (fed : List ℕ) → IsAfter limit unit taken self fed
+            → IfOk result (λ facets. Reads limit unit fed (taken ++ facets.items)) }
+        ensures only { (limit : ℕ) (unit : LengthUnit) (taken : List Facet) (fed : List ℕ) → IsAfter limit unit taken self fed
             → (facets : List Facet) → Reads limit unit fed facets
-            → MatchResult result (λ found. found.items ≡ facets) (λ fault. fault ≡ Memory) }
-        ensures fault { (limit : ℕ) (unit : LengthUnit) (fed : List ℕ) → IsAfter limit unit self fed
+            → MatchResult result (λ found. taken ++ found.items ≡ facets) (λ fault. fault ≡ Memory) }
+        ensures fault { (limit : ℕ) (unit : LengthUnit) (taken : List Facet) (fed : List ℕ) → IsAfter limit unit taken self fed
             → IfErr result (λ fault. fault ≢ Memory → IsFaultOf limit unit fed fault) }
     {
         let mut reader = self;
         let place = reader.close();
         match place {
             Place::Stopped(fault) => Err(fault),
-            Place::Word(stage) => match stage.end() {
-                Ok(()) => Ok(reader.facets),
-                Err(fault) => Err(fault),
-            },
-            Place::Line(stage) => match stage.end() {
+            Place::Word(stage) | Place::Line(stage) => match stage.end() {
                 Ok(()) => Ok(reader.facets),
                 Err(fault) => Err(fault),
             },
@@ -175,9 +247,9 @@ impl<A: Allocator> TextReader<A> {
     }
 
     /// Counts the bytes of a piece.
-    fn begin(&mut self, piece: &[u8])
-        ensures { (limit : ℕ) (unit : LengthUnit) (fed : List ℕ) → IsAfter limit unit self.old fed
-            → IsReading limit unit self.new (fed ++ piece.now) piece.now }
+    fn count_piece(&mut self, piece: &[u8])
+        ensures { (limit : ℕ) (unit : LengthUnit) (taken : List Facet) (fed : List ℕ) → IsAfter limit unit taken self.old fed
+            → IsReading limit unit taken self.new (fed ++ piece.now) piece.now }
     {
         match self.count.checked_add(piece.len()) {
             Some(count) => self.count = count,
@@ -187,8 +259,8 @@ impl<A: Allocator> TextReader<A> {
 
     /// Goes on with a word that the last piece cut: answers the text behind it.
     fn resume<'p>(&mut self, piece: &'p [u8]) -> &'p [u8]
-        ensures read { (limit : ℕ) (unit : LengthUnit) (text : List ℕ) → IsReading limit unit self.old text piece.now
-            → IsReading limit unit self.new text result.now }
+        ensures read { (limit : ℕ) (unit : LengthUnit) (taken : List Facet) (text : List ℕ)
+            → IsReading limit unit taken self.old text piece.now → IsReading limit unit taken self.new text result.now }
         ensures free { 0 < length result.now → self.new.held ≡ [] }
     {
         if self.held.is_empty() {
@@ -226,8 +298,8 @@ impl<A: Allocator> TextReader<A> {
     fn advance<'p>(&mut self, part: &'p [u8]) -> &'p [u8]
         requires free { self.old.held ≡ [] }
         requires some { 0 < length part.now }
-        ensures read { (limit : ℕ) (unit : LengthUnit) (text : List ℕ) → IsReading limit unit self.old text part.now
-            → IsReading limit unit self.new text result.now }
+        ensures read { (limit : ℕ) (unit : LengthUnit) (taken : List Facet) (text : List ℕ)
+            → IsReading limit unit taken self.old text part.now → IsReading limit unit taken self.new text result.now }
         ensures free { 0 < length result.now → self.new.held ≡ [] }
         ensures shorter { length result.now < length part.now }
     {
@@ -243,8 +315,8 @@ impl<A: Allocator> TextReader<A> {
         requires free { self.old.held ≡ [] }
         requires some { 0 < length part.now }
         requires place { self.old.place ≡ at_line stage }
-        ensures read { (limit : ℕ) (unit : LengthUnit) (text : List ℕ) → IsReading limit unit self.old text part.now
-            → IsReading limit unit self.new text result.now }
+        ensures read { (limit : ℕ) (unit : LengthUnit) (taken : List Facet) (text : List ℕ)
+            → IsReading limit unit taken self.old text part.now → IsReading limit unit taken self.new text result.now }
         ensures free { 0 < length result.now → self.new.held ≡ [] }
         ensures shorter { length result.now < length part.now }
     {
@@ -263,8 +335,8 @@ impl<A: Allocator> TextReader<A> {
         requires free { self.old.held ≡ [] }
         requires some { 0 < length part.now }
         requires place { self.old.place ≡ at_word stage }
-        ensures read { (limit : ℕ) (unit : LengthUnit) (text : List ℕ) → IsReading limit unit self.old text part.now
-            → IsReading limit unit self.new text result.now }
+        ensures read { (limit : ℕ) (unit : LengthUnit) (taken : List Facet) (text : List ℕ)
+            → IsReading limit unit taken self.old text part.now → IsReading limit unit taken self.new text result.now }
         ensures free { 0 < length result.now → self.new.held ≡ [] }
         ensures shorter { length result.now < length part.now }
     {
@@ -281,8 +353,8 @@ impl<A: Allocator> TextReader<A> {
     fn facet<'p>(&mut self, part: &'p [u8]) -> Option<&'p [u8]>
         requires free { self.old.held ≡ [] }
         requires place { self.old.place ≡ at_word in_facets }
-        ensures read { IfSome result (λ rest. (limit : ℕ) (unit : LengthUnit) (text : List ℕ)
-            → IsReading limit unit self.old text part.now → IsReading limit unit self.new text rest.now) }
+        ensures read { IfSome result (λ rest. (limit : ℕ) (unit : LengthUnit) (taken : List Facet) (text : List ℕ)
+            → IsReading limit unit taken self.old text part.now → IsReading limit unit taken self.new text rest.now) }
         ensures free { IfSome result (λ rest. self.new.held ≡ []) }
         ensures shorter { IfSome result (λ rest. length rest.now < length part.now) }
         ensures none { result ≡ None → self.new ≡ self.old }
@@ -307,8 +379,8 @@ impl<A: Allocator> TextReader<A> {
         requires free { self.old.held ≡ [] }
         requires some { 0 < length part.now }
         requires place { self.old.place ≡ at_word stage }
-        ensures read { (limit : ℕ) (unit : LengthUnit) (text : List ℕ) → IsReading limit unit self.old text part.now
-            → IsReading limit unit self.new text result.now }
+        ensures read { (limit : ℕ) (unit : LengthUnit) (taken : List Facet) (text : List ℕ)
+            → IsReading limit unit taken self.old text part.now → IsReading limit unit taken self.new text result.now }
         ensures free { 0 < length result.now → self.new.held ≡ [] }
         ensures shorter { length result.now < length part.now }
     {
@@ -330,8 +402,8 @@ impl<A: Allocator> TextReader<A> {
 
     /// Reads the last word of the text: answers where the text ends.
     fn close(&mut self) -> Place
-        ensures { (limit : ℕ) (unit : LengthUnit) (fed : List ℕ) → IsAfter limit unit self.old fed
-            → EndsAt limit unit result self.new.facets fed }
+        ensures { (limit : ℕ) (unit : LengthUnit) (taken : List Facet) (fed : List ℕ) → IsAfter limit unit taken self.old fed
+            → EndsAt limit unit result (taken ++ self.new.facets) fed }
     {
         let Place::Word(stage) = self.place else {
             return self.place;
@@ -349,5 +421,25 @@ impl<A: Allocator> TextReader<A> {
             &mut self.facets,
         );
         self.place
+    }
+}
+
+impl<A: Allocator + Copy + Send + Sync> TextReader<A> {
+    /// Reads the next piece of the text, a long one in parts by up to `workers` workers at the same time. The answer is
+    /// that of [`TextReader::feed`], for every number of workers.
+    pub fn feed_by<R: Threads + Sync>(&mut self, rt: &R, piece: &[u8], workers: u32)
+        ensures { (limit : ℕ) (unit : LengthUnit) (taken : List Facet) (fed : List ℕ)
+            → IsAfter limit unit taken self.old fed → IsAfter limit unit taken self.new (fed ++ piece.now) }
+    {
+        let stopped = matches!(self.place, Place::Stopped(_));
+        if stopped || workers < 2 || piece.len() < LEAST_DIVIDED {
+            self.feed(piece);
+            return;
+        }
+        let alloc = *self.facets.allocator();
+        match Run::found_by(rt, alloc, piece, self.unit, workers) {
+            Ok(runs) => self.feed_runs(piece, &runs),
+            Err(_) => self.feed(piece),
+        }
     }
 }

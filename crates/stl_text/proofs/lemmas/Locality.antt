@@ -11,6 +11,7 @@ use Rattle.micro_num.specs.declared.unit.Unit.{Unit as LengthUnit}
 use Rattle.micro_num.specs.Numeral.{from_first}
 use Rattle.micro_num.proofs.lemmas.Grammar.{Starts, before-is, from-is}
 use Rattle.stl_text.specs.Text.{Token, keyword, normal_part, coordinate, rest_of_line, begins_with, after_token, rest_behind, first_word, after_space, after_word, after_line, is_keyword, is_read_as, is_white, is_line_end}
+use Rattle.stl_text.specs.declared.word.Word.{Word}
 use Rattle.stl_text.proofs.lemmas.Either.{rest-le}
 
 module _ (p : ℕ → Bool) (xs ys : List ℕ) where
@@ -122,3 +123,10 @@ word-first (b ∷ bs) rest some clear = by_test (is_white b) refl (and_parts _ _
 pub starts-on : (xs ys : List ℕ) → Starts is_white xs → 0 < length xs → Starts is_white (xs ++ ys)
 starts-on [] ys starts some = absurd (omega (arith, some))
 starts-on (x ∷ xs) ys starts some = starts
+
+-- Tokens that begin with a keyword see a text behind its white space.
+pub seen_keyword : (unit : LengthUnit) (kind : Word) (text : List ℕ) (tokens : List Token) (xs ys rest : List ℕ) → after_space xs ≡ after_space ys
+    → rest_behind unit (keyword kind text ∷ tokens) ys ≡ Some rest → rest_behind unit (keyword kind text ∷ tokens) xs ≡ Some rest
+seen_keyword unit kind text tokens xs ys rest same spelled =
+    ap {B = Option (List ℕ)} (λ front. if is_keyword text (before_first is_white front) then rest_behind unit tokens (from_first is_white front) else None) same
+    ∙ spelled

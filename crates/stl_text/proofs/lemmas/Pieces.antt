@@ -1,13 +1,12 @@
 -- Reading a text in pieces: what a reader knows of the text so far, whatever follows it.
-use Rattle.std.proofs.Common.{◌≡◌, ℕ, ◌+◌, ◌-◌, ◌<◌, ◌≤◌, Bool, true, false, not, List, [], ◌∷◌, ◌++◌, length, take, drop, refl, sym, ◌∙◌, ap, subst, arith, append_assoc, append-nil, length-append, length-drop}
-use Rattle.std.specs.Prelude.{Option, Some, None, ◌==◌, ◌||◌, if◌then◌else◌}
+use Rattle.std.proofs.Common.{◌≡◌, ℕ, ◌+◌, ◌-◌, ◌<◌, ◌≤◌, Bool, true, false, not, List, [], ◌∷◌, ◌++◌, length, take, drop, refl, sym, ◌∙◌, ap, subst, ◌⊎◌, inl, inr, arith, append_assoc, append-nil, length-append, length-drop}
+use Rattle.std.specs.Prelude.{Some, ◌==◌, ◌||◌}
 use Rattle.std.specs.List.{list_all, before_first, position_or_len}
 use Rattle.std.proofs.Math.Numerals.{one-add}
 use Rattle.std.proofs.lemmas.Bool.{eqb-true}
 use Rattle.std.proofs.lemmas.List.{take-append-drop}
 use Rattle.std.proofs.lemmas.List.Folds.{list_all-append}
 use Rattle.micro_num.specs.declared.unit.Unit.{Unit as LengthUnit}
-use Rattle.micro_num.specs.Numeral.{from_first}
 use Rattle.micro_num.proofs.lemmas.Grammar.{Starts, from_starts}
 use Rattle.geometry.specs.Facet.{Facet}
 use Rattle.stl_text.specs.declared.stl_fault.StlFault.{StlFault}
@@ -15,11 +14,14 @@ use Rattle.stl_text.specs.declared.stage.Stage.{Stage}
 use Rattle.stl_text.specs.declared.stage.Stage.TheVariants as stage
 use Rattle.stl_text.specs.declared.stage.Place.{Place}
 use Rattle.stl_text.specs.declared.stage.Place.TheVariants as place
-use Rattle.stl_text.specs.Text.{first_word, after_space, after_word, after_line, is_white, IsFaultOf, facet_keyword, facet_tokens, is_keyword, is_line_end, rest_behind}
+use Rattle.stl_text.specs.Text.{first_word, after_space, after_word, after_line, is_white, IsFaultOf, facet_keyword, facet_tokens, is_line_end, rest_behind}
 use Rattle.stl_text.specs.Reader.{facet_tail}
-use Rattle.stl_text.specs.Stage.{AtWord, Stands}
-use Rattle.stl_text.specs.Pieces.{EndsAt, IsAfter, IsReading, IsReadingAt, Progress, StandsAt, Waits}
-use Rattle.stl_text.proofs.lemmas.Locality.{line-on, line-over, space-on, space-over, starts-on, tokens-on, word-first, word_next}
+use Rattle.stl_text.specs.Stage.{AtWord, IsForm, Stands}
+use Rattle.stl_text.specs.Pieces.{EndsAt, IsAfter, IsReading, IsReadingAt, Progress, Sees, StandsAt, Waits, whole}
+use Rattle.stl_text.specs.Parts.{IsFacetRun, IsRestOf, StandsBefore}
+use Rattle.stl_text.specs.declared.word.Word.TheVariants.{FacetOrEnd}
+use Rattle.stl_text.proofs.lemmas.Locality.{line-on, line-over, seen_keyword, space-on, space-over, starts-on, tokens-on, word-first, word_next}
+use Rattle.stl_text.proofs.lemmas.Runs.{added_rest, drop_rest, no_rest, rest_behind-rest, rest_then, rest_within, same_rest, whole_rest}
 use Rattle.stl_text.proofs.lemmas.Stages.{facet_read}
 use Rattle.stl_text.proofs.lemmas.Either.{after_space-le, no_word-space}
 
@@ -28,12 +30,13 @@ is_black byte = not (is_white byte)
 
 -- A reader before its first byte.
 
-pub at_start : (limit : ℕ) (unit : LengthUnit) → IsAfter limit unit
+pub at_start : (limit : ℕ) (unit : LengthUnit) → IsAfter limit unit []
     (record { limit = limit; unit = unit; count = 0; place = place.Word (stage.Between false); held = []; facets = [] }) []
 at_start limit unit = record {
-  limit_is = refl;
+  limit_is = omega arith;
   unit_is = refl;
   count_is = refl;
+  at_hand = whole_rest [];
   within = omega arith;
   clear = refl;
   behind = λ more. more;
@@ -49,6 +52,7 @@ begun_at limit unit p q in_line s fed piece e w = subst (λ r. Waits limit unit 
   limit_is = w.limit_is;
   unit_is = w.unit_is;
   count_is = omega (arith, w.count_is, length-append fed piece);
+  at_hand = added_rest fed piece;
   within = omega (arith, w.within, length-append fed piece);
   clear = w.clear;
   behind = λ more. w.behind (piece ++ more);
@@ -56,10 +60,13 @@ begun_at limit unit p q in_line s fed piece e w = subst (λ r. Waits limit unit 
   sees = λ more. w.sees (piece ++ more);
 })
 
-pub begun : (limit : ℕ) (unit : LengthUnit) (p : Progress) (fed piece : List ℕ) → IsAfter limit unit p fed
-    → IsReading limit unit (record p { count = p.count + length piece }) (fed ++ piece) piece
-begun limit unit p fed piece is = at p.place is
+pub begun : (limit : ℕ) (unit : LengthUnit) (taken : List Facet) (r : Progress) (fed piece : List ℕ) → IsAfter limit unit taken r fed
+    → IsReading limit unit taken (record r { count = r.count + length piece }) (fed ++ piece) piece
+begun limit unit taken r fed piece is = at r.place is
   where
+    p : Progress
+    p = whole taken r
+
     at : (pl : Place) → IsReadingAt limit unit p pl fed [] → IsReadingAt limit unit (record p { count = p.count + length piece }) pl (fed ++ piece) piece
     at (place.Word s) w = begun_at limit unit p (record p { count = p.count + length piece }) false s fed piece refl w
     at (place.Line s) w = (begun_at limit unit p (record p { count = p.count + length piece }) true s fed piece refl w.0, w.1)
@@ -100,24 +107,26 @@ next_word limit unit p s text part word rest at w clear some starts left_some sp
 pub moved : (limit : ℕ) (unit : LengthUnit) (q : Progress) (s : Stage) (pl : Place) (facets : List Facet) (text word rest : List ℕ) (at : ℕ)
     → Next limit unit s facets text word rest at
     → ((t behind : List ℕ) → AtWord limit unit s facets t behind word at → StandsAt limit unit pl q.facets t behind)
-    → q.limit ≡ limit → q.unit ≡ unit → q.count ≡ length text → q.held ≡ [] → length rest ≤ length text
+    → q.limit ≡ limit → q.unit ≡ unit → q.count ≡ length text → q.held ≡ [] → IsRestOf text rest
     → IsReadingAt limit unit q pl text rest
-moved limit unit q s (place.Word u) facets text word rest at n read limit_is unit_is count_is none within = record {
+moved limit unit q s (place.Word u) facets text word rest at n read limit_is unit_is count_is none at_hand = record {
   limit_is = limit_is;
   unit_is = unit_is;
   count_is = count_is;
-  within = omega (arith, ap length none, within);
+  at_hand = at_hand;
+  within = omega (arith, ap length none, rest_within text rest at_hand);
   clear = ap (list_all is_black) none;
   behind = λ more. after_word (n.behind more);
   stands = λ more. read (text ++ more) (n.behind more) (n.at_word more);
   sees = λ more. ap after_space (n.left more ∙ ap (λ h. h ++ (rest ++ more)) (sym none));
 }
-moved limit unit q s (place.Line u) facets text word rest at n read limit_is unit_is count_is none within = (
+moved limit unit q s (place.Line u) facets text word rest at n read limit_is unit_is count_is none at_hand = (
   record {
     limit_is = limit_is;
     unit_is = unit_is;
     count_is = count_is;
-    within = omega (arith, ap length none, within);
+    at_hand = at_hand;
+    within = omega (arith, ap length none, rest_within text rest at_hand);
     clear = ap (list_all is_black) none;
     behind = λ more. after_line (after_word (n.behind more));
     stands = λ more. read (text ++ more) (n.behind more) (n.at_word more);
@@ -125,7 +134,7 @@ moved limit unit q s (place.Line u) facets text word rest at n read limit_is uni
   },
   none,
 )
-moved limit unit q s (place.Stopped f) facets text word rest at n read limit_is unit_is count_is none within =
+moved limit unit q s (place.Stopped f) facets text word rest at n read limit_is unit_is count_is none at_hand =
     λ no more. read (text ++ more) (n.behind more) (n.at_word more) no
 
 -- The front of a part, up to white space.
@@ -150,6 +159,7 @@ line_on limit unit p s text part rest is rest_is none =
         limit_is = is.0.limit_is;
         unit_is = is.0.unit_is;
         count_is = is.0.count_is;
+        at_hand = no_rest text;
         within = omega (arith, is.0.within);
         clear = is.0.clear;
         behind = is.0.behind;
@@ -170,6 +180,7 @@ line_ended limit unit p q s text part rest is limit_is unit_is count_is held_is 
       limit_is = limit_is ∙ is.0.limit_is;
       unit_is = unit_is ∙ is.0.unit_is;
       count_is = count_is ∙ is.0.count_is;
+      at_hand = rest_then text part rest is.0.at_hand (drop_rest (position_or_len is_line_end part) part rest rest_is);
       within = omega (arith, is.0.within, ap length held_is, fewer);
       clear = ap (list_all is_black) none;
       behind = is.0.behind;
@@ -190,6 +201,7 @@ space_passed limit unit p s text part rest w none rest_is empty =
       limit_is = w.limit_is;
       unit_is = w.unit_is;
       count_is = w.count_is;
+      at_hand = no_rest text;
       within = omega (arith, w.within);
       clear = w.clear;
       behind = w.behind;
@@ -213,6 +225,7 @@ word_held limit unit p q s text part word w limit_is unit_is count_is facets_is 
   limit_is = limit_is ∙ w.limit_is;
   unit_is = unit_is ∙ w.unit_is;
   count_is = count_is ∙ w.count_is;
+  at_hand = no_rest text;
   within = omega (arith, ap length held_is, within);
   clear = ap (list_all is_black) held_is ∙ clear;
   behind = w.behind;
@@ -221,11 +234,6 @@ word_held limit unit p q s text part word w limit_is unit_is count_is facets_is 
 }
 
 -- A whole facet.
-
--- a facet's tokens see a text behind its white space
-abbrev rest_behind_space : LengthUnit → Facet → List ℕ → Option (List ℕ)
-rest_behind_space unit t front =
-    if is_keyword facet_keyword (before_first is_white front) then rest_behind unit (facet_tail t) (from_first is_white front) else None
 
 pub facet_passed : (limit : ℕ) (unit : LengthUnit) (p q : Progress) (t : Facet) (text part rest : List ℕ) → Waits limit unit p stage.Facets false text part
     → p.held ≡ [] → rest_behind unit (facet_tokens t) part ≡ Some rest → 0 < length rest → length rest < length part → length p.facets < limit
@@ -237,6 +245,7 @@ facet_passed limit unit p q t text part rest w none spelled some fewer room limi
       limit_is = limit_is ∙ w.limit_is;
       unit_is = unit_is ∙ w.unit_is;
       count_is = count_is ∙ w.count_is;
+      at_hand = rest_then text part rest w.at_hand (rest_behind-rest unit (facet_tokens t) part rest spelled);
       within = omega (arith, ap length held_is, w.within, fewer);
       clear = ap (list_all is_black) empty;
       behind = λ more. rest ++ more;
@@ -249,7 +258,49 @@ facet_passed limit unit p q t text part rest w none spelled some fewer room limi
     seen more = w.sees more ∙ ap (λ h. after_space (h ++ (part ++ more))) none
 
     read : (more : List ℕ) → rest_behind unit (facet_tokens t) (w.behind more) ≡ Some (rest ++ more)
-    read more = ap (λ front. rest_behind_space unit t front) (seen more) ∙ tokens-on unit (facet_tokens t) part more rest spelled some
+    read more =
+        seen_keyword unit FacetOrEnd facet_keyword (facet_tail t) (w.behind more) (part ++ more) (rest ++ more) (seen more)
+        (tokens-on unit (facet_tokens t) part more rest spelled some)
+
+-- A run of facets.
+
+pub run_passed : (limit : ℕ) (unit : LengthUnit) (p q : Progress) (facets : List Facet) (fed piece part from to : List ℕ)
+    → Waits limit unit p stage.Facets false (fed ++ piece) part → p.held ≡ [] → IsFacetRun unit piece facets from to → length part ≡ length from
+    → length p.facets + length facets ≤ limit
+    → q.limit ≡ p.limit → q.unit ≡ p.unit → q.count ≡ p.count → q.held ≡ p.held → q.facets ≡ p.facets ++ facets
+    → Waits limit unit q stage.Facets false (fed ++ piece) to
+run_passed limit unit p q facets fed piece part from to w none run long room limit_is unit_is count_is held_is facets_is =
+    let empty : q.held ≡ [] = held_is ∙ none in
+    record {
+      limit_is = limit_is ∙ w.limit_is;
+      unit_is = unit_is ∙ w.unit_is;
+      count_is = count_is ∙ w.count_is;
+      at_hand = at_hand;
+      within = omega (arith, ap length empty, rest_within (fed ++ piece) to at_hand);
+      clear = ap (list_all is_black) empty;
+      behind = λ more. (after more).behind;
+      stands = λ more. subst (λ fs. Stands limit unit stage.Facets fs ((fed ++ piece) ++ more) (after more).behind) (sym facets_is) (after more).stands;
+      sees = λ more. (after more).sees ∙ ap (λ h. after_space (h ++ (to ++ more))) (sym empty);
+    }
+  where
+    begins : IsRestOf (fed ++ piece) from
+    begins = rest_then (fed ++ piece) piece from (added_rest fed piece) run.begins
+
+    here : part ≡ from
+    here = same_rest (fed ++ piece) part from w.at_hand begins long
+
+    at_hand : IsRestOf (fed ++ piece) to
+    at_hand = rest_then (fed ++ piece) from to begins run.ends
+
+    after : (more : List ℕ) → StandsBefore limit unit (p.facets ++ facets) ((fed ++ piece) ++ more) (to ++ more)
+    after more =
+        run.leads limit p.facets ((fed ++ piece) ++ more) more
+        (record {
+          behind = w.behind more;
+          stands = w.stands more;
+          sees = w.sees more ∙ ap (λ h. after_space (h ++ (part ++ more))) none ∙ ap (λ f. after_space (f ++ more)) here;
+        })
+        room
 
 -- The end of a text.
 
@@ -335,13 +386,13 @@ front_le part front front_is = omega (arith, ap length front_is, after_space-le 
 pub moved_by : (limit l : ℕ) (unit u : LengthUnit) (q : Progress) (s : Stage) (pl : Place) (facets : List Facet) (text word rest : List ℕ) (at : ℕ)
     → l ≡ limit → u ≡ unit → q.limit ≡ l → q.unit ≡ u → Next limit unit s facets text word rest at
     → ((t behind : List ℕ) → AtWord l u s facets t behind word at → StandsAt l u pl q.facets t behind)
-    → q.count ≡ length text → q.held ≡ [] → length rest ≤ length text → IsReadingAt limit unit q pl text rest
-moved_by limit l unit u q s pl facets text word rest at l_is u_is q_limit q_unit n read count_is none within =
+    → q.count ≡ length text → q.held ≡ [] → IsRestOf text rest → IsReadingAt limit unit q pl text rest
+moved_by limit l unit u q s pl facets text word rest at l_is u_is q_limit q_unit n read count_is none at_hand =
     subst (λ v. IsReadingAt limit v q pl text rest) u_is
     (subst (λ k. IsReadingAt k u q pl text rest) l_is
     (moved l u q s pl facets text word rest at
     (subst (λ v. Next l v s facets text word rest at) (sym u_is) (subst (λ k. Next k unit s facets text word rest at) (sym l_is) n))
-    read q_limit q_unit count_is none within))
+    read q_limit q_unit count_is none at_hand))
 
 -- The word at the front of a part, where none is kept.
 
@@ -438,6 +489,7 @@ break_passed limit unit q s text part rest last w none rest_is some last_is =
       limit_is = w.limit_is;
       unit_is = w.unit_is;
       count_is = w.count_is;
+      at_hand = rest_then text rest (drop 1 rest) w.at_hand (drop_rest 1 rest (drop 1 rest) refl);
       within = omega (arith, w.within, length-drop 1 rest);
       clear = w.clear;
       behind = w.behind;
@@ -477,7 +529,62 @@ pub ends_with : (limit : ℕ) (unit : LengthUnit) (pl ql : Place) (facets others
 ends_with limit unit pl ql facets others fed place_is facets_is e =
     subst (λ v. EndsAt limit unit v others fed) place_is (subst (λ fs. EndsAt limit unit pl fs fed) facets_is e)
 
+-- the text ends at a stage
+pub ends_stage : (limit : ℕ) (unit : LengthUnit) (pl : Place) (s : Stage) (facets others : List Facet) (fed : List ℕ)
+    → (pl ≡ place.Word s) ⊎ (pl ≡ place.Line s) → facets ≡ others → EndsAt limit unit pl facets fed → EndsAt limit unit (place.Word s) others fed
+ends_stage limit unit pl s facets others fed (inl place_is) facets_is e =
+    ends_with limit unit pl (place.Word s) facets others fed place_is facets_is e
+ends_stage limit unit pl s facets others fed (inr place_is) facets_is e =
+    ends_with limit unit pl (place.Line s) facets others fed place_is facets_is e
+
 -- A piece is read up to its last part.
 pub record IsFeeding (start : Progress) (piece : List ℕ) (now : Progress) (rest : List ℕ) : Type 0 where
-  pub reading : (limit : ℕ) (unit : LengthUnit) (fed : List ℕ) → IsAfter limit unit start fed → IsReading limit unit now (fed ++ piece) rest
+  pub reading : (limit : ℕ) (unit : LengthUnit) (taken : List Facet) (fed : List ℕ) → IsAfter limit unit taken start fed
+      → IsReading limit unit taken now (fed ++ piece) rest
   pub free : 0 < length rest → now.held ≡ []
+
+-- a reader that didn't stop at a fault has the unit of the text
+pub unit_known : (limit : ℕ) (unit : LengthUnit) (p : Progress) (pl : Place) (text part : List ℕ) → IsReadingAt limit unit p pl text part
+    → ((f : StlFault) → pl ≡ place.Stopped f → ⊥) → p.unit ≡ unit
+unit_known limit unit p (place.Word s) text part is going = is.unit_is
+unit_known limit unit p (place.Line s) text part is going = is.0.unit_is
+unit_known limit unit p (place.Stopped f) text part is going = absurd (going f refl)
+
+-- The facets so far are taken off the reader.
+
+within_form : (limit count : ℕ) (s : Stage) (solids : List (List Facet)) (added : List Facet) → IsForm limit s solids added count → count ≤ limit
+within_form limit count (stage.Between true) solids added form = form.2
+within_form limit count (stage.Between false) solids added form = form.2
+within_form limit count stage.Facets solids added form = form
+within_form limit count (stage.Inside words t) solids added form = omega (arith, form.1)
+
+pub within_limit : (limit : ℕ) (unit : LengthUnit) (s : Stage) (facets : List Facet) (text behind : List ℕ) → Stands limit unit s facets text behind
+    → length facets ≤ limit
+within_limit limit unit s facets text behind st = within_form limit (length facets) s st.solids st.added st.form
+
+-- a reader that keeps the same but for the part of the limit that is left
+same_whole : (limit : ℕ) (unit : LengthUnit) (p q : Progress) (s : Stage) (in_line : Bool) (text part : List ℕ) → Waits limit unit p s in_line text part
+    → (length p.facets ≤ p.limit → q.limit ≡ p.limit) → q.unit ≡ p.unit → q.count ≡ p.count → q.held ≡ p.held → q.facets ≡ p.facets
+    → Waits limit unit q s in_line text part
+same_whole limit unit p q s in_line text part w limit_is unit_is count_is held_is facets_is =
+    let few : length p.facets ≤ limit = within_limit limit unit s p.facets (text ++ []) (w.behind []) (w.stands []) in
+    record {
+      limit_is = limit_is (omega (arith, few, w.limit_is)) ∙ w.limit_is;
+      unit_is = unit_is ∙ w.unit_is;
+      count_is = count_is ∙ w.count_is;
+      at_hand = w.at_hand;
+      within = omega (arith, ap length held_is, w.within);
+      clear = ap (list_all is_black) held_is ∙ w.clear;
+      behind = w.behind;
+      stands = λ more. subst (λ fs. Stands limit unit s fs (text ++ more) (w.behind more)) (sym facets_is) (w.stands more);
+      sees = λ more. subst (λ h. Sees in_line (w.behind more) (h ++ (part ++ more))) (sym held_is) (w.sees more);
+    }
+
+pub taken_off : (limit : ℕ) (unit : LengthUnit) (p q : Progress) (pl : Place) (text part : List ℕ) → IsReadingAt limit unit p pl text part
+    → (length p.facets ≤ p.limit → q.limit ≡ p.limit) → q.unit ≡ p.unit → q.count ≡ p.count → q.held ≡ p.held → q.facets ≡ p.facets
+    → IsReadingAt limit unit q pl text part
+taken_off limit unit p q (place.Word s) text part is limit_is unit_is count_is held_is facets_is =
+    same_whole limit unit p q s false text part is limit_is unit_is count_is held_is facets_is
+taken_off limit unit p q (place.Line s) text part is limit_is unit_is count_is held_is facets_is =
+    (same_whole limit unit p q s true text part is.0 limit_is unit_is count_is held_is facets_is, held_is ∙ is.1)
+taken_off limit unit p q (place.Stopped f) text part is limit_is unit_is count_is held_is facets_is = is

@@ -1,19 +1,18 @@
--- Runs of facets, and where the reader of a text jumps over one.
-use Rattle.std.proofs.Common.{◌≡◌, ℕ, ◌+◌, ◌-◌, ◌≤◌, Bool, true, false, List, [], ◌∷◌, ◌++◌, length, drop, refl, sym, ◌∙◌, ap, subst, arith, append_assoc, append-nil, drop-drop, length-drop}
+-- Rests of a text, and runs of facets in it.
+use Rattle.std.proofs.Common.{◌≡◌, ℕ, ◌+◌, ◌-◌, ◌<◌, ◌≤◌, Bool, true, false, List, [], ◌∷◌, ◌++◌, length, drop, refl, sym, ◌∙◌, ap, subst, arith, append_assoc, append-nil, drop-drop, length-append, length-drop}
 use Rattle.std.proofs.Common.{zero, suc, leb-true, leb-false}
 use lib.Seq.{drop-nil}
-use Rattle.std.specs.Prelude.{Some, None, flat_map, if◌then◌else◌, nat_le}
+use Rattle.std.specs.Prelude.{Some, None, if◌then◌else◌, nat_le}
 use Rattle.std.specs.List.{position_or_len, prefix_len}
-use Rattle.std.proofs.lemmas.Grind.{flat_map-append}
+use Rattle.std.proofs.Math.Seq.{drop-append_seam, drop-length}
 use Rattle.micro_num.specs.declared.unit.Unit.{Unit as LengthUnit}
 use Rattle.geometry.specs.Facet.{Facet}
-use Rattle.stl_text.specs.Parts.{Follows, IsRestOf}
-use Rattle.stl_text.specs.Reader.{Reader, Spells, facet_tail}
-use Rattle.stl_text.specs.Text.{Token, keyword, normal_part, coordinate, rest_of_line, after_space, after_token, after_word, begins_with, is_line_end, is_white, keyword_of, facet_tokens, facet_word, rest_behind}
-use Rattle.stl_text.specs.declared.word.Word.TheVariants.{Solid}
-use Rattle.stl_text.proofs.lemmas.Either.{open_tokens}
-use Rattle.stl_text.proofs.lemmas.Solids.{IsOpen}
-use Rattle.stl_text.proofs.lemmas.Steps.{spells_then}
+use Rattle.stl_text.specs.Parts.{IsRestOf, IsFacetRun, StandsBefore, next_solid}
+use Rattle.stl_text.specs.Reader.{facet_tail}
+use Rattle.stl_text.specs.Text.{Token, keyword, normal_part, coordinate, rest_of_line, after_space, after_token, after_word, begins_with, end_keyword, facet_keyword, is_line_end, is_white, keyword_of, facet_tokens, rest_behind}
+use Rattle.stl_text.specs.declared.word.Word.TheVariants.{FacetOrEnd, Solid}
+use Rattle.stl_text.proofs.lemmas.Locality.{seen_keyword, tokens-on}
+use Rattle.stl_text.proofs.lemmas.Stages.{facet_read, solid_passed}
 
 -- Rests of a text.
 
@@ -25,6 +24,20 @@ rest_then text mid rest first last = record {
   skipped = first.skipped + last.skipped;
   rest_is = last.rest_is ∙ ap (drop last.skipped) first.rest_is ∙ drop-drop last.skipped first.skipped text;
 }
+
+-- the end of a text is a rest of it
+pub no_rest : (text : List ℕ) → IsRestOf text []
+no_rest text = record { skipped = length text; rest_is = sym (drop-length text) }
+
+pub drop_rest : (n : ℕ) (text rest : List ℕ) → rest ≡ drop n text → IsRestOf text rest
+drop_rest n text rest rest_is = record { skipped = n; rest_is = rest_is }
+
+-- what was added to a text is a rest of it
+pub added_rest : (text piece : List ℕ) → IsRestOf (text ++ piece) piece
+added_rest text piece = record { skipped = length text; rest_is = sym (drop-append_seam text piece) }
+
+pub rest_within : (text rest : List ℕ) → IsRestOf text rest → length rest ≤ length text
+rest_within text rest is = omega (arith, ap length is.rest_is, length-drop is.skipped text)
 
 -- a rest as long as the text is the text
 drop-same : (n : ℕ) (text : List ℕ) → length (drop n text) ≡ length text → drop n text ≡ text
@@ -70,39 +83,49 @@ rest_behind-rest unit (p ∷ ps) bytes rest e =
     by_test true later h = rest_then bytes (after_token p bytes) rest (after_token-rest p bytes) (later h)
     by_test false later h = cc
 
--- Readers.
-
-pub follows_itself : (c : Reader) → Follows c c
-follows_itself c = record { same_unit = refl; same_whole = refl; rest = whole_rest c.rest }
-
-pub follows_then : (ps : List Token) (text old new : Reader) → Follows text old → Spells ps old new → Follows text new
-follows_then ps text old new first spelled = record {
-  same_unit = spelled.same_unit ∙ first.same_unit;
-  same_whole = spelled.same_whole ∙ first.same_whole;
-  rest = rest_then text.rest old.rest new.rest first.rest (rest_behind-rest old.unit ps old.rest new.rest spelled.spelled);
-}
-
 -- Runs.
 
-pub one_facet : (t : Facet) (now mid next : Reader) → Spells (facet_word ∷ []) now mid → Spells (facet_tail t) mid next → Spells (facet_tokens t) now next
-one_facet t now mid next first last = spells_then (facet_word ∷ []) (facet_tail t) first last
-
-pub run_more : (facets : List Facet) (t : Facet) (old mid new : Reader) → Spells (flat_map facet_tokens facets) old mid → Spells (facet_tokens t) mid new
-    → Spells (flat_map facet_tokens (facets ++ t ∷ [])) old new
-run_more facets t old mid new first last =
-    subst (λ ps. Spells ps old new)
-    (sym (flat_map-append facet_tokens facets (t ∷ []) ∙ ap (λ ps. flat_map facet_tokens facets ++ ps) (append-nil (facet_tokens t))))
-    (spells_then (flat_map facet_tokens facets) (facet_tokens t) first last)
-
--- an open solid with the facets of a run added
-pub many_more : (start now next : Reader) (had facets run : List Facet) → IsOpen start had now facets → Spells (flat_map facet_tokens run) now next
-    → IsOpen start had next (facets ++ run)
-many_more start now next had facets run is spelled = record {
-  added = is.added ++ run;
-  items = ap (λ xs. xs ++ run) is.items ∙ append_assoc had is.added run;
-  spelled = subst (λ ps. Spells ps start next) (sym (open-append is.added run))
-      (spells_then (open_tokens is.added) (flat_map facet_tokens run) is.spelled spelled);
+-- a run of no facets
+pub run_begun : (unit : LengthUnit) (text from : List ℕ) → IsRestOf text from → IsFacetRun unit text [] from from
+run_begun unit text from begins = record {
+  begins = begins;
+  ends = whole_rest from;
+  leads = λ limit had whole more is room. subst (λ fs. StandsBefore limit unit fs whole (from ++ more)) (sym (append-nil had)) is;
 }
-  where
-    open-append : (xs ys : List Facet) → open_tokens (xs ++ ys) ≡ open_tokens xs ++ flat_map facet_tokens ys
-    open-append xs ys = ap (λ ps. keyword_of Solid ∷ rest_of_line ∷ ps) (flat_map-append facet_tokens xs ys)
+
+-- one facet more
+pub run_facet : (unit : LengthUnit) (text : List ℕ) (facets : List Facet) (t : Facet) (from to rest : List ℕ) → IsFacetRun unit text facets from to
+    → rest_behind unit (facet_tokens t) to ≡ Some rest → 0 < length rest → IsFacetRun unit text (facets ++ t ∷ []) from rest
+run_facet unit text facets t from to rest run spelled some = record {
+  begins = run.begins;
+  ends = rest_then from to rest run.ends (rest_behind-rest unit (facet_tokens t) to rest spelled);
+  leads = λ limit had whole more is room.
+      let mid : StandsBefore limit unit (had ++ facets) whole (to ++ more) =
+      run.leads limit had whole more is (omega (arith, room, length-append facets (t ∷ []))) in
+      subst (λ fs. StandsBefore limit unit fs whole (rest ++ more)) (append_assoc had facets (t ∷ []))
+      (record {
+        behind = rest ++ more;
+        stands = facet_read limit unit (had ++ facets) t whole mid.behind (rest ++ more) mid.stands
+            (omega (arith, room, length-append facets (t ∷ []), length-append had facets))
+            (seen_keyword unit FacetOrEnd facet_keyword (facet_tail t) mid.behind (to ++ more) (rest ++ more) mid.sees
+            (tokens-on unit (facet_tokens t) to more rest spelled some));
+        sees = refl;
+      });
+}
+
+-- the end of a solid, and the beginning of the next
+pub run_solid : (unit : LengthUnit) (text : List ℕ) (facets : List Facet) (from to rest : List ℕ) → IsFacetRun unit text facets from to
+    → rest_behind unit next_solid to ≡ Some rest → 0 < length rest → IsFacetRun unit text facets from rest
+run_solid unit text facets from to rest run spelled some = record {
+  begins = run.begins;
+  ends = rest_then from to rest run.ends (rest_behind-rest unit next_solid to rest spelled);
+  leads = λ limit had whole more is room.
+      let mid : StandsBefore limit unit (had ++ facets) whole (to ++ more) = run.leads limit had whole more is room in
+      record {
+        behind = rest ++ more;
+        stands = solid_passed limit unit (had ++ facets) whole mid.behind (rest ++ more) mid.stands
+            (seen_keyword unit FacetOrEnd end_keyword (rest_of_line ∷ keyword_of Solid ∷ rest_of_line ∷ []) mid.behind (to ++ more) (rest ++ more) mid.sees
+            (tokens-on unit next_solid to more rest spelled some));
+        sees = refl;
+      };
+}

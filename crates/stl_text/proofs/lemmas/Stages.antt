@@ -18,6 +18,7 @@ use Rattle.stl_text.specs.declared.stage.TheConstants.{LAST_WORD}
 use Rattle.stl_text.specs.Text.{Token, keyword_of, keyword_text, rest_of_line, facet_word, end_word, facet_keyword, end_keyword, facet_tokens, solid_tokens, is_keyword, is_facet_word, is_read_as, begins_with, after_token, rest_behind, first_word, after_space, after_word, after_line, facets_of, facet_count, is_white, IsFaultOf, Reads}
 use Rattle.stl_text.specs.Reader.{Reader, IsStop, Spells, start as begin, facet_tail, left_at}
 use Rattle.stl_text.specs.Stage.{Goes, IsForm, Stands, ReadInside, front, opened}
+use Rattle.stl_text.specs.Parts.{next_solid}
 use Rattle.stl_text.proofs.lemmas.OneFault.{facet_count-solids}
 use Rattle.stl_text.proofs.lemmas.Either.{cut_facet, facet_count-open}
 use Rattle.stl_text.proofs.lemmas.Solids.{facet_shorter, facets-more, fault_is, open-more, tokens-more}
@@ -108,6 +109,23 @@ pub facet_read : (limit : ℕ) (unit : LengthUnit) (facets : List Facet) (t : Fa
 facet_read limit unit facets t text behind last s room spelled =
     facet_added limit unit facets t text last s.solids s.added s.items room
     (spelled-append unit (front stage.Facets s.solids s.added) (facet_tokens t) text behind last s.spelled spelled)
+
+-- the end of a solid, and the beginning of the next
+pub solid_passed : (limit : ℕ) (unit : LengthUnit) (facets : List Facet) (text behind last : List ℕ)
+    → Stands limit unit stage.Facets facets text behind → rest_behind unit next_solid behind ≡ Some last
+    → Stands limit unit stage.Facets facets text last
+solid_passed limit unit facets text behind last s spelled =
+    let Q : List Token = flat_map solid_tokens s.solids ++ opened s.added in
+    record {
+      solids = s.solids ++ s.added ∷ [];
+      added = [];
+      items = s.items ∙ facets-more s.solids s.added ∙ sym (append-nil (facets_of (s.solids ++ s.added ∷ [])));
+      form = s.form;
+      spelled = ap (λ ps. rest_behind unit (ps ++ opened []) text)
+          (tokens-more s.solids s.added ∙ sym (append_assoc (flat_map solid_tokens s.solids) (opened s.added) end_tokens))
+          ∙ ap (λ ps. rest_behind unit ps text) (append_assoc Q end_tokens (opened []))
+          ∙ spelled-append unit Q next_solid text behind last s.spelled spelled;
+    }
 
 -- one word of a facet
 inside_spelled : (limit : ℕ) (unit : LengthUnit) (words : ℕ) (facets : List Facet) (t u : Facet) (text behind : List ℕ)

@@ -1,13 +1,9 @@
-use Rattle.std.proofs.Common.{◌≡◌, flat_map, length}
-use Rattle.stl_text.specs.Reader.{Spells, start}
-use Rattle.stl_text.specs.Text.{facet_tokens}
+use Rattle.std.proofs.Common.{length}
+use Rattle.stl_text.specs.Parts.{IsFacetRun}
 use Rattle.stl_text.proofs.parts.run_of.Given as goal
 
-abbrev pub invariant-facets : goal.invariant-facets
-invariant-facets g l = record {
-  here : l.to ≡ l.reader.rest;
-  spelled : Spells (flat_map facet_tokens l.facets.items) (start l.fn.unit l.from) l.reader;
-}
+abbrev pub invariant-run : goal.invariant-run
+invariant-run g l = IsFacetRun l.fn.unit l.fn.text l.facets.items l.from l.to
 
-abbrev pub decreases-facets : goal.decreases-facets
-decreases-facets g l = length l.to
+abbrev pub decreases-run : goal.decreases-run
+decreases-run g l = length l.to

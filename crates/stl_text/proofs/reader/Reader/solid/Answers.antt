@@ -1,10 +1,8 @@
-use Rattle.std.proofs.Common.{◌≡◌, ◌+◌, ◌++◌, ◌∷◌, [], length, ◌∙◌, ap, arith, flat_map, length-append}
+use Rattle.std.proofs.Common.{◌≡◌, ◌∷◌, [], length, ◌∙◌, arith}
 use Rattle.std.proofs.lemmas.Bool.Decides.{when_true, when_false}
 use Rattle.std.proofs.lemmas.Result.{err_from_is_err_and}
 use Rattle.stl_text.specs.Reader.{Spells}
-use Rattle.stl_text.specs.Text.{facet_tokens, facet_word, end_word}
-use Rattle.stl_text.proofs.lemmas.Either.{open_tokens, rest-le}
-use Rattle.stl_text.proofs.lemmas.Runs.{follows_then, many_more, one_facet}
+use Rattle.stl_text.specs.Text.{facet_word, end_word}
 use Rattle.stl_text.proofs.lemmas.Solids.{closed, facet_shorter, no_facet, no_facet_begins, no_solid_begins, one_more}
 use Rattle.stl_text.proofs.reader.Reader.solid.Goals as goal
 
@@ -40,44 +38,20 @@ returns-in_err-facet-clause-fault g c =
 
 pub facets-smaller : goal.facets-smaller
 facets-smaller g c =
-    let jumped = c.in_ok-jump.ensures.read in
-    omega (
-      arith,
-      facet_shorter c.in_ok-facet.facet c.facets.self c.begins_facet.new.self c.facet.new.self
-          (when_true (Spells (facet_word ∷ []) c.facets.self c.begins_facet.new.self) (Spells (end_word ∷ []) c.facets.self c.begins_facet.new.self)
-          c.if-branch.true c.in_ok-begins_facet.ensures.read) c.in_ok-facet.ensures.read,
-      rest-le c.facet.new.self.unit (flat_map facet_tokens jumped.0) c.facet.new.self.rest c.jump.new.self.rest jumped.3.spelled,
-    )
-
-pub jump-requires : goal.jump-requires
-jump-requires g c =
-    let start = c.args.runs.now in
-    let is = c.facets.invariant.is_open in
-    let first : Spells (facet_word ∷ []) c.facets.self c.begins_facet.new.self =
-    when_true (Spells (facet_word ∷ []) c.facets.self c.begins_facet.new.self) (Spells (end_word ∷ []) c.facets.self c.begins_facet.new.self)
-    c.if-branch.true c.in_ok-begins_facet.ensures.read in
-    rw c.facets.invariant.runs
-    (follows_then (facet_tokens c.in_ok-facet.facet) start c.facets.self c.facet.new.self
-    (follows_then (open_tokens is.added) start c.args.self.now c.facets.self c.requires.runs is.spelled)
-    (one_facet c.in_ok-facet.facet c.facets.self c.begins_facet.new.self c.facet.new.self first c.in_ok-facet.ensures.read))
+    facet_shorter c.in_ok-facet.facet c.facets.self c.begins_facet.new.self c.facet.new.self
+    (when_true _ _ c.if-branch.true c.in_ok-begins_facet.ensures.read) c.in_ok-facet.ensures.read
 
 pub facets-preserved : goal.facets-preserved
 facets-preserved g c =
-    let jumped = c.in_ok-jump.ensures.read in
     let room = c.in_ok-begins_facet.ensures.room c.if-branch.true in
     let first : Spells (facet_word ∷ []) c.facets.self c.begins_facet.new.self =
     when_true (Spells (facet_word ∷ []) c.facets.self c.begins_facet.new.self) (Spells (end_word ∷ []) c.facets.self c.begins_facet.new.self)
     c.if-branch.true c.in_ok-begins_facet.ensures.read in
-    let count : length c.jump.new.facets.items ≡ length c.push.new.self.items + length jumped.0 =
-    ap length jumped.1 ∙ length-append c.push.new.self.items jumped.0 in
     record {
-      few = omega (arith, room, c.len.ensures, c.in_ok-push.ensures.len, c.len-in-facets.ensures, count, c.push.new.self.ok.0, c.jump.new.facets.ok.0, jumped.2);
-      runs = c.in_ok-jump.ensures.runs ∙ c.facets.invariant.runs;
-      is_open = rw (jumped.1, c.in_ok-push.ensures.items)
-          (many_more c.args.self.now c.facet.new.self c.jump.new.self c.args.facets.now.items (c.facets.facets.items ++ c.in_ok-facet.facet ∷ []) jumped.0
-          (one_more c.args.self.now c.facets.self c.begins_facet.new.self c.facet.new.self c.args.facets.now.items c.facets.facets.items
-          c.in_ok-facet.facet c.facets.invariant.is_open first c.in_ok-facet.ensures.read)
-          jumped.3);
+      few = omega (arith, room, c.len.ensures, c.in_ok-push.ensures.len);
+      is_open = rw c.in_ok-push.ensures.items
+          (one_more c.args.self.now c.facets.self c.begins_facet.new.self c.facet.new.self c.args.facets.now.items c.facets.facets.items c.in_ok-facet.facet
+          c.facets.invariant.is_open first c.in_ok-facet.ensures.read);
     }
 
 pub returns-clause-read : goal.returns-clause-read

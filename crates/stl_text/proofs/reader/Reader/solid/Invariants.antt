@@ -1,11 +1,10 @@
-use Rattle.std.proofs.Common.{◌≡◌, ◌≤◌, length, vec_len}
+use Rattle.std.proofs.Common.{◌≤◌, length, vec_len}
 use Rattle.stl_text.proofs.lemmas.Solids.{IsOpen}
 use Rattle.stl_text.proofs.reader.Reader.solid.Given as goal
 
 abbrev pub invariant-facets : goal.invariant-facets
 invariant-facets g l = record {
   few : vec_len l.facets ≤ l.limit;
-  runs : l.runs ≡ l.fn.runs;
   is_open : IsOpen l.fn.self l.fn.facets.items l.self l.facets.items;
 }
 

@@ -1,15 +1,13 @@
-use Rattle.std.proofs.Common.{◌≡◌, length, flat_map, vec_len, sym, ◌∙◌, ap, arith}
+use Rattle.std.proofs.Common.{◌≡◌, length, vec_len, sym, ◌∙◌, ap, arith}
 use Rattle.std.proofs.lemmas.Bool.{false≢true}
 use Rattle.std.proofs.lemmas.Result.{err_from_is_err_and}
-use Rattle.stl_text.specs.Text.{solid_tokens}
-use Rattle.stl_text.proofs.lemmas.Runs.{follows_itself, follows_then}
 use Rattle.stl_text.proofs.lemmas.Solids.{ended_solid, first_breaks, first_whole, later_breaks, one_more_whole, solid_shorter}
 use Rattle.stl_text.proofs.reader.Reader.solids.Goals as goal
 
 pub returns-in_err-solid-clause-fault : goal.returns-in_err-solid-clause-fault
 returns-in_err-solid-clause-fault g c =
     let p = err_from_is_err_and c.from_residual.result c.from_residual.ensures.1 in
-    let none : vec_len c.args.facets.now ≡ 0 = c.args.facets.now.ok.0 ∙ ap length c.requires.empty in
+    let none : vec_len c.args.facets.now ≡ 0 = c.args.facets.now.ok.0 ∙ ap length c.requires in
     rw (p.1, p.2)
     (λ h.
     let stops = c.in_err-solid.ensures.fault h in
@@ -28,8 +26,7 @@ solids-init g c =
     let read = c.in_ok-solid.ensures.read in
     record {
       few = c.in_ok-solid.ensures.few;
-      runs = c.in_ok-solid.ensures.runs;
-      are_whole = first_whole c.args.self.now c.solid.new.self c.args.facets.now.items c.solid.new.facets.items read.0 c.requires.empty read.1 read.2;
+      are_whole = first_whole c.args.self.now c.solid.new.self c.args.facets.now.items c.solid.new.facets.items read.0 c.requires read.1 read.2;
     }
 
 pub solids-smaller : goal.solids-smaller
@@ -42,7 +39,6 @@ solids-preserved g c =
     let read = c.in_ok-solid-2.ensures.read in
     record {
       few = c.in_ok-solid-2.ensures.few;
-      runs = c.in_ok-solid-2.ensures.runs ∙ c.solids.invariant.runs;
       are_whole = one_more_whole c.args.self.now c.solids.self c.solid-in-solids.new.self c.solids.facets.items c.solid-in-solids.new.facets.items
           read.0 c.solids.invariant.are_whole read.1 read.2;
     }
@@ -65,9 +61,3 @@ returns-in_err-solid-2-clause-no_solid g c =
     let stops = c.in_err-solid-2.ensures.fault (λ m. cc) in
     let at_end = c.is_at_end.ensures.1 (ended_solid _ stops.0 c.solids.self c.in_err-solid-2.field-0.0 stops.1 h) in
     absurd (false≢true (sym c.solids-test.true ∙ at_end)))
-
-pub solid-requires-in-solids-clause-runs : goal.solid-requires-in-solids-clause-runs
-solid-requires-in-solids-clause-runs g c =
-    let are = c.solids.invariant.are_whole in
-    rw (c.solids.invariant.runs, c.requires.runs)
-    (follows_then (flat_map solid_tokens are.solids) c.args.self.now c.args.self.now c.solids.self (follows_itself c.args.self.now) are.spelled)

@@ -4,12 +4,12 @@ use Rattle.stl_text.specs.declared.stl_fault.StlFault.TheVariants.{Memory}
 use Rattle.stl_text.specs.Text.{IsFaultOf}
 use Rattle.stl_text.proofs.lemmas.OneReading.{one_reading}
 use Rattle.stl_text.proofs.lemmas.Solids.{fault_is, only_memory, reads}
-use Rattle.stl_text.proofs.reading.read_with.Given.{Over}
-use Rattle.stl_text.proofs.reading.read_with.Goals as goal
-use Rattle.stl_text.proofs.reading.read_with.Goals.{After-drop-runs-inside}
+use Rattle.stl_text.proofs.reading.read_stl_at_most.Given.{Over}
+use Rattle.stl_text.proofs.reading.read_stl_at_most.Goals as goal
+use Rattle.stl_text.proofs.reading.read_stl_at_most.Goals.{After-drop-facets}
 
 -- the fault that the solids end in
-fault_here : (g : Over) (c : After-drop-runs-inside g) → c.in_err-solids.field-0.0 ≢ Memory
+fault_here : (g : Over) (c : After-drop-facets g) → c.in_err-solids.field-0.0 ≢ Memory
     → IsFaultOf c.args.limit c.args.unit c.args.bytes.now c.in_err-solids.field-0.0
 fault_here g c no_memory =
     let stops = c.in_err-solids.ensures.fault no_memory in
