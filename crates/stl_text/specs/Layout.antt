@@ -2,7 +2,8 @@
 --     Skips          a reader goes on over tokens and the white space behind them
 --     IsSeparator    bytes that stand for tokens whatever follows them
 --     part_tokens    the keywords of each part
-use Rattle.std.specs.Prelude.{◌≡◌, ◌<◌, List, [], ◌∷◌, Some, length, ℕ}
+--     IsLayout       the bytes of each part
+use Rattle.std.specs.Prelude.{◌≡◌, ◌<◌, List, [], ◌∷◌, Some, drop, length, ℕ}
 use Rattle.micro_num.specs.declared.unit.Unit.{Unit as LengthUnit}
 use Rattle.stl_text.specs.Reader.{Reader}
 use Rattle.stl_text.specs.Text.{Token, after_space, facet_word, keyword_of, rest_behind}
@@ -27,8 +28,27 @@ pub record Skips (tokens : List Token) (old new : Reader) : Type 0 where
 
 -- Bytes that stand for these tokens and white space behind them, at least one byte of it: so they stand for them whatever
 -- follows.
-pub record IsSeparator (unit : LengthUnit) (tokens : List Token) (bytes : List ℕ) : Type 0 where
+pub record IsSeparator (tokens : List Token) (bytes : List ℕ) : Type 0 where
   pub behind : List ℕ
-  pub spelled : rest_behind unit tokens bytes ≡ Some behind
+  pub spelled : (unit : LengthUnit) → rest_behind unit tokens bytes ≡ Some behind
   pub some : 0 < length behind
   pub white : after_space behind ≡ []
+
+-- Bytes that begin with the last keywords of a facet and have something behind them. `words_len` is the length of these
+-- keywords with the white space before each.
+pub record IsClosing (words_len : ℕ) (bytes : List ℕ) : Type 0 where
+  pub some : words_len < length bytes
+  pub spelled : (unit : LengthUnit) → rest_behind unit (part_tokens part.Closing) bytes ≡ Some (drop words_len bytes)
+
+pub record Layout : Type 0 where
+  pub opening : List ℕ
+  pub first : List ℕ
+  pub next : List ℕ
+  pub closing : List ℕ
+  pub words_len : ℕ
+
+pub record IsLayout (layout : Layout) : Type 0 where
+  pub opening : IsSeparator (part_tokens part.Opening) layout.opening
+  pub first : IsSeparator (part_tokens part.First) layout.first
+  pub next : IsSeparator (part_tokens part.Next) layout.next
+  pub closing : IsClosing layout.words_len layout.closing

@@ -160,10 +160,9 @@ impl<'t> Reader<'t> {
     }
 }
 
-/// The whole facet at the front of a text, from `facet` to `endfacet`, and the text behind it, which is not empty.
-/// `None` says nothing about the text.
-#[inline(always)]
-pub(crate) fn front_facet(bytes: &[u8], unit: Unit) -> Option<(Facet, &[u8])>
+/// The whole facet at the front of a text, read word by word, and the text behind it, which is not empty. `None` says
+/// nothing about the text.
+pub(crate) fn facet_by_words(bytes: &[u8], unit: Unit) -> Option<(Facet, &[u8])>
     ensures read { IfSome result (λ found. rest_behind unit (facet_tokens found.0) bytes.now ≡ Some found.1.now) }
     ensures some { IfSome result (λ found. 0 < length found.1.now) }
     ensures shorter { IfSome result (λ found. length found.1.now < length bytes.now) }

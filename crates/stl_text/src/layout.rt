@@ -1,11 +1,12 @@
 //! The layout of facets: what a file writes before, between and behind the numbers of a facet. Most files write it with the
 //! same bytes in each facet, so that these are compared as a whole, and not read word by word.
-ghost use Rattle.std.specs.Prelude.{◌≡◌, ◌<◌, [], ◌∷◌, IfSome, List, Some, drop, length};
-ghost use Rattle.stl_text.specs.Layout.{IsSeparator, Skips, part_tokens};
+ghost use Rattle.std.specs.Prelude.{◌≡◌, ◌<◌, [], ◌∷◌, IfSome, List, Some, length};
+ghost use Rattle.stl_text.specs.Layout.{IsClosing, IsSeparator, Skips, part_tokens};
 ghost use Rattle.stl_text.specs.Reader.{Spells};
 ghost use Rattle.stl_text.specs.Text.{Token, coordinate, facet_tokens, normal_part, rest_behind};
 ghost use Rattle.stl_text.specs.declared.layout.Part.TheVariants as part;
 
+use crate::grammar::facet_by_words;
 use crate::reader::Reader;
 use crate::scanning::{behind_keyword, skip_space};
 use crate::word::{FACET, Word};
@@ -29,7 +30,6 @@ pub(crate) enum Part {
 /// The bytes with which a file writes each part, with white space at the end of each.
 #[derive(Drop)]
 pub(crate) struct Layout<'t> {
-    unit: Unit,
     opening: &'t [u8],
     first: &'t [u8],
     next: &'t [u8],
@@ -39,21 +39,13 @@ pub(crate) struct Layout<'t> {
 }
 
 impl<'t> Model for Layout<'t> {
-    ghost use Rattle.std.specs.Prelude.{◌≡◌, ◌<◌, ◌≤◌, Some, drop, length};
-    ghost use Rattle.micro_num.specs.declared.unit.Unit.{Unit as LengthUnit};
-    ghost use Rattle.stl_text.specs.Layout.{IsSeparator, part_tokens};
-    ghost use Rattle.stl_text.specs.Text.{rest_behind};
-    ghost use Rattle.stl_text.specs.declared.layout.Part.TheVariants as part;
+    ghost use Rattle.stl_text.specs.Layout.{IsLayout, Layout};
 
-    ghost Value = { LengthUnit };
+    ghost Value = { Layout };
 
-    ghost view = { λ l. l.unit };
+    ghost view = { λ l. record { opening = l.opening.now; first = l.first.now; next = l.next.now; closing = l.closing.now; words_len = l.words_len } };
 
-    ghost invariant = { λ l. IsSeparator l.unit (part_tokens part.Opening) l.opening.now
-        × IsSeparator l.unit (part_tokens part.First) l.first.now
-        × IsSeparator l.unit (part_tokens part.Next) l.next.now
-        × (l.words_len < length l.closing.now)
-        × (rest_behind l.unit (part_tokens part.Closing) l.closing.now ≡ Some (drop l.words_len l.closing.now)) };
+    ghost invariant = { λ l. IsLayout (record { opening = l.opening.now; first = l.first.now; next = l.next.now; closing = l.closing.now; words_len = l.words_len }) };
 }
 
 impl<'t> Reader<'t> {
@@ -82,7 +74,7 @@ impl<'t> Reader<'t> {
     /// Goes on behind these bytes, if the text goes on with them.
     #[inline(always)]
     fn skip(&mut self, bytes: &[u8]) -> Option<()>
-        ensures { IfSome result (λ _. (tokens : List Token) → IsSeparator self.old.unit tokens bytes.now → Skips tokens self.old self.new) }
+        ensures { IfSome result (λ _. (tokens : List Token) → IsSeparator tokens bytes.now → Skips tokens self.old self.new) }
     {
         self.rest = self.rest.strip_prefix(bytes)?;
         Some(())
@@ -121,7 +113,6 @@ impl<'t> Reader<'t> {
     /// Goes on behind the words of a closing, if the text goes on with its bytes.
     #[inline(always)]
     fn close(&mut self, layout: &Layout<'_>) -> Option<()>
-        requires { self.old.unit ≡ layout.now }
         ensures { IfSome result (λ _. Spells (part_tokens part.Closing) self.old self.new) }
     {
         let start = self.rest;
@@ -133,8 +124,7 @@ impl<'t> Reader<'t> {
 
     /// Reads a facet in this layout, if one stands here. Where none does, the reader may be left anywhere.
     #[inline(always)]
-    pub(crate) fn facet_in(&mut self, layout: &Layout<'_>) -> Option<Facet>
-        requires { self.old.unit ≡ layout.now }
+    fn facet_in(&mut self, layout: &Layout<'_>) -> Option<Facet>
         ensures { IfSome result (λ t. Spells (facet_tokens t) self.old self.new) }
     {
         self.skip(layout.opening)?;
@@ -151,14 +141,14 @@ impl<'t> Reader<'t> {
 }
 
 /// The bytes at the front of a text that stand for a part, with the white space behind them, of which there has to be some.
-fn separator<'t>(text: &'t [u8], unit: Unit, part: Part) -> Option<&'t [u8]>
-    ensures { IfSome result (λ bytes. IsSeparator unit (part_tokens part) bytes.now) }
+fn separator(text: &[u8], part: Part) -> Option<&[u8]>
+    ensures { IfSome result (λ bytes. IsSeparator (part_tokens part) bytes.now) }
 {
-    let mut reader = Reader::new(text, unit);
+    let mut reader = Reader::new(text, Unit::Millimetre);
     reader.part(part)?;
     let behind = skip_space(reader.rest);
     let (bytes, _) = text.split_at(text.len().saturating_sub(behind.len()));
-    let mut again = Reader::new(bytes, unit);
+    let mut again = Reader::new(bytes, Unit::Millimetre);
     again.part(part)?;
     if again.rest.is_empty() || !again.is_at_end() {
         return None;
@@ -168,11 +158,10 @@ fn separator<'t>(text: &'t [u8], unit: Unit, part: Part) -> Option<&'t [u8]>
 
 /// The number of bytes of a closing up to the end of its last word, if the closing stands for its part, and there is more
 /// behind it.
-fn words_len(closing: &[u8], unit: Unit) -> Option<usize>
-    ensures within { IfSome result (λ n. n < length closing.now) }
-    ensures spelled { IfSome result (λ n. rest_behind unit (part_tokens part.Closing) closing.now ≡ Some (drop n closing.now)) }
+fn words_len(closing: &[u8]) -> Option<usize>
+    ensures { IfSome result (λ n. IsClosing n closing.now) }
 {
-    let mut reader = Reader::new(closing, unit);
+    let mut reader = Reader::new(closing, Unit::Millimetre);
     reader.part(Part::Closing)?;
     if reader.rest.is_empty() {
         return None;
@@ -181,26 +170,23 @@ fn words_len(closing: &[u8], unit: Unit) -> Option<usize>
 }
 
 impl<'t> Layout<'t> {
-    /// The layout of the facet at the front of a text, if one stands there.
-    pub(crate) fn of(text: &'t [u8], unit: Unit) -> Option<Layout<'t>>
-        ensures { IfSome result (λ layout. layout ≡ unit) }
-    {
-        let opening = separator(text, unit, Part::Opening)?;
-        let mut reader = Reader::new(text, unit);
+    /// The layout of the facet at the front of a text, if one stands there. The unit of its numbers doesn't matter.
+    pub(crate) fn of(text: &'t [u8]) -> Option<Layout<'t>> {
+        let opening = separator(text, Part::Opening)?;
+        let mut reader = Reader::new(text, Unit::Millimetre);
         reader.part(Part::Opening)?;
         reader.normal_parts()?;
-        let first = separator(reader.rest, unit, Part::First)?;
+        let first = separator(reader.rest, Part::First)?;
         reader.part(Part::First)?;
         reader.point()?;
-        let next = separator(reader.rest, unit, Part::Next)?;
+        let next = separator(reader.rest, Part::Next)?;
         reader.part(Part::Next)?;
         reader.point()?;
         reader.part(Part::Next)?;
         reader.point()?;
-        let closing = separator(reader.rest, unit, Part::Closing)?;
-        let words_len = words_len(closing, unit)?;
+        let closing = separator(reader.rest, Part::Closing)?;
+        let words_len = words_len(closing)?;
         Some(Layout {
-            unit,
             opening,
             first,
             next,
@@ -208,4 +194,45 @@ impl<'t> Layout<'t> {
             words_len,
         })
     }
+}
+
+/// The facet in this layout at the front of a text, and the text behind it, which is not empty. `None` says nothing about
+/// the text.
+#[inline(always)]
+fn facet_by_layout<'t>(
+    bytes: &'t [u8],
+    unit: Unit,
+    layout: &Layout<'_>,
+) -> Option<(Facet, &'t [u8])>
+    ensures read { IfSome result (λ found. rest_behind unit (facet_tokens found.0) bytes.now ≡ Some found.1.now) }
+    ensures some { IfSome result (λ found. 0 < length found.1.now) }
+    ensures shorter { IfSome result (λ found. length found.1.now < length bytes.now) }
+{
+    let mut reader = Reader::new(bytes, unit);
+    let facet = reader.facet_in(layout)?;
+    let rest = reader.rest;
+    if rest.is_empty() {
+        return None;
+    }
+    Some((facet, rest))
+}
+
+/// The whole facet at the front of a text, from `facet` to `endfacet`, and the text behind it, which is not empty. It is
+/// read by a layout, where it has it, and else word by word. `None` says nothing about the text.
+#[inline(always)]
+pub(crate) fn front_facet<'t>(
+    bytes: &'t [u8],
+    unit: Unit,
+    layout: &Option<Layout<'_>>,
+) -> Option<(Facet, &'t [u8])>
+    ensures read { IfSome result (λ found. rest_behind unit (facet_tokens found.0) bytes.now ≡ Some found.1.now) }
+    ensures some { IfSome result (λ found. 0 < length found.1.now) }
+    ensures shorter { IfSome result (λ found. length found.1.now < length bytes.now) }
+{
+    if let Some(layout) = layout {
+        if let Some(found) = facet_by_layout(bytes, unit, layout) {
+            return Some(found);
+        }
+    }
+    facet_by_words(bytes, unit)
 }

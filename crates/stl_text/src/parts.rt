@@ -5,7 +5,8 @@
 ghost use Rattle.std.specs.Prelude.{◌≡◌, ◌≤◌, ◌<◌, ◌+◌, ℕ, All, IfOk, IfSome, List, None, length};
 ghost use Rattle.stl_text.specs.Parts.{IsFacetRun, IsRestOf};
 
-use crate::grammar::{behind_solid, front_facet};
+use crate::grammar::behind_solid;
+use crate::layout::{Layout, front_facet};
 use crate::word::Word;
 use geometry::Facet;
 use memchr::memmem;
@@ -65,12 +66,18 @@ fn behind_end_facet<'t>(text: &'t [u8], start: usize, len: usize) -> &'t [u8]
     }
 }
 
+/// The layout of the facet that stands behind the first `endfacet` of a text, if one does.
+pub(crate) fn layout_within(text: &[u8]) -> Option<Layout<'_>> {
+    Layout::of(behind_end_facet(text, 0, text.len()))
+}
+
 /// Adds the facet at the front of a text to those of a run, or passes the end of a solid and the beginning of the next:
 /// answers the text behind it. `None` where there is neither, no memory, or at most `left` bytes behind it.
 fn run_on<'t, A: Allocator>(
     facets: &mut Vec<Facet, A>,
     to: &'t [u8],
     unit: Unit,
+    layout: &Option<Layout<'_>>,
     left: usize,
 ) -> Option<&'t [u8]>
     ensures run { IfSome result (λ rest. (text from : List ℕ) → IsFacetRun unit text facets.old.items from to.now
@@ -78,7 +85,7 @@ fn run_on<'t, A: Allocator>(
     ensures shorter { IfSome result (λ rest. length rest.now < length to.now) }
     ensures none { result ≡ None → facets.new.items ≡ facets.old.items }
 {
-    if let Some(found) = front_facet(to, unit) {
+    if let Some(found) = front_facet(to, unit, layout) {
         let rest = found.1;
         if rest.len() <= left {
             return None;
@@ -109,9 +116,10 @@ fn run_of<'t, A: Allocator>(
 {
     let from = behind_end_facet(text, start, len);
     let left = (text.len() - (start + len)).saturating_sub(END_FACET_IN_CAPITALS.len());
+    let layout = Layout::of(from);
     let mut facets = Vec::new(alloc);
     let mut to = from;
-    'run: while let Some(rest) = run_on(&mut facets, to, unit, left) {
+    'run: while let Some(rest) = run_on(&mut facets, to, unit, &layout, left) {
         to = rest;
     }
     Run { from, facets, to }

@@ -9,8 +9,8 @@ ghost use Rattle.stl_text.specs.Parts.{IsFacetRun};
 ghost use Rattle.stl_text.specs.Stage.{AtWord, in_facets};
 ghost use Rattle.stl_text.specs.Pieces.{EndsAt, IsAfter, IsReading, StandsAt, at_line, at_word};
 
-use crate::grammar::front_facet;
-use crate::parts::Run;
+use crate::layout::{Layout, front_facet};
+use crate::parts::{Run, layout_within};
 use crate::scanning::{skip_line, skip_space, word_len};
 use crate::stage::{Place, Stage, Step};
 use crate::stl_fault::StlFault;
@@ -141,7 +141,7 @@ impl<A: Allocator> TextReader<A> {
     {
         self.count_piece(piece);
         let rest = self.resume(piece);
-        self.read_to(rest, 0);
+        self.read_to(rest, &layout_within(piece), 0);
     }
 
     /// Reads the next piece of the text, of which some runs are known, in the order in which they begin.
@@ -152,12 +152,13 @@ impl<A: Allocator> TextReader<A> {
             → IsAfter limit unit taken self.new (fed ++ piece.now) }
     {
         self.count_piece(piece);
+        let layout = layout_within(piece);
         let mut rest = self.resume(piece);
         for run in runs {
-            rest = self.read_to(rest, run.from.len());
+            rest = self.read_to(rest, &layout, run.from.len());
             rest = self.jump(rest, run);
         }
-        self.read_to(rest, 0);
+        self.read_to(rest, &layout, 0);
     }
 
     /// Jumps over a run, if it begins where this part does, `facet` or `endsolid` is wanted here and the limit has room for
@@ -188,7 +189,7 @@ impl<A: Allocator> TextReader<A> {
     }
 
     /// Reads a part of a text until at most `left` bytes of it are left: answers these.
-    fn read_to<'p>(&mut self, part: &'p [u8], left: usize) -> &'p [u8]
+    fn read_to<'p>(&mut self, part: &'p [u8], layout: &Option<Layout<'_>>, left: usize) -> &'p [u8]
         requires free { 0 < length part.now → self.old.held ≡ [] }
         ensures read { (limit : ℕ) (unit : LengthUnit) (taken : List Facet) (text : List ℕ)
             → IsReading limit unit taken self.old text part.now → IsReading limit unit taken self.new text result.now }
@@ -197,7 +198,7 @@ impl<A: Allocator> TextReader<A> {
     {
         let mut rest = part;
         'part: while rest.len() > left {
-            rest = self.advance(rest);
+            rest = self.advance(rest, layout);
         }
         rest
     }
@@ -295,7 +296,7 @@ impl<A: Allocator> TextReader<A> {
     }
 
     /// Reads what stands at the front of a part of a text that is not empty: answers the text behind it.
-    fn advance<'p>(&mut self, part: &'p [u8]) -> &'p [u8]
+    fn advance<'p>(&mut self, part: &'p [u8], layout: &Option<Layout<'_>>) -> &'p [u8]
         requires free { self.old.held ≡ [] }
         requires some { 0 < length part.now }
         ensures read { (limit : ℕ) (unit : LengthUnit) (taken : List Facet) (text : List ℕ)
@@ -306,7 +307,7 @@ impl<A: Allocator> TextReader<A> {
         match self.place {
             Place::Stopped(_) => part.split_at(part.len()).1,
             Place::Line(stage) => self.line(stage, part),
-            Place::Word(stage) => self.facet_or_word(stage, part),
+            Place::Word(stage) => self.facet_or_word(stage, part, layout),
         }
     }
 
@@ -331,7 +332,12 @@ impl<A: Allocator> TextReader<A> {
 
     /// Reads a whole facet, or else a word.
     #[inline(always)]
-    fn facet_or_word<'p>(&mut self, stage: Stage, part: &'p [u8]) -> &'p [u8]
+    fn facet_or_word<'p>(
+        &mut self,
+        stage: Stage,
+        part: &'p [u8],
+        layout: &Option<Layout<'_>>,
+    ) -> &'p [u8]
         requires free { self.old.held ≡ [] }
         requires some { 0 < length part.now }
         requires place { self.old.place ≡ at_word stage }
@@ -341,7 +347,7 @@ impl<A: Allocator> TextReader<A> {
         ensures shorter { length result.now < length part.now }
     {
         if matches!(stage, Stage::Facets) {
-            if let Some(rest) = self.facet(part) {
+            if let Some(rest) = self.facet(part, layout) {
                 return rest;
             }
         }
@@ -350,7 +356,7 @@ impl<A: Allocator> TextReader<A> {
 
     /// Reads a whole facet at the front, if there is one and the limit has room for it: answers the text behind it.
     #[inline(always)]
-    fn facet<'p>(&mut self, part: &'p [u8]) -> Option<&'p [u8]>
+    fn facet<'p>(&mut self, part: &'p [u8], layout: &Option<Layout<'_>>) -> Option<&'p [u8]>
         requires free { self.old.held ≡ [] }
         requires place { self.old.place ≡ at_word in_facets }
         ensures read { IfSome result (λ rest. (limit : ℕ) (unit : LengthUnit) (taken : List Facet) (text : List ℕ)
@@ -362,7 +368,7 @@ impl<A: Allocator> TextReader<A> {
         if self.facets.len() >= self.limit {
             return None;
         }
-        let Some(found) = front_facet(part, self.unit) else {
+        let Some(found) = front_facet(part, self.unit, layout) else {
             return None;
         };
         let rest = found.1;

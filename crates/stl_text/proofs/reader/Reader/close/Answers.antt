@@ -1,9 +1,5 @@
-use Rattle.std.proofs.Common.{◌≡◌, List, ℕ, ◌++◌, length, take, drop, sym, ◌∙◌, ap, subst, take-append-drop}
-use Rattle.std.specs.Prelude.{Some}
+use Rattle.std.proofs.Common.{◌≡◌, List, ℕ, ◌++◌, length, take, drop, sym, ◌∙◌, ap, take-append-drop}
 use Rattle.std.proofs.lemmas.Slice.Eq.{bytes_eq-Decides}
-use Rattle.stl_text.specs.Layout.{part_tokens}
-use Rattle.stl_text.specs.Text.{rest_behind}
-use Rattle.stl_text.specs.declared.layout.Part.TheVariants as part
 use Rattle.stl_text.proofs.lemmas.Layouts.{closed}
 use Rattle.stl_text.proofs.reader.Reader.close.Goals as goal
 
@@ -16,8 +12,5 @@ returns c =
     let front : take (length bytes) text ≡ bytes = (bytes_eq-Decides (take (length bytes) text) bytes).0 at.cases.0 in
     let whole : text ≡ bytes ++ rest = sym (take-append-drop (length bytes) text) ∙ ap (λ x. x ++ drop (length bytes) text) front ∙ ap (λ x. bytes ++ x) (sym at.cases.1) in
     let here : text ≡ c.args.self.now.rest = ap (λ r. r.rest) c.self.view_is in
-    let unit = c.layout.view_is ∙ sym c.requires in
-    closed (part_tokens part.Closing) c.layout.inside.words_len bytes rest c.args.self.now _
-    (subst (λ u. rest_behind u (part_tokens part.Closing) bytes ≡ Some (drop c.layout.inside.words_len bytes)) unit c.layout.invariant.4)
-    c.layout.invariant.3 (sym here ∙ whole) (c.split_at.ensures.back ∙ ap (drop c.layout.inside.words_len) here)
-    (ap (λ r. r.unit) c.self.view_is) (ap (λ r. r.whole) c.self.view_is)
+    closed c.layout.inside.words_len bytes rest c.args.self.now _ c.layout.invariant.closing (sym here ∙ whole)
+    (c.split_at.ensures.back ∙ ap (drop c.layout.inside.words_len) here) (ap (λ r. r.unit) c.self.view_is) (ap (λ r. r.whole) c.self.view_is)

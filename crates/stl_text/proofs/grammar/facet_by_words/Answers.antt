@@ -1,6 +1,6 @@
 use Rattle.std.proofs.Common.{◌≡◌, sym, ◌∙◌, ap}
 use Rattle.stl_text.proofs.lemmas.Stages.{whole_facet, whole_shorter}
-use Rattle.stl_text.proofs.grammar.front_facet.Goals as goal
+use Rattle.stl_text.proofs.grammar.facet_by_words.Goals as goal
 
 pub returns-clause-read : goal.returns-clause-read
 returns-clause-read c =

@@ -1,0 +1,12 @@
+use Rattle.std.proofs.Common.{◌≡◌, ◌<◌, [], length, sym, ap}
+use Rattle.std.proofs.Common.{rules}
+use Rattle.stl_text.specs.Text.{after_space}
+use Rattle.stl_text.specs.declared.layout.Part.{Part}
+use Rattle.stl_text.proofs.lemmas.Layouts.{separates}
+use Rattle.stl_text.proofs.layout.separator.Goals as goal
+
+pub returns : goal.returns
+returns c =
+    let white : after_space c.part-2.new.self.rest ≡ [] = search rules in
+    let some : 0 < length c.part-2.new.self.rest = search rules in
+    separates c.args.part _ c.split_at.result.0.now c.new-again.ensures c.in_ok-part-2.ensures some white
