@@ -14,6 +14,7 @@ use Rattle.std.specs.List.{before_first}
 use Rattle.micro_num.specs.Numeral.{from_first}
 use Rattle.stl_text.specs.Text.{Token, keyword, normal_part, coordinate, rest_of_line, after_space, after_word, facet_keyword, facet_tokens, first_word, is_keyword, is_read_as, is_white, rest_behind}
 use Rattle.stl_text.proofs.lemmas.Locality.{space-over, tokens-on}
+use Rattle.stl_text.proofs.lemmas.Runs.{rest_behind-rest, same_rest}
 use Rattle.stl_text.proofs.lemmas.Stages.{whole_shorter}
 use Rattle.stl_text.proofs.lemmas.Steps.{spelled-append, spells_then}
 

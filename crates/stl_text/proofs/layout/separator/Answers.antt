@@ -1,7 +1,6 @@
-use Rattle.std.proofs.Common.{◌≡◌, ◌<◌, [], length, sym, ap}
+use Rattle.std.proofs.Common.{◌≡◌, ◌<◌, [], length}
 use Rattle.std.proofs.Common.{rules}
 use Rattle.stl_text.specs.Text.{after_space}
-use Rattle.stl_text.specs.declared.layout.Part.{Part}
 use Rattle.stl_text.proofs.lemmas.Layouts.{separates}
 use Rattle.stl_text.proofs.layout.separator.Goals as goal
 
