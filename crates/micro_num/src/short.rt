@@ -9,9 +9,8 @@ ghost use Rattle.micro_num.specs.declared.limits.TheConstants.{FEW_DIGITS, LEADI
 
 use crate::digits::{LeadingDigits, few_digits};
 use crate::mantissa::{Mantissa, split_sign};
-use crate::scaling::size_in;
+use crate::scaling::{signed_coordinate, size_in};
 use crate::unit::Unit;
-use geometry::COORDINATE_LIMIT;
 
 /// Like `read_mantissa`, where there are fewer than `FEW_DIGITS` digits before the point and behind it. Else `None`.
 #[inline(always)]
@@ -100,10 +99,6 @@ pub(crate) fn short_front(bytes: &[u8], unit: Unit) -> Option<(i32, usize)>
 {
     let (negative, digits) = split_sign(bytes);
     let (size, behind) = short_size(digits, unit)?;
-    if COORDINATE_LIMIT < size {
-        return None;
-    }
-    let size = size as i32;
-    let count = bytes.len() - behind.len();
-    Some((if negative { -size } else { size }, count))
+    let coordinate = signed_coordinate(negative, size)?;
+    Some((coordinate, bytes.len() - behind.len()))
 }
