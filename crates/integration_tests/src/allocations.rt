@@ -23,3 +23,29 @@ pub(crate) fn first_free_turn<C: Count>(alloc: Global, turns: u64, usual: usize)
     }
     None
 }
+
+/// A call that is tried once more where an allocation failed.
+pub(crate) trait Retry {
+    /// Whether the first try was refused, and whether all was right after it and after the one that succeeded. `None`
+    /// where an allocation failed before the first try.
+    fn tried(memory: &ShortMemory<Global>) -> Option<(bool, bool)>;
+}
+
+/// Fails each allocation in turn until none is left to fail, and answers how many first tries were refused. `None` where
+/// all wasn't right in a turn, or where `turns` turns don't suffice.
+pub(crate) fn refusals<R: Retry>(alloc: Global, turns: u64) -> Option<u32> {
+    let mut refused = 0u32;
+    for turn in 1..turns {
+        let memory = ShortMemory::new(alloc, turn);
+        let found = R::tried(&memory);
+        if !memory.has_refused() {
+            return (found == Some((false, true))).then_some(refused);
+        }
+        match found {
+            Some((true, true)) => refused = refused.saturating_add(1),
+            Some(_) => return None,
+            None => {}
+        }
+    }
+    None
+}

@@ -1,14 +1,12 @@
 //! Rows that few and many crossings share, of bricks that overlap, beside a count of the bricks round each centre.
-ghost use Rattle.std.specs.Prelude.{◌<◌};
 
-use crate::allocations::{Count, first_free_turn};
-use crate::filling::layer;
+use crate::allocations::{Count, Retry, first_free_turn, refusals};
+use crate::filling::{layer, layer_by};
 use crate::meshes::{BOX, INWARD, push_facets, welded};
-use contour::segments;
 use mesh_weld::Solid;
 use raster::{Filler, Grid, Rule, Span};
 use short_memory::ShortMemory;
-use std::alloc::{AllocError, Allocator, Global};
+use std::alloc::{Allocator, Global};
 use std::test::Fail;
 
 // A box in voxels of 2 micrometres, from and without these columns, rows and layers.
@@ -119,7 +117,7 @@ impl Wall {
         let g = Grid::fit(&solid, 2, 2).ok()?;
         let mut filler = Filler::new(alloc);
         for k in 0..g.layers() {
-            let spans = filled(&mut filler, alloc, &solid, &g, rule, k).ok()?;
+            let spans = layer_by(&mut filler, alloc, &solid, &g, rule, k).ok()?;
             if self.is_layer(&g, rule, k, spans.as_slice()) != Some(true) {
                 return Some(false);
             }
@@ -140,20 +138,6 @@ fn is_covered(spans: &[Span], column: u32, row: u32) -> bool {
     spans
         .iter()
         .any(|s| s.row == row && s.from <= column && column < s.to)
-}
-
-fn filled<A: Allocator + Copy + Send + Sync>(
-    filler: &mut Filler<A>,
-    alloc: A,
-    s: &Solid<A>,
-    g: &Grid,
-    rule: Rule,
-    k: u32,
-) -> Result<Vec<Span, A>, AllocError>
-    requires { k < g.now.layers }
-{
-    let cut = segments(alloc, s, g.plane(k))?;
-    filler.fill(s, g, rule, k, cut.as_slice())
 }
 
 // The bricks, the step, the columns and the greatest width of walls. Row 0 of layer 0 has two crossings for each brick.
@@ -231,49 +215,34 @@ fn each_allocation_fails_in_turn(rt: HostRuntime) -> Result<(), Fail> {
     Ok(())
 }
 
-// Whether a fill was refused, and whether the next one by the same filler, or the first one, has the right spans.
-fn filled_anyway(memory: &ShortMemory<Global>) -> Option<(bool, bool)> {
-    let wall = wall_of(DENSE);
-    let solid = wall.solid(memory)?;
-    let g = Grid::fit(&solid, 2, 2).ok()?;
-    if g.layers() == 0 {
-        return None;
-    }
-    let mut filler = Filler::new(memory);
-    match filled(&mut filler, memory, &solid, &g, Rule::NonZero, 0) {
-        Ok(spans) => {
-            let right = wall.is_layer(&g, Rule::NonZero, 0, spans.as_slice())?;
-            Some((false, right))
-        }
-        Err(_) => {
-            let spans = filled(&mut filler, memory, &solid, &g, Rule::NonZero, 0).ok()?;
-            let right = wall.is_layer(&g, Rule::NonZero, 0, spans.as_slice())?;
-            Some((true, right))
-        }
-    }
-}
+// A fill of a layer of it, where the next one is by the same filler.
+struct Fill;
 
-// Fails each allocation in turn until none is left to fail: how many fills were refused. `None` where the next fill by the
-// same filler had other spans.
-fn refused(alloc: Global) -> Option<u32> {
-    let mut refused = 0u32;
-    for turn in 1..500u64 {
-        let memory = ShortMemory::new(alloc, turn);
-        let found = filled_anyway(&memory);
-        if !memory.has_refused() {
-            return (found == Some((false, true))).then_some(refused);
+impl Retry for Fill {
+    fn tried(memory: &ShortMemory<Global>) -> Option<(bool, bool)> {
+        let wall = wall_of(DENSE);
+        let solid = wall.solid(memory)?;
+        let g = Grid::fit(&solid, 2, 2).ok()?;
+        if g.layers() == 0 {
+            return None;
         }
-        match found {
-            Some((true, true)) => refused = refused.saturating_add(1),
-            Some(_) => return None,
-            None => {}
+        let mut filler = Filler::new(memory);
+        match layer_by(&mut filler, memory, &solid, &g, Rule::NonZero, 0) {
+            Ok(spans) => {
+                let right = wall.is_layer(&g, Rule::NonZero, 0, spans.as_slice())?;
+                Some((false, right))
+            }
+            Err(_) => {
+                let spans = layer_by(&mut filler, memory, &solid, &g, Rule::NonZero, 0).ok()?;
+                let right = wall.is_layer(&g, Rule::NonZero, 0, spans.as_slice())?;
+                Some((true, right))
+            }
         }
     }
-    None
 }
 
 #[test]
 fn a_filler_fills_after_a_refusal(rt: HostRuntime) -> Result<(), Fail> {
-    assert!(rt; refused(rt.alloc()) > Some(4));
+    assert!(rt; refusals::<Fill>(rt.alloc(), 500) > Some(4));
     Ok(())
 }

@@ -28,6 +28,21 @@ pub(crate) fn layer<A: Allocator + Copy + Send + Sync>(
     fill(alloc, s, g, rule, k, cut.as_slice())
 }
 
+/// The spans of a layer, by a filler that may have filled others.
+pub(crate) fn layer_by<A: Allocator + Copy + Send + Sync>(
+    filler: &mut Filler<A>,
+    alloc: A,
+    solid: &Solid<A>,
+    g: &Grid,
+    rule: Rule,
+    k: u32,
+) -> Result<Vec<Span, A>, AllocError>
+    requires { k < g.now.layers }
+{
+    let cut = segments(alloc, solid, g.plane(k))?;
+    filler.fill(solid, g, rule, k, cut.as_slice())
+}
+
 // The spans of a layer of boxes in voxels of 2; `None` where an allocation failed.
 fn layer_of<A: Allocator + Copy + Send + Sync>(
     alloc: A,
@@ -191,29 +206,17 @@ fn images_of_all_layers(rt: HostRuntime) -> Result<(), Fail> {
     Ok(())
 }
 
-// Whether a layer has these spans, in memory that other layers were filled in.
-fn is_filled(
-    filler: &mut Filler<Global>,
-    alloc: Global,
-    s: &Solid<Global>,
-    g: &Grid,
-    k: u32,
-    told: &[Span],
-) -> Result<bool, AllocError>
-    requires { k < g.now.layers }
-{
-    let cut = segments(alloc, s, g.plane(k))?;
-    let spans = filler.fill(s, g, Rule::EvenOdd, k, cut.as_slice())?;
-    Ok(spans.as_slice() == told)
-}
-
 // Whether layers of two cubes have these spans, by one filler for all.
 fn are_filled(alloc: Global, layers: &[(u32, &[Span])]) -> Option<bool> {
     let solid = solid_of(alloc, TWO_CUBES).ok()?;
     let g = Grid::fit(&solid, 2, 2).ok()?;
     let mut filler = Filler::new(alloc);
     for (k, told) in layers {
-        if *k >= g.layers() || !is_filled(&mut filler, alloc, &solid, &g, *k, told).ok()? {
+        if *k >= g.layers() {
+            return Some(false);
+        }
+        let spans = layer_by(&mut filler, alloc, &solid, &g, Rule::EvenOdd, *k).ok()?;
+        if spans.as_slice() != *told {
             return Some(false);
         }
     }

@@ -1,4 +1,5 @@
 //! A rise of a sweep for which an allocation fails leaves the sweep as it was, and the next one succeeds.
+use crate::allocations::{Retry, refusals};
 use crate::meshes::{TWO_CUBES, solid_of};
 use contour::Sweep;
 use mesh_weld::Solid;
@@ -40,33 +41,18 @@ fn risen<A: Allocator + Copy + Send + Sync>(
     Ok((true, started && kept && stands_at(&sweep, HIGH)))
 }
 
-// The same for two cubes.
-fn risen_through_cubes(memory: &ShortMemory<Global>) -> Option<(bool, bool)> {
-    let solid = solid_of(memory, TWO_CUBES).ok()?;
-    risen(memory, &solid).ok()
-}
+// A rise of a sweep through two cubes.
+struct Rise;
 
-// Fails each allocation in turn until none is left to fail: how many rises were refused. `None` where a sweep stood
-// otherwise.
-fn refused(alloc: Global) -> Option<u32> {
-    let mut refused = 0u32;
-    for turn in 1..200u64 {
-        let memory = ShortMemory::new(alloc, turn);
-        let found = risen_through_cubes(&memory);
-        if !memory.has_refused() {
-            return (found == Some((false, true))).then_some(refused);
-        }
-        match found {
-            Some((true, true)) => refused = refused.saturating_add(1),
-            Some(_) => return None,
-            None => {}
-        }
+impl Retry for Rise {
+    fn tried(memory: &ShortMemory<Global>) -> Option<(bool, bool)> {
+        let solid = solid_of(memory, TWO_CUBES).ok()?;
+        risen(memory, &solid).ok()
     }
-    None
 }
 
 #[test]
 fn active_facets_stay_where_a_rise_is_refused(rt: HostRuntime) -> Result<(), Fail> {
-    assert!(rt; refused(rt.alloc()) > Some(0));
+    assert!(rt; refusals::<Rise>(rt.alloc(), 200) > Some(0));
     Ok(())
 }

@@ -10,7 +10,7 @@ ghost use Rattle.micro_num.specs.declared.limits.TheConstants.{WORD_LIMIT};
 use crate::limits::{SHORT_ROOM, WORD_LIMIT};
 use crate::mantissa::{exponent_front, read_mantissa, split_sign};
 use crate::num_fault::NumFault;
-use crate::scaling::size_in;
+use crate::scaling::{signed_coordinate, size_in};
 use crate::short::short_front;
 use crate::unit::Unit;
 use geometry::COORDINATE_LIMIT;
@@ -99,12 +99,8 @@ fn long_front(bytes: &[u8], unit: Unit) -> Option<(i32, usize)>
     let (text, _) = bytes.split_at(bytes.len().min(WORD_LIMIT));
     let (negative, digits) = split_sign(text);
     let (size, behind) = size_front(digits, unit)?;
-    if COORDINATE_LIMIT < size {
-        return None;
-    }
-    let size = size as i32;
-    let count = text.len() - behind.len();
-    Some((if negative { -size } else { size }, count))
+    let coordinate = signed_coordinate(negative, size)?;
+    Some((coordinate, text.len() - behind.len()))
 }
 
 /// The value of the number at the front of a text, which has no sign, in micrometres, and the text behind the number. A

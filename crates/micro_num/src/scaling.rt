@@ -1,10 +1,11 @@
 //! From digits and an exponent to micrometres: times the factor of the unit, then times a power of ten, rounded once.
-ghost use Rattle.std.specs.Prelude.{◌≡◌, ◌≤◌, ◌<◌, ◌+◌, ◌*◌, ◌^◌, ◌++◌, ◌+ℤ◌, ◌-ℤ◌, length, ℕ, ℤ, pos, unsigned_abs};
+ghost use Rattle.std.specs.Prelude.{◌≡◌, ◌≤◌, ◌<◌, ◌+◌, ◌*◌, ◌^◌, ◌++◌, ◌+ℤ◌, ◌-ℤ◌, if◌then◌else◌, length, ℕ, ℤ, neg_ℤ, pos, unsigned_abs, IfSome, MatchOption};
 ghost use Rattle.micro_num.specs.Micrometres.{digits_value, magnitude, rounded_quotient, unit_factor, unit_power};
 ghost use Rattle.micro_num.specs.Scan.{IsCapped, IsCarry, IsCut, IsMantissa, IsNear, digits_after};
 ghost use Rattle.micro_num.specs.declared.limits.TheConstants.{CARRY_LIMIT, LEADING_LIMIT, SCALE_LIMIT};
+ghost use Rattle.geometry.specs.declared.limits.TheConstants.{COORDINATE_LIMIT};
 
-use crate::digits::Leading;
+use crate::digits::LeadingDigits;
 use crate::mantissa::Mantissa;
 use crate::unit::Unit;
 use geometry::COORDINATE_LIMIT;
@@ -133,7 +134,7 @@ fn carried(digits: &[u8], behind: u64) -> u64
 /// 254 times the leading digits, with what the dropped digits carry into the product.
 #[cold]
 #[inline(never)]
-fn in_inches(leading: Leading, whole: &[u8], fraction: &[u8]) -> u64
+fn in_inches(leading: LeadingDigits, whole: &[u8], fraction: &[u8]) -> u64
     requires { IsMantissa leading.value leading.dropped whole.now fraction.now }
     ensures times { IsCarry result leading.dropped (digits_value (whole.now ++ fraction.now)) }
     ensures small { result < SCALE_LIMIT }
@@ -188,4 +189,17 @@ pub(crate) fn size_in(mantissa: &Mantissa<'_>, exponent: i64, unit: Unit) -> u64
         + mantissa.leading.dropped as i64
         + power_in(unit);
     scaled(in_unit(mantissa, unit), power)
+}
+
+/// The coordinate of a size in micrometres with a sign, or `None` where it is out of range.
+#[inline(always)]
+pub(crate) fn signed_coordinate(negative: bool, size: u64) -> Option<i32>
+    ensures in_range { MatchOption result (COORDINATE_LIMIT < size) (λ _. size ≤ COORDINATE_LIMIT) }
+    ensures value { IfSome result (λ z. z ≡ (if negative then neg_ℤ (pos size) else pos size)) }
+{
+    if COORDINATE_LIMIT < size {
+        return None;
+    }
+    let size = size as i32;
+    Some(if negative { -size } else { size })
 }

@@ -116,6 +116,14 @@ turned-plus unsigned z h = refl
 turned-plus plus z h = refl
 turned-plus minus z h = absurd (h refl)
 
+pub turned-by : (s : Sign) (negative : Bool) (z : ℤ) → (negative ≡ true) ↔ (s ≡ minus) → (if negative then neg_ℤ z else z) ≡ turned s z
+turned-by unsigned true z h = absurd (let no = h.0 refl in cc)
+turned-by unsigned false z h = refl
+turned-by plus true z h = absurd (let no = h.0 refl in cc)
+turned-by plus false z h = refl
+turned-by minus true z h = refl
+turned-by minus false z h = absurd (let no = h.1 refl in cc)
+
 abbrev pub signed : Sign → Result ℤ NumFault → Result ℤ NumFault
 signed s (Ok z) = Ok (turned s z)
 signed s (Err f) = Err f

@@ -1,42 +1,26 @@
-use Rattle.std.proofs.Common.{List, ℕ, ◌-◌, length, length-append, take, arith, ap, subst, sym, ◌∙◌, ◌≡◌, ◌≢◌, pos, ◌-ℤ◌, neg_ℤ, w32, to_z, of_z}
-use Rattle.std.specs.Prelude.{Ok}
-use Rattle.std.proofs.lemmas.Int.{ints}
+use Rattle.std.proofs.Common.{List, ℕ, ◌-◌, length, length-append, take, arith, ap, subst, sym, ◌∙◌, ◌≡◌, pos, rules, w32}
+use Rattle.std.specs.Prelude.{FitsSigned, Ok}
+use Rattle.std.proofs.lemmas.Int.{to_z-of_z}
 use Rattle.std.proofs.Math.Seq.{take-take}
 use Rattle.micro_num.specs.Micrometres.{coordinate_of}
-use Rattle.micro_num.specs.Numeral.{sign_of, after_sign, minus}
+use Rattle.micro_num.specs.Numeral.{sign_of, after_sign}
 use Rattle.micro_num.specs.Scan.{IsNumberFront}
-use Rattle.micro_num.proofs.lemmas.Coordinates.{front_beyond, front_coordinate, found_word, not_beyond, reads_number, turned, turned-plus}
+use Rattle.micro_num.proofs.lemmas.Coordinates.{front_beyond, front_coordinate, found_word, not_beyond, reads_number, turned-by}
 use Rattle.micro_num.proofs.reading.long_front.Goals as goal
 
-pub returns-then-negative-clause-exact : goal.returns-then-negative-clause-exact
-returns-then-negative-clause-exact c =
+pub returns-clause-exact : goal.returns-clause-exact
+returns-clause-exact c =
     let text : List ℕ = c.split_at.result.0.now in
     let rest : List ℕ = c.in_ok-size.behind.now in
     let size : ℕ = c.in_ok-size.size in
+    let fits : FitsSigned w32 c.in_ok-coordinate.coordinate = search rules in
     let front : IsNumberFront c.args.unit (after_sign text) rest size =
     subst (λ t. IsNumberFront c.args.unit t rest size) c.split_sign-negative.ensures.behind c.in_ok-size.ensures.front in
     let same : take (length text - length rest) text ≡ take (length text - length rest) c.args.bytes.now =
     ap (take (length text - length rest)) c.split_at.ensures.front ∙ take-take (length text - length rest) _ c.args.bytes.now (omega (arith, c.split_at.ensures.front_len)) in
-    let minus_is : sign_of text ≡ minus = c.split_sign-negative.ensures.minus.0 c.if-negative.true in
-    let value : to_z w32 (of_z w32 (pos 0 -ℤ to_z w32 size)) ≡ neg_ℤ (pos size) = omega (arith, ints) in
     ap (coordinate_of c.args.unit) (sym same)
-    ∙ front_coordinate c.args.unit text rest size front (omega (arith, c.split_at.ensures.front_len)) c.if-size-gt-COORDINATE_LIMIT.false
-    ∙ ap (λ s. Ok (turned s (pos size))) minus_is ∙ ap Ok (sym value)
-
-pub returns-else-negative-clause-exact : goal.returns-else-negative-clause-exact
-returns-else-negative-clause-exact c =
-    let text : List ℕ = c.split_at.result.0.now in
-    let rest : List ℕ = c.in_ok-size.behind.now in
-    let size : ℕ = c.in_ok-size.size in
-    let front : IsNumberFront c.args.unit (after_sign text) rest size =
-    subst (λ t. IsNumberFront c.args.unit t rest size) c.split_sign-negative.ensures.behind c.in_ok-size.ensures.front in
-    let same : take (length text - length rest) text ≡ take (length text - length rest) c.args.bytes.now =
-    ap (take (length text - length rest)) c.split_at.ensures.front ∙ take-take (length text - length rest) _ c.args.bytes.now (omega (arith, c.split_at.ensures.front_len)) in
-    let other : sign_of text ≢ minus = λ h. (let both = c.split_sign-negative.ensures.minus.1 h in let false_is = c.if-negative.false in cc) in
-    let value : to_z w32 size ≡ pos size = omega (arith, ints) in
-    ap (coordinate_of c.args.unit) (sym same)
-    ∙ front_coordinate c.args.unit text rest size front (omega (arith, c.split_at.ensures.front_len)) c.if-size-gt-COORDINATE_LIMIT.false
-    ∙ ap Ok (turned-plus (sign_of text) (pos size) other ∙ sym value)
+    ∙ front_coordinate c.args.unit text rest size front (omega (arith, c.split_at.ensures.front_len)) c.in_ok-coordinate.ensures.in_range
+    ∙ ap Ok (sym (to_z-of_z w32 c.in_ok-coordinate.coordinate fits ∙ c.in_ok-coordinate.ensures.value ∙ turned-by (sign_of text) _ (pos size) c.split_sign-negative.ensures.minus))
 
 pub returns-in_err-size-clause-reads : goal.returns-in_err-size-clause-reads
 returns-in_err-size-clause-reads c = λ word rest z spelled ended is.
@@ -44,8 +28,8 @@ returns-in_err-size-clause-reads c = λ word rest z spelled ended is.
     (λ short. omega (arith, ap length spelled, length-append word rest)) c.split_sign-negative.ensures.behind c.in_err-size.ensures.reads in
     absurd number.1
 
-pub returns-then-size-gt-COORDINATE_LIMIT-clause-reads : goal.returns-then-size-gt-COORDINATE_LIMIT-clause-reads
-returns-then-size-gt-COORDINATE_LIMIT-clause-reads c = λ word rest z spelled ended is.
+pub returns-in_err-coordinate-clause-reads : goal.returns-in_err-coordinate-clause-reads
+returns-in_err-coordinate-clause-reads c = λ word rest z spelled ended is.
     let text : List ℕ = c.split_at.result.0.now in
     let behind : List ℕ = c.in_ok-size.behind.now in
     let number = reads_number c.args.unit c.args.bytes.now word rest text _ _ z (λ left. behind ≡ left) spelled ended is c.split_at.ensures.front
@@ -54,22 +38,13 @@ returns-then-size-gt-COORDINATE_LIMIT-clause-reads c = λ word rest z spelled en
     subst (λ t. IsNumberFront c.args.unit t behind c.in_ok-size.size) c.split_sign-negative.ensures.behind c.in_ok-size.ensures.front in
     absurd (not_beyond c.args.unit text word number.0 (length text - length behind) number.2
     (omega (arith, ap length number.1, ap length number.2, length-append word number.0)) z
-    (front_beyond c.args.unit text behind c.in_ok-size.size front (omega (arith, c.split_at.ensures.front_len)) c.if-size-gt-COORDINATE_LIMIT.true) is)
+    (front_beyond c.args.unit text behind c.in_ok-size.size front (omega (arith, c.split_at.ensures.front_len)) c.in_err-coordinate.ensures.in_range) is)
 
-pub returns-then-negative-clause-reads : goal.returns-then-negative-clause-reads
-returns-then-negative-clause-reads c = λ word rest z spelled ended is.
+pub returns-clause-reads : goal.returns-clause-reads
+returns-clause-reads c = λ word rest z spelled ended is.
     let text : List ℕ = c.split_at.result.0.now in
     let behind : List ℕ = c.in_ok-size.behind.now in
     let number = reads_number c.args.unit c.args.bytes.now word rest text _ _ z (λ left. behind ≡ left) spelled ended is c.split_at.ensures.front
     (λ short. omega (arith, ap length spelled, length-append word rest)) c.split_sign-negative.ensures.behind c.in_ok-size.ensures.reads in
     found_word c.args.unit c.args.bytes.now word rest _ spelled
-    (omega (arith, ap length number.1, ap length number.2, length-append word number.0)) _ z (returns-then-negative-clause-exact c) is
-
-pub returns-else-negative-clause-reads : goal.returns-else-negative-clause-reads
-returns-else-negative-clause-reads c = λ word rest z spelled ended is.
-    let text : List ℕ = c.split_at.result.0.now in
-    let behind : List ℕ = c.in_ok-size.behind.now in
-    let number = reads_number c.args.unit c.args.bytes.now word rest text _ _ z (λ left. behind ≡ left) spelled ended is c.split_at.ensures.front
-    (λ short. omega (arith, ap length spelled, length-append word rest)) c.split_sign-negative.ensures.behind c.in_ok-size.ensures.reads in
-    found_word c.args.unit c.args.bytes.now word rest _ spelled
-    (omega (arith, ap length number.1, ap length number.2, length-append word number.0)) _ z (returns-else-negative-clause-exact c) is
+    (omega (arith, ap length number.1, ap length number.2, length-append word number.0)) _ z (returns-clause-exact c) is
