@@ -1,6 +1,6 @@
 pub mod Magnitude
 pub mod Grammar
-pub mod Leading
+pub mod LeadingDigits
 pub mod DigitRows
 pub mod Powers
 pub mod Capped

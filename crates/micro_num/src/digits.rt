@@ -3,9 +3,9 @@ ghost use Rattle.std.specs.Prelude.{◌≡◌, ◌≤◌, ◌<◌, ◌+◌, ◌*
 ghost use Rattle.std.specs.List.{position_or_len};
 ghost use Rattle.std.specs.Char.{is_ascii_digit};
 ghost use Rattle.micro_num.specs.Scan.{IsLeading, digits_after, is_other};
-ghost use Rattle.micro_num.specs.declared.limits.TheConstants.{FEW, LEADING_ROOM, TEN_DIGITS_ROOM, WORD_LIMIT};
+ghost use Rattle.micro_num.specs.declared.limits.TheConstants.{FEW_DIGITS, LEADING_ROOM, TEN_DIGITS_ROOM, WORD_LIMIT};
 
-use crate::limits::{FEW, LEADING_ROOM, TEN_DIGITS_ROOM};
+use crate::limits::{FEW_DIGITS, LEADING_ROOM, TEN_DIGITS_ROOM};
 
 /// The value of the leading digits of a number: any zeros in front, then at most 16 digits. Further digits are dropped
 /// and only counted.
@@ -13,13 +13,13 @@ use crate::limits::{FEW, LEADING_ROOM, TEN_DIGITS_ROOM};
 /// This is enough to round the number to whole micrometres. If one of the leading digits is behind the point of the
 /// value in micrometres, it decides whether the fraction reaches a half; if none is, the number is far out of range.
 #[derive(Clone, Copy)]
-pub(crate) struct Leading {
+pub(crate) struct LeadingDigits {
     pub(crate) value: u64,
     /// The number of dropped digits.
     pub(crate) dropped: u64,
 }
 
-impl Leading {
+impl LeadingDigits {
     /// No digits.
     pub(crate) const NONE: Self = Self {
         value: 0,
@@ -64,21 +64,21 @@ impl Leading {
 /// The digits at the front of a text, and those that were read before them.
 #[derive(Clone, Copy)]
 pub(crate) struct Digits {
-    pub(crate) leading: Leading,
+    pub(crate) leading: LeadingDigits,
     /// The number of digits at the front.
     pub(crate) count: usize,
 }
 
 /// Reads the digits at the front of a text, behind those in `before`.
 #[inline(always)]
-pub(crate) fn read_digits(bytes: &[u8], before: Leading) -> Digits
+pub(crate) fn read_digits(bytes: &[u8], before: LeadingDigits) -> Digits
     requires { before.dropped + length bytes.now ≤ WORD_LIMIT }
     ensures count { result.count ≡ position_or_len is_other bytes.now }
     ensures leads { (n : ℕ) → IsLeading before.value before.dropped n
         → IsLeading result.leading.value result.leading.dropped (digits_after n (take result.count bytes.now)) }
     ensures few { result.leading.dropped ≤ before.dropped + result.count }
 {
-    if bytes.len() >= FEW {
+    if bytes.len() >= FEW_DIGITS {
         if let Some(digits) = few_digits(bytes, before) {
             return digits;
         }
@@ -86,11 +86,11 @@ pub(crate) fn read_digits(bytes: &[u8], before: Leading) -> Digits
     many_digits(bytes, before)
 }
 
-/// Like `read_digits`, where there are fewer than `FEW` digits and `FEW` of them fit. Else `None`.
+/// Like `read_digits`, where there are fewer than `FEW_DIGITS` digits and `FEW_DIGITS` of them fit. Else `None`.
 #[inline(always)]
-pub(crate) fn few_digits(bytes: &[u8], before: Leading) -> Option<Digits>
-    requires { FEW ≤ length bytes.now }
-    ensures short { IfSome result (λ digits. digits.count < FEW) }
+pub(crate) fn few_digits(bytes: &[u8], before: LeadingDigits) -> Option<Digits>
+    requires { FEW_DIGITS ≤ length bytes.now }
+    ensures short { IfSome result (λ digits. digits.count < FEW_DIGITS) }
     ensures count { IfSome result (λ digits. digits.count ≡ position_or_len is_other bytes.now) }
     ensures leads { IfSome result (λ digits. (n : ℕ) → IsLeading before.value before.dropped n
         → IsLeading digits.leading.value digits.leading.dropped (digits_after n (take digits.count bytes.now))) }
@@ -100,7 +100,7 @@ pub(crate) fn few_digits(bytes: &[u8], before: Leading) -> Option<Digits>
         return None;
     }
     let mut leading = before;
-    for index in 0..FEW {
+    for index in 0..FEW_DIGITS {
         let next = bytes[index];
         if !next.is_ascii_digit() {
             return Some(Digits {
@@ -116,7 +116,7 @@ pub(crate) fn few_digits(bytes: &[u8], before: Leading) -> Option<Digits>
 /// Like `read_digits`, for any number of digits.
 #[cold]
 #[inline(never)]
-fn many_digits(bytes: &[u8], before: Leading) -> Digits
+fn many_digits(bytes: &[u8], before: LeadingDigits) -> Digits
     requires { before.dropped + length bytes.now ≤ WORD_LIMIT }
     ensures count { result.count ≡ position_or_len is_other bytes.now }
     ensures leads { (n : ℕ) → IsLeading before.value before.dropped n

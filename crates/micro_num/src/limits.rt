@@ -14,11 +14,11 @@ pub(crate) const LEADING_LIMIT: u64 = 10 * LEADING_ROOM;
 pub(crate) const TEN_DIGITS_ROOM: u64 = 1_000_000;
 
 /// Fewer digits than this are read without testing whether each one still fits.
-pub(crate) const FEW: usize = 10;
+pub(crate) const FEW_DIGITS: usize = 10;
 
-/// A number with fewer than `FEW` digits before its point, behind it and in its exponent ends within a text that is at
-/// least this long.
-pub(crate) const SHORT_ROOM: usize = 3 * FEW + 2;
+/// A number with fewer than `FEW_DIGITS` digits before its point, behind it and in its exponent ends within a text that
+/// is at least this long.
+pub(crate) const SHORT_ROOM: usize = 3 * FEW_DIGITS + 2;
 
 /// What the dropped digits add to 254 times the leading ones is below this.
 pub(crate) const CARRY_LIMIT: u64 = 10_000;

@@ -6,7 +6,7 @@ ghost use Rattle.micro_num.specs.Micrometres.{digits_value};
 ghost use Rattle.micro_num.specs.Scan.{IsEnded, IsExponentFront, IsLeading, is_other, digits_behind, rest_behind};
 ghost use Rattle.micro_num.specs.declared.limits.TheConstants.{LEADING_LIMIT, WORD_LIMIT};
 
-use crate::digits::{Leading, read_digits};
+use crate::digits::{LeadingDigits, read_digits};
 
 /// Whether the sign at the front of a text is a minus, and the text behind the sign. A text may have no sign.
 #[inline(always)]
@@ -28,7 +28,7 @@ pub(crate) fn split_sign(bytes: &[u8]) -> (bool, &[u8])
 /// The digits of a number, before and behind its point, and the text behind them.
 #[derive(Clone, Copy)]
 pub(crate) struct Mantissa<'a> {
-    pub(crate) leading: Leading,
+    pub(crate) leading: LeadingDigits,
     pub(crate) whole: &'a [u8],
     pub(crate) fraction: &'a [u8],
     pub(crate) behind: &'a [u8],
@@ -45,7 +45,7 @@ pub(crate) fn read_mantissa(bytes: &[u8]) -> Mantissa<'_>
     ensures few { result.leading.dropped ≤ length result.whole.now + length result.fraction.now }
     ensures within { length result.whole.now + length result.fraction.now + length result.behind.now ≤ length bytes.now }
 {
-    let digits = read_digits(bytes, Leading::NONE);
+    let digits = read_digits(bytes, LeadingDigits::NONE);
     let (whole, behind) = bytes.split_at(digits.count);
     if let Some((b'.', text)) = behind.split_first() {
         let more = read_digits(text, digits.leading);
@@ -84,7 +84,7 @@ pub(crate) fn exponent_front(bytes: &[u8]) -> Option<(i64, &[u8])>
         return Some((0, bytes));
     }
     let (negative, text) = split_sign(text);
-    let digits = read_digits(text, Leading::NONE);
+    let digits = read_digits(text, LeadingDigits::NONE);
     if digits.count == 0 {
         return None;
     }

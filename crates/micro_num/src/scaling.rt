@@ -4,7 +4,7 @@ ghost use Rattle.micro_num.specs.Micrometres.{digits_value, magnitude, rounded_q
 ghost use Rattle.micro_num.specs.Scan.{IsCapped, IsCarry, IsCut, IsMantissa, IsNear, digits_after};
 ghost use Rattle.micro_num.specs.declared.limits.TheConstants.{CARRY_LIMIT, LEADING_LIMIT, SCALE_LIMIT};
 
-use crate::digits::Leading;
+use crate::digits::LeadingDigits;
 use crate::mantissa::Mantissa;
 use crate::unit::Unit;
 use geometry::COORDINATE_LIMIT;
@@ -133,7 +133,7 @@ fn carried(digits: &[u8], behind: u64) -> u64
 /// 254 times the leading digits, with what the dropped digits carry into the product.
 #[cold]
 #[inline(never)]
-fn in_inches(leading: Leading, whole: &[u8], fraction: &[u8]) -> u64
+fn in_inches(leading: LeadingDigits, whole: &[u8], fraction: &[u8]) -> u64
     requires { IsMantissa leading.value leading.dropped whole.now fraction.now }
     ensures times { IsCarry result leading.dropped (digits_value (whole.now ++ fraction.now)) }
     ensures small { result < SCALE_LIMIT }

@@ -5,27 +5,27 @@ ghost use Rattle.std.specs.List.{before_first};
 ghost use Rattle.micro_num.specs.Numeral.{Exponent, IsNumeral, Numeral, exponent_text, fraction_digits, from_first, is_exponent, numeral_text, unsigned};
 ghost use Rattle.micro_num.specs.Micrometres.{coordinate_of, digits_value};
 ghost use Rattle.micro_num.specs.Scan.{IsEnded, IsExponentFront, IsLeading, IsNumberFront, digits_behind, is_other, rest_behind};
-ghost use Rattle.micro_num.specs.declared.limits.TheConstants.{FEW, LEADING_LIMIT, SHORT_ROOM};
+ghost use Rattle.micro_num.specs.declared.limits.TheConstants.{FEW_DIGITS, LEADING_LIMIT, SHORT_ROOM};
 
-use crate::digits::{Leading, few_digits};
+use crate::digits::{LeadingDigits, few_digits};
 use crate::mantissa::{Mantissa, split_sign};
 use crate::scaling::size_in;
 use crate::unit::Unit;
 use geometry::COORDINATE_LIMIT;
 
-/// Like `read_mantissa`, where there are fewer than `FEW` digits before the point and behind it. Else `None`.
+/// Like `read_mantissa`, where there are fewer than `FEW_DIGITS` digits before the point and behind it. Else `None`.
 #[inline(always)]
 fn short_mantissa(bytes: &[u8]) -> Option<Mantissa<'_>>
-    requires { 2 * FEW ≤ length bytes.now }
+    requires { 2 * FEW_DIGITS ≤ length bytes.now }
     ensures whole { IfSome result (λ m. m.whole.now ≡ before_first is_other bytes.now) }
     ensures fraction { IfSome result (λ m. m.fraction.now ≡ fraction_digits (digits_behind (from_first is_other bytes.now))) }
     ensures behind { IfSome result (λ m. m.behind.now ≡ rest_behind (from_first is_other bytes.now)) }
     ensures leads { IfSome result (λ m. IsLeading m.leading.value m.leading.dropped (digits_value (m.whole.now ++ m.fraction.now))) }
     ensures few { IfSome result (λ m. m.leading.dropped ≡ 0) }
-    ensures short { IfSome result (λ m. (length m.whole.now < FEW) × (length m.fraction.now < FEW)) }
-    ensures within { IfSome result (λ m. length bytes.now < length m.behind.now + 2 * FEW) }
+    ensures short { IfSome result (λ m. (length m.whole.now < FEW_DIGITS) × (length m.fraction.now < FEW_DIGITS)) }
+    ensures within { IfSome result (λ m. length bytes.now < length m.behind.now + 2 * FEW_DIGITS) }
 {
-    let digits = few_digits(bytes, Leading::NONE)?;
+    let digits = few_digits(bytes, LeadingDigits::NONE)?;
     let (whole, behind) = bytes.split_at(digits.count);
     if let Some((b'.', text)) = behind.split_first() {
         let more = few_digits(text, digits.leading)?;
@@ -46,15 +46,15 @@ fn short_mantissa(bytes: &[u8]) -> Option<Mantissa<'_>>
     }
 }
 
-/// Like `exponent_front`, where there are fewer than `FEW` digits. Else `None`.
+/// Like `exponent_front`, where there are fewer than `FEW_DIGITS` digits. Else `None`.
 #[inline(always)]
 fn short_exponent(bytes: &[u8]) -> Option<(i64, &[u8])>
-    requires { FEW + 2 ≤ length bytes.now }
+    requires { FEW_DIGITS + 2 ≤ length bytes.now }
     ensures front { IfSome result (λ found. IsExponentFront bytes.now found.1.now found.0) }
     ensures small { IfSome result (λ found. unsigned_abs found.0 < LEADING_LIMIT) }
     ensures reads { IfSome result (λ found. (x : Option Exponent) (rest : List ℕ) → is_exponent x ≡ true → bytes.now ≡ exponent_text x ++ rest
         → IsEnded rest → found.1.now ≡ rest) }
-    ensures within { IfSome result (λ found. length bytes.now < length found.1.now + FEW + 2) }
+    ensures within { IfSome result (λ found. length bytes.now < length found.1.now + FEW_DIGITS + 2) }
 {
     let Some((mark, text)) = bytes.split_first() else {
         return None;
@@ -63,7 +63,7 @@ fn short_exponent(bytes: &[u8]) -> Option<(i64, &[u8])>
         return Some((0, bytes));
     }
     let (negative, text) = split_sign(text);
-    let digits = few_digits(text, Leading::NONE)?;
+    let digits = few_digits(text, LeadingDigits::NONE)?;
     if digits.count == 0 {
         return None;
     }

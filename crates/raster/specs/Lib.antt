@@ -6,6 +6,7 @@ pub mod Filler
 pub mod Picture
 pub mod Bits
 pub mod Rows
+pub mod RowCrossing
 pub mod Crossings
 pub mod RowSpans
 pub mod ColumnSums

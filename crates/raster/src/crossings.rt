@@ -8,12 +8,14 @@ ghost use Rattle.geometry.specs.Winding.{hit, total, wind};
 ghost use Rattle.contour.specs.Segment.{segments};
 ghost use Rattle.exact_cut.specs.Lattice.{pixel, row_y};
 ghost use Rattle.raster.specs.ColumnSums.{AreZero};
-ghost use Rattle.raster.specs.Crossings.{AreCrossingsWithin, crossings_along, crossings_in, row_passed, row_signs, signs};
+ghost use Rattle.raster.specs.Crossings.{AreCrossingsWithin, crossings_along, crossings_in, row_passed, row_signs};
+ghost use Rattle.raster.specs.RowCrossing.{signs};
 ghost use Rattle.raster.specs.RowSpans.{AreRowSpans};
 ghost use Rattle.geometry.specs.declared.limits.TheConstants.{CENTRE_LIMIT, COLUMN_LIMIT};
 
 use crate::column_sums::ColumnSums;
-use crate::filler::fill_row;
+use crate::row_crossing::RowCrossing;
+use crate::row_spans::fill_row;
 use crate::rule::Rule;
 use crate::span::Span;
 use contour::Segment;
@@ -24,15 +26,6 @@ use smallvec::SmallVec;
 use std::alloc::{AllocError, Allocator};
 use std::marker::Model;
 use std::mem::{ManuallyDrop, size_of_val};
-
-/// Where a scanline crosses the mesh: the column of the crossing, and its sign.
-#[derive(Clone, Copy, Debug, Default, PartialEq, Eq)]
-pub(crate) struct RowCrossing {
-    /// The least column whose centre isn't left of the crossing; at most `COLUMN_LIMIT`.
-    pub(crate) column: u16,
-    /// Whether the sign of the crossing is 1; else it is -1.
-    pub(crate) is_up: bool,
-}
 
 /// The greatest capacity that a row keeps from one layer to the next, in crossings. A row with more gives its memory back.
 const KEPT_CAPACITY: usize = 512;
@@ -50,7 +43,7 @@ pub(crate) struct RowCrossings<A: Allocator> {
 
 impl<A: Allocator> Model for RowCrossings<A> {
     ghost use Rattle.std.specs.Prelude.{List, map};
-    ghost use Rattle.raster.specs.declared.crossings.RowCrossing.{RowCrossing};
+    ghost use Rattle.raster.specs.declared.row_crossing.RowCrossing.{RowCrossing};
 
     ghost Value = { List (List RowCrossing) };
 

@@ -26,6 +26,8 @@ mod devices;
 mod filler;
 mod grid;
 mod pbm;
+mod row_crossing;
+mod row_spans;
 mod rule;
 mod span;
 

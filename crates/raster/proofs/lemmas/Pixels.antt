@@ -11,12 +11,11 @@ use Rattle.exact_cut.specs.Lattice.{pixel, row_y}
 use Rattle.exact_cut.specs.declared.dda.lattice.Lattice.{Lattice}
 use Rattle.mesh_weld.specs.Balance.{IsBalanced}
 use Rattle.mesh_weld.proofs.lemmas.Sums.{ray_from_left}
-use Rattle.raster.specs.declared.crossings.RowCrossing.{RowCrossing}
+use Rattle.raster.specs.declared.row_crossing.RowCrossing.{RowCrossing}
 use Rattle.raster.specs.declared.rule.Rule.{Rule}
 use Rattle.raster.specs.declared.span.Span.{Span}
 use Rattle.raster.specs.Crossings.{AreCrossingsWithin, row_passed}
-use Rattle.raster.specs.RowSpans.{AreSpansBelow}
-use Rattle.raster.specs.Filler.{IsFillOf, is_filled}
+use Rattle.raster.specs.Filler.{AreSpansBelow, IsFillOf, is_filled}
 use Rattle.raster.specs.Rule.{is_inside}
 use Rattle.raster.specs.Span.{AreSpans, covers, is_span_within}
 use Rattle.raster.specs.Grid.{Grid, centre, middle, plane}

@@ -4,7 +4,7 @@ use Rattle.std.specs.Char.{is_ascii_digit}
 use Rattle.std.proofs.lemmas.List.Sums.{position_or_len_is, fold_more}
 use Rattle.micro_num.specs.Scan.{is_other}
 use Rattle.micro_num.proofs.lemmas.Grammar.{bounds}
-use Rattle.micro_num.proofs.lemmas.Leading.{power_more}
+use Rattle.micro_num.proofs.lemmas.LeadingDigits.{power_more}
 use Rattle.micro_num.proofs.digits.few_digits.Goals as goal
 
 pub returns-then-not-is_ascii_digit-clause-count : goal.returns-then-not-is_ascii_digit-clause-count

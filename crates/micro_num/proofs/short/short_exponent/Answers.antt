@@ -3,7 +3,7 @@ use Rattle.std.proofs.lemmas.Int.{ints}
 use Rattle.micro_num.specs.Micrometres.{with_sign, digits_value}
 use Rattle.micro_num.specs.Scan.{IsExponentFront, IsLeading, IsNear, digits_after}
 use Rattle.micro_num.specs.Numeral.{sign_of, is_exponent_mark}
-use Rattle.micro_num.proofs.lemmas.Leading.{IsLeading-none}
+use Rattle.micro_num.proofs.lemmas.LeadingDigits.{IsLeading-none}
 use Rattle.micro_num.proofs.lemmas.Exponents.{marked_rest, front_exponent, IsNear-minus, IsNear-plus, mark_69, mark_101}
 use Rattle.micro_num.proofs.short.short_exponent.Goals.{else-mark-ne101-via-then-mark-ne101+else-mark-ne69, else-mark-ne101-via-else-mark-ne101, then-negative, else-negative}
 use Rattle.micro_num.proofs.short.short_exponent.Goals as goal

@@ -1,6 +1,6 @@
 use Rattle.std.proofs.Common.{◌≡◌, ℕ, ap, subst, ◌∙◌, arith}
-use Rattle.raster.specs.Crossings.{signs}
-use Rattle.raster.specs.RowSpans.{AreSpansBelow}
+use Rattle.raster.specs.RowCrossing.{signs}
+use Rattle.raster.specs.Filler.{AreSpansBelow}
 use Rattle.raster.proofs.lemmas.Layers.{spans-more}
 use Rattle.raster.proofs.filler.fill_rows.Goals as goal
 

@@ -1,7 +1,7 @@
 use Rattle.std.proofs.Common.{◌≡◌, ◌≤◌, ℕ, length}
 use Rattle.raster.specs.ColumnSums.{AreZero}
 use Rattle.raster.specs.Crossings.{AreCrossingsWithin, crossings_in}
-use Rattle.raster.specs.RowSpans.{AreSpansBelow}
+use Rattle.raster.specs.Filler.{AreSpansBelow}
 use Rattle.raster.proofs.filler.fill_rows.Given as goal
 
 abbrev pub invariant-loop-row : goal.invariant-loop-row

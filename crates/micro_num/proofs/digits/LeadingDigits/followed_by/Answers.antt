@@ -1,7 +1,7 @@
 use Rattle.std.proofs.Common.{arith, ◌-◌}
 use Rattle.micro_num.proofs.lemmas.Grammar.{bounds}
-use Rattle.micro_num.proofs.lemmas.Leading.{IsLeading_dropped}
-use Rattle.micro_num.proofs.digits.Leading.followed_by.Goals as goal
+use Rattle.micro_num.proofs.lemmas.LeadingDigits.{IsLeading_dropped}
+use Rattle.micro_num.proofs.digits.LeadingDigits.followed_by.Goals as goal
 
 pub returns-else-self-lt-LEADING_ROOM-clause-leads : goal.returns-else-self-lt-LEADING_ROOM-clause-leads
 returns-else-self-lt-LEADING_ROOM-clause-leads c =
