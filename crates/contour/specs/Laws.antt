@@ -5,8 +5,7 @@ use Rattle.geometry.specs.Facet.{Facet, twice}
 use Rattle.geometry.specs.Winding.{total, wind}
 use Rattle.mesh_weld.specs.Balance.{IsBalanced}
 use Rattle.mesh_weld.specs.EdgeNumbers.{AreEdgeNumbers}
-use Rattle.contour.specs.declared.segment.Segment.{Segment}
-use Rattle.contour.specs.Segment.{segments}
+use Rattle.contour.specs.Segment.{Segment, segments}
 use Rattle.contour.specs.Loops.{AreLoops, IsCycle, loop_facets, loops}
 
 -- a line along x in the plane crosses the facets of a closed cycle upward as often as downward: their windings sum up to

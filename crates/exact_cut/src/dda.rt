@@ -13,7 +13,7 @@ pub(crate) mod walk;
 use crate::dda::lattice::Lattice;
 use crate::scanline::cut_point::CutPoint;
 use crate::scanline::section::{meet, slope};
-use exact_int::ceil_div;
+use exact_int::quick_ceil_div;
 
 /// A position that grows by one increment a step. The position is `whole * unit - remainder`, and the increment
 /// `increment * unit - increment_remainder`. Both remainders are at least 0 and below the unit, so `whole` is the
@@ -43,7 +43,7 @@ fn divide(n: i128, unit: i128) -> Division
     ensures division { IsDivisionOf n unit result }
     ensures quotient_in { unsigned_abs result.quotient ≤ unsigned_abs n + unsigned_abs unit }
 {
-    let quotient = ceil_div(n, unit);
+    let quotient = quick_ceil_div(n, unit);
     Division {
         quotient,
         remainder: quotient * unit - n,

@@ -6,3 +6,4 @@ pub mod Signs
 pub mod Tests
 pub mod Ceilings
 pub mod Lists
+pub mod Pairs

@@ -9,3 +9,23 @@ pub fn ceil_div(n: i128, d: i128) -> i128
     let q = n / d;
     if n % d > 0 { q + 1 } else { q }
 }
+
+/// What [`ceil_div`] answers, for numbers of 64 bits: the least whole number that isn't below `n / d`, for a `d` above 0.
+pub fn ceil_div_64(n: i64, d: i64) -> i64
+    requires { pos 0 <ℤ d }
+    ensures { (q : ℤ) → (result ≤ℤ q) ↔ (n ≤ℤ (q *ℤ d)) }
+{
+    let q = n / d;
+    if n % d <= 0 { q } else { q + 1 }
+}
+
+/// What [`ceil_div`] answers, sooner where both numbers fit 64 bits, since a division of these takes a fraction of the time.
+pub fn quick_ceil_div(n: i128, d: i128) -> i128
+    requires { pos 0 <ℤ d }
+    ensures { (q : ℤ) → (result ≤ℤ q) ↔ (n ≤ℤ (q *ℤ d)) }
+{
+    match (i64::try_from(n), i64::try_from(d)) {
+        (Ok(n), Ok(d)) => i128::from(ceil_div_64(n, d)),
+        _ => ceil_div(n, d),
+    }
+}

@@ -10,11 +10,12 @@
 //! assert!(rt; is_at_most(7, -7) && !is_at_most(7, 8));
 //! ```
 //!
-//! Both functions take and give plain numbers, without a unit.
+//! All functions take and give plain numbers, without a unit. `ceil_div_64` and `quick_ceil_div` answer what `ceil_div`
+//! answers, in less time.
 #![tactic(auto)]
 
 mod bounds;
 mod division;
 
 pub use bounds::is_at_most;
-pub use division::ceil_div;
+pub use division::{ceil_div, ceil_div_64, quick_ceil_div};

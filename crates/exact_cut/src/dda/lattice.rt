@@ -5,7 +5,7 @@ ghost use Rattle.geometry.specs.declared.limits.TheConstants.{CENTRE_LIMIT, COLU
 
 use crate::scanline::clamped;
 use crate::scanline::cut_point::CutPoint;
-use exact_int::ceil_div;
+use exact_int::ceil_div_64;
 
 /// The pixel centres of a layer: column i has its centre at x = `x2 + 2 * step * i`, and row j at
 /// y = `y2 + 2 * step * j`, in half-micrometres.
@@ -41,7 +41,7 @@ impl Lattice {
     {
         let gap = p.y - self.y2 * p.d;
         let unit = 2 * (self.step as i64) * p.d;
-        clamped(ceil_div(gap as i128, unit as i128), self.rows)
+        clamped(ceil_div_64(gap, unit) as i128, self.rows)
     }
 
     /// The y of a row's centres, in half-micrometres.

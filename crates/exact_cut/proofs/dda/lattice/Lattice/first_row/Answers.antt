@@ -24,8 +24,8 @@ overflow_mul-unit-2 c =
     let s_in = cast_in w64 c.args.self.now.step STEP_LIMIT c.args.self.now.step_in in
     fits w64 (search (sizes, s_in, c.args.p.now.d_in) depth 40) refl
 
-pub ceil_div-requires : goal.ceil_div-requires
-ceil_div-requires c =
+pub ceil_div_64-requires : goal.ceil_div_64-requires
+ceil_div_64-requires c =
     let p = c.args.p.now in
     let l = c.args.self.now in
     let s = to_z w64 l.step in
@@ -38,13 +38,14 @@ pub returns : goal.returns
 returns c =
     let p = c.args.p.now in
     let l = c.args.self.now in
-    let i = c.ceil_div.result in
+    let i = c.ceil_div_64.result in
     let s = to_z w64 l.step in
     let s_in = cast_in w64 l.step STEP_LIMIT l.step_in in
-    let k = ceiling_by p.y p.d l.y2 s c.ceil_div.ensures
+    let k = ceiling_by p.y p.d l.y2 s c.ceil_div_64.ensures
     (identity (p.y ∷ p.d ∷ l.y2 ∷ []) (search (reads, sizes, l.y_in, p.y_in, p.d_in) depth 40 fits 5000) refl)
     (identity (s ∷ p.d ∷ []) (search (reads, sizes, s_in, p.d_in) depth 40 fits 5000) refl) in
     let h = ceiling_step i p.y p.d l.y2 s l.step (to_z_pos w64 l.step (let h = l.step_in in omega arith)) k in
+    let f0 : FitsSigned w64 i = search rules in
     let f1 : FitsSigned w128 i = search rules in
     let clamped_is : c.clamped.result ≡ clamp i l.rows = simp to_z-of_z at c.clamped.ensures in
     subst (IsLeastColumn p.y p.d l.y2 l.step l.rows) (sym clamped_is) (least_clamp i p.y p.d l.y2 l.step l.rows h)
