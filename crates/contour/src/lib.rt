@@ -16,7 +16,7 @@
 //! - [`segment_at`], [`segments`]: the segment of one facet, and those of all facets, at one height.
 //! - [`Sweep`]: a rising plane with its list of active facets, those that it cuts.
 //! - [`Loops`], [`Linker`], [`loops`]: the loops of a plane's segments. A linker keeps its memory from plane to plane.
-//! - [`Outlines`]: the loops as points, to the nearest half-micrometre.
+//! - [`Outlines`]: the loops as points, to the nearest half-micrometre, each a [`PlanePoint`].
 //! - [`loop_ray`]: the signed ray crossings of one loop's facets.
 //! - [`hold_loop_laws`]: states what holds of every loop.
 //!
@@ -32,6 +32,7 @@ mod outlines;
 mod segment;
 mod sweep;
 
+pub use exact_cut::PlanePoint;
 pub use laws::hold_loop_laws;
 pub use link::{Linker, loops};
 // The module is not called `loops`, since a module and a function of one name are refused.
