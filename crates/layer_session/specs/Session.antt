@@ -1,5 +1,5 @@
 -- What a session has, which one a text opens, and why it opens none.
-use Rattle.std.specs.Prelude.{◌≡◌, ℕ, List, length, Option, option_map, Ok, Err}
+use Rattle.std.specs.Prelude.{◌≡◌, ◌≢◌, ℕ, List, length, Option, option_map, Result, Ok, Err}
 use Rattle.geometry.specs.Point.{Point}
 use Rattle.geometry.specs.Facet.{Facet}
 use Rattle.geometry.specs.BoundingBox.{bounds}
@@ -48,3 +48,8 @@ IsOpenFault setup bytes (fault.Grid cause) =
     × (grid_of setup (solid_of facets).facets ≡ Err cause))
 IsOpenFault setup bytes fault.Memory = Unit {0}
 IsOpenFault setup bytes (fault.Outside columns rows layers) = ⊥
+
+-- what opening a text answers where memory suffices
+abbrev pub IsAnswer : Setup → List ℕ → Result Session SessionFault → Type 0
+IsAnswer setup bytes (Ok session) = IsSessionOf setup bytes session
+IsAnswer setup bytes (Err f) = (f ≢ fault.Memory) × IsOpenFault setup bytes f

@@ -22,17 +22,20 @@
 //! - [`Setup`]: what a text is opened with; [`Placing`]: a grid that fits the mesh, or a given one.
 //! - [`SessionFault`]: why there is no session, or no answer. Its `Display` is what the program writes for that behind
 //!   `stlslice: `.
+//! - [`one_answer`]: a law. A setup and a text have one answer, a session or a fault, where memory suffices.
 //!
 //! Pitch, layer height, origin and box are in micrometres. Columns, rows and layers count from 0 along x, y and z, and
 //! stripes, which are eight layers each, from the lowest up.
 #![tactic(auto)]
 
+mod laws;
 mod layers;
 mod session;
 mod session_fault;
 mod setup;
 
 pub use contour::{Loops, Node, Outlines, PlanePoint, Segment};
+pub use laws::one_answer;
 pub use micro_num::Unit;
 pub use raster::{Grid, Placing, Rule};
 pub use session::Session;
