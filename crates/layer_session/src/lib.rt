@@ -19,6 +19,7 @@
 //! ```
 //!
 //! - [`Session`]: the closed mesh of an ASCII STL text, in its grid, with a rule. Whatever it is asked, it stays as it is.
+//! - [`SessionReader`]: opens a text that arrives in pieces.
 //! - [`Setup`]: what a text is opened with; [`Placing`]: a grid that fits the mesh, or a given one.
 //! - [`SessionFault`]: why there is no session, or no answer. Its `Display` is what the program writes for that behind
 //!   `stlslice: `.
@@ -32,6 +33,7 @@ mod laws;
 mod layers;
 mod session;
 mod session_fault;
+mod session_reader;
 mod setup;
 
 pub use contour::{Loops, Node, Outlines, PlanePoint, Segment};
@@ -40,4 +42,5 @@ pub use micro_num::Unit;
 pub use raster::{Grid, Placing, Rule};
 pub use session::Session;
 pub use session_fault::SessionFault;
+pub use session_reader::SessionReader;
 pub use setup::Setup;

@@ -1,13 +1,14 @@
 //! Sessions: a closed mesh in its grid, with a rule, asked layer by layer.
-ghost use Rattle.std.specs.Prelude.{◌≡◌, ◌<◌, ◌≤◌, Err, IfErr, IfOk, OnOk};
+ghost use Rattle.std.specs.Prelude.{◌≡◌, ◌<◌, ◌≤◌, Err, IfErr, IfOk, List, OnOk, vec_len, ℕ};
 ghost use Rattle.build_book.specs.Job.{stripe_count};
 ghost use Rattle.build_book.specs.declared.limits.TheConstants.{MOST_STRIPES};
 ghost use Rattle.contour.specs.Loops.{AreLoops, loops};
 ghost use Rattle.contour.specs.Outlines.{outlines};
 ghost use Rattle.contour.specs.Segment.{segments};
-ghost use Rattle.geometry.specs.declared.limits.TheConstants.{LAYER_LIMIT};
+ghost use Rattle.geometry.specs.declared.limits.TheConstants.{FACET_LIMIT, LAYER_LIMIT};
 ghost use Rattle.raster.specs.Filler.{area_of};
 ghost use Rattle.raster.specs.Grid.{plane};
+ghost use Rattle.stl_text.specs.Text.{Reads};
 ghost use Rattle.layer_session.specs.Answers.{IsLayerFault, IsStripeFault, image_of, outside, probed, stripe_images};
 ghost use Rattle.layer_session.specs.Session.{IsOpenFault, IsSessionOf, Session as Opened};
 ghost use Rattle.layer_session.specs.Setup.{IsInRange};
@@ -18,7 +19,7 @@ use crate::session_fault::SessionFault;
 use crate::setup::Setup;
 use build_book::Job;
 use contour::{Loops, Outlines};
-use geometry::{Point, extent};
+use geometry::{Facet, Point, extent};
 use mesh_weld::{probe, weld};
 use raster::{Grid, Rule};
 use std::alloc::Allocator;
@@ -60,6 +61,24 @@ impl<A: Allocator + Copy + Send + Sync> Session<A> {
             return Err(SessionFault::Step);
         }
         let facets = read_stl(alloc, bytes, setup.unit)?;
+        Session::of_facets(alloc, facets, setup)
+    }
+
+    /// The session of the facets that a text reads as.
+    pub(crate) fn of_facets(
+        alloc: A,
+        facets: Vec<Facet, A>,
+        setup: &Setup,
+    ) -> Result<Session<A>, SessionFault>
+        requires range { IsInRange setup.now }
+        requires few { vec_len facets ≤ FACET_LIMIT }
+        ensures found { (bytes : List ℕ) → Reads FACET_LIMIT setup.now.unit bytes facets.items
+            → IfOk result (IsSessionOf setup.now bytes) }
+        ensures fault { (bytes : List ℕ) → Reads FACET_LIMIT setup.now.unit bytes facets.items
+            → IfErr result (IsOpenFault setup.now bytes) }
+        ensures only { (bytes : List ℕ) (session : Opened) → Reads FACET_LIMIT setup.now.unit bytes facets.items
+            → IsSessionOf setup.now bytes session → IfErr result (λ fault. fault ≡ Memory) }
+    {
         let facet_count = facets.len();
         let corners = extent(facets.as_slice());
         let solid = weld(alloc, facets)?;
