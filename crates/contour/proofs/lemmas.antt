@@ -19,3 +19,4 @@ pub mod LoopsClose
 pub mod LoopWinds
 pub mod LoopLaws
 pub mod SegmentEnds
+pub mod Outlined

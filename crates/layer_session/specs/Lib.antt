@@ -1,3 +1,4 @@
 pub mod Setup
 pub mod Session
 pub mod Answers
+pub mod Reading

@@ -1,23 +1,25 @@
 //! Sessions: a closed mesh in its grid, with a rule, asked layer by layer.
-ghost use Rattle.std.specs.Prelude.{◌≡◌, ◌<◌, ◌≤◌, Err, IfErr, IfOk, OnOk};
+ghost use Rattle.std.specs.Prelude.{◌≡◌, ◌<◌, ◌≤◌, Err, IfErr, IfOk, List, OnOk, vec_len, ℕ};
 ghost use Rattle.build_book.specs.Job.{stripe_count};
+ghost use Rattle.build_book.specs.declared.limits.TheConstants.{MOST_STRIPES};
 ghost use Rattle.contour.specs.Loops.{AreLoops, loops};
+ghost use Rattle.contour.specs.Outlines.{outlines};
 ghost use Rattle.contour.specs.Segment.{segments};
-ghost use Rattle.geometry.specs.declared.limits.TheConstants.{LAYER_LIMIT};
+ghost use Rattle.geometry.specs.declared.limits.TheConstants.{FACET_LIMIT, LAYER_LIMIT};
 ghost use Rattle.raster.specs.Filler.{area_of};
 ghost use Rattle.raster.specs.Grid.{plane};
+ghost use Rattle.stl_text.specs.Text.{Reads};
 ghost use Rattle.layer_session.specs.Answers.{IsLayerFault, IsStripeFault, image_of, outside, probed, stripe_images};
 ghost use Rattle.layer_session.specs.Session.{IsOpenFault, IsSessionOf, Session as Opened};
 ghost use Rattle.layer_session.specs.Setup.{IsInRange};
 ghost use Rattle.layer_session.specs.declared.session_fault.SessionFault.TheVariants.{Memory, Step};
 
-use crate::layers::{layer_area, layer_image, layer_loops, stripe_images};
-use crate::opening::grid_for;
+use crate::layers::{layer_area, layer_image, layer_loops, layer_outlines, stripe_images};
 use crate::session_fault::SessionFault;
 use crate::setup::Setup;
 use build_book::Job;
-use contour::Loops;
-use geometry::{Point, extent};
+use contour::{Loops, Outlines};
+use geometry::{Facet, Point, extent};
 use mesh_weld::{probe, weld};
 use raster::{Grid, Rule};
 use std::alloc::Allocator;
@@ -59,10 +61,28 @@ impl<A: Allocator + Copy + Send + Sync> Session<A> {
             return Err(SessionFault::Step);
         }
         let facets = read_stl(alloc, bytes, setup.unit)?;
+        Session::of_facets(alloc, facets, setup)
+    }
+
+    /// The session of the facets that a text reads as.
+    pub(crate) fn of_facets(
+        alloc: A,
+        facets: Vec<Facet, A>,
+        setup: &Setup,
+    ) -> Result<Session<A>, SessionFault>
+        requires range { IsInRange setup.now }
+        requires few { vec_len facets ≤ FACET_LIMIT }
+        ensures found { (bytes : List ℕ) → Reads FACET_LIMIT setup.now.unit bytes facets.items
+            → IfOk result (IsSessionOf setup.now bytes) }
+        ensures fault { (bytes : List ℕ) → Reads FACET_LIMIT setup.now.unit bytes facets.items
+            → IfErr result (IsOpenFault setup.now bytes) }
+        ensures only { (bytes : List ℕ) (session : Opened) → Reads FACET_LIMIT setup.now.unit bytes facets.items
+            → IsSessionOf setup.now bytes session → IfErr result (λ fault. fault ≡ Memory) }
+    {
         let facet_count = facets.len();
         let corners = extent(facets.as_slice());
         let solid = weld(alloc, facets)?;
-        let grid = grid_for(&solid, setup)?;
+        let grid = setup.placing.grid(&solid, setup.pitch, setup.layer)?;
         Ok(Session {
             alloc,
             job: Job::new(solid, grid, setup.rule),
@@ -96,7 +116,8 @@ impl<A: Allocator + Copy + Send + Sync> Session<A> {
 
     /// The number of stripes, as of [`Job::stripes`]. Stripe s is the layers from 8 s to 8 s + 7, as far as the grid has them.
     pub fn stripes(&self) -> u64
-        ensures { result ≡ stripe_count self.now.job.grid }
+        ensures value { result ≡ stripe_count self.now.job.grid }
+        ensures few { result ≤ MOST_STRIPES }
     {
         self.job.stripes()
     }
@@ -172,6 +193,21 @@ impl<A: Allocator + Copy + Send + Sync> Session<A> {
     {
         self.has_layer(k)?;
         Ok(layer_loops(self.alloc, &self.job, k)?)
+    }
+
+    /// The loops of layer k as points, one for each of their segments: where it starts, x and y rounded to the nearest
+    /// half-micrometre, halves upward. The inside of a mesh whose facets face outward lies on the left of each segment, as
+    /// of [`Outlines`].
+    ///
+    /// # Errors
+    /// `Outside` exactly where there is no such layer; `Memory` only where an allocation failed.
+    pub fn outlines(&self, k: u32) -> Result<Outlines<A>, SessionFault>
+        ensures outlines { IfOk result (λ found. found ≡ outlines self.now.job.solid.facets (plane self.now.job.grid k)) }
+        ensures within { OnOk result (k < self.now.job.grid.layers) }
+        ensures fault { IfErr result (IsLayerFault self.now.job.grid k) }
+    {
+        self.has_layer(k)?;
+        Ok(layer_outlines(self.alloc, &self.job, k)?)
     }
 
     /// The signed crossings of the mesh by the rays along x and along y from the centre of the voxel of column i, row j

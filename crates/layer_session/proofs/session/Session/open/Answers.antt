@@ -1,8 +1,5 @@
-use Rattle.std.proofs.Common.{◌≡◌, ◌∙◌, rules}
-use Rattle.std.specs.Prelude.{Err, Ok}
-use Rattle.mesh_weld.specs.declared.weld_fault.WeldFault.TheVariants as weld
+use Rattle.std.proofs.Common.{◌≡◌, rules}
 use Rattle.stl_text.specs.declared.stl_fault.StlFault.TheVariants as stl
-use Rattle.layer_session.specs.Setup.{grid_for}
 use Rattle.layer_session.proofs.session.Session.open.Goals as goal
 
 pub returns-in_err-facets-clause-only : goal.returns-in_err-facets-clause-only
@@ -10,16 +7,5 @@ returns-in_err-facets-clause-only g c = λ session is.
     let cause : c.in_err-facets.field-0.0 ≡ stl.Memory = c.in_err-facets.ensures.only is.facets is.reads in
     search rules
 
-pub returns-in_err-solid-clause-only : goal.returns-in_err-solid-clause-only
-returns-in_err-solid-clause-only g c = λ session is.
-    let same : c.in_ok-facets.facets.items ≡ is.facets = c.in_ok-facets.ensures.only is.facets is.reads in
-    let cause : c.in_err-solid.field-0.0 ≡ weld.Memory = c.in_err-solid.ensures.only (rw same is.closed) in
-    search rules
-
-pub returns-in_err-grid-clause-only : goal.returns-in_err-grid-clause-only
-returns-in_err-grid-clause-only g c = λ session is.
-    let same : c.in_ok-facets.facets.items ≡ is.facets = c.in_ok-facets.ensures.only is.facets is.reads in
-    let placed : grid_for c.args.setup.now c.in_ok-solid.solid.facets ≡ Ok session.job.grid =
-    rw (c.in_ok-solid.ensures.kept, same) is.grid in
-    let none : Err c.in_err-grid.field-0.0 ≡ Ok session.job.grid = c.in_err-grid.ensures ∙ placed in
-    cc
+pub returns-clause-only : goal.returns-clause-only
+returns-clause-only g c = λ session is. c.of_facets.ensures.only c.args.bytes.now session c.in_ok-facets.ensures.found is

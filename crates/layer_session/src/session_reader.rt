@@ -1,0 +1,79 @@
+//! Opening a text that arrives in pieces.
+ghost use Rattle.std.specs.Prelude.{◌≡◌, ◌++◌, [], Err, IfErr, IfOk, List, ℕ};
+ghost use Rattle.layer_session.specs.Reading.{IsFed};
+ghost use Rattle.layer_session.specs.Session.{IsOpenFault, IsSessionOf, Session as Opened};
+ghost use Rattle.layer_session.specs.Setup.{IsInRange};
+ghost use Rattle.layer_session.specs.declared.session_fault.SessionFault.TheVariants.{Memory, Step};
+ghost use Rattle.layer_session.specs.declared.setup.Setup.{Setup as OpenedWith};
+
+use crate::session::Session;
+use crate::session_fault::SessionFault;
+use crate::setup::Setup;
+use geometry::FACET_LIMIT;
+use std::alloc::Allocator;
+use std::marker::Model;
+use stl_text::TextReader;
+
+/// Opens an ASCII STL text that arrives in pieces, cut anywhere. It keeps the facets and no more of the text than the
+/// front of a word that isn't whole yet.
+#[derive(Drop)]
+pub struct SessionReader<A: Allocator> {
+    alloc: A,
+    setup: Setup,
+    reader: TextReader<A>,
+}
+
+impl<A: Allocator> Model for SessionReader<A> {
+    ghost use Rattle.std.specs.Prelude.{List, ℕ};
+    ghost use Rattle.layer_session.specs.Reading.{IsFed, Reading};
+
+    ghost Value = { Reading };
+
+    ghost view = { λ r. record { setup = r.setup; progress = r.reader } };
+
+    ghost invariant = { λ r. (fed : List ℕ) × IsFed r.setup (record { setup = r.setup; progress = r.reader }) fed };
+}
+
+impl<A: Allocator + Copy + Send + Sync> SessionReader<A> {
+    /// A reader that has read nothing yet.
+    pub fn new(alloc: A, setup: &Setup) -> SessionReader<A>
+        ensures { IsFed setup.now result [] }
+    {
+        SessionReader {
+            alloc,
+            setup: *setup,
+            reader: TextReader::new(alloc, FACET_LIMIT, setup.unit),
+        }
+    }
+
+    /// Reads the next piece of the text. Where it is cut from the next doesn't matter.
+    pub fn feed(&mut self, piece: &[u8])
+        ensures { (setup : OpenedWith) (fed : List ℕ) → IsFed setup self.old fed → IsFed setup self.new (fed ++ piece.now) }
+    {
+        self.reader.feed(piece);
+    }
+
+    /// The session of the text that was fed, as of [`Session::open`].
+    ///
+    /// # Errors
+    /// Those of [`Session::open`], in the same order. `Memory` comes only where an allocation failed, at this call or
+    /// while the text was read, or behind `usize::MAX` bytes.
+    pub fn finish(self) -> Result<Session<A>, SessionFault>
+        ensures found { (setup : OpenedWith) (fed : List ℕ) → IsFed setup self fed → IfOk result (IsSessionOf setup fed) }
+        ensures fault { (setup : OpenedWith) (fed : List ℕ) → IsFed setup self fed → IfErr result (IsOpenFault setup fed) }
+        ensures step { (setup : OpenedWith) (fed : List ℕ) → IsFed setup self fed → (IsInRange setup → ⊥) → result ≡ Err Step }
+        ensures only { (setup : OpenedWith) (fed : List ℕ) → IsFed setup self fed → (session : Opened)
+            → IsSessionOf setup fed session → IfErr result (λ fault. fault ≡ Memory) }
+    {
+        let SessionReader {
+            alloc,
+            setup,
+            reader,
+        } = self;
+        if !setup.is_in_range() {
+            return Err(SessionFault::Step);
+        }
+        let facets = reader.finish()?;
+        Session::of_facets(alloc, facets, &setup)
+    }
+}
