@@ -1,5 +1,5 @@
 //! What a run reads: the facets that its input spells, and the closed mesh that they make.
-ghost use Rattle.std.specs.Prelude.{◌≡◌, ◌≢◌, ◌<◌, ◌≤◌, ◌⊎◌, Err, IfErr, IfOk, List, Ok, OnErr, OnOk, Option, false, length, vec_len, ℕ};
+ghost use Rattle.std.specs.Prelude.{◌≡◌, ◌≢◌, ◌<◌, ◌≤◌, ◌⊎◌, Err, IfErr, IfOk, List, Ok, OnErr, OnOk, Option, [], false, length, vec_len, ℕ};
 ghost use Rattle.std.specs.Io.KnownBytes.{IsAtEnd};
 ghost use Rattle.raster.specs.Devices.{Fails};
 ghost use Rattle.stlslice.specs.declared.run_fault.RunFault.TheVariants.{Memory, Read};
@@ -8,9 +8,11 @@ ghost use Rattle.mesh_weld.specs.Balance.{IsBalanced};
 ghost use Rattle.mesh_weld.specs.Solid.{solid_of};
 ghost use Rattle.stl_text.specs.Text.{Reads};
 ghost use Rattle.geometry.specs.Facet.{Facet};
+ghost use Rattle.stlslice.specs.Extent.{IsExtentOf, extent_of};
 ghost use Rattle.stlslice.specs.Ending.{IsFed, IsInput, IsInputFault, IsLoadFault, IsMisread, IsSolidOf};
 ghost use Rattle.geometry.specs.declared.limits.TheConstants.{FACET_LIMIT};
 
+use crate::extent::Extent;
 use crate::run_fault::RunFault;
 use geometry::{FACET_LIMIT, Facet};
 use mesh_weld::{Solid, weld};
@@ -74,7 +76,7 @@ pub(crate) fn read_solid<A: Allocator + Copy + Send + Sync, I: Source>(
 }
 
 /// The facets that a source spells, which is read to its end. Its text is not held.
-pub(crate) fn read_facets<A: Allocator + Copy + Send + Sync, I: Source>(
+fn read_facets<A: Allocator + Copy + Send + Sync, I: Source>(
     alloc: A,
     source: &mut I,
     unit: Unit,
@@ -91,6 +93,55 @@ pub(crate) fn read_facets<A: Allocator + Copy + Send + Sync, I: Source>(
     let mut reader = TextReader::new(alloc, FACET_LIMIT, unit);
     feed_all(source, &mut reader)?;
     Ok(reader.finish()?)
+}
+
+/// How many facets a source spells, and their bounding box. It is read to its end; neither its text nor its facets are
+/// held.
+pub(crate) fn read_extent<A: Allocator + Copy + Send + Sync, I: Source>(
+    alloc: A,
+    source: &mut I,
+    unit: Unit,
+) -> Result<Extent, RunFault>
+    ensures ok { IfOk result (λ extent. (input : List ℕ) × IsInput (I.remaining source.old) input
+        × (facets : List Facet) × Reads FACET_LIMIT unit input facets × (extent ≡ extent_of facets)) }
+    ensures err { IfErr result (IsInputFault (IsMisread unit) (I.remaining source.old)) }
+    ensures whole { result ≢ Err Read → result ≢ Err Memory → IsAtEnd (I.remaining source.new) }
+    ensures unread { result ≡ Err Read
+        → Fails (I.Failures.failure_count source.old) (I.Failures.failure_count source.new) }
+    ensures sound { result ≢ Err Read → I.Failures.failure_count source.new ≡ I.Failures.failure_count source.old }
+{
+    let mut reader = TextReader::new(alloc, FACET_LIMIT, unit);
+    let extent = measure_all(source, &mut reader)?;
+    let last = reader.finish()?;
+    Ok(extent.with(&last))
+}
+
+/// Feeds a reader with all bytes of a source, and takes the facets off it: answers their extent. Behind 2^64 - 1 windows
+/// it answers `Memory`.
+fn measure_all<A: Allocator, I: Source>(
+    source: &mut I,
+    reader: &mut TextReader<A>,
+) -> Result<Extent, RunFault>
+    ensures fed { IfOk result (λ extent. (taken : List Facet) × IsExtentOf taken extent
+        × ((unit : LengthUnit) (start : Option (List ℕ)) → IsFed unit [] reader.old start (I.remaining source.old)
+        → IsFed unit taken reader.new start (I.remaining source.new))) }
+    ensures whole { OnOk result (IsAtEnd (I.remaining source.new)) }
+    ensures unread { result ≡ Err Read
+        → Fails (I.Failures.failure_count source.old) (I.Failures.failure_count source.new) }
+    ensures sound { result ≢ Err Read → I.Failures.failure_count source.new ≡ I.Failures.failure_count source.old }
+    ensures only { IfErr result (λ fault. (fault ≡ Read) ⊎ (fault ≡ Memory)) }
+{
+    let mut extent = Extent::none();
+    let mut window = [0; WINDOW_LEN];
+    for _ in 0..u64::MAX {
+        let is_more = feed_next(source, &mut window, reader)?;
+        extent = extent.with(reader.facets());
+        reader.forget();
+        if !is_more {
+            return Ok(extent);
+        }
+    }
+    Err(RunFault::Memory)
 }
 
 /// Feeds a reader with all bytes of a source. Behind 2^64 - 1 windows it answers `Memory`.

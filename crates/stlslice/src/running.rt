@@ -10,7 +10,7 @@ ghost use Rattle.task_words.specs.Task.{IsInRange};
 ghost use Rattle.task_words.specs.declared.task.Task.TheVariants as task;
 ghost use Rattle.geometry.specs.declared.limits.TheConstants.{STEP_LIMIT};
 
-use crate::loading::{read_facets, read_solid};
+use crate::loading::{read_extent, read_solid};
 use crate::run_fault::RunFault;
 use crate::write::box_line::box_line;
 use crate::write::probe_line::probe_voxel;
@@ -113,8 +113,8 @@ fn run_box<A: Allocator + Copy + Send + Sync, I: Source, O: Sink>(
         (transcript (O.contents sink.old) (O.contents sink.new) (O.Failures.failure_count sink.old) (O.Failures.failure_count sink.new))
         (O.is_settled sink.new) }
 {
-    let facets = read_facets(alloc, source, unit)?;
-    let line = box_line(alloc, &facets)?;
+    let extent = read_extent(alloc, source, unit)?;
+    let line = box_line(alloc, extent)?;
     write_all(sink, line.as_bytes())
 }
 
