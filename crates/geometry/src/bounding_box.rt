@@ -1,7 +1,7 @@
-//! The bounding box of facets, which a grid is fitted to.
-ghost use Rattle.std.specs.Prelude.{◌≡◌, All, IfSome, flat_map, option_map};
+//! The bounding box of facets, which a grid is fitted to, and which grows as facets come.
+ghost use Rattle.std.specs.Prelude.{◌≡◌, ◌++◌, All, IfSome, List, flat_map, fold, option_map};
 ghost use Rattle.geometry.specs.BoundingBox.{IsInBox, IsTight, bounds, greatest_of, least_of};
-ghost use Rattle.geometry.specs.Facet.{corners};
+ghost use Rattle.geometry.specs.Facet.{Facet, corners};
 
 use crate::facet::Facet;
 use crate::point::Point;
@@ -14,14 +14,33 @@ pub fn extent(facets: &[Facet]) -> Option<(Point, Point)>
     ensures tight { IfSome result (λ b. IsTight b.0 b.1 (flat_map corners facets.now)) }
 {
     let start = facets.first()?.corner(0);
-    let mut low = start;
-    let mut high = start;
+    Some(grown(start, start, facets))
+}
+
+/// The bounding box of facets and of others before them, whose bounding box is `before`. `None` where there is no facet.
+pub fn extent_with(before: Option<(Point, Point)>, facets: &[Facet]) -> Option<(Point, Point)>
+    ensures { (earlier : List Facet) → before ≡ option_map (λ b. record { 0 = b.low; 1 = b.high }) (bounds earlier)
+        → result ≡ option_map (λ b. record { 0 = b.low; 1 = b.high }) (bounds (earlier ++ facets.now)) }
+{
+    match before {
+        None => extent(facets),
+        Some(corners) => Some(grown(corners.0, corners.1, facets)),
+    }
+}
+
+/// The bounding box of two points and of the corners of facets.
+fn grown(low: Point, high: Point, facets: &[Facet]) -> (Point, Point)
+    ensures low { result.0 ≡ fold least_of low (flat_map corners facets.now) }
+    ensures high { result.1 ≡ fold greatest_of high (flat_map corners facets.now) }
+{
+    let mut least = low;
+    let mut greatest = high;
     for facet in facets {
         let (a, b, c) = (facet.corner(0), facet.corner(1), facet.corner(2));
-        low = lower(lower(lower(low, a), b), c);
-        high = higher(higher(higher(high, a), b), c);
+        least = lower(lower(lower(least, a), b), c);
+        greatest = higher(higher(higher(greatest, a), b), c);
     }
-    Some((low, high))
+    (least, greatest)
 }
 
 /// The point of the lesser x, y and z of two points.

@@ -1,5 +1,6 @@
 pub mod Bytes
 pub mod Ends
+pub mod Extents
 pub mod Faults
 pub mod OneAnswer
 pub mod Stream

@@ -1,11 +1,13 @@
 -- Which faults of a run come when, beside those of its devices and of memory.
-use Rattle.std.specs.Prelude.{◌≡◌, ◌≢◌, ℕ, ◌≤◌, ◌⊎◌, List, Option, Err, Ok, length}
-use Rattle.std.specs.Io.KnownBytes.{Keeps}
+use Rattle.std.specs.Prelude.{◌≡◌, ◌≢◌, ℕ, ◌≤◌, ◌⊎◌, List, Option, Err, IfSome, Ok, length}
+use Rattle.std.specs.Io.KnownBytes.{Consumes, Keeps}
 use Rattle.raster.specs.Devices.{AppendsFirst, Fails}
 use Rattle.task_words.specs.declared.task.Task.{Task}
 use Rattle.stlslice.specs.declared.run_fault.RunFault.{RunFault}
 use Rattle.stlslice.specs.declared.run_fault.RunFault.TheVariants as fault
 use Rattle.micro_num.specs.declared.unit.Unit.{Unit as LengthUnit}
+use Rattle.stl_text.specs.declared.stl_fault.StlFault.{StlFault}
+use Rattle.stl_text.specs.Pieces.{IsAfter, Progress}
 use Rattle.stl_text.specs.Text.{IsFaultOf, Reads}
 use Rattle.geometry.specs.Facet.{Facet}
 use Rattle.mesh_weld.specs.Balance.{IsBalanced, IsLeastOpen}
@@ -35,6 +37,22 @@ IsLoadFault unit bytes (fault.Grid cause) = ⊥
 IsLoadFault unit bytes fault.Memory = Unit {0}
 IsLoadFault unit bytes (fault.Write written) = ⊥
 IsLoadFault unit bytes (fault.Outside columns rows layers) = ⊥
+
+-- a text that doesn't read as facets
+abbrev pub IsMisread : LengthUnit → List ℕ → RunFault → Type 0
+IsMisread unit bytes f = (cause : StlFault) × (f ≡ fault.Stl cause) × IsFaultOf FACET_LIMIT unit bytes cause
+
+-- these bytes are all of the input, where that is known
+abbrev pub IsInput : Option (List ℕ) → List ℕ → Type 0
+IsInput known bytes = IfSome known (λ input. bytes ≡ input)
+
+-- a failed read, want of memory, or a fault of the input
+abbrev pub IsInputFault : (List ℕ → RunFault → Type 0) → Option (List ℕ) → RunFault → Type 0
+IsInputFault is known f = (f ≡ fault.Read) ⊎ (f ≡ fault.Memory) ⊎ ((input : List ℕ) × IsInput known input × is input f)
+
+-- the reader was fed what a source had at the start and has no more, and these facets were taken off it
+abbrev pub IsFed : LengthUnit → List Facet → Progress → Option (List ℕ) → Option (List ℕ) → Type 0
+IsFed unit taken reader start now = (fed : List ℕ) × Consumes start now fed × IsAfter FACET_LIMIT unit taken reader fed
 
 -- the closed mesh that a text is
 abbrev pub IsSolidOf : LengthUnit → List ℕ → Solid → Type 0

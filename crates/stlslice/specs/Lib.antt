@@ -1,5 +1,6 @@
 pub mod RunFault
 pub mod SlicedText
 pub mod Outcome
+pub mod Extent
 pub mod Ending
 pub mod Run

@@ -14,6 +14,7 @@
 //! Pitch, layer height and the box are in micrometres.
 #![tactic(auto)]
 
+mod extent;
 mod laws;
 mod loading;
 mod run_fault;

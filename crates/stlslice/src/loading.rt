@@ -1,26 +1,28 @@
-//! What a run reads: the bytes of its input, and the closed mesh that they spell.
-ghost use Rattle.std.specs.Prelude.{◌≡◌, ◌≢◌, ◌≤◌, ◌⊎◌, Err, IfErr, IfOk, IfSome, List, OnOk, vec_len, ℕ};
+//! What a run reads: the facets that its input spells, and the closed mesh that they make.
+ghost use Rattle.std.specs.Prelude.{◌≡◌, ◌≢◌, ◌<◌, ◌≤◌, ◌⊎◌, Err, IfErr, IfOk, List, Ok, OnErr, OnOk, Option, [], false, length, vec_len, ℕ};
 ghost use Rattle.std.specs.Io.KnownBytes.{IsAtEnd};
 ghost use Rattle.raster.specs.Devices.{Fails};
-ghost use Rattle.stlslice.specs.declared.run_fault.RunFault.TheVariants.{Memory, Read, Stl};
+ghost use Rattle.stlslice.specs.declared.run_fault.RunFault.TheVariants.{Memory, Read};
 ghost use Rattle.micro_num.specs.declared.unit.Unit.{Unit as LengthUnit};
 ghost use Rattle.mesh_weld.specs.Balance.{IsBalanced};
 ghost use Rattle.mesh_weld.specs.Solid.{solid_of};
-ghost use Rattle.stl_text.specs.Text.{IsFaultOf, Reads};
-ghost use Rattle.stl_text.specs.declared.stl_fault.StlFault.{StlFault};
+ghost use Rattle.stl_text.specs.Text.{Reads};
 ghost use Rattle.geometry.specs.Facet.{Facet};
-ghost use Rattle.stlslice.specs.Ending.{IsLoadFault, IsSolidOf};
+ghost use Rattle.stlslice.specs.Extent.{IsExtentOf, extent_of};
+ghost use Rattle.stlslice.specs.Ending.{IsFed, IsInput, IsInputFault, IsLoadFault, IsMisread, IsSolidOf};
 ghost use Rattle.geometry.specs.declared.limits.TheConstants.{FACET_LIMIT};
 
+use crate::extent::Extent;
 use crate::run_fault::RunFault;
 use geometry::{FACET_LIMIT, Facet};
 use mesh_weld::{Solid, weld};
 use micro_num::Unit;
 use raster::Source;
 use std::alloc::Allocator;
-use std::convert::AsSlice;
-use std::thread::Threads;
-use stl_text::{read_stl, read_stl_by};
+use stl_text::{TextReader, read_stl};
+
+/// The length of the window that is filled from the source and then handed to the reader, in bytes.
+const WINDOW_LEN: usize = 65_536;
 
 /// The closed mesh of an ASCII STL text whose numbers are in `unit`. Facets with two equal corners are dropped.
 ///
@@ -37,37 +39,7 @@ pub fn load<A: Allocator + Copy + Send + Sync>(
     ensures only { (facets : List Facet) → Reads FACET_LIMIT unit bytes.now facets → IsBalanced facets
         → IfErr result (λ fault. fault ≡ Memory) }
 {
-    read_solid(alloc, bytes, unit)
-}
-
-/// The closed mesh of a text. A text that is handed over with its memory is freed before the weld.
-pub(crate) fn read_solid<A: Allocator + Copy + Send + Sync, T: AsSlice<u8> + Drop>(
-    alloc: A,
-    text: T,
-    unit: Unit,
-) -> Result<Solid<A>, RunFault>
-    ensures ok { IfOk result (IsSolidOf unit (T.items text)) }
-    ensures err { IfErr result (IsLoadFault unit (T.items text)) }
-    ensures only { (facets : List Facet) → Reads FACET_LIMIT unit (T.items text) facets → IsBalanced facets
-        → IfErr result (λ fault. fault ≡ Memory) }
-{
-    let facets = read_facets(alloc, text, unit)?;
-    weld_read(alloc, facets)
-}
-
-/// The closed mesh of a text, read by several workers at the same time. It answers what [`read_solid`] answers.
-pub(crate) fn read_solid_by<
-    R: Threads + Sync,
-    A: Allocator + Copy + Send + Sync,
-    T: AsSlice<u8> + Drop,
->(rt: &R, alloc: A, text: T, unit: Unit, workers: u32) -> Result<Solid<A>, RunFault>
-    requires { 1 ≤ workers }
-    ensures ok { IfOk result (IsSolidOf unit (T.items text)) }
-    ensures err { IfErr result (IsLoadFault unit (T.items text)) }
-    ensures only { (facets : List Facet) → Reads FACET_LIMIT unit (T.items text) facets → IsBalanced facets
-        → IfErr result (λ fault. fault ≡ Memory) }
-{
-    let facets = read_facets_by(rt, alloc, text, unit, workers)?;
+    let facets = read_stl(alloc, bytes, unit)?;
     weld_read(alloc, facets)
 }
 
@@ -86,70 +58,133 @@ fn weld_read<A: Allocator + Copy + Send + Sync>(
     Ok(weld(alloc, facets)?)
 }
 
-/// The facets of a text. A text that is handed over with its memory is freed.
-pub(crate) fn read_facets<A: Allocator + Copy + Send + Sync, T: AsSlice<u8> + Drop>(
-    alloc: A,
-    text: T,
-    unit: Unit,
-) -> Result<Vec<Facet, A>, RunFault>
-    ensures ok { IfOk result (λ facets. Reads FACET_LIMIT unit (T.items text) facets.items) }
-    ensures few { IfOk result (λ facets. vec_len facets ≤ FACET_LIMIT) }
-    ensures err { IfErr result (λ fault. (fault ≡ Memory) ⊎ ((cause : StlFault) × (fault ≡ Stl cause)
-        × IsFaultOf FACET_LIMIT unit (T.items text) cause)) }
-    ensures same { (facets : List Facet) → Reads FACET_LIMIT unit (T.items text) facets
-        → IfOk result (λ found. found.items ≡ facets) }
-    ensures only { (facets : List Facet) → Reads FACET_LIMIT unit (T.items text) facets
-        → IfErr result (λ fault. fault ≡ Memory) }
-{
-    Ok(read_stl(alloc, text.as_slice(), unit)?)
-}
-
-/// The facets of a text, read by several workers at the same time. It answers what [`read_facets`] answers.
-fn read_facets_by<R: Threads + Sync, A: Allocator + Copy + Send + Sync, T: AsSlice<u8> + Drop>(
-    rt: &R,
-    alloc: A,
-    text: T,
-    unit: Unit,
-    workers: u32,
-) -> Result<Vec<Facet, A>, RunFault>
-    requires { 1 ≤ workers }
-    ensures ok { IfOk result (λ facets. Reads FACET_LIMIT unit (T.items text) facets.items) }
-    ensures few { IfOk result (λ facets. vec_len facets ≤ FACET_LIMIT) }
-    ensures err { IfErr result (λ fault. (fault ≡ Memory) ⊎ ((cause : StlFault) × (fault ≡ Stl cause)
-        × IsFaultOf FACET_LIMIT unit (T.items text) cause)) }
-    ensures same { (facets : List Facet) → Reads FACET_LIMIT unit (T.items text) facets
-        → IfOk result (λ found. found.items ≡ facets) }
-    ensures only { (facets : List Facet) → Reads FACET_LIMIT unit (T.items text) facets
-        → IfErr result (λ fault. fault ≡ Memory) }
-{
-    Ok(read_stl_by(rt, alloc, text.as_slice(), FACET_LIMIT, unit, workers)?)
-}
-
-/// The length of the chunk that one call of the source fills, in bytes.
-const CHUNK_LEN: usize = 65_536;
-
-/// All bytes of a source, to its end.
-pub(crate) fn read_all<A: Allocator + Copy + Send + Sync, I: Source>(
+/// The closed mesh that a source spells, which is read to its end.
+pub(crate) fn read_solid<A: Allocator + Copy + Send + Sync, I: Source>(
     alloc: A,
     source: &mut I,
-) -> Result<Vec<u8, A>, RunFault>
-    ensures bytes { IfOk result (λ bytes. IfSome (I.remaining source.old) (λ input. bytes.items ≡ input)) }
+    unit: Unit,
+) -> Result<Solid<A>, RunFault>
+    ensures ok { IfOk result (λ solid. (input : List ℕ) × IsInput (I.remaining source.old) input × IsSolidOf unit input solid) }
+    ensures err { IfErr result (IsInputFault (IsLoadFault unit) (I.remaining source.old)) }
+    ensures whole { result ≢ Err Read → result ≢ Err Memory → IsAtEnd (I.remaining source.new) }
+    ensures unread { result ≡ Err Read
+        → Fails (I.Failures.failure_count source.old) (I.Failures.failure_count source.new) }
+    ensures sound { result ≢ Err Read → I.Failures.failure_count source.new ≡ I.Failures.failure_count source.old }
+{
+    let facets = read_facets(alloc, source, unit)?;
+    weld_read(alloc, facets)
+}
+
+/// The facets that a source spells, which is read to its end. Its text is not held.
+fn read_facets<A: Allocator + Copy + Send + Sync, I: Source>(
+    alloc: A,
+    source: &mut I,
+    unit: Unit,
+) -> Result<Vec<Facet, A>, RunFault>
+    ensures ok { IfOk result (λ facets. (input : List ℕ) × IsInput (I.remaining source.old) input
+        × Reads FACET_LIMIT unit input facets.items) }
+    ensures few { IfOk result (λ facets. vec_len facets ≤ FACET_LIMIT) }
+    ensures err { IfErr result (IsInputFault (IsMisread unit) (I.remaining source.old)) }
+    ensures whole { result ≢ Err Read → result ≢ Err Memory → IsAtEnd (I.remaining source.new) }
+    ensures unread { result ≡ Err Read
+        → Fails (I.Failures.failure_count source.old) (I.Failures.failure_count source.new) }
+    ensures sound { result ≢ Err Read → I.Failures.failure_count source.new ≡ I.Failures.failure_count source.old }
+{
+    let mut reader = TextReader::new(alloc, FACET_LIMIT, unit);
+    feed_all(source, &mut reader)?;
+    Ok(reader.finish()?)
+}
+
+/// How many facets a source spells, and their bounding box. It is read to its end; neither its text nor its facets are
+/// held.
+pub(crate) fn read_extent<A: Allocator + Copy + Send + Sync, I: Source>(
+    alloc: A,
+    source: &mut I,
+    unit: Unit,
+) -> Result<Extent, RunFault>
+    ensures ok { IfOk result (λ extent. (input : List ℕ) × IsInput (I.remaining source.old) input
+        × (facets : List Facet) × Reads FACET_LIMIT unit input facets × (extent ≡ extent_of facets)) }
+    ensures err { IfErr result (IsInputFault (IsMisread unit) (I.remaining source.old)) }
+    ensures whole { result ≢ Err Read → result ≢ Err Memory → IsAtEnd (I.remaining source.new) }
+    ensures unread { result ≡ Err Read
+        → Fails (I.Failures.failure_count source.old) (I.Failures.failure_count source.new) }
+    ensures sound { result ≢ Err Read → I.Failures.failure_count source.new ≡ I.Failures.failure_count source.old }
+{
+    let mut reader = TextReader::new(alloc, FACET_LIMIT, unit);
+    let extent = measure_all(source, &mut reader)?;
+    let last = reader.finish()?;
+    Ok(extent.with(&last))
+}
+
+/// Feeds a reader with all bytes of a source, and takes the facets off it: answers their extent. Behind 2^64 - 1 windows
+/// it answers `Memory`.
+fn measure_all<A: Allocator, I: Source>(
+    source: &mut I,
+    reader: &mut TextReader<A>,
+) -> Result<Extent, RunFault>
+    ensures fed { IfOk result (λ extent. (taken : List Facet) × IsExtentOf taken extent
+        × ((unit : LengthUnit) (start : Option (List ℕ)) → IsFed unit [] reader.old start (I.remaining source.old)
+        → IsFed unit taken reader.new start (I.remaining source.new))) }
     ensures whole { OnOk result (IsAtEnd (I.remaining source.new)) }
     ensures unread { result ≡ Err Read
         → Fails (I.Failures.failure_count source.old) (I.Failures.failure_count source.new) }
     ensures sound { result ≢ Err Read → I.Failures.failure_count source.new ≡ I.Failures.failure_count source.old }
     ensures only { IfErr result (λ fault. (fault ≡ Read) ⊎ (fault ≡ Memory)) }
 {
-    let mut bytes = Vec::new(alloc);
-    let mut chunk = [0; CHUNK_LEN];
-    loop {
-        let count = match source.pull(&mut chunk) {
-            Ok(count) => count,
-            Err(_) => return Err(RunFault::Read),
-        };
-        if count == 0 {
-            return Ok(bytes);
+    let mut extent = Extent::none();
+    let mut window = [0; WINDOW_LEN];
+    for _ in 0..u64::MAX {
+        let is_more = feed_next(source, &mut window, reader)?;
+        extent = extent.with(reader.facets());
+        reader.forget();
+        if !is_more {
+            return Ok(extent);
         }
-        bytes.extend_from_slice(&chunk[..count])?;
     }
+    Err(RunFault::Memory)
+}
+
+/// Feeds a reader with all bytes of a source. Behind 2^64 - 1 windows it answers `Memory`.
+fn feed_all<A: Allocator, I: Source>(
+    source: &mut I,
+    reader: &mut TextReader<A>,
+) -> Result<(), RunFault>
+    ensures fed { OnOk result ((unit : LengthUnit) (taken : List Facet) (start : Option (List ℕ))
+        → IsFed unit taken reader.old start (I.remaining source.old) → IsFed unit taken reader.new start (I.remaining source.new)) }
+    ensures whole { OnOk result (IsAtEnd (I.remaining source.new)) }
+    ensures unread { result ≡ Err Read
+        → Fails (I.Failures.failure_count source.old) (I.Failures.failure_count source.new) }
+    ensures sound { result ≢ Err Read → I.Failures.failure_count source.new ≡ I.Failures.failure_count source.old }
+    ensures only { IfErr result (λ fault. (fault ≡ Read) ⊎ (fault ≡ Memory)) }
+{
+    let mut window = [0; WINDOW_LEN];
+    for _ in 0..u64::MAX {
+        if !feed_next(source, &mut window, reader)? {
+            return Ok(());
+        }
+    }
+    Err(RunFault::Memory)
+}
+
+/// Fills a window from a source and feeds a reader with it: `false` at the end of the source.
+fn feed_next<A: Allocator, I: Source>(
+    source: &mut I,
+    window: &mut [u8],
+    reader: &mut TextReader<A>,
+) -> Result<bool, RunFault>
+    requires { 0 < length window.old }
+    ensures len { length window.new ≡ length window.old }
+    ensures fed { OnOk result ((unit : LengthUnit) (taken : List Facet) (start : Option (List ℕ))
+        → IsFed unit taken reader.old start (I.remaining source.old) → IsFed unit taken reader.new start (I.remaining source.new)) }
+    ensures whole { result ≡ Ok false → IsAtEnd (I.remaining source.new) }
+    ensures unread { OnErr result (Fails (I.Failures.failure_count source.old) (I.Failures.failure_count source.new)) }
+    ensures sound { OnOk result (I.Failures.failure_count source.new ≡ I.Failures.failure_count source.old) }
+    ensures only { IfErr result (λ fault. fault ≡ Read) }
+{
+    let count = match source.pull(window) {
+        Ok(count) => count,
+        Err(_) => return Err(RunFault::Read),
+    };
+    reader.feed(&window[..count]);
+    Ok(count > 0)
 }

@@ -10,7 +10,7 @@ ghost use Rattle.task_words.specs.Task.{IsInRange};
 ghost use Rattle.task_words.specs.declared.task.Task.TheVariants as task;
 ghost use Rattle.geometry.specs.declared.limits.TheConstants.{STEP_LIMIT};
 
-use crate::loading::{read_all, read_facets, read_solid, read_solid_by};
+use crate::loading::{read_extent, read_solid};
 use crate::run_fault::RunFault;
 use crate::write::box_line::box_line;
 use crate::write::probe_line::probe_voxel;
@@ -63,29 +63,8 @@ pub fn run_watched<
         (transcript (O.contents sink.old) (O.contents sink.new) (O.Failures.failure_count sink.old) (O.Failures.failure_count sink.new))
         (O.is_settled sink.new) }
 {
-    let input = read_all(alloc, source)?;
-    respond(rt, alloc, task, input, sink, gate)
-}
-
-/// Writes and flushes what a task answers for an input. The input's bytes are freed once its facets are read.
-fn respond<R: Threads + Wait + Sync, A: Allocator + Copy + Send + Sync, O: Sink, G: Gate<A> + Sync>(
-    rt: &R,
-    alloc: A,
-    task: &Task,
-    input: Vec<u8, A>,
-    sink: &mut O,
-    gate: &G,
-) -> Result<(), RunFault>
-    requires { IsInRange task.now }
-    ensures flushed { OnOk result (O.is_settled sink.new ≡ true) }
-    ensures ok { OnOk result ((text : List ℕ) × IsOutcome task.now input.items (Ok text)
-        × Appends (O.contents sink.old) (O.contents sink.new) text) }
-    ensures same { OnOk result (O.Failures.failure_count sink.new ≡ O.Failures.failure_count sink.old) }
-    ensures err { IfErr result (IsEnd task.now input.items
-        (transcript (O.contents sink.old) (O.contents sink.new) (O.Failures.failure_count sink.old) (O.Failures.failure_count sink.new))) }
-{
     match task {
-        Task::Box { unit } => respond_box(alloc, *unit, input, sink),
+        Task::Box { unit } => run_box(alloc, *unit, source, sink),
         Task::Probe {
             unit,
             pitch,
@@ -94,14 +73,14 @@ fn respond<R: Threads + Wait + Sync, A: Allocator + Copy + Send + Sync, O: Sink,
             i,
             j,
             k,
-        } => respond_probe(
+        } => run_probe(
             alloc,
             *unit,
             *pitch,
             *layer,
             *grid,
             (*i, *j, *k),
-            input,
+            source,
             sink,
         ),
         Task::Slice {
@@ -113,7 +92,7 @@ fn respond<R: Threads + Wait + Sync, A: Allocator + Copy + Send + Sync, O: Sink,
             report,
             grid,
         } => {
-            let solid = read_solid_by(rt, alloc, input, *unit, *workers)?;
+            let solid = read_solid(alloc, source, *unit)?;
             let grid = grid_for(&solid, *grid, *pitch, *layer)?;
             let job = Job::new(solid, grid, *rule);
             let build = build(rt, alloc, &job, *workers, gate)?;
@@ -122,48 +101,43 @@ fn respond<R: Threads + Wait + Sync, A: Allocator + Copy + Send + Sync, O: Sink,
     }
 }
 
-/// Writes and flushes the box line of an input. It takes no handle, so that it returns is proved.
-fn respond_box<A: Allocator + Copy + Send + Sync, O: Sink>(
+/// Writes and flushes the box line of the input. It takes no handle, so that it returns is proved.
+fn run_box<A: Allocator + Copy + Send + Sync, I: Source, O: Sink>(
     alloc: A,
     unit: Unit,
-    input: Vec<u8, A>,
+    source: &mut I,
     sink: &mut O,
 ) -> Result<(), RunFault>
-    ensures flushed { OnOk result (O.is_settled sink.new ≡ true) }
-    ensures ok { OnOk result ((text : List ℕ) × IsOutcome (task.Box unit) input.items (Ok text)
-        × Appends (O.contents sink.old) (O.contents sink.new) text) }
-    ensures same { OnOk result (O.Failures.failure_count sink.new ≡ O.Failures.failure_count sink.old) }
-    ensures err { IfErr result (IsEnd (task.Box unit) input.items
-        (transcript (O.contents sink.old) (O.contents sink.new) (O.Failures.failure_count sink.old) (O.Failures.failure_count sink.new))) }
+    ensures { IsRun (task.Box unit) result
+        (transcript (I.remaining source.old) (I.remaining source.new) (I.Failures.failure_count source.old) (I.Failures.failure_count source.new))
+        (transcript (O.contents sink.old) (O.contents sink.new) (O.Failures.failure_count sink.old) (O.Failures.failure_count sink.new))
+        (O.is_settled sink.new) }
 {
-    let facets = read_facets(alloc, input, unit)?;
-    let line = box_line(alloc, &facets)?;
+    let extent = read_extent(alloc, source, unit)?;
+    let line = box_line(alloc, extent)?;
     write_all(sink, line.as_bytes())
 }
 
 /// Writes and flushes the rays at a voxel, which is given by its column, row and layer. It takes no handle, so that it
 /// returns is proved.
-fn respond_probe<A: Allocator + Copy + Send + Sync, O: Sink>(
+fn run_probe<A: Allocator + Copy + Send + Sync, I: Source, O: Sink>(
     alloc: A,
     unit: Unit,
     pitch: u32,
     layer: u32,
     given: Option<Given>,
     voxel: (u32, u32, u32),
-    input: Vec<u8, A>,
+    source: &mut I,
     sink: &mut O,
 ) -> Result<(), RunFault>
     requires { IsInRange (task.Probe unit pitch layer given voxel.0 voxel.1 voxel.2) }
-    ensures flushed { OnOk result (O.is_settled sink.new ≡ true) }
-    ensures ok { OnOk result ((text : List ℕ)
-        × IsOutcome (task.Probe unit pitch layer given voxel.0 voxel.1 voxel.2) input.items (Ok text)
-        × Appends (O.contents sink.old) (O.contents sink.new) text) }
-    ensures same { OnOk result (O.Failures.failure_count sink.new ≡ O.Failures.failure_count sink.old) }
-    ensures err { IfErr result (IsEnd (task.Probe unit pitch layer given voxel.0 voxel.1 voxel.2) input.items
-        (transcript (O.contents sink.old) (O.contents sink.new) (O.Failures.failure_count sink.old) (O.Failures.failure_count sink.new))) }
+    ensures { IsRun (task.Probe unit pitch layer given voxel.0 voxel.1 voxel.2) result
+        (transcript (I.remaining source.old) (I.remaining source.new) (I.Failures.failure_count source.old) (I.Failures.failure_count source.new))
+        (transcript (O.contents sink.old) (O.contents sink.new) (O.Failures.failure_count sink.old) (O.Failures.failure_count sink.new))
+        (O.is_settled sink.new) }
 {
     let (i, j, k) = voxel;
-    let solid = read_solid(alloc, input, unit)?;
+    let solid = read_solid(alloc, source, unit)?;
     let grid = grid_for(&solid, given, pitch, layer)?;
     let line = probe_voxel(alloc, &solid, &grid, i, j, k)?;
     write_all(sink, line.as_bytes())

@@ -1,13 +1,15 @@
 -- The box of a list of points holds each of them, and each of its six coordinates is one of theirs.
 use Rattle.std.proofs.Common.{◌≡◌, zero, suc, get_or, List, [], ◌∷◌, ◌⊎◌, inl, inr, refl, sym, ◌∙◌, ap, subst, arith, map, fold}
-use Rattle.std.specs.Prelude.{All, Contains, Some, flat_map, slice_get, ℤ, ◌≤ℤ◌}
+use Rattle.std.specs.Prelude.{All, Contains, None, Option, Some, ◌++◌, flat_map, option_map, slice_get, ℤ, ◌≤ℤ◌}
 use Rattle.std.specs.Int.{int_min, int_max}
 use Rattle.std.proofs.lemmas.Int.{fold-int_min_bounds, fold-int_min_reached, fold-int_max_bounds, fold-int_max_reached}
+use Rattle.std.proofs.lemmas.Grind.{flat_map-append}
+use Rattle.std.proofs.lemmas.List.Sums.{fold-append}
 use Rattle.std.proofs.lemmas.List.{get_or-map, length-map}
 use Rattle.std.proofs.lemmas.List.Elements.{All-cons, Contains-append_right}
 use Rattle.geometry.specs.Point.{Point}
 use Rattle.geometry.specs.Facet.{Facet, corners}
-use Rattle.geometry.specs.BoundingBox.{IsInBox, IsTight, greatest_of, least_of}
+use Rattle.geometry.specs.BoundingBox.{Bounds, IsInBox, IsTight, bounds, greatest_of, least_of}
 
 unmapped : (pick : Point → ℤ) (P : ℤ → Type 0) (ps : List Point) → All P (map pick ps) → All (λ q. P (pick q)) ps
 unmapped pick P ps all k d l =
@@ -107,3 +109,35 @@ pub first-corner : (facets : List Facet) (t : Facet) (start : Point) → Some t 
     → slice_get (flat_map corners facets) 0 ≡ Some start
 first-corner [] t start e s = absurd (cc)
 first-corner (f ∷ facets) t start e s = let same : t ≡ f = cc in ap Some (sym (s ∙ ap (λ (u : Facet). u.a) same))
+
+-- A box that grows by further facets.
+
+abbrev box : Point → Point → Option (Point × Point)
+box low high = Some (low, high)
+
+abbrev sides : Option Bounds → Option (Point × Point)
+sides found = option_map (λ b. (b.low, b.high)) found
+
+abbrev low_of : Point → Option (Point × Point) → Point
+low_of other None = other
+low_of other (Some found) = found.0
+
+abbrev high_of : Point → Option (Point × Point) → Point
+high_of other None = other
+high_of other (Some found) = found.1
+
+pub grown-box : (earlier more : List Facet) (low high least greatest : Point) → box low high ≡ sides (bounds earlier)
+    → least ≡ fold least_of low (flat_map corners more) → greatest ≡ fold greatest_of high (flat_map corners more)
+    → box least greatest ≡ sides (bounds (earlier ++ more))
+grown-box [] more low high least greatest e least_is greatest_is = absurd (cc)
+grown-box (t ∷ ts) more low high least greatest e least_is greatest_is =
+    let ps : List Point = t.b ∷ t.c ∷ flat_map corners ts in
+    let qs : List Point = flat_map corners more in
+    let low_is : low ≡ fold least_of t.a ps = ap (low_of low) e in
+    let high_is : high ≡ fold greatest_of t.a ps = ap (high_of high) e in
+    let all : t.b ∷ t.c ∷ flat_map corners (ts ++ more) ≡ ps ++ qs = ap (λ l. t.b ∷ t.c ∷ l) (flat_map-append corners ts more) in
+    let lower : least ≡ fold least_of t.a (t.b ∷ t.c ∷ flat_map corners (ts ++ more)) =
+    least_is ∙ ap (λ p. fold least_of p qs) low_is ∙ sym (fold-append least_of t.a ps qs) ∙ ap (fold least_of t.a) (sym all) in
+    let higher : greatest ≡ fold greatest_of t.a (t.b ∷ t.c ∷ flat_map corners (ts ++ more)) =
+    greatest_is ∙ ap (λ p. fold greatest_of p qs) high_is ∙ sym (fold-append greatest_of t.a ps qs) ∙ ap (fold greatest_of t.a) (sym all) in
+    ap (λ p. box p greatest) lower ∙ ap (λ p. box (fold least_of t.a (t.b ∷ t.c ∷ flat_map corners (ts ++ more))) p) higher

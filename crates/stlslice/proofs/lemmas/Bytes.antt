@@ -7,3 +7,7 @@ pub of_input : (known : Option (List ℕ)) (bytes : List ℕ) (P : List ℕ → 
     → P bytes → IfSome known P
 of_input None bytes P is h = tt
 of_input (Some input) bytes P is h = subst P is h
+
+pub each : (known : Option (List ℕ)) (P : List ℕ → Type 0) → ((input : List ℕ) → P input) → IfSome known P
+each None P h = tt
+each (Some input) P h = h input

@@ -1,10 +1,10 @@
 -- How a run ends.
-use Rattle.std.proofs.Common.{◌≡◌, ◌≢◌, ◌≤◌, ◌⊎◌, ℕ, List, Option, Some, None, ap, inl, inr, length, refl, subst}
-use Rattle.std.specs.Prelude.{Bool, Err, IfErr, IsErrAnd, MatchResult, Ok, OnOk, Result}
-use Rattle.std.specs.Io.KnownBytes.{Appends, Keeps}
+use Rattle.std.proofs.Common.{◌≡◌, ◌≢◌, ◌≤◌, ◌⊎◌, ℕ, List, Option, Some, None, ap, inl, inr, length, refl, sym, subst, ◌∙◌}
+use Rattle.std.specs.Prelude.{Bool, true, Err, IfErr, IfSome, IsErrAnd, MatchResult, Ok, OnOk, Result}
+use Rattle.std.specs.Io.KnownBytes.{Appends, IsAtEnd, Keeps}
 use Rattle.micro_num.specs.declared.unit.Unit.{Unit as LengthUnit}
 use Rattle.mesh_weld.specs.Solid.{Solid}
-use Rattle.raster.specs.Devices.{AppendsFirst}
+use Rattle.raster.specs.Devices.{AppendsFirst, Fails}
 use Rattle.raster.specs.Grid.{Grid}
 use Rattle.raster.specs.declared.rule.Rule.{Rule}
 use Rattle.build_book.specs.Job.{Job}
@@ -14,8 +14,11 @@ use Rattle.task_words.specs.declared.task.Task.TheVariants as task
 use Rattle.stlslice.specs.declared.run_fault.RunFault.{RunFault}
 use Rattle.stlslice.specs.declared.run_fault.RunFault.TheVariants as fault
 use Rattle.stlslice.specs.Outcome.{IsOutcome, grid_for}
-use Rattle.stlslice.specs.Ending.{IsEnd, IsSolidOf, IsUntouched, IsUnwritten, IsWorkFault, Transcript}
+use Rattle.stlslice.specs.Ending.{IsEnd, IsInput, IsInputFault, IsRunFault, IsSolidOf, IsUntouched, IsUnwritten, IsWorkFault, Transcript}
 use Rattle.stlslice.specs.SlicedText.{output_of, sliced_text}
+use Rattle.std.proofs.lemmas.Result.{IfErr-at_err, on_ok_weaker}
+use Rattle.stlslice.specs.Run.{IsRun}
+use Rattle.stlslice.proofs.lemmas.Bytes.{each, of_input}
 use Rattle.stlslice.proofs.lemmas.OneAnswer.{one_outcome}
 use Rattle.stlslice.proofs.lemmas.Faults.{made_there}
 
@@ -103,3 +106,105 @@ pub sound_end : {T : Type 0} (r : Result T RunFault) (t : Task) (input : List �
 sound_end (Ok x) t input transcript same err differ = same
 sound_end (Err f) t input transcript same (inl h) differ = h.1.1
 sound_end (Err f) t input transcript same (inr h) differ = absurd (differ h.2.0 (ap Err h.2.1))
+
+-- A run.
+
+-- a run ends with a fault of reading its input
+pub unready : {T : Type 0} (r : Result T RunFault) (t : Task) (source sink : Transcript) (settled : Bool) (f : RunFault)
+    → IsErrAnd r (λ x. x ≡ f) → IsInputFault (IsWorkFault t) source.old f
+    → (f ≡ fault.Read → Fails source.failed_before source.failed) → (f ≢ fault.Read → source.failed ≡ source.failed_before)
+    → IsUntouched sink → IsRun t r source sink settled
+unready (Ok x) t source sink settled f is known unread sound kept = absurd is
+unready (Err x) t source sink settled f is known unread sound kept =
+    let unwritten : (written : ℕ) → x ≢ fault.Write written = λ written e. not_written known written (sym is ∙ e) in
+    record {
+      whole = tt;
+      flushed = tt;
+      ok = tt;
+      fault = rw is (run_fault known);
+      only = rw is (own known);
+      source_sound = λ other. sound (λ e. other (ap Err (is ∙ e)));
+      sink_sound = λ _. kept.1;
+      unread = λ e. unread (let same : x ≡ fault.Read = cc in sym is ∙ same);
+      unwritten = λ written e. absurd (unwritten written (let same : x ≡ fault.Write written = cc in same));
+      first = λ written e. absurd (unwritten written (let same : x ≡ fault.Write written = cc in same));
+      nothing = λ _. kept.0;
+    }
+  where
+    not_written : IsInputFault (IsWorkFault t) source.old f → (written : ℕ) → f ≢ fault.Write written
+    not_written (inl e) written same = let no : fault.Read ≡ fault.Write written = sym e ∙ same in cc
+    not_written (inr (inl e)) written same = let no : fault.Memory ≡ fault.Write written = sym e ∙ same in cc
+    not_written (inr (inr h)) written same = h.2.2 written same
+
+    run_fault : IsInputFault (IsWorkFault t) source.old f → IfSome source.old (λ input. IsRunFault t input f)
+    run_fault (inl e) = rw e (each source.old (λ input. IsRunFault t input fault.Read) (λ input. tt))
+    run_fault (inr (inl e)) = rw e (each source.old (λ input. IsRunFault t input fault.Memory) (λ input. tt))
+    run_fault (inr (inr h)) = of_input source.old h.0 (λ input. IsRunFault t input f) h.1 h.2.0
+
+    own : IsInputFault (IsWorkFault t) source.old f
+        → IfSome source.old (λ input. (o : RunFault) → IsOutcome t input (Err o) → (f ≡ o) ⊎ (f ≡ fault.Read) ⊎ (f ≡ fault.Memory))
+    own (inl e) = each source.old _ (λ input o is. inr (inl e))
+    own (inr (inl e)) = each source.old _ (λ input o is. inr (inr e))
+    own (inr (inr h)) = of_input source.old h.0
+        (λ input. (o : RunFault) → IsOutcome t input (Err o) → (f ≡ o) ⊎ (f ≡ fault.Read) ⊎ (f ≡ fault.Memory)) h.1
+        (λ o is. own_fault t h.0 f o is h.2)
+
+run_faults : {T : Type 0} (r : Result T RunFault) (t : Task) (known : Option (List ℕ)) (input : List ℕ) (sink : Transcript) → IsInput known input
+    → IfErr r (IsEnd t input sink) → IfErr r (λ f. IfSome known (λ bytes. IsRunFault t bytes f))
+run_faults (Ok x) t known input sink is err = tt
+run_faults (Err f) t known input sink is (inl h) = of_input known input (λ bytes. IsRunFault t bytes f) is h.0.0
+run_faults (Err f) t known input sink is (inr h) = rw h.2.1 (each known (λ bytes. IsRunFault t bytes (fault.Write h.2.0)) (λ bytes. tt))
+
+has_read : {T : Type 0} (r : Result T RunFault) (t : Task) (input : List ℕ) (sink : Transcript) → IfErr r (IsEnd t input sink) → r ≡ Err fault.Read → ⊥
+has_read r t input sink err e = by_end (IfErr-at_err _ e err)
+  where
+    by_end : IsEnd t input sink fault.Read → ⊥
+    by_end (inl h) = h.0.1 refl
+    by_end (inr h) = let no : fault.Read ≡ fault.Write h.2.0 = h.2.1 in cc
+
+failed_once : {T : Type 0} (r : Result T RunFault) (t : Task) (input : List ℕ) (sink : Transcript) → IfErr r (IsEnd t input sink) → (written : ℕ)
+    → r ≡ Err (fault.Write written) → Fails sink.failed_before sink.failed
+failed_once r t input sink err written e = by_end (IfErr-at_err _ e err)
+  where
+    by_end : IsEnd t input sink (fault.Write written) → Fails sink.failed_before sink.failed
+    by_end (inl h) = absurd (h.0.2 written refl)
+    by_end (inr h) = h.2.4
+
+wrote_nothing : {T : Type 0} (r : Result T RunFault) (t : Task) (input : List ℕ) (sink : Transcript) → IfErr r (IsEnd t input sink)
+    → IfErr r (λ f. ((written : ℕ) → f ≢ fault.Write written) → Keeps sink.old sink.new)
+wrote_nothing (Ok x) t input sink err = tt
+wrote_nothing (Err f) t input sink (inl h) = λ other. h.1.0
+wrote_nothing (Err f) t input sink (inr h) = λ other. absurd (other h.2.0 h.2.1)
+
+-- a run has read its input to its end, and ends so
+pub ran : {T : Type 0} (r : Result T RunFault) (t : Task) (input : List ℕ) (source sink : Transcript) (settled : Bool)
+    → IsInput source.old input → IsAtEnd source.new → source.failed ≡ source.failed_before
+    → OnOk r (settled ≡ true) → OnOk r ((text : List ℕ) × IsOutcome t input (Ok text) × Appends sink.old sink.new text)
+    → OnOk r (sink.failed ≡ sink.failed_before) → IfErr r (IsEnd t input sink) → IsRun t r source sink settled
+ran r t input source sink settled is whole sound flushed ok same err = record {
+  whole = on_ok_weaker r (λ _. whole) flushed;
+  flushed = flushed;
+  ok = on_ok_weaker r (of_input source.old input (λ bytes. (text : List ℕ) × IsOutcome t bytes (Ok text) × Appends sink.old sink.new text) is) ok;
+  fault = run_faults r t source.old input sink is err;
+  only = of_input source.old input (λ bytes. (own : RunFault) → IsOutcome t bytes (Err own) → IsRefusal r own) is
+      (refused r t input sink.old sink.new sink ok err);
+  source_sound = λ _. sound;
+  sink_sound = sound_end r t input sink same err;
+  unread = λ e. absurd (has_read r t input sink err e);
+  unwritten = failed_once r t input sink err;
+  first = λ written e. of_input source.old input
+      (λ bytes. (text : List ℕ) × IsOutcome t bytes (Ok text) × (written ≤ length text) × AppendsFirst sink.old sink.new written text)
+      is (first_end t input sink written (IfErr-at_err _ e err));
+  nothing = wrote_nothing r t input sink err;
+}
+
+no_answer : {T : Type 0} (P : Type 0) (r : Result T RunFault) (f : RunFault) → IsErrAnd r (λ x. x ≡ f) → OnOk r P
+no_answer P (Ok x) f e = absurd e
+no_answer P (Err x) f e = tt
+
+-- a run ends with a fault behind its reading, before the first byte is written
+pub ended_early : {T : Type 0} (r : Result T RunFault) (t : Task) (input : List ℕ) (source sink : Transcript) (settled : Bool) (f : RunFault)
+    → IsInput source.old input → IsAtEnd source.new → source.failed ≡ source.failed_before → IsUntouched sink → IsWorkFault t input f
+    → IsErrAnd r (λ x. x ≡ f) → IsRun t r source sink settled
+ended_early r t input source sink settled f is whole sound kept known e =
+    ran r t input source sink settled is whole sound (no_answer _ r f e) (no_answer _ r f e) (no_answer _ r f e) (stopped r t input sink f kept known e)

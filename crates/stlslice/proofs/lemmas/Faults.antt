@@ -19,11 +19,11 @@ use Rattle.stlslice.specs.declared.run_fault.RunFault.{RunFault}
 use Rattle.stlslice.specs.declared.run_fault.RunFault.TheVariants as fault
 use Rattle.stlslice.specs.Outcome.{IsMade, IsOutcome, closed, grid_for, is_box, misread, open_mesh, outside, probed_text, unit_of}
 use Rattle.stlslice.specs.RunFault.{of_weld}
-use Rattle.stlslice.specs.Ending.{IsLoadFault, IsMeshOrGridFault, IsSolidOf, IsWorkFault}
+use Rattle.stlslice.specs.Ending.{IsInput, IsInputFault, IsLoadFault, IsMeshOrGridFault, IsMisread, IsSolidOf, IsWorkFault}
 use Rattle.geometry.specs.declared.limits.TheConstants.{FACET_LIMIT}
 
 abbrev pub IsTextFault : LengthUnit → List ℕ → RunFault → Type 0
-IsTextFault unit input f = (f ≡ fault.Memory) ⊎ ((cause : StlFault) × (f ≡ fault.Stl cause) × IsFaultOf FACET_LIMIT unit input cause)
+IsTextFault unit input f = (f ≡ fault.Memory) ⊎ IsMisread unit input f
 
 -- the fault of a run for a fault of its text
 pub told : (unit : LengthUnit) (input : List ℕ) (cause : StlFault) (f : RunFault)
@@ -35,6 +35,14 @@ told unit input (stl.Number cause at) f gives known = inr (stl.Number cause at, 
 told unit input (stl.Ended word) f gives known = inr (stl.Ended word, gives.1 (λ e. cc), known (λ e. cc))
 told unit input (stl.TooMany at) f gives known = inr (stl.TooMany at, gives.1 (λ e. cc), known (λ e. cc))
 
+-- where a text doesn't read as facets, there is no closed mesh
+pub unread_mesh : (unit : LengthUnit) (input : List ℕ) (f : RunFault) → IsMisread unit input f → IsLoadFault unit input f
+unread_mesh unit input f h = rw h.1 h.2
+
+pub unread_text : (unit : LengthUnit) (input : List ℕ) (f : RunFault) → IsTextFault unit input f → IsLoadFault unit input f
+unread_text unit input f (inl is) = rw is tt
+unread_text unit input f (inr h) = unread_mesh unit input f h
+
 -- a mesh that is not closed has no solid
 pub unclosed : (unit : LengthUnit) (input : List ℕ) (facets : List Facet) (cause : WeldFault) (f : RunFault) → f ≡ of_weld cause
     → Reads FACET_LIMIT unit input facets → IsWeldFault facets cause → IsLoadFault unit input f
@@ -42,9 +50,8 @@ unclosed unit input facets (weld.Open from to there back) f gives reads known = 
 unclosed unit input facets weld.Memory f gives reads known = rw gives tt
 
 -- where a text doesn't read as facets, its fault is the outcome of a box
-pub misread_box : (unit : LengthUnit) (input : List ℕ) (f : RunFault) → IsTextFault unit input f → IsWorkFault (task.Box unit) input f
-misread_box unit input f (inl is) = rw is (tt, (λ e. cc), (λ w e. cc))
-misread_box unit input f (inr h) = rw h.1 (misread h.0 h.2 refl, (λ e. cc), (λ w e. cc))
+pub misread_box : (unit : LengthUnit) (input : List ℕ) (f : RunFault) → IsMisread unit input f → IsWorkFault (task.Box unit) input f
+misread_box unit input f h = rw h.1 (misread h.0 h.2 refl, (λ e. cc), (λ w e. cc))
 
 pub passed_on : {T : Type 0} (r : Result T RunFault) (P Q : RunFault → Type 0) → ((f : RunFault) → P f → Q f) → IsErrAnd r P → IfErr r Q
 passed_on (Ok x) P Q more h = tt
@@ -90,3 +97,25 @@ probed_fault unit pitch layer given i j k input solid g f s placed (inr h) =
     let said : Err (outside g) ≡ probed_text i j k solid.facets g =
     subst (λ (x : RunFault). Err x ≡ probed_text i j k solid.facets g) h.0 h.1 in
     rw h.0 (probed_there unit pitch layer given i j k input solid g (Err (outside g)) s placed said, (λ e. cc), (λ w e. cc))
+
+-- Faults of reading the input.
+
+pub by_input : (known : Option (List ℕ)) (P Q : List ℕ → RunFault → Type 0) (f : RunFault) → ((input : List ℕ) → P input f → Q input f)
+    → IsInputFault P known f → IsInputFault Q known f
+by_input known P Q f more (inl is) = inl is
+by_input known P Q f more (inr (inl is)) = inr (inl is)
+by_input known P Q f more (inr (inr h)) = inr (inr (h.0, h.1, more h.0 h.2))
+
+pub of_text : (unit : LengthUnit) (known : Option (List ℕ)) (input : List ℕ) (f : RunFault) → IsInput known input → IsTextFault unit input f
+    → IsInputFault (IsMisread unit) known f
+of_text unit known input f is (inl e) = inr (inl e)
+of_text unit known input f is (inr h) = inr (inr (input, is, h))
+
+pub not_read : (unit : LengthUnit) (input : List ℕ) (f : RunFault) → IsLoadFault unit input f → f ≢ fault.Read
+not_read unit input fault.Read h e = h
+not_read unit input (fault.Stl cause) h e = cc
+not_read unit input (fault.Open from to there back) h e = cc
+not_read unit input (fault.Grid cause) h e = h
+not_read unit input fault.Memory h e = cc
+not_read unit input (fault.Write written) h e = h
+not_read unit input (fault.Outside columns rows layers) h e = h

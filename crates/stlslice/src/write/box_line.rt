@@ -1,30 +1,21 @@
 //! The output of `--box`: how many facets there are, and their bounding box.
 ghost use Rattle.std.specs.Prelude.{◌≡◌, IfOk, Some, string_bytes};
-ghost use Rattle.stlslice.specs.Outcome.{box_text, line_text, position_text};
+ghost use Rattle.stlslice.specs.Outcome.{line_text, position_text};
 
-use geometry::{Facet, Point, extent};
+use crate::extent::Extent;
+use geometry::Point;
 use std::alloc::{AllocError, Allocator};
 use std::fmt::{self, Display, Formatter, Write};
 
 /// The line on how many facets there are, and their box in micrometres.
 pub(crate) fn box_line<A: Allocator + Copy + Send + Sync>(
     alloc: A,
-    facets: &[Facet],
+    extent: Extent,
 ) -> Result<String<A>, AllocError>
-    ensures { IfOk result (λ line. string_bytes line ≡ box_text facets.now) }
+    ensures { IfOk result (λ line. string_bytes line ≡ line_text extent.count extent.corners) }
 {
-    line(alloc, facets.len(), extent(facets))
-}
-
-/// The line of a count of facets, with the corners of their bounding box.
-fn line<A: Allocator + Copy + Send + Sync>(
-    alloc: A,
-    count: usize,
-    corners: Option<(Point, Point)>,
-) -> Result<String<A>, AllocError>
-    ensures { IfOk result (λ line. string_bytes line ≡ line_text count corners) }
-{
-    match corners {
+    let count = extent.count;
+    match extent.corners {
         None => format!(in alloc; "facets {count}\n"),
         Some(corners) => {
             let low = PointText(corners.0);
