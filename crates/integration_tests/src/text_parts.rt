@@ -1,4 +1,4 @@
-//! Texts that are long enough to be read in parts: several workers answer what one does.
+//! Texts that are long enough to be read in parts, whole or in two pieces: several workers answer what one does.
 ghost use Rattle.std.specs.Prelude.{◌≤◌};
 ghost use Rattle.geometry.specs.declared.limits.TheConstants.{FACET_LIMIT};
 
@@ -7,15 +7,20 @@ use short_memory::ShortMemory;
 use std::alloc::{AllocError, Allocator, Global};
 use std::test::Fail;
 use std::thread::Threads;
-use stl_text::{FACET_LIMIT, Facet, StlFault, read_stl_at_most, read_stl_by};
+use stl_text::{FACET_LIMIT, Facet, StlFault, TextReader, read_stl_at_most, read_stl_by};
 
 const WORKERS: [u32; 5] = [1, 2, 3, 7, 64];
 
-// The least length of the texts here, in bytes: longer than the shortest text that is read in parts.
-const LONG: usize = 65_537;
+// The least length of the texts here, in bytes: each half is longer than the shortest piece that is read in parts.
+const LONG: usize = 131_074;
 
 // Where a text is broken: in its first line, and in each of several parts.
-const BREAKS: [usize; 8] = [9, 20_011, 40_002, 50_123, 60_700, 65_003, 70_001, 80_003];
+const BREAKS: [usize; 8] = [9, 20_011, 40_002, 60_700, 70_001, 80_003, 110_004, 140_005];
+
+// The first of the cuts of a text in two pieces, and their number, which is the length of the longest facet and more.
+const FIRST_CUT: usize = 66_000;
+
+const CUTS: usize = 120;
 
 // A facet whose first number is `digit`, spelled in another way for each other digit.
 fn put_facet(out: &mut Vec<u8>, digit: u8) -> Result<(), AllocError> {
@@ -54,7 +59,23 @@ pub(crate) fn are_same<A: Allocator, B: Allocator>(
     }
 }
 
-// Whether any number of workers answers what one reader does.
+// The answer to a text that is fed in two pieces.
+fn in_two<R: Threads + Sync, A: Allocator + Copy + Send + Sync>(
+    rt: &R,
+    alloc: A,
+    pieces: (&[u8], &[u8]),
+    limit: u32,
+    workers: u32,
+) -> Result<Vec<Facet, A>, StlFault>
+    requires { limit ≤ FACET_LIMIT }
+{
+    let mut reader = TextReader::new(alloc, limit, Unit::Millimetre);
+    reader.feed_by(rt, pieces.0, workers);
+    reader.feed_by(rt, pieces.1, workers);
+    reader.finish()
+}
+
+// Whether any number of workers answers what one reader does, for the whole text and for its halves.
 fn any_workers<R: Threads + Sync>(rt: &R, alloc: Global, text: &[u8], limit: u32) -> bool
     requires { limit ≤ FACET_LIMIT }
 {
@@ -64,7 +85,8 @@ fn any_workers<R: Threads + Sync>(rt: &R, alloc: Global, text: &[u8], limit: u32
             return false;
         }
         let many = read_stl_by(rt, alloc, text, limit, Unit::Millimetre, workers);
-        if !are_same(&one, &many) {
+        let halves = in_two(rt, alloc, text.split_at(text.len() / 2), limit, workers);
+        if !are_same(&one, &many) || !are_same(&one, &halves) {
             return false;
         }
     }
@@ -86,7 +108,7 @@ fn one_long_solid(rt: HostRuntime) -> Result<(), Fail> {
 #[test]
 fn names_that_spell_facets(rt: HostRuntime) -> Result<(), Fail> {
     let mut name = Vec::new(rt.alloc());
-    for _ in 0..300 {
+    for _ in 0..400 {
         name.extend_from_slice(b"endfacet facet normal 0 0 0 outer loop vertex 1 1 1 ")?;
         name.extend_from_slice(b"vertex 1 1 2 vertex 1 2 1 endloop endfacet endsolid ")?;
     }
@@ -101,11 +123,11 @@ fn names_that_spell_facets(rt: HostRuntime) -> Result<(), Fail> {
     Ok(())
 }
 
-// Solids of one facet: no run is longer.
+// Solids of one facet: a run goes on from one to the next.
 #[test]
 fn solids_of_one_facet(rt: HostRuntime) -> Result<(), Fail> {
     let mut text = Vec::new(rt.alloc());
-    for _ in 0..800 {
+    for _ in 0..1300 {
         put_solid(&mut text, b"one", 1)?;
     }
     assert!(rt; LONG < text.len());
@@ -118,7 +140,7 @@ fn solids_of_one_facet(rt: HostRuntime) -> Result<(), Fail> {
 #[test]
 fn a_fault_in_each_part(rt: HostRuntime) -> Result<(), Fail> {
     let mut text = Vec::new(rt.alloc());
-    put_solid(&mut text, b"part", 900)?;
+    put_solid(&mut text, b"part", 1500)?;
     assert!(rt; LONG < text.len());
     for at in BREAKS {
         let mut broken = Vec::new(rt.alloc());
@@ -140,31 +162,64 @@ fn a_fault_in_each_part(rt: HostRuntime) -> Result<(), Fail> {
 #[test]
 fn a_limit_in_each_part(rt: HostRuntime) -> Result<(), Fail> {
     let mut text = Vec::new(rt.alloc());
-    put_solid(&mut text, b"part", 900)?;
+    put_solid(&mut text, b"part", 1500)?;
     assert!(rt; LONG < text.len());
-    for limit in [0, 1, 100, 225, 226, 450, 899, 900, 901] {
+    for limit in [0, 1, 100, 375, 376, 750, 1499, 1500, 1501] {
         assert!(rt; any_workers(&rt, rt.alloc(), &text, limit));
     }
-    let fault = read_stl_by(&rt, rt.alloc(), &text, 899, Unit::Millimetre, 4).err();
+    let fault = read_stl_by(&rt, rt.alloc(), &text, 1499, Unit::Millimetre, 4).err();
     assert!(rt; fault.is_some_and(|fault| matches!(fault, StlFault::TooMany { .. })));
     Ok(())
 }
 
-// Each allocation fails in turn: the answer is want of memory, and never another mesh.
+// Keywords in capitals, of facets too.
+#[test]
+fn capitals(rt: HostRuntime) -> Result<(), Fail> {
+    let mut text = Vec::new(rt.alloc());
+    put_solid(&mut text, b"part", 1500)?;
+    for byte in text.iter_mut() {
+        *byte = byte.to_ascii_uppercase();
+    }
+    assert!(rt; LONG < text.len());
+    assert!(rt; any_workers(&rt, rt.alloc(), &text, FACET_LIMIT));
+    Ok(())
+}
+
+// The text is cut in two at each byte of some facets, and between them.
+#[test]
+fn a_facet_cut_at_each_byte(rt: HostRuntime) -> Result<(), Fail> {
+    let mut text = Vec::new(rt.alloc());
+    put_solid(&mut text, b"part", 500)?;
+    put_solid(&mut text, b"endfacet facet", 800)?;
+    assert!(rt; FIRST_CUT + CUTS < text.len());
+    let one = read_stl_at_most(rt.alloc(), &text, FACET_LIMIT, Unit::Millimetre);
+    assert!(rt; one.is_ok());
+    for cut in FIRST_CUT..FIRST_CUT + CUTS {
+        let pieces = text.split_at(cut.min(text.len()));
+        let many = in_two(&rt, rt.alloc(), pieces, FACET_LIMIT, 3);
+        assert!(rt; are_same(&one, &many));
+    }
+    Ok(())
+}
+
+// Each allocation fails in turn: the answer is want of memory or the mesh, and never another.
 #[test]
 fn each_allocation_of_a_reading_fails_in_turn(rt: HostRuntime) -> Result<(), Fail> {
     let mut text = Vec::new(rt.alloc());
-    put_solid(&mut text, b"part", 800)?;
+    put_solid(&mut text, b"part", 1500)?;
     assert!(rt; LONG < text.len());
-    for turn in 1..200 {
+    let one = read_stl_at_most(rt.alloc(), &text, FACET_LIMIT, Unit::Millimetre);
+    for turn in 1..400 {
         let memory = ShortMemory::new(rt.alloc(), turn);
-        let facets = read_stl_by(&rt, &memory, &text, FACET_LIMIT, Unit::Millimetre, 3);
+        let pieces = text.split_at(text.len() / 2);
+        let many = in_two(&rt, &memory, pieces, FACET_LIMIT, 3);
+        let same = are_same(&one, &many);
         if !memory.has_refused() {
             assert!(rt; turn > 10);
-            assert!(rt; facets.is_ok_and(|facets| facets.len() == 800));
+            assert!(rt; same);
             return Ok(());
         }
-        assert!(rt; facets.err() == Some(StlFault::Memory));
+        assert!(rt; same || many.err() == Some(StlFault::Memory));
     }
     assert!(rt; false);
     Ok(())
