@@ -11,6 +11,7 @@ pub mod Placing
 pub mod Runs
 pub mod HeightOrder
 pub mod Transfer
+pub mod Numbered
 pub mod EdgeNumbering
 pub mod Welds
 pub mod EdgeCount

@@ -1,15 +1,29 @@
-//! The facets that welding drops, and how an open edge is counted over all facets.
-ghost use Rattle.std.specs.Prelude.{◌≡◌, ◌≤◌, ◌+◌, ◌&&◌, cond, count_by, not, filter, IfOk, length};
+//! Facets by the numbers of their corners, the facets that welding drops, and how an open edge is counted over all facets.
+ghost use Rattle.std.specs.Prelude.{◌≡◌, ◌≤◌, ◌<◌, ◌+◌, ◌&&◌, cond, count_by, not, filter, IfOk, length};
+ghost use Rattle.std.specs.List.{All};
 ghost use Rattle.geometry.specs.Point.{same};
 ghost use Rattle.geometry.specs.Facet.{half_edges};
 ghost use Rattle.mesh_weld.specs.Balance.{half_edge_count};
-ghost use Rattle.mesh_weld.specs.Solid.{is_kept};
+ghost use Rattle.mesh_weld.specs.Solid.{facet_by, is_kept};
 ghost use Rattle.mesh_weld.specs.declared.weld_fault.WeldFault.TheVariants.{Open};
 ghost use Rattle.geometry.specs.declared.limits.TheConstants.{CORNER_LIMIT, FACET_LIMIT};
 
 use crate::weld_fault::WeldFault;
 use geometry::{Facet, Point};
 use std::alloc::{AllocError, Allocator};
+
+/// The facet whose corners have these numbers among the points.
+pub(crate) fn facet_by(points: &[Point], numbers: &[u32; 3]) -> Facet
+    requires { All (λ n. n < length points.now) numbers.now }
+    ensures { result ≡ facet_by points.now numbers.now }
+{
+    let [first, second, third] = *numbers;
+    Facet::of(
+        points[first as usize],
+        points[second as usize],
+        points[third as usize],
+    )
+}
 
 /// Whether the three corners are distinct, so that the facet is kept.
 fn has_distinct_corners(facet: &Facet) -> bool

@@ -50,7 +50,6 @@ pub fn weld<A: Allocator + Copy + Send + Sync>(
     };
     let dropped = degenerate.len() as u32;
     Ok(Solid {
-        facets,
         points,
         numbers,
         edges,

@@ -1,12 +1,15 @@
-use Rattle.std.proofs.Common.{◌≡◌, ◌≤◌, IfSome, length, ap, ◌∙◌, subst, arith}
+use Rattle.std.proofs.Common.{◌≡◌, ◌≤◌, IfSome, length, map, ap, ◌∙◌, subst, arith}
+use Rattle.std.proofs.lemmas.List.{length-map}
 use Rattle.std.proofs.lemmas.List.Elements.{filter_passes}
 use Rattle.std.proofs.lemmas.Result.{err_from_is_err_and}
+use Rattle.geometry.specs.Facet.{corners}
 use Rattle.geometry.specs.Winding.{ray}
 use Rattle.mesh_weld.specs.Balance.{IsBalanced}
 use Rattle.mesh_weld.specs.Numbering.{IsNumberingOf}
-use Rattle.mesh_weld.specs.Solid.{is_kept, kept_facets, solid_of}
+use Rattle.mesh_weld.specs.Solid.{facets_by, is_kept, kept_facets, number_of, solid_of, vertices}
 use Rattle.mesh_weld.specs.Welding.{IsWeldFault}
 use Rattle.mesh_weld.proofs.lemmas.Degenerate.{balanced_by_kept, kept_ray}
+use Rattle.mesh_weld.proofs.lemmas.Numbered.{numbered_again}
 use Rattle.mesh_weld.proofs.lemmas.Welds.{degenerate_facets, kept_few, degenerate_few, degenerate_count, weld_fault, only_memory}
 use Rattle.mesh_weld.proofs.welding.weld.Given.{Over}
 use Rattle.mesh_weld.proofs.welding.weld.Goals.{In_ok-degenerate, After-as_slice-2, After-len-dropped, In_err-points-in-None, in-Some, in-None+in_ok-points-in-None}
@@ -69,24 +72,35 @@ numbering_is g c =
           rw w.points-is (subst (λ l. IsNumberingOf l n.points.items n.numbers.items n.edges.items n.edge_count n.order.items) w.as_slice-in-None.ensures.value w.in_ok-points-in-None.ensures.numbering)
     ]
 
+facets_are : (g : Over) (c : After-len-dropped g)
+    → facets_by c.match-hashed.points.points.items c.match-hashed.points.numbers.items ≡ c.drop_degenerate.new.facets.items
+facets_are g c =
+    let n = numbering_is g c in
+    numbered_again c.drop_degenerate.new.facets.items c.match-hashed.points.points.items c.match-hashed.points.numbers.items n.points_are n.numbers_are
+
 pub invariant_of-result : goal.invariant_of-result
 invariant_of-result g c =
-    let few : length c.drop_degenerate.new.facets.items ≤ FACET_LIMIT = omega (arith, ap length c.drop_degenerate.ensures, kept_few c.args.facets.items, c.args.facets.ok.0) in (
-      numbering_is g (goal.at.invariant_of-result g c).After-len-dropped,
+    let at = (goal.at.invariant_of-result g c).After-len-dropped in let n = numbering_is g at in
+    let few : length c.match-hashed.points.numbers.items ≤ FACET_LIMIT =
+    omega (arith, ap length n.numbers_are, length-map c.drop_degenerate.new.facets.items (λ t. map (number_of (vertices c.drop_degenerate.new.facets.items)) (corners t)), ap length c.drop_degenerate.ensures, kept_few c.args.facets.items, c.args.facets.ok.0) in (
+      rw (facets_are g at) n,
       few,
-      rw c.drop_degenerate.ensures (filter_passes is_kept c.args.facets.items),
+      rw (facets_are g at, c.drop_degenerate.ensures) (filter_passes is_kept c.args.facets.items),
     )
 
 pub returns-clause-kept : goal.returns-clause-kept
 returns-clause-kept g c =
+    let at = goal.at.returns-clause-kept g c in
     let fs = c.args.facets.items in
     let count : c.len-dropped.result ≡ (solid_of fs).dropped =
-    omega (arith, ap length (degenerate_are g (goal.at.returns-clause-kept g c).In_ok-degenerate), degenerate_count fs, c.in_ok-degenerate.degenerate.ok.0) in
-    λ i. record { facets = c.drop_degenerate.ensures i; dropped = count i }
+    omega (arith, ap length (degenerate_are g at.In_ok-degenerate), degenerate_count fs, c.in_ok-degenerate.degenerate.ok.0) in
+    let facets = facets_are g at.After-len-dropped ∙ c.drop_degenerate.ensures in
+    λ i. record { facets = facets i; dropped = count i }
 
 pub returns-clause-closed : goal.returns-clause-closed
 returns-clause-closed g c =
     balanced_by_kept c.args.facets.items (subst IsBalanced c.drop_degenerate.ensures (numbering_is g (goal.at.returns-clause-closed g c).After-len-dropped).closed)
 
 pub returns-clause-ray : goal.returns-clause-ray
-returns-clause-ray g c place = ap (λ l. ray l place) c.drop_degenerate.ensures ∙ kept_ray c.args.facets.items place
+returns-clause-ray g c place =
+    ap (λ l. ray l place) (facets_are g (goal.at.returns-clause-ray g c).After-len-dropped ∙ c.drop_degenerate.ensures) ∙ kept_ray c.args.facets.items place
