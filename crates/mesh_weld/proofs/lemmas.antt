@@ -13,6 +13,7 @@ pub mod HeightOrder
 pub mod Transfer
 pub mod Numbered
 pub mod EdgeNumbering
+pub mod Naming
 pub mod Welds
 pub mod EdgeCount
 pub mod Alike

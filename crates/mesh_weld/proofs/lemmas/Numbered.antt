@@ -7,13 +7,10 @@ use Rattle.std.proofs.lemmas.List.Sums.{fold-append}
 use Rattle.std.proofs.lemmas.List.Elements.{All-cons, All-tail}
 use Rattle.geometry.specs.Point.{Point}
 use Rattle.geometry.specs.Facet.{Facet, corners}
+use Rattle.mesh_weld.specs.Naming.{AreBelow}
 use Rattle.mesh_weld.specs.Solid.{facet_by, facets_by, number_of, triples, vertices}
 use Rattle.mesh_weld.proofs.lemmas.InOrder.{is_in, in_order-members, is_in-from_contains}
 use Rattle.mesh_weld.proofs.lemmas.Transfer.{number_found}
-
--- numbers that lead to points
-abbrev pub AreBelow : List Point → List (List ℕ) → Type 0
-AreBelow points numbers = All (All (λ n. n < length points)) numbers
 
 -- facets by points that have all of their corners
 module _ (ps : List Point) where

@@ -3,7 +3,8 @@ use Rattle.std.proofs.lemmas.Option.{slice_get_within, get_or_from_slice_get}
 use Rattle.geometry.specs.BoundingBox.{greatest_of, least_of}
 use Rattle.geometry.specs.Facet.{Facet}
 use Rattle.mesh_weld.specs.Solid.{facets_by}
-use Rattle.mesh_weld.proofs.lemmas.Numbered.{AreBelow, corners_more, numbered_below}
+use Rattle.mesh_weld.specs.Naming.{AreBelow}
+use Rattle.mesh_weld.proofs.lemmas.Numbered.{corners_more, numbered_below}
 use Rattle.mesh_weld.proofs.solid.Solid.corners.Given.{Over}
 use Rattle.mesh_weld.proofs.solid.Solid.corners.Goals.{After-as_slice-numbers}
 use Rattle.mesh_weld.proofs.solid.Solid.corners.Goals as goal
