@@ -56,6 +56,15 @@ impl<A: Allocator + Copy + Send + Sync> Welder<A> {
         }
     }
 
+    /// The number of facets that were added.
+    pub fn count(&self) -> usize
+        ensures value { result ≡ length self.now.kept + length self.now.degenerate }
+        ensures whole { (facets : List Facet) → self.now ≡ parts_of facets → result ≡ length facets }
+        ensures few { result ≤ FACET_LIMIT }
+    {
+        self.ids.len() + self.degenerate.len()
+    }
+
     /// Adds facets behind those so far, at most `FACET_LIMIT` with these.
     ///
     /// # Errors
