@@ -44,7 +44,7 @@ fn grown(low: Point, high: Point, facets: &[Facet]) -> (Point, Point)
 }
 
 /// The point of the lesser x, y and z of two points.
-fn lower(p: Point, q: Point) -> Point
+pub fn lower(p: Point, q: Point) -> Point
     ensures { result ≡ least_of p q }
 {
     let Some(point) = Point::new(p.x().min(q.x()), p.y().min(q.y()), p.z().min(q.z())) else {
@@ -54,7 +54,7 @@ fn lower(p: Point, q: Point) -> Point
 }
 
 /// The point of the greater x, y and z of two points.
-fn higher(p: Point, q: Point) -> Point
+pub fn higher(p: Point, q: Point) -> Point
     ensures { result ≡ greatest_of p q }
 {
     let Some(point) = Point::new(p.x().max(q.x()), p.y().max(q.y()), p.z().max(q.z())) else {

@@ -2,7 +2,8 @@
 //!
 //! - [`Point`]: a point of a mesh, in whole micrometres; [`points_in_order`]: their order.
 //! - [`Facet`]: a triangle by its three corners, counterclockwise as seen from outside.
-//! - [`extent`], [`extent_with`]: the bounding box of facets, and of facets behind others.
+//! - [`extent`], [`extent_with`]: the bounding box of facets, and of facets behind others; [`lower`], [`higher`]: the
+//!   corners of the box of two points.
 //! - [`is_below`], [`rises_through`]: the tie rule, the same for every cut and every ray.
 //! - [`COORDINATE_LIMIT`] and the other limits of coordinates, grids and meshes.
 //!
@@ -28,7 +29,7 @@ mod limits;
 mod point;
 mod tie_rule;
 
-pub use bounding_box::{extent, extent_with};
+pub use bounding_box::{extent, extent_with, higher, lower};
 pub use facet::Facet;
 pub use laws::points_in_order;
 pub use limits::{

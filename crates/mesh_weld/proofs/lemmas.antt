@@ -11,7 +11,9 @@ pub mod Placing
 pub mod Runs
 pub mod HeightOrder
 pub mod Transfer
+pub mod Numbered
 pub mod EdgeNumbering
+pub mod Naming
 pub mod Welds
 pub mod EdgeCount
 pub mod Alike

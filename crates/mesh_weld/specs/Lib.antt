@@ -6,6 +6,7 @@ pub mod HalfEdge
 pub mod Run
 pub mod PointOrder
 pub mod CornerIds
+pub mod Naming
 pub mod HeightOrder
 pub mod Numbering
 pub mod Welding

@@ -1,5 +1,5 @@
 -- A closed mesh as its kept facets and the number of dropped ones; its vertices and their numbers follow from these.
-use Rattle.std.specs.Prelude.{◌≡◌, ℕ, Bool, true, not, ◌&&◌, ◌||◌, List, [], ◌∷◌, length, map, filter, flat_map, count_by, IsPermutation, ℤ, if◌then◌else◌, slice_index_or, nat_lt, int_lt}
+use Rattle.std.specs.Prelude.{◌≡◌, ℕ, Bool, true, not, ◌&&◌, ◌||◌, List, [], ◌∷◌, length, map, filter, flat_map, count_by, IsPermutation, ℤ, if◌then◌else◌, slice_index, slice_index_or, nat_lt, int_lt}
 use Rattle.std.specs.Ordering.{int_eq}
 use Rattle.std.specs.Int.{int_min}
 use Rattle.std.specs.List.{All, position_or_len, range_with_len, AllPairs}
@@ -47,6 +47,16 @@ number_of points p = position_or_len (same p) points
 -- each facet by the numbers of its corners
 abbrev pub triples : List Facet → List (List ℕ)
 triples facets = map (λ t. map (number_of (vertices facets)) (corners t)) facets
+
+-- the facet whose corners have these numbers among the points
+abbrev pub facet_by : List Point → List ℕ → Facet
+facet_by points numbers =
+    facet_with (slice_index_or points (slice_index numbers 0) origin) (slice_index_or points (slice_index numbers 1) origin)
+    (slice_index_or points (slice_index numbers 2) origin)
+
+-- facets by the numbers of their corners
+abbrev pub facets_by : List Point → List (List ℕ) → List Facet
+facets_by points numbers = map (facet_by points) numbers
 
 -- the least height of a facet's corners
 abbrev pub least_z : Facet → ℤ

@@ -1,9 +1,11 @@
-//! The facets that welding drops, and how an open edge is counted over all facets.
-ghost use Rattle.std.specs.Prelude.{◌≡◌, ◌≤◌, ◌+◌, ◌&&◌, cond, count_by, not, filter, IfOk, length};
+//! Facets by the numbers of their corners, which facets are kept, and how an open edge is counted over all facets.
+ghost use Rattle.std.specs.Prelude.{◌≡◌, ◌≤◌, ◌<◌, ◌+◌, ◌&&◌, cond, count_by, IfOk, length};
+ghost use Rattle.std.specs.List.{All};
 ghost use Rattle.geometry.specs.Point.{same};
 ghost use Rattle.geometry.specs.Facet.{half_edges};
 ghost use Rattle.mesh_weld.specs.Balance.{half_edge_count};
-ghost use Rattle.mesh_weld.specs.Solid.{is_kept};
+ghost use Rattle.mesh_weld.specs.Naming.{AreBelow};
+ghost use Rattle.mesh_weld.specs.Solid.{facet_by, facets_by, is_kept};
 ghost use Rattle.mesh_weld.specs.declared.weld_fault.WeldFault.TheVariants.{Open};
 ghost use Rattle.geometry.specs.declared.limits.TheConstants.{CORNER_LIMIT, FACET_LIMIT};
 
@@ -11,8 +13,37 @@ use crate::weld_fault::WeldFault;
 use geometry::{Facet, Point};
 use std::alloc::{AllocError, Allocator};
 
+/// The facet whose corners have these numbers among the points.
+pub(crate) fn facet_by(points: &[Point], numbers: &[u32; 3]) -> Facet
+    requires { All (λ n. n < length points.now) numbers.now }
+    ensures { result ≡ facet_by points.now numbers.now }
+{
+    let [first, second, third] = *numbers;
+    Facet::of(
+        points[first as usize],
+        points[second as usize],
+        points[third as usize],
+    )
+}
+
+/// The facets whose corners have the numbers among the points.
+pub(crate) fn list_facets<A: Allocator + Copy>(
+    alloc: A,
+    points: &[Point],
+    numbers: &[[u32; 3]],
+) -> Result<Vec<Facet, A>, AllocError>
+    requires { AreBelow points.now numbers.now }
+    ensures { IfOk result (λ facets. facets.items ≡ facets_by points.now numbers.now) }
+{
+    let mut facets = Vec::with_capacity(alloc, numbers.len())?;
+    for own in numbers {
+        facets.push(facet_by(points, own))?;
+    }
+    Ok(facets)
+}
+
 /// Whether the three corners are distinct, so that the facet is kept.
-fn has_distinct_corners(facet: &Facet) -> bool
+pub(crate) fn has_distinct_corners(facet: &Facet) -> bool
     ensures { result ≡ is_kept facet.now }
 {
     let (first, second, third) = (facet.corner(0), facet.corner(1), facet.corner(2));
@@ -23,32 +54,6 @@ fn is_same(first: Point, second: Point) -> bool
     ensures { result ≡ same first second }
 {
     first == second
-}
-
-/// The degenerate facets: those with two equal corners.
-pub(crate) fn degenerate_facets<A: Allocator + Copy>(
-    alloc: A,
-    facets: &[Facet],
-) -> Result<Vec<Facet, A>, AllocError>
-    ensures { IfOk result (λ degenerate. degenerate.items ≡ filter (λ t. not (is_kept t)) facets.now) }
-{
-    let mut degenerate = Vec::new(alloc);
-    for facet in facets {
-        if !has_distinct_corners(facet) {
-            degenerate.push(*facet)?;
-        }
-    }
-    Ok(degenerate)
-}
-
-/// Drops the degenerate facets, of which there are `dropped`.
-pub(crate) fn drop_degenerate<A: Allocator>(facets: &mut Vec<Facet, A>, dropped: usize)
-    requires { dropped ≡ count_by (λ t. not (is_kept t)) facets.old.items }
-    ensures { facets.new.items ≡ filter is_kept facets.old.items }
-{
-    if dropped > 0 {
-        facets.retain(|facet| has_distinct_corners(facet));
-    }
 }
 
 /// The number of half-edges from one point to the other.

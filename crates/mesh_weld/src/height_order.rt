@@ -3,22 +3,27 @@ ghost use Rattle.std.specs.Prelude.{◌≡◌, ◌≤◌, ◌^◌, ◌%◌, ◌/
 ghost use Rattle.std.specs.List.{range_with_len};
 ghost use Rattle.std.specs.List.Sorted.{IsPermutation, IsNonDecreasing};
 ghost use Rattle.mesh_weld.specs.HeightOrder.{AreHeightKeys};
-ghost use Rattle.mesh_weld.specs.Solid.{IsByHeight, least_z};
+ghost use Rattle.mesh_weld.specs.Naming.{AreBelow};
+ghost use Rattle.mesh_weld.specs.Solid.{IsByHeight, facets_by, least_z};
 ghost use Rattle.geometry.specs.declared.limits.TheConstants.{FACET_LIMIT};
 
+use crate::facets::facet_by;
 use crate::packing::{HALF_WORD, packed};
-use geometry::Facet;
+use geometry::{Facet, Point};
 use std::alloc::{AllocError, Allocator};
 
-/// The numbers of the facets by ascending least height, and by number where least heights are equal.
+/// The numbers of the facets, whose corners have the numbers among the points, by ascending least height, and by number
+/// where least heights are equal.
 pub(crate) fn order_by_height<A: Allocator + Copy>(
     alloc: A,
-    facets: &[Facet],
+    points: &[Point],
+    numbers: &[[u32; 3]],
 ) -> Result<Vec<u32, A>, AllocError>
-    requires { length facets.now ≤ FACET_LIMIT }
-    ensures { IfOk result (λ order. IsByHeight facets.now order.items) }
+    requires below { AreBelow points.now numbers.now }
+    requires few { length numbers.now ≤ FACET_LIMIT }
+    ensures { IfOk result (λ order. IsByHeight (facets_by points.now numbers.now) order.items) }
 {
-    let mut keys = list_heights(alloc, facets)?;
+    let mut keys = list_heights(alloc, points, numbers)?;
     sort_heights(&mut keys);
     numbers_of(alloc, keys.as_slice())
 }
@@ -32,16 +37,18 @@ const HEIGHT_OFFSET: i64 = 1 << 31;
 /// The keys of the facets, in their order.
 fn list_heights<A: Allocator + Copy>(
     alloc: A,
-    facets: &[Facet],
+    points: &[Point],
+    numbers: &[[u32; 3]],
 ) -> Result<Vec<HeightKey, A>, AllocError>
-    requires { length facets.now ≤ FACET_LIMIT }
-    ensures numbers { IfOk result (λ keys. map (λ key. key % 2 ^ 32) keys.items ≡ range_with_len 0 (length facets.now)) }
-    ensures heights { IfOk result (λ keys. AreHeightKeys facets.now keys.items) }
+    requires below { AreBelow points.now numbers.now }
+    requires few { length numbers.now ≤ FACET_LIMIT }
+    ensures numbers { IfOk result (λ keys. map (λ key. key % 2 ^ 32) keys.items ≡ range_with_len 0 (length numbers.now)) }
+    ensures heights { IfOk result (λ keys. AreHeightKeys (facets_by points.now numbers.now) keys.items) }
 {
-    let mut keys = Vec::with_capacity(alloc, facets.len())?;
-    for facet in facets {
+    let mut keys = Vec::with_capacity(alloc, numbers.len())?;
+    for own in numbers {
         let number = keys.len() as u32;
-        keys.push(height_key(facet, number))?;
+        keys.push(height_key(&facet_by(points, own), number))?;
     }
     Ok(keys)
 }

@@ -6,16 +6,18 @@
 //! let (along_x, along_y) = probe(&solid, &centre);
 //! ```
 //!
-//! [`weld`] drops the degenerate facets (two equal corners) of a list and makes a [`Solid`] of the others: its vertices,
-//! the numbers of corners and edges of each facet, and the order of the facets by height. Where the half-edges of a
-//! mesh don't balance it answers [`WeldFault::Open`] with the least pair of points between which they don't.
+//! A [`Welder`] takes facets as they come, drops the degenerate ones (two equal corners) and makes a [`Solid`] of the
+//! others: its vertices, the numbers of corners and edges of each facet, and the order of the facets by height. Where the
+//! half-edges of a mesh don't balance it answers [`WeldFault::Open`] with the least pair of points between which they
+//! don't. [`weld`] is a welder that is fed once.
 //! [`probe`] and [`step`] count the signed crossings of a solid by rays. [`hold_mesh_laws`] states what holds of every
 //! closed mesh: for example, its signed crossings by a whole line sum to 0. [`closed_or_open`] states that each list of
 //! facets is closed or has one least open edge.
 //!
 //! Points are in micrometres, centres of rays in half-micrometres.
 //!
-//! Corners and edges are numbered by hashes in large meshes (`by_hash`), and otherwise by sorts (`by_sort`).
+//! Corners are named by hashes as facets come. Corners and edges are then numbered by hashes in large meshes (`by_hash`),
+//! and otherwise by sorts (`by_sort`).
 #![tactic(auto)]
 
 mod by_hash;
@@ -29,6 +31,7 @@ mod probing;
 mod run;
 mod solid;
 mod weld_fault;
+mod welder;
 mod welding;
 
 pub use height_order::lowest;
@@ -36,4 +39,5 @@ pub use laws::{closed_or_open, hold_mesh_laws};
 pub use probing::{probe, step};
 pub use solid::Solid;
 pub use weld_fault::WeldFault;
+pub use welder::Welder;
 pub use welding::weld;

@@ -9,14 +9,15 @@ ghost use Rattle.mesh_weld.specs.EdgeNumbers.{AreEdgeNumbers};
 ghost use Rattle.mesh_weld.specs.Solid.{HaveDistinctCorners, IsByHeight, triples, vertices};
 ghost use Rattle.geometry.specs.declared.limits.TheConstants.{FACET_LIMIT};
 
-use geometry::{Facet, Point, extent};
+use crate::facets::facet_by;
+use geometry::{Facet, Point, higher, lower};
 use std::alloc::Allocator;
 use std::marker::Model;
 
-/// The kept facets of a closed mesh, which are those with three distinct corners, and their numbering.
+/// The kept facets of a closed mesh, which are those with three distinct corners, and their numbering. Each facet is kept
+/// by the numbers of its corners among the points alone.
 #[derive(Drop)]
 pub struct Solid<A: Allocator> {
-    pub(crate) facets: Vec<Facet, A>,
     pub(crate) points: Vec<Point, A>,
     pub(crate) numbers: Vec<[u32; 3], A>,
     /// Three numbers for each facet, one facet after the other.
@@ -42,14 +43,14 @@ impl<A: Allocator> Model for Solid<A> {
     ghost use Rattle.geometry.specs.declared.limits.TheConstants.{FACET_LIMIT};
     ghost use Rattle.std.specs.Prelude.{◌≤◌, length};
     ghost use Rattle.mesh_weld.specs.Numbering.{IsNumberingOf};
-    ghost use Rattle.mesh_weld.specs.Solid.{HaveDistinctCorners, Solid};
+    ghost use Rattle.mesh_weld.specs.Solid.{HaveDistinctCorners, Solid, facets_by};
 
     ghost Value = { Solid };
 
-    ghost view = { λ s. record { facets = s.facets.items; dropped = s.dropped } };
+    ghost view = { λ s. record { facets = facets_by s.points.items s.numbers.items; dropped = s.dropped } };
 
-    ghost invariant = { λ s. IsNumberingOf s.facets.items s.points.items s.numbers.items s.edges.items s.edge_count s.order.items
-        × (length s.facets.items ≤ FACET_LIMIT) × HaveDistinctCorners s.facets.items };
+    ghost invariant = { λ s. IsNumberingOf (facets_by s.points.items s.numbers.items) s.points.items s.numbers.items s.edges.items s.edge_count s.order.items
+        × (length s.numbers.items ≤ FACET_LIMIT) × HaveDistinctCorners (facets_by s.points.items s.numbers.items) };
 }
 
 impl<A: Allocator> Solid<A> {
@@ -95,14 +96,32 @@ impl<A: Allocator> Solid<A> {
     pub fn corners(&self) -> Option<(Point, Point)>
         ensures { result ≡ option_map (λ b. record { 0 = b.low; 1 = b.high }) (bounds self.now.facets) }
     {
-        extent(self.facets.as_slice())
+        let (points, numbers) = (self.points.as_slice(), self.numbers.as_slice());
+        let start = facet_by(points, numbers.first()?).corner(0);
+        let mut low = start;
+        let mut high = start;
+        for own in numbers {
+            let facet = facet_by(points, own);
+            let (a, b, c) = (facet.corner(0), facet.corner(1), facet.corner(2));
+            low = lower(lower(lower(low, a), b), c);
+            high = higher(higher(higher(high, a), b), c);
+        }
+        Some((low, high))
     }
 
     /// Whether both have the same facets, in the same order, and the same number of dropped ones.
     pub fn same(&self, other: &Solid<A>) -> bool
         ensures { IsTrue result ↔ (self.now ≡ other.now) }
     {
-        self.dropped == other.dropped && self.facets.as_slice() == other.facets.as_slice()
+        self.dropped == other.dropped && self.has_facets_of(other)
+    }
+
+    /// Whether both have the same facets, in the same order.
+    fn has_facets_of(&self, other: &Solid<A>) -> bool
+        ensures { IsTrue result ↔ (self.now.facets ≡ other.now.facets) }
+    {
+        self.points.as_slice() == other.points.as_slice()
+            && self.numbers.as_slice() == other.numbers.as_slice()
     }
 
     /// The numbers of the kept facets by ascending least height, and by number where least heights are equal.
@@ -119,7 +138,7 @@ impl<A: Allocator> Solid<A> {
         ensures closed { IsBalanced self.now.facets }
         ensures distinct { HaveDistinctCorners self.now.facets }
     {
-        self.facets.len()
+        self.numbers.len()
     }
 
     /// The kept facet with this number, below `count`. Its three corners are distinct.
@@ -128,6 +147,6 @@ impl<A: Allocator> Solid<A> {
         ensures value { slice_get self.now.facets number ≡ Some result }
         ensures distinct { (result.a ≢ result.b) × (result.b ≢ result.c) × (result.c ≢ result.a) }
     {
-        self.facets[number as usize]
+        facet_by(self.points.as_slice(), &self.numbers[number as usize])
     }
 }

@@ -1,4 +1,4 @@
-//! Welding: a solid from facets, numbered by hashes where they are many, and otherwise by sorts.
+//! Welding of a list of facets.
 ghost use Rattle.std.specs.Prelude.{◌≡◌, ◌≤◌, IfErr, IfOk, vec_len};
 ghost use Rattle.geometry.specs.Point.{Point};
 ghost use Rattle.geometry.specs.Winding.{ray};
@@ -8,11 +8,9 @@ ghost use Rattle.mesh_weld.specs.Welding.{IsWeldFault};
 ghost use Rattle.mesh_weld.specs.declared.weld_fault.WeldFault.TheVariants.{Memory};
 ghost use Rattle.geometry.specs.declared.limits.TheConstants.{FACET_LIMIT};
 
-use crate::by_hash::hashed_numbering;
-use crate::by_sort::sorted_numbering;
-use crate::facets::{degenerate_facets, drop_degenerate};
-use crate::solid::{Numbering, Solid};
+use crate::solid::Solid;
 use crate::weld_fault::WeldFault;
+use crate::welder::Welder;
 use geometry::Facet;
 use std::alloc::Allocator;
 
@@ -34,28 +32,8 @@ pub fn weld<A: Allocator + Copy + Send + Sync>(
     ensures open { IfErr result (IsWeldFault facets.items) }
     ensures only { IsBalanced facets.items → IfErr result (λ fault. fault ≡ Memory) }
 {
-    let mut facets = facets;
-    let degenerate = degenerate_facets(alloc, facets.as_slice())?;
-    drop_degenerate(&mut facets, degenerate.len());
-    let hashed = hashed_numbering(alloc, facets.as_slice())?;
-    let Numbering {
-        points,
-        numbers,
-        edges,
-        edge_count,
-        order,
-    } = match hashed {
-        Some(numbering) => numbering,
-        None => sorted_numbering(alloc, facets.as_slice(), degenerate.as_slice())?,
-    };
-    let dropped = degenerate.len() as u32;
-    Ok(Solid {
-        facets,
-        points,
-        numbers,
-        edges,
-        edge_count,
-        order,
-        dropped,
-    })
+    let mut welder = Welder::new(alloc);
+    welder.add(facets.as_slice())?;
+    drop(facets);
+    welder.finish()
 }

@@ -1,12 +1,13 @@
 -- What welding ensures, from what its steps ensure.
 use Rattle.std.proofs.Common.{◌≡◌, ℕ, ◌≤◌, ◌+◌, ◌*◌, Bool, true, false, cond, not, List, [], ◌∷◌, length, map, count_by, refl, sym, ap, ◌∙◌, subst, arith}
-use Rattle.std.specs.List.{filter, flat_map}
+use Rattle.std.specs.List.{flat_map}
 use Rattle.std.proofs.lemmas.List.{length-map}
-use Rattle.std.proofs.lemmas.List.Sums.{sum_by-cons, length-filter, count_by-le-length}
+use Rattle.std.proofs.lemmas.List.Sums.{length-filter, count_by-le-length}
 use Rattle.geometry.specs.Point.{Point}
 use Rattle.geometry.specs.Facet.{Facet, corners}
 use Rattle.mesh_weld.specs.Balance.{half_edge_count, IsBalanced, IsLeastOpen}
 use Rattle.mesh_weld.specs.Solid.{is_kept, kept_facets, vertices, number_of, triples}
+use Rattle.mesh_weld.specs.Naming.{degenerate_facets}
 use Rattle.mesh_weld.specs.HalfEdge.{half_edges_from}
 use Rattle.mesh_weld.specs.Welding.{IsKeptFault, IsWeldFault}
 use Rattle.mesh_weld.specs.declared.weld_fault.WeldFault.{WeldFault}
@@ -21,9 +22,6 @@ few_vertices fs = omega (arith, length-in_order (flat_map corners fs), length-co
 
 pub few_half_edges : (fs : List Facet) → length (half_edges_from 0 (triples fs)) ≡ 3 * length fs
 few_half_edges fs = half_edges_from-length 0 (triples fs) ∙ ap (λ n. 3 * n) (length-map fs (λ t. map (number_of (vertices fs)) (corners t)))
-
-abbrev pub degenerate_facets : List Facet → List Facet
-degenerate_facets fs = filter (λ t. not (is_kept t)) fs
 
 -- the half-edges of kept facets and those of dropped ones are all half-edges
 pub split_count : (fs : List Facet) (u v : Point) → half_edge_count fs u v ≡ half_edge_count (kept_facets fs) u v + half_edge_count (degenerate_facets fs) u v
@@ -57,23 +55,6 @@ degenerate_count fs = length-filter (λ t. not (is_kept t)) fs
 
 pub degenerate_few : (fs : List Facet) → length (degenerate_facets fs) ≤ length fs
 degenerate_few fs = omega (arith, degenerate_count fs, count_by-le-length (λ t. not (is_kept t)) fs)
-
--- where none is degenerate, all are kept
-pub all_kept : (fs : List Facet) → count_by (λ t. not (is_kept t)) fs ≡ 0 → fs ≡ kept_facets fs
-all_kept [] h = refl
-all_kept (t ∷ ts) h = by_test (is_kept t) refl (all_kept ts)
-  where
-    count : cond (not (is_kept t)) 1 0 + count_by (λ u. not (is_kept u)) ts ≡ 0
-    count = sym (sum_by-cons (λ u. cond (not (is_kept u)) 1 0) t ts) ∙ h
-
-    by_test : (b : Bool) → is_kept t ≡ b → (count_by (λ u. not (is_kept u)) ts ≡ 0 → ts ≡ kept_facets ts)
-        → t ∷ ts ≡ cond (is_kept t) (t ∷ kept_facets ts) (kept_facets ts)
-    by_test true e rest =
-        let none : 0 + count_by (λ u. not (is_kept u)) ts ≡ 0 = ap (λ b. cond (not b) 1 0 + count_by (λ u. not (is_kept u)) ts) (sym e) ∙ count in
-        ap (λ l. t ∷ l) (rest (omega (arith, none))) ∙ ap (λ b. cond b (t ∷ kept_facets ts) (kept_facets ts)) (sym e)
-    by_test false e rest =
-        let some : 1 + count_by (λ u. not (is_kept u)) ts ≡ 0 = ap (λ b. cond (not b) 1 0 + count_by (λ u. not (is_kept u)) ts) (sym e) ∙ count in
-        absurd (omega (arith, some))
 
 -- the least open edge of kept facets is that of all, with the edges of dropped facets counted
 pub open_of_all : (fs : List Facet) (from to : Point) (there back : ℕ)

@@ -1,17 +1,23 @@
-//! The distinct corners of facets by a table of hashes. Each gets an id: its number by first appearance, which serves
-//! until the points stand in order.
-ghost use Rattle.std.specs.Prelude.{◌≤◌, ◌<◌, IfOk, IfSome, OnOk, length, flat_map};
-ghost use Rattle.std.specs.List.{All, Contains};
-ghost use Rattle.geometry.specs.Facet.{corners};
-ghost use Rattle.mesh_weld.specs.PointOrder.{IsAppendedOrSame};
-ghost use Rattle.geometry.specs.declared.limits.TheConstants.{FACET_LIMIT};
+//! The corners of facets by a table of hashes. Each gets an id: its number by first appearance, which serves until the
+//! points stand in order.
+ghost use Rattle.std.specs.Prelude.{◌≡◌, ◌≤◌, ◌<◌, ◌+◌, IfOk, IfSome, length, slice_index, slice_index_or, vec_len};
+ghost use Rattle.geometry.specs.Point.{origin};
+ghost use Rattle.mesh_weld.specs.Naming.{IsNamed, IsNamedFacet};
+ghost use Rattle.geometry.specs.declared.limits.TheConstants.{CORNER_LIMIT};
 
 use crate::by_hash::histogram::NONE;
-use geometry::{CORNER_LIMIT, Facet, Point};
+use geometry::{Facet, Point};
 use std::alloc::{AllocError, Allocator};
 
-/// The number of slots of the table that are looked at for a point. Where none of them serves, the point gets no id.
+/// The number of slots of the table that are looked at for a point. A point for which none of them serves gets a new id
+/// each time it comes, and the table holds none of these.
 const PROBE_LIMIT: usize = 64;
+
+/// The table has at least this many slots for each point, so that chains stay far below `PROBE_LIMIT`.
+const SLOTS_A_POINT: usize = 3;
+
+/// A table has at least this power of two of slots.
+const LEAST_BITS: u32 = 10;
 
 /// Multiplies x and y in a hash: 2⁶⁴ divided by the golden ratio.
 const XY_MULTIPLIER: u64 = 0x9e37_79b9_7f4a_7c15;
@@ -24,26 +30,65 @@ const LAST_MULTIPLIER: u64 = 0xd6e8_feb8_6659_fd93;
 
 /// A table of ids, each at the hash of its point or in one of the next slots.
 #[derive(Drop)]
-struct Table<A: Allocator> {
+pub(crate) struct CornerTable<A: Allocator> {
     ids: Vec<u32, A>,
     /// The number of lower bits of a hash that are dropped.
     shift: u32,
 }
 
-impl<A: Allocator + Copy> Table<A> {
-    /// A table of at least two slots for each facet. Most closed meshes have one point for two facets, and none has more
-    /// than three for two.
-    fn of(alloc: A, facets: usize) -> Result<Table<A>, AllocError>
-        requires { facets ≤ FACET_LIMIT }
-    {
-        // 1 << bits is the least power of two that is at least twice the count of facets.
-        let bits = 33u32.saturating_sub((facets as u32).saturating_sub(1).leading_zeros());
-        let slots = 1usize.unbounded_shl(bits);
-        Ok(Table {
-            ids: vec![in alloc; NONE; slots.saturating_add(PROBE_LIMIT)]?,
-            shift: 64u32.saturating_sub(bits),
-        })
+impl<A: Allocator + Copy> CornerTable<A> {
+    /// A table with no slot.
+    pub(crate) fn new(alloc: A) -> CornerTable<A> {
+        CornerTable {
+            ids: Vec::new(alloc),
+            shift: 64,
+        }
     }
+
+    /// Makes the table large enough for the points and a facet's three corners more.
+    fn make_room(&mut self, alloc: A, points: &[Point]) -> Result<(), AllocError> {
+        let wanted = points.len().saturating_add(3).saturating_mul(SLOTS_A_POINT);
+        if wanted <= self.ids.len() {
+            return Ok(());
+        }
+        // 1 << bits is more than wanted, and at most twice as much.
+        let bits = 64u32
+            .saturating_sub((wanted as u64).leading_zeros())
+            .max(LEAST_BITS);
+        let slots = 1usize.unbounded_shl(bits);
+        let shift = 64u32.saturating_sub(bits);
+        let mut ids = vec![in alloc; NONE; slots.saturating_add(PROBE_LIMIT)]?;
+        enter_points(ids.as_mut_slice(), points, shift);
+        self.ids = ids;
+        self.shift = shift;
+        Ok(())
+    }
+}
+
+/// Puts the ids of points into an empty table.
+fn enter_points(ids: &mut [u32], points: &[Point], shift: u32) {
+    let mut id = 0u32;
+    for point in points {
+        if let Some(slot) = free_slot(ids, hash(*point, shift)) {
+            ids[slot] = id;
+        }
+        id = id.wrapping_add(1);
+    }
+}
+
+/// The first free slot from a slot on, within `PROBE_LIMIT`.
+fn free_slot(ids: &[u32], from: usize) -> Option<usize>
+    ensures { IfSome result (λ slot. slot < length ids.now) }
+{
+    for slot in from..ids.len() {
+        if slot - from >= PROBE_LIMIT {
+            return None;
+        }
+        if ids[slot] == NONE {
+            return Some(slot);
+        }
+    }
+    None
 }
 
 /// The slot where a point's id is looked for first.
@@ -57,16 +102,20 @@ fn hash(point: Point, shift: u32) -> usize {
         .unbounded_shr(shift) as usize
 }
 
-/// The slot of a point's id in the table, or the free slot where it belongs.
+/// The slot of a point's id in the table, or a slot where it belongs, which holds no point's id.
 fn slot_of(ids: &[u32], points: &[Point], point: Point, from: usize) -> Option<usize>
-    ensures { IfSome result (λ slot. slot < length ids.now) }
+    ensures inside { IfSome result (λ slot. slot < length ids.now) }
+    ensures named { IfSome result (λ slot. slice_index ids.now slot < length points.now → slice_index_or points.now (slice_index ids.now slot) origin ≡ point) }
 {
     for slot in from..ids.len() {
         if slot - from >= PROBE_LIMIT {
             return None;
         }
         let id = ids[slot] as usize;
-        if id >= points.len() || points[id] == point {
+        if id >= points.len() {
+            return Some(slot);
+        }
+        if points[id] == point {
             return Some(slot);
         }
     }
@@ -75,65 +124,40 @@ fn slot_of(ids: &[u32], points: &[Point], point: Point, from: usize) -> Option<u
 
 /// The id of a point: its number among the points so far, behind which a new point is put.
 fn id_of<A: Allocator + Copy>(
-    table: &mut Table<A>,
+    table: &mut CornerTable<A>,
     points: &mut Vec<Point, A>,
     point: Point,
 ) -> Result<u32, AllocError>
-    ensures { OnOk result (IsAppendedOrSame points.old.items point points.new.items) }
+    requires { vec_len points.old < CORNER_LIMIT }
+    ensures { IfOk result (λ id. IsNamed points.old.items point points.new.items id) }
 {
+    let new = points.len() as u32;
     let from = hash(point, table.shift);
     let ids = table.ids.as_mut_slice();
-    let Some(slot) = slot_of(ids, points.as_slice(), point, from) else {
-        return Ok(NONE);
-    };
-    let id = ids[slot];
-    if (id as usize) < points.len() || points.len() >= CORNER_LIMIT as usize {
-        return Ok(id);
+    if let Some(slot) = slot_of(ids, points.as_slice(), point, from) {
+        let id = ids[slot];
+        if (id as usize) < points.len() {
+            return Ok(id);
+        }
+        ids[slot] = new;
     }
-    let new = points.len() as u32;
-    ids[slot] = new;
     points.push(point)?;
     Ok(new)
 }
 
 /// The ids of a facet's corners.
-fn facet_ids<A: Allocator + Copy>(
-    table: &mut Table<A>,
+pub(crate) fn facet_ids<A: Allocator + Copy>(
+    alloc: A,
+    table: &mut CornerTable<A>,
     points: &mut Vec<Point, A>,
-    facets: &[Facet],
-    number: usize,
+    facet: &Facet,
 ) -> Result<[u32; 3], AllocError>
-    requires inside { number < length facets.now }
-    requires within { All (Contains (flat_map corners facets.now)) points.old.items }
-    ensures { OnOk result (All (Contains (flat_map corners facets.now)) points.new.items) }
+    requires { vec_len points.old + 3 ≤ CORNER_LIMIT }
+    ensures { IfOk result (λ ids. IsNamedFacet points.old.items facet.now points.new.items ids) }
 {
-    let facet = facets[number];
+    table.make_room(alloc, points.as_slice())?;
     let first = id_of(table, points, facet.corner(0))?;
     let second = id_of(table, points, facet.corner(1))?;
     let third = id_of(table, points, facet.corner(2))?;
     Ok([first, second, third])
-}
-
-/// The distinct corners of facets by first appearance, and the ids of each facet's corners.
-#[derive(Drop)]
-pub(crate) struct CornerIds<A: Allocator> {
-    pub points: Vec<Point, A>,
-    pub ids: Vec<[u32; 3], A>,
-}
-
-/// Collects the corners of facets. No contract says that each is found, that none comes twice, or what the ids are.
-pub(crate) fn collect_corners<A: Allocator + Copy>(
-    alloc: A,
-    facets: &[Facet],
-) -> Result<CornerIds<A>, AllocError>
-    requires { length facets.now ≤ FACET_LIMIT }
-    ensures { IfOk result (λ found. All (Contains (flat_map corners facets.now)) found.points.items) }
-{
-    let mut table = Table::of(alloc, facets.len())?;
-    let mut points = Vec::new(alloc);
-    let mut ids = Vec::with_capacity(alloc, facets.len())?;
-    for number in 0..facets.len() {
-        ids.push(facet_ids(&mut table, &mut points, facets, number)?)?;
-    }
-    Ok(CornerIds { points, ids })
 }

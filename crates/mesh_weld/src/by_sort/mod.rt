@@ -47,7 +47,7 @@ pub(crate) fn sorted_numbering<A: Allocator + Copy>(
         points.as_slice(),
         numbers.as_slice(),
     )?;
-    let order = order_by_height(alloc, kept)?;
+    let order = order_by_height(alloc, points.as_slice(), numbers.as_slice())?;
     Ok(Numbering {
         points,
         numbers,

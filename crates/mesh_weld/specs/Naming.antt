@@ -1,0 +1,50 @@
+-- Facets by the ids of their corners: an id is a point's place among the points found so far. A point may have two ids, if
+-- it found no free slot in the table.
+use Rattle.std.specs.Prelude.{◌≡◌, ℕ, ◌*◌, ◌<◌, ◌≤◌, not, List, ◌++◌, length, filter, flat_map, slice_index_or}
+use Rattle.std.specs.List.{All, Contains}
+use Rattle.geometry.specs.Point.{Point, origin}
+use Rattle.geometry.specs.Facet.{Facet, corners}
+use Rattle.mesh_weld.specs.PointOrder.{IsAppendedOrSame}
+use Rattle.mesh_weld.specs.Solid.{HaveDistinctCorners, facet_by, facets_by, is_kept, kept_facets}
+
+-- facets as welding takes them apart: those with three distinct corners and the degenerate ones, each in their order
+pub record Parts : Type 0 where
+  pub kept : List Facet
+  pub degenerate : List Facet
+
+abbrev pub degenerate_facets : List Facet → List Facet
+degenerate_facets facets = filter (λ t. not (is_kept t)) facets
+
+abbrev pub parts_of : List Facet → Parts
+parts_of facets = record { kept = kept_facets facets; degenerate = degenerate_facets facets }
+
+-- more facets behind those so far
+abbrev pub with_facets : Parts → List Facet → Parts
+with_facets parts facets =
+    record { kept = parts.kept ++ kept_facets facets; degenerate = parts.degenerate ++ degenerate_facets facets }
+
+-- an id that leads to a point, which is among the points already or is appended to them
+abbrev pub IsNamed : List Point → Point → List Point → ℕ → Type 0
+IsNamed old p new id = IsAppendedOrSame old p new × (id < length new) × (slice_index_or new id origin ≡ p)
+
+-- each number is an index of the points
+abbrev pub AreBelow : List Point → List (List ℕ) → Type 0
+AreBelow points numbers = All (All (λ n. n < length points)) numbers
+
+-- the ids of a facet's corners, of which those that are new are appended to the points
+pub record IsNamedFacet (old : List Point) (t : Facet) (new : List Point) (ids : List ℕ) : Type 0 where
+  pub more : List Point
+  pub appended : new ≡ old ++ more
+  pub few : length more ≤ 3
+  pub own : All (Contains (corners t)) more
+  pub three : length ids ≡ 3
+  pub below : All (λ id. id < length new) ids
+  pub leads : facet_by new ids ≡ t
+
+-- three ids a facet, which lead to three distinct points; each point is a facet's corner
+pub record AreNamed (points : List Point) (ids : List (List ℕ)) : Type 0 where
+  pub three : All (λ own. length own ≡ 3) ids
+  pub below : AreBelow points ids
+  pub covered : All (Contains (flat_map corners (facets_by points ids))) points
+  pub few : length points ≤ 3 * length ids
+  pub distinct : HaveDistinctCorners (facets_by points ids)

@@ -1,0 +1,178 @@
+//! Welding as facets come: corners are named at once, so that no list of facets is kept.
+ghost use Rattle.std.specs.Prelude.{◌≡◌, ◌≤◌, ◌<◌, ◌+◌, ◌++◌, [], ◌∷◌, List, IfErr, IfOk, OnErr, OnOk, length, true, vec_len};
+ghost use Rattle.geometry.specs.Facet.{Facet};
+ghost use Rattle.geometry.specs.Point.{Point};
+ghost use Rattle.geometry.specs.Winding.{ray};
+ghost use Rattle.mesh_weld.specs.Balance.{IsBalanced};
+ghost use Rattle.mesh_weld.specs.Naming.{AreNamed, parts_of, with_facets};
+ghost use Rattle.mesh_weld.specs.Solid.{facets_by, is_kept, solid_of};
+ghost use Rattle.mesh_weld.specs.Welding.{IsWeldFault};
+ghost use Rattle.mesh_weld.specs.declared.weld_fault.WeldFault.TheVariants.{Memory};
+ghost use Rattle.geometry.specs.declared.limits.TheConstants.{FACET_LIMIT};
+
+use crate::by_hash::{CornerTable, facet_ids, named_numbering};
+use crate::facets::has_distinct_corners;
+use crate::solid::{Numbering, Solid};
+use crate::weld_fault::WeldFault;
+use geometry::{Facet, Point};
+use std::alloc::{AllocError, Allocator};
+use std::marker::Model;
+
+/// The facets that are to be welded. Those with three distinct corners are kept by the ids of their corners, 12 bytes a
+/// facet beside the points; the others are degenerate.
+#[derive(Drop)]
+pub struct Welder<A: Allocator> {
+    alloc: A,
+    table: CornerTable<A>,
+    points: Vec<Point, A>,
+    ids: Vec<[u32; 3], A>,
+    degenerate: Vec<Facet, A>,
+}
+
+impl<A: Allocator> Model for Welder<A> {
+    ghost use Rattle.std.specs.Prelude.{◌≤◌, ◌+◌, length};
+    ghost use Rattle.geometry.specs.declared.limits.TheConstants.{FACET_LIMIT};
+    ghost use Rattle.mesh_weld.specs.Naming.{AreNamed, Parts};
+    ghost use Rattle.mesh_weld.specs.Solid.{facets_by};
+
+    ghost Value = { Parts };
+
+    ghost view = { λ w. record { kept = facets_by w.points.items w.ids.items; degenerate = w.degenerate.items } };
+
+    ghost invariant = { λ w. AreNamed w.points.items w.ids.items × (length w.ids.items + length w.degenerate.items ≤ FACET_LIMIT) };
+}
+
+impl<A: Allocator + Copy + Send + Sync> Welder<A> {
+    /// A welder with no facet.
+    pub fn new(alloc: A) -> Welder<A>
+        ensures { result ≡ parts_of [] }
+    {
+        Welder {
+            alloc,
+            table: CornerTable::new(alloc),
+            points: Vec::new(alloc),
+            ids: Vec::new(alloc),
+            degenerate: Vec::new(alloc),
+        }
+    }
+
+    /// The number of facets that were added.
+    pub fn count(&self) -> usize
+        ensures value { result ≡ length self.now.kept + length self.now.degenerate }
+        ensures whole { (facets : List Facet) → self.now ≡ parts_of facets → result ≡ length facets }
+        ensures few { result ≤ FACET_LIMIT }
+    {
+        self.ids.len() + self.degenerate.len()
+    }
+
+    /// Adds facets behind those so far, at most `FACET_LIMIT` with these.
+    ///
+    /// # Errors
+    /// Where an allocation fails; the welder then has no facet any more.
+    pub fn add(&mut self, facets: &[Facet]) -> Result<(), AllocError>
+        requires { length self.old.kept + length self.old.degenerate + length facets.now ≤ FACET_LIMIT }
+        ensures added { OnOk result (self.new ≡ with_facets self.old facets.now) }
+        ensures whole { (before : List Facet) → self.old ≡ parts_of before → OnOk result (self.new ≡ parts_of (before ++ facets.now)) }
+        ensures refused { OnErr result (self.new ≡ parts_of []) }
+    {
+        for facet in facets {
+            let added = self.add_facet(facet);
+            if added.is_err() {
+                self.clear();
+                return added;
+            }
+        }
+        Ok(())
+    }
+
+    /// Adds a facet. Where an allocation fails some facets may be lost.
+    fn add_facet(&mut self, facet: &Facet) -> Result<(), AllocError>
+        requires { length self.old.kept + length self.old.degenerate < FACET_LIMIT }
+        ensures { OnOk result (self.new ≡ with_facets self.old (facet.now ∷ [])) }
+    {
+        if !has_distinct_corners(facet) {
+            self.degenerate.push(*facet)?;
+            return Ok(());
+        }
+        let named = name_facet(
+            self.alloc,
+            &mut self.table,
+            &mut self.points,
+            &mut self.ids,
+            facet,
+        );
+        if named.is_err() {
+            self.points.clear();
+            self.ids.clear();
+        }
+        named
+    }
+
+    /// Takes all facets away.
+    fn clear(&mut self)
+        ensures { self.new ≡ parts_of [] }
+    {
+        self.points.clear();
+        self.ids.clear();
+        self.degenerate.clear();
+    }
+
+    /// The solid of all facets that were added. Unless an allocation fails, it succeeds exactly where their half-edges
+    /// balance. Degenerate facets, those with two equal corners, are dropped.
+    ///
+    /// # Errors
+    /// `Open` with the least pair of points between which the half-edges don't balance, and the numbers of those there
+    /// and back; `Memory` only where an allocation failed.
+    pub fn finish(self) -> Result<Solid<A>, WeldFault>
+        ensures kept { (facets : List Facet) → self ≡ parts_of facets → IfOk result (λ solid. solid ≡ solid_of facets) }
+        ensures closed { (facets : List Facet) → self ≡ parts_of facets → IfOk result (λ solid. IsBalanced facets) }
+        ensures ray { (facets : List Facet) → self ≡ parts_of facets → IfOk result (λ solid. (c : Point) → ray solid.facets c ≡ ray facets c) }
+        ensures open { (facets : List Facet) → self ≡ parts_of facets → IfErr result (IsWeldFault facets) }
+        ensures only { (facets : List Facet) → self ≡ parts_of facets → IsBalanced facets → IfErr result (λ fault. fault ≡ Memory) }
+    {
+        let Welder {
+            alloc,
+            table,
+            points,
+            ids,
+            degenerate,
+        } = self;
+        drop(table);
+        let Numbering {
+            points,
+            numbers,
+            edges,
+            edge_count,
+            order,
+        } = named_numbering(alloc, points, ids, degenerate.as_slice())?;
+        let dropped = degenerate.len() as u32;
+        Ok(Solid {
+            points,
+            numbers,
+            edges,
+            edge_count,
+            order,
+            dropped,
+        })
+    }
+}
+
+/// Puts the ids of a facet's corners behind those of the others.
+fn name_facet<A: Allocator + Copy>(
+    alloc: A,
+    table: &mut CornerTable<A>,
+    points: &mut Vec<Point, A>,
+    ids: &mut Vec<[u32; 3], A>,
+    facet: &Facet,
+) -> Result<(), AllocError>
+    requires few { vec_len ids.old < FACET_LIMIT }
+    requires named { AreNamed points.old.items ids.old.items }
+    requires distinct { is_kept facet.now ≡ true }
+    ensures count { OnOk result (length ids.new.items ≡ length ids.old.items + 1) }
+    ensures named { OnOk result (AreNamed points.new.items ids.new.items) }
+    ensures added { OnOk result (facets_by points.new.items ids.new.items ≡ facets_by points.old.items ids.old.items ++ facet.now ∷ []) }
+{
+    let own = facet_ids(alloc, table, points, facet)?;
+    ids.push(own)?;
+    Ok(())
+}
