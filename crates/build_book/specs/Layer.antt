@@ -1,9 +1,10 @@
 -- Layers that are what the solid, the grid and the rule make of them.
 use Rattle.std.specs.Prelude.{◌≡◌, ℕ, ◌+◌, ◌<◌, List, [], ◌∷◌, sum_by}
 use Rattle.raster.specs.declared.span.Span.{Span}
-use Rattle.contour.specs.Segment.{Segment, segments}
+use Rattle.contour.specs.declared.segment.Segment.{Segment}
 use Rattle.raster.specs.Grid.{centre, plane}
 use Rattle.contour.specs.Loops.{AreLoops, loops}
+use Rattle.contour.specs.Segment.{segments}
 use Rattle.raster.specs.Span.{AreSpans, covers}
 use Rattle.raster.specs.Filler.{is_filled, area_of}
 use Rattle.build_book.specs.Job.{Job}

@@ -18,5 +18,4 @@ pub mod Unique
 pub mod LoopsClose
 pub mod LoopWinds
 pub mod LoopLaws
-pub mod SegmentEnds
 pub mod Outlined

@@ -5,7 +5,8 @@ use Rattle.geometry.specs.Facet.{Facet, twice}
 use Rattle.geometry.specs.Winding.{total, wind}
 use Rattle.mesh_weld.specs.Balance.{IsBalanced}
 use Rattle.mesh_weld.specs.EdgeNumbers.{AreEdgeNumbers}
-use Rattle.contour.specs.Segment.{Segment, segments}
+use Rattle.contour.specs.declared.segment.Segment.{Segment}
+use Rattle.contour.specs.Segment.{segments}
 use Rattle.contour.specs.Loops.{AreLoops, IsCycle, follower, loop_facets, loops}
 use Rattle.contour.specs.Outlines.{IsStartOf, end_point, start_point}
 

@@ -1,19 +1,14 @@
 -- A segment is where a plane cuts a facet: it runs from the node of the facet's downward edge to that of its upward edge.
 --     segments facets z     the segments at the height z, in order of facets
 -- Heights are in half-micrometres.
-use Rattle.std.specs.Prelude.{ℕ, zero, suc, ◌+◌, ◌-◌, Bool, ◌&&◌, ◌||◌, if◌then◌else◌, List, Option, Some, None, filter_map, find, slice_index_or, min, max, ℤ, pos, ◌*ℤ◌, ◌==◌}
+use Rattle.std.specs.Prelude.{ℕ, zero, suc, Bool, ◌&&◌, List, Option, Some, None, filter_map, find, slice_index_or, min, max, ℤ, pos, ◌*ℤ◌, ◌==◌}
 use Rattle.std.specs.List.{enumerate_from}
 use Rattle.geometry.specs.TieRule.{rises_through}
 use Rattle.geometry.specs.Point.{Point}
 use Rattle.geometry.specs.Facet.{Facet, Edge, half_edges}
 use Rattle.mesh_weld.specs.Solid.{vertices, number_of, facet_at}
 use Rattle.contour.specs.declared.segment.Node.{Node}
-
--- where a plane cuts a facet: from the node of its downward edge to that of its upward edge
-pub record Segment : Type 0 where
-  pub facet : ℕ
-  pub from : Node
-  pub to : Node
+use Rattle.contour.specs.declared.segment.Segment.{Segment}
 
 -- the height of a point
 abbrev pub height : Point → ℤ
@@ -34,14 +29,6 @@ both_of f (Some a) (Some b) = Some (f a b)
 -- the node of the edge between two vertices, by their numbers
 abbrev pub between : ℕ → ℕ → Node
 between m n = record { low = min m n; high = max m n }
-
--- of a node the other number than n
-abbrev pub other_end : Node → ℕ → ℕ
-other_end node n = node.low + node.high - n
-
--- of two nodes the number that stands in both
-abbrev pub shared_end : Node → Node → ℕ
-shared_end a b = if a.low == b.low || a.low == b.high then a.low else a.high
 
 -- the node of an edge of a mesh with these vertices
 abbrev pub node_of : List Point → Edge → Node

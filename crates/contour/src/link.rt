@@ -158,9 +158,9 @@ impl<A: Allocator> SegmentEdges<A> {
         self.starts.clear();
         self.finishes.clear();
         for t in list {
-            let facet = t.facet() as usize;
-            let start = edge_at(&corners[facet], &numbers[facet], t.from());
-            let finish = edge_at(&corners[facet], &numbers[facet], t.to());
+            let facet = t.facet as usize;
+            let start = edge_at(&corners[facet], &numbers[facet], t.from);
+            let finish = edge_at(&corners[facet], &numbers[facet], t.to);
             self.starts.push(start)?;
             self.finishes.push(finish)?;
         }

@@ -21,7 +21,7 @@ pub struct Loops<A: Allocator> {
 
 impl<A: Allocator> Model for Loops<A> {
     ghost use Rattle.std.specs.Prelude.{List, length};
-    ghost use Rattle.contour.specs.Segment.{Segment};
+    ghost use Rattle.contour.specs.declared.segment.Segment.{Segment};
     ghost use Rattle.contour.specs.Loops.{AreEnds, parts_from};
 
     ghost Value = { List (List Segment) };
@@ -100,8 +100,7 @@ pub fn loop_ray<A: Allocator>(s: &Solid<A>, list: &[Segment], c: &Centre) -> i32
     prove!(list.len() <= facets + 1);
     let mut sum: i32 = 0;
     for segment in list {
-        let number = segment.facet();
-        sum += ray_hit(&s.facet(number), c);
+        sum += ray_hit(&s.facet(segment.facet), c);
     }
     sum
 }

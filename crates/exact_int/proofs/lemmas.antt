@@ -6,4 +6,3 @@ pub mod Signs
 pub mod Tests
 pub mod Ceilings
 pub mod Lists
-pub mod Pairs

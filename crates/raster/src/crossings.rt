@@ -210,7 +210,7 @@ pub(crate) fn push_facets<A: Allocator + Copy>(
     ensures within { OnOk result (AreCrossingsWithin lattice.now.columns out.new) }
 {
     for segment in list {
-        push_facet(&s.facet(segment.facet()), z2, lattice, out)?;
+        push_facet(&s.facet(segment.facet), z2, lattice, out)?;
     }
     Ok(())
 }

@@ -4,9 +4,10 @@ use Rattle.std.proofs.Common.{◌≡◌, ℕ, List, [], ◌∷◌, refl, map, le
 use Rattle.std.specs.Prelude.{pos}
 use Rattle.geometry.proofs.examples.Meshes.{at, cube, octahedron, two_boxes, box_with_a_pair}
 use Rattle.geometry.specs.Winding.{ray, turn_of, wind, hit}
+use Rattle.contour.specs.Segment.{segments}
 use Rattle.contour.specs.Loops.{loop_facets, loops}
 use Rattle.contour.specs.Active.{active_facets, passed_count}
-use Rattle.contour.specs.Segment.{Segment, segments}
+use Rattle.contour.specs.declared.segment.Segment.{Segment}
 
 abbrev facets_in : List (List Segment) → List (List ℕ)
 facets_in found = map (λ loop. map (λ s. s.facet) loop) found

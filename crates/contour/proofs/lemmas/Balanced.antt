@@ -14,7 +14,8 @@ use Rattle.mesh_weld.proofs.lemmas.Order.{same-self}
 use Rattle.mesh_weld.proofs.lemmas.Transfer.{number_found, ends_are_vertices}
 use Rattle.mesh_weld.proofs.lemmas.Edges.{count_by-cons, runs, runs-is}
 use Rattle.contour.specs.declared.segment.Node.{Node}
-use Rattle.contour.specs.Segment.{Segment, between, both_of, height, is_downward, is_node, is_upward, node_of, segment_of, segments}
+use Rattle.contour.specs.declared.segment.Segment.{Segment}
+use Rattle.contour.specs.Segment.{between, both_of, height, is_downward, is_node, is_upward, node_of, segment_of, segments}
 use Rattle.geometry.specs.TieRule.{rises_through}
 use Rattle.contour.specs.Link.{edge_at_node, edge_of_facet, start_edge, finish_edge, AreSegmentEdges}
 use Rattle.contour.proofs.lemmas.Counts.{AreEven, count-append}

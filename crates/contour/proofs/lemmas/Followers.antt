@@ -12,7 +12,8 @@ use Rattle.mesh_weld.specs.Balance.{IsBalanced}
 use Rattle.mesh_weld.specs.Solid.{vertices, facet_at}
 use Rattle.mesh_weld.specs.EdgeNumbers.{AreEdgeNumbers, edge_of}
 use Rattle.mesh_weld.proofs.lemmas.Edges.{count_by-cons}
-use Rattle.contour.specs.Segment.{Segment, both_of, is_downward, is_node, is_segment, is_upward, node_of, segment_of, segments}
+use Rattle.contour.specs.declared.segment.Segment.{Segment}
+use Rattle.contour.specs.Segment.{both_of, is_downward, is_node, is_segment, is_upward, node_of, segment_of, segments}
 use Rattle.contour.specs.Loops.{follower, rank_at_end}
 use Rattle.contour.specs.Link.{AreLinks, AreSegmentEdges, ArePopped, edge_of_facet, finish_edge, slots, start_edge}
 use Rattle.contour.specs.declared.link.TheConstants.{NONE}

@@ -10,7 +10,8 @@ use Rattle.geometry.specs.Facet.{Facet, Edge, corners, half_edges}
 use Rattle.mesh_weld.specs.Solid.{number_of, triples, vertices}
 use Rattle.mesh_weld.specs.EdgeNumbers.{AreEdgeNumbers}
 use Rattle.contour.specs.declared.segment.Node.{Node}
-use Rattle.contour.specs.Segment.{Segment, both_of, edge_node, is_downward, is_node, is_upward, node_of, segment_of, segments}
+use Rattle.contour.specs.declared.segment.Segment.{Segment}
+use Rattle.contour.specs.Segment.{both_of, edge_node, is_downward, is_node, is_upward, node_of, segment_of, segments}
 use Rattle.contour.specs.Link.{AreSegmentEdges, edge_at_node, edge_of_facet, start_edge, finish_edge}
 use Rattle.geometry.specs.declared.limits.TheConstants.{FACET_LIMIT}
 

@@ -12,7 +12,8 @@ use Rattle.geometry.specs.Facet.{Facet, twice}
 use Rattle.geometry.specs.Winding.{hit, ray}
 use Rattle.mesh_weld.specs.Solid.{facet_at}
 use Rattle.mesh_weld.proofs.lemmas.Sums.{total-append}
-use Rattle.contour.specs.Segment.{Segment, segments, is_segment, is_node}
+use Rattle.contour.specs.declared.segment.Segment.{Segment}
+use Rattle.contour.specs.Segment.{segments, is_segment, is_node}
 use Rattle.contour.specs.Loops.{loop_facets, loops, cycle, run_from, follower, is_leader, rank_at_end}
 use Rattle.contour.proofs.lemmas.Cutting.{facet_at-is}
 use Rattle.contour.proofs.lemmas.Within.{facet_within, few_segments}

@@ -7,7 +7,8 @@ use Rattle.std.proofs.lemmas.List.Elements.{filter_map-append}
 use Rattle.geometry.specs.Point.{origin}
 use Rattle.geometry.specs.Facet.{Facet, facet_with}
 use Rattle.mesh_weld.specs.Solid.{vertices, facet_at}
-use Rattle.contour.specs.Segment.{Segment, segment_of}
+use Rattle.contour.specs.Segment.{segment_of}
+use Rattle.contour.specs.declared.segment.Segment.{Segment}
 
 enumerate_from-append : {X : Type 0} (n : ℕ) (xs ys : List X)
     → enumerate_from n (xs ++ ys) ≡ enumerate_from n xs ++ enumerate_from (n + length xs) ys

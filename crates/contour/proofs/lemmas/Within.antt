@@ -7,7 +7,8 @@ use Rattle.std.proofs.lemmas.List.FromFn.{length-enumerate_from}
 use Rattle.geometry.specs.Point.{Point}
 use Rattle.geometry.specs.Facet.{Facet, Edge, half_edges}
 use Rattle.mesh_weld.specs.Solid.{vertices}
-use Rattle.contour.specs.Segment.{Segment, segment_of, segments, is_downward, is_upward, both_of, node_of}
+use Rattle.contour.specs.declared.segment.Segment.{Segment}
+use Rattle.contour.specs.Segment.{segment_of, segments, is_downward, is_upward, both_of, node_of}
 
 one_in : (points : List Point) (n k : ℕ) (down up : Option Edge) (rest : List Segment) → k < n → AllByRecursion (λ s. s.facet < n) rest
     → AllByRecursion (λ s. s.facet < n) (cons_option (both_of (λ d u. record { facet = k; from = node_of points d; to = node_of points u }) down up) rest)

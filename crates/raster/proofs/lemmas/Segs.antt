@@ -11,7 +11,8 @@ use Rattle.exact_cut.specs.Lattice.{pixel, row_y}
 use Rattle.exact_cut.specs.declared.dda.lattice.Lattice.{Lattice}
 use Rattle.exact_cut.proofs.lemmas.Sections.{unpassed}
 use Rattle.mesh_weld.specs.Solid.{facet_at, vertices}
-use Rattle.contour.specs.Segment.{Segment, both_of, height, is_downward, is_upward, node_of, segment_of, segments}
+use Rattle.contour.specs.declared.segment.Segment.{Segment}
+use Rattle.contour.specs.Segment.{both_of, height, is_downward, is_upward, node_of, segment_of, segments}
 use Rattle.geometry.specs.TieRule.{rises_through}
 use Rattle.contour.proofs.lemmas.Cutting.{facet_at-is}
 use Rattle.contour.proofs.lemmas.Links.{segments_below}

@@ -8,7 +8,8 @@ use Rattle.std.proofs.lemmas.List.Concat.{flat_map-cons}
 use Rattle.std.proofs.lemmas.List.Sums.{sum_by-cons}
 use Rattle.std.proofs.Math.Seq.{take-append-add}
 use Rattle.contour.specs.Loops.{loops}
-use Rattle.contour.specs.Segment.{Segment, segments}
+use Rattle.contour.specs.Segment.{segments}
+use Rattle.contour.specs.declared.segment.Segment.{Segment}
 use Rattle.raster.specs.Devices.{AppendsFirst}
 use Rattle.raster.specs.Filler.{area_of, below}
 use Rattle.raster.specs.Grid.{plane}

@@ -1,6 +1,6 @@
 use Rattle.std.proofs.Common.{◌≡◌, ◌++◌, List, not}
 use Rattle.std.specs.Prelude.{count_by}
-use Rattle.contour.specs.Segment.{Segment}
+use Rattle.contour.specs.declared.segment.Segment.{Segment}
 use Rattle.contour.proofs.lemmas.Walks.{IsWalk}
 use Rattle.contour.proofs.link.trace_loop.Given as goal
 

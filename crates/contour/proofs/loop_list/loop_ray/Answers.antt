@@ -1,6 +1,4 @@
-use Rattle.std.proofs.Common.{◌≡◌, ◌∙◌, ap, arith, get_or, sym, to_z, w32}
-use Rattle.std.specs.Prelude.{Some, slice_get}
-use Rattle.contour.specs.Segment.{Segment}
+use Rattle.std.proofs.Common.{◌≡◌, ◌∙◌, ap, arith, sym, to_z, w32}
 use Rattle.std.proofs.lemmas.List.{take_all}
 use Rattle.geometry.specs.Winding.{ray}
 use Rattle.contour.specs.Loops.{loop_facets}
@@ -20,7 +18,7 @@ facet-requires g c =
     let is : IsLoopOf c.args.s.now.facets c.args.list.now =
     is_loop c.args.s.now.facets c.args.c.now.z c.args.list.now c.requires.0 c.requires.1 in
     let below = c.loop-segment-test.true in
-    rw (c.facet-number.ensures, c.segment-item.is) (is.within c.loop-segment.segment-index c.segment-item.result (omega arith))
+    is.within c.loop-segment.segment-index _ (omega arith)
 
 pub loop-segment-preserved : goal.loop-segment-preserved
 loop-segment-preserved g c =
@@ -29,10 +27,8 @@ loop-segment-preserved g c =
     let few = is.few in
     let many = c.count-facets.ensures.few in
     let below = c.loop-segment-test.true in
-    let found : slice_get c.args.s.now.facets (get_or c.args.list.now c.loop-segment.segment-index c.segment-item.result).facet ≡ Some c.facet.result =
-    ap (slice_get c.args.s.now.facets) (sym (c.facet-number.ensures ∙ ap (λ (s : Segment). s.facet) c.segment-item.is)) ∙ c.facet.ensures.value in
-    sum_more c.args.s.now.facets c.args.c.now c.args.list.now c.loop-segment.segment-index c.segment-item.result c.facet.result _ c.ray_hit-sum.result
-    (omega arith) (omega arith) found
+    sum_more c.args.s.now.facets c.args.c.now c.args.list.now c.loop-segment.segment-index _ c.facet.result _ c.ray_hit-sum.result
+    (omega arith) (omega arith) c.facet.ensures.value
     (record { sum_is = c.loop-segment.invariant.sum_is; small = c.loop-segment.invariant.small })
     c.ray_hit-sum.ensures.value c.ray_hit-sum.ensures.unit
 

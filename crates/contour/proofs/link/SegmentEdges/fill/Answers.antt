@@ -1,8 +1,6 @@
-use Rattle.std.proofs.Common.{◌≡◌, ◌<◌, ◌∙◌, ap, get_or, length, map}
-use Rattle.std.proofs.lemmas.List.{get_or_default, take_all}
-use Rattle.contour.specs.Link.{edge_of_facet, finish_edge, no_segment, start_edge}
-use Rattle.contour.specs.declared.segment.Node.{Node}
-use Rattle.contour.specs.Segment.{Segment}
+use Rattle.std.proofs.Common.{◌<◌, ◌∙◌, ap, get_or, length, map}
+use Rattle.std.proofs.lemmas.List.{take_all}
+use Rattle.contour.specs.Link.{finish_edge, no_segment, start_edge}
 use Rattle.contour.proofs.lemmas.Links.{edge-read, edges-more, in-numbers, in-triples, offset-fits}
 use Rattle.contour.proofs.link.SegmentEdges.fill.Goals as goal
 
@@ -11,43 +9,39 @@ loop-t-init g c = record { starts = c.clear.ensures.items; finishes = c.clear-2.
 
 pub bounds-corners-facet : goal.bounds-corners-facet
 bounds-corners-facet g c =
-    rw (c.facet-facet.ensures, c.t-item.is) (in-triples c.args.s.now.facets c.triples-corners.result.now (get_or c.args.list.now c.loop-t.t-index c.t-item.result).facet c.triples-corners.ensures (c.requires c.loop-t.t-index c.t-item.result c.loop-t-test.true))
+    in-triples c.args.s.now.facets c.triples-corners.result.now (get_or c.args.list.now c.loop-t.t-index no_segment).facet c.triples-corners.ensures (c.requires c.loop-t.t-index no_segment c.loop-t-test.true)
 
 pub bounds-numbers-facet : goal.bounds-numbers-facet
 bounds-numbers-facet g c =
-    rw (c.facet-facet.ensures, c.t-item.is) (in-numbers c.args.s.now.facets c.edge_numbers-numbers.result.now (get_or c.args.list.now c.loop-t.t-index c.t-item.result).facet c.edge_numbers-numbers.ensures.1.each_facet (c.requires c.loop-t.t-index c.t-item.result c.loop-t-test.true))
+    in-numbers c.args.s.now.facets c.edge_numbers-numbers.result.now (get_or c.args.list.now c.loop-t.t-index no_segment).facet c.edge_numbers-numbers.ensures.1.each_facet (c.requires c.loop-t.t-index no_segment c.loop-t-test.true)
 
 pub offset_bounds-corners-facet : goal.offset_bounds-corners-facet
 offset_bounds-corners-facet g c =
-    rw (c.facet-facet.ensures, c.t-item.is) (
-    offset-fits (get_or c.args.list.now c.loop-t.t-index c.t-item.result).facet (length c.triples-corners.result.now)
-    (in-triples c.args.s.now.facets c.triples-corners.result.now (get_or c.args.list.now c.loop-t.t-index c.t-item.result).facet c.triples-corners.ensures (c.requires c.loop-t.t-index c.t-item.result c.loop-t-test.true)) c.triples-corners.type_inv.1)
+    offset-fits (get_or c.args.list.now c.loop-t.t-index no_segment).facet (length c.triples-corners.result.now)
+    (in-triples c.args.s.now.facets c.triples-corners.result.now (get_or c.args.list.now c.loop-t.t-index no_segment).facet c.triples-corners.ensures (c.requires c.loop-t.t-index no_segment c.loop-t-test.true)) c.triples-corners.type_inv.1
 
 pub offset_bounds-numbers-facet : goal.offset_bounds-numbers-facet
 offset_bounds-numbers-facet g c =
-    rw (c.facet-facet.ensures, c.t-item.is) (
-    offset-fits (get_or c.args.list.now c.loop-t.t-index c.t-item.result).facet (length c.triples-corners.result.now)
-    (in-triples c.args.s.now.facets c.triples-corners.result.now (get_or c.args.list.now c.loop-t.t-index c.t-item.result).facet c.triples-corners.ensures (c.requires c.loop-t.t-index c.t-item.result c.loop-t-test.true)) c.triples-corners.type_inv.1)
+    offset-fits (get_or c.args.list.now c.loop-t.t-index no_segment).facet (length c.triples-corners.result.now)
+    (in-triples c.args.s.now.facets c.triples-corners.result.now (get_or c.args.list.now c.loop-t.t-index no_segment).facet c.triples-corners.ensures (c.requires c.loop-t.t-index no_segment c.loop-t-test.true)) c.triples-corners.type_inv.1
 
 pub bounds-corners-facet-in-loop-t : goal.bounds-corners-facet-in-loop-t
 bounds-corners-facet-in-loop-t g c =
-    rw (c.facet-facet.ensures, c.t-item.is) (in-triples c.args.s.now.facets c.triples-corners.result.now (get_or c.args.list.now c.loop-t.t-index c.t-item.result).facet c.triples-corners.ensures (c.requires c.loop-t.t-index c.t-item.result c.loop-t-test.true))
+    in-triples c.args.s.now.facets c.triples-corners.result.now (get_or c.args.list.now c.loop-t.t-index no_segment).facet c.triples-corners.ensures (c.requires c.loop-t.t-index no_segment c.loop-t-test.true)
 
 pub bounds-numbers-facet-in-loop-t : goal.bounds-numbers-facet-in-loop-t
 bounds-numbers-facet-in-loop-t g c =
-    rw (c.facet-facet.ensures, c.t-item.is) (in-numbers c.args.s.now.facets c.edge_numbers-numbers.result.now (get_or c.args.list.now c.loop-t.t-index c.t-item.result).facet c.edge_numbers-numbers.ensures.1.each_facet (c.requires c.loop-t.t-index c.t-item.result c.loop-t-test.true))
+    in-numbers c.args.s.now.facets c.edge_numbers-numbers.result.now (get_or c.args.list.now c.loop-t.t-index no_segment).facet c.edge_numbers-numbers.ensures.1.each_facet (c.requires c.loop-t.t-index no_segment c.loop-t-test.true)
 
 pub offset_bounds-corners-facet-in-loop-t : goal.offset_bounds-corners-facet-in-loop-t
 offset_bounds-corners-facet-in-loop-t g c =
-    rw (c.facet-facet.ensures, c.t-item.is) (
-    offset-fits (get_or c.args.list.now c.loop-t.t-index c.t-item.result).facet (length c.triples-corners.result.now)
-    (in-triples c.args.s.now.facets c.triples-corners.result.now (get_or c.args.list.now c.loop-t.t-index c.t-item.result).facet c.triples-corners.ensures (c.requires c.loop-t.t-index c.t-item.result c.loop-t-test.true)) c.triples-corners.type_inv.1)
+    offset-fits (get_or c.args.list.now c.loop-t.t-index no_segment).facet (length c.triples-corners.result.now)
+    (in-triples c.args.s.now.facets c.triples-corners.result.now (get_or c.args.list.now c.loop-t.t-index no_segment).facet c.triples-corners.ensures (c.requires c.loop-t.t-index no_segment c.loop-t-test.true)) c.triples-corners.type_inv.1
 
 pub offset_bounds-numbers-facet-in-loop-t : goal.offset_bounds-numbers-facet-in-loop-t
 offset_bounds-numbers-facet-in-loop-t g c =
-    rw (c.facet-facet.ensures, c.t-item.is) (
-    offset-fits (get_or c.args.list.now c.loop-t.t-index c.t-item.result).facet (length c.triples-corners.result.now)
-    (in-triples c.args.s.now.facets c.triples-corners.result.now (get_or c.args.list.now c.loop-t.t-index c.t-item.result).facet c.triples-corners.ensures (c.requires c.loop-t.t-index c.t-item.result c.loop-t-test.true)) c.triples-corners.type_inv.1)
+    offset-fits (get_or c.args.list.now c.loop-t.t-index no_segment).facet (length c.triples-corners.result.now)
+    (in-triples c.args.s.now.facets c.triples-corners.result.now (get_or c.args.list.now c.loop-t.t-index no_segment).facet c.triples-corners.ensures (c.requires c.loop-t.t-index no_segment c.loop-t-test.true)) c.triples-corners.type_inv.1
 
 pub loop-t-preserved : goal.loop-t-preserved
 loop-t-preserved g c =
@@ -57,22 +51,13 @@ loop-t-preserved g c =
     let within : t.facet < length c.args.s.now.facets = c.requires c.loop-t.t-index no_segment c.loop-t-test.true in
     let l : t.facet < length corners = in-triples c.args.s.now.facets corners t.facet c.triples-corners.ensures within in
     let m : t.facet < length numbers = in-numbers c.args.s.now.facets numbers t.facet c.edge_numbers-numbers.ensures.1.each_facet within in
-    let n = c.facet-facet.result in
-    let item : c.t-item.result ≡ t = c.t-item.is ∙ get_or_default c.args.list.now c.loop-t.t-index c.t-item.result no_segment c.loop-t-test.true in
-    let e : n ≡ t.facet = c.facet-facet.ensures ∙ ap (λ (s : Segment). s.facet) item in
-    let l' : n < length corners = rw e l in
-    let m' : n < length numbers = rw e m in
-    let read : (node : Node) → edge_of_facet c.args.s.now.facets numbers n node ≡ edge_of_facet c.args.s.now.facets numbers t.facet node =
-    λ node. ap (λ f. edge_of_facet c.args.s.now.facets numbers f node) e in
     record {
       starts = edges-more (start_edge c.args.s.now.facets numbers) c.loop-t.self.starts.items c.push.new.self.items c.args.list.now c.loop-t.t-index c.edge_at-start.result no_segment
           c.loop-t-test.true c.loop-t.invariant.starts c.in_ok-push.ensures.items
-          (edge-read c.args.s.now.facets corners numbers n c.from.result _ _ c.edge_at-start.result c.triples-corners.ensures l' m' c.edge_at-start.ensures
-          ∙ read c.from.result ∙ ap (edge_of_facet c.args.s.now.facets numbers t.facet) (c.from.ensures ∙ ap (λ (s : Segment). s.from) item));
+          (edge-read c.args.s.now.facets corners numbers t.facet t.from _ _ c.edge_at-start.result c.triples-corners.ensures l m c.edge_at-start.ensures);
       finishes = edges-more (finish_edge c.args.s.now.facets numbers) c.loop-t.self.finishes.items c.push-in-loop-t.new.self.items c.args.list.now c.loop-t.t-index c.edge_at-finish.result no_segment
           c.loop-t-test.true c.loop-t.invariant.finishes c.in_ok-push-2.ensures.items
-          (edge-read c.args.s.now.facets corners numbers n c.to.result _ _ c.edge_at-finish.result c.triples-corners.ensures l' m' c.edge_at-finish.ensures
-          ∙ read c.to.result ∙ ap (edge_of_facet c.args.s.now.facets numbers t.facet) (c.to.ensures ∙ ap (λ (s : Segment). s.to) item));
+          (edge-read c.args.s.now.facets corners numbers t.facet t.to _ _ c.edge_at-finish.result c.triples-corners.ensures l m c.edge_at-finish.ensures);
     }
 
 pub returns : goal.returns
