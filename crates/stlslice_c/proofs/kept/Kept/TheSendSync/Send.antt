@@ -1,0 +1,26 @@
+-- A mesh that C keeps may go to another thread.
+use mir.Raw.{raw}
+use base.Shift.{Keyless}
+use denote.Memory.{lone}
+use denote.RawPtr.{Ptr}
+use denote.Struct.Struct.{exits_of}
+use denote.Struct.Owning.{shape, fields, to}
+use denote.Param.Send.{IsSend, AllSend, owning_send, struct_send, sendable}
+use Rattle.std.specs.Prelude.{Option, None, Some}
+use Rattle.std.proofs.Crossing as heap
+use Rattle.std_alloc.proofs.SendSync.{quiet, lies}
+use Rattle.stlslice_c.specs.Held.{holds, token}
+use Rattle.stlslice_c.specs.contracts.opened.Opened as Opened
+use Rattle.stlslice_c.proofs.opened.Opened.TheSendSync.{the_send as opened_send}
+use Rattle.stlslice_c.specs.contracts.kept.Kept.{the_row, the_type}
+
+kept_keyless : (p : Ptr) (x : Option (Opened.the_row).Denot) → Keyless (holds token Opened.the_row p x)
+kept_keyless p None = tt
+kept_keyless p (Some x) =
+    (lies Opened.the_row opened_send p x, heap.frees.frees (record { memory = record { seal = tt } }) (raw (lone (Opened.the_row).mir)) p)
+
+pub send : IsSend the_row
+send =
+    let all : AllSend (fields the_type) = (search sendable, tt) in
+    owning_send the_type all (λ d. kept_keyless d.at d.opened)
+    (λ k. quiet (to the_type) (exits_of k (fields the_type)) ((struct_send (shape the_type) all).leaving k))

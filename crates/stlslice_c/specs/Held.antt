@@ -1,0 +1,16 @@
+-- What a pointer that C keeps owns: a box where there is one, else nothing.
+use Rattle.std.specs.Prelude.{Option, None, Some}
+use mir.Syntax.{Ty}
+use base.Fml.{Fml, ftrue}
+use Rattle.std.specs.contracts.impls.GlobalAllocator.TheImpl.{ghosts}
+use denote.RattleType.{RattleType}
+use denote.RawPtr.{Ptr}
+use Rattle.std_alloc.specs.Box.Ownership.{box_owns}
+
+-- the right to free a block of the heap
+abbrev pub token : Ty → Ptr → Fml
+token = ghosts.dealloc_token (record { memory = record { seal = tt } })
+
+abbrev pub holds : (Ty → Ptr → Fml) → (R : RattleType) → Ptr → Option R.Denot → Fml
+holds free R p None = ftrue
+holds free R p (Some x) = box_owns free R p x

@@ -1,0 +1,4 @@
+pub mod Held
+pub mod Shape
+pub mod Options
+pub mod Answers

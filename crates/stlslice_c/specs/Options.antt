@@ -1,0 +1,35 @@
+-- What the numbers stand for that C opens a text with.
+use Rattle.std.specs.Prelude.{◌≡◌, ℕ, Option, Some, None, if◌then◌else◌, nat_eq}
+use Rattle.geometry.specs.Point.{IsMeshPoint}
+use Rattle.micro_num.specs.declared.unit.Unit.{Unit as TextUnit}
+use Rattle.micro_num.specs.declared.unit.Unit.TheVariants as unit
+use Rattle.raster.specs.declared.rule.Rule.{Rule}
+use Rattle.raster.specs.declared.rule.Rule.TheVariants as rule
+use Rattle.layer_session.specs.declared.setup.Placing.{Placing}
+use Rattle.layer_session.specs.declared.setup.Placing.TheVariants as placing
+use Rattle.layer_session.specs.declared.setup.Setup.{Setup}
+use Rattle.stlslice_c.specs.declared.options.Options.{Options}
+
+abbrev pub unit_numbered : ℕ → Option TextUnit
+unit_numbered n = if nat_eq n 0 then Some unit.Millimetre else if nat_eq n 1 then Some unit.Inch else None
+
+abbrev pub rule_numbered : ℕ → Option Rule
+rule_numbered n =
+    if nat_eq n 0 then Some rule.EvenOdd
+    else if nat_eq n 1 then Some rule.NonZero
+    else if nat_eq n 2 then Some rule.Positive else None
+
+-- 0 is a fitted grid, 1 a given one, whose origin is in the range of coordinates
+abbrev pub IsPlaced : Options → Placing → Type 0
+IsPlaced o placing.Fitted = o.placing ≡ 0
+IsPlaced o (placing.Given columns rows layers origin) =
+    (o.placing ≡ 1) × (columns ≡ o.columns) × (rows ≡ o.rows) × (layers ≡ o.layers)
+    × (origin ≡ record { x = o.origin_x; y = o.origin_y; z = o.origin_z }) × IsMeshPoint origin
+
+-- the setup that the options stand for
+pub record IsSetup (o : Options) (s : Setup) : Type 0 where
+  pub unit : unit_numbered o.unit ≡ Some s.unit
+  pub pitch : s.pitch ≡ o.pitch
+  pub layer : s.layer ≡ o.layer
+  pub rule : rule_numbered o.rule ≡ Some s.rule
+  pub placing : IsPlaced o s.placing

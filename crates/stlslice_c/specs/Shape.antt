@@ -1,0 +1,38 @@
+-- What C is told of a text's facets and of an open mesh.
+use Rattle.std.specs.Prelude.{ℕ, Option, Some, None, pos}
+use Rattle.geometry.specs.Point.{Point}
+use Rattle.layer_session.specs.Session.{Session}
+use Rattle.stlslice_c.specs.declared.shape.Corners.{Corners}
+use Rattle.stlslice_c.specs.declared.shape.Shape.{Shape}
+
+-- the number of facets and their box; zeros where there is none
+abbrev pub corners_told : ℕ → Option (Point × Point) → Corners
+corners_told n None = record {
+  facets = n;
+  low_x = pos 0;
+  low_y = pos 0;
+  low_z = pos 0;
+  high_x = pos 0;
+  high_y = pos 0;
+  high_z = pos 0;
+}
+corners_told n (Some box) = record {
+  facets = n;
+  low_x = box.0.x;
+  low_y = box.0.y;
+  low_z = box.0.z;
+  high_x = box.1.x;
+  high_y = box.1.y;
+  high_z = box.1.z;
+}
+
+abbrev pub shape_told : Session → Shape
+shape_told s = record {
+  corners = corners_told s.facet_count s.corners;
+  columns = s.job.grid.columns;
+  rows = s.job.grid.rows;
+  layers = s.job.grid.layers;
+  origin_x = s.job.grid.origin.x;
+  origin_y = s.job.grid.origin.y;
+  origin_z = s.job.grid.origin.z;
+}

@@ -1,0 +1,92 @@
+//! The numbers that C opens a text with. Nothing checks what C passes, so each is tested.
+ghost use Rattle.std.specs.Prelude.{◌≡◌, IfNone, IfSome};
+ghost use Rattle.layer_session.specs.declared.setup.Placing.{Placing};
+ghost use Rattle.layer_session.specs.declared.setup.Setup.{Setup};
+ghost use Rattle.stlslice_c.specs.Options.{IsPlaced, IsSetup, rule_numbered, unit_numbered};
+
+use geometry::Point;
+use layer_session::{Placing, Rule, Setup, Unit};
+
+/// How a text is read, and how its mesh is cut into voxels.
+#[repr(C)]
+#[derive(Clone, Copy)]
+pub struct Options {
+    /// Micrometres along x and y, 1 to 100000.
+    pub pitch: u32,
+    /// Micrometres along z, 1 to 100000.
+    pub layer: u32,
+    /// 0 even-odd, 1 non-zero, 2 positive.
+    pub rule: u32,
+    /// 0 millimetres, 1 inches.
+    pub unit: u32,
+    /// 0 a grid that fits the mesh, 1 the one that follows.
+    pub placing: u32,
+    pub columns: u32,
+    pub rows: u32,
+    pub layers: u32,
+    pub origin_x: i32,
+    pub origin_y: i32,
+    pub origin_z: i32,
+}
+
+impl Options {
+    /// The setup that these numbers stand for, or `None` where one of them stands for nothing.
+    pub(crate) fn setup(&self) -> Option<Setup>
+        ensures some { IfSome result (IsSetup self.now) }
+        ensures none { IfNone result ((setup : Setup) → IsSetup self.now setup → ⊥) }
+    {
+        let unit = unit_numbered(self.unit)?;
+        let rule = rule_numbered(self.rule)?;
+        let placing = self.placing()?;
+        Some(Setup {
+            unit,
+            pitch: self.pitch,
+            layer: self.layer,
+            rule,
+            placing,
+        })
+    }
+
+    /// Where the grid is to lie.
+    fn placing(&self) -> Option<Placing>
+        ensures some { IfSome result (IsPlaced self.now) }
+        ensures none { IfNone result ((placing : Placing) → IsPlaced self.now placing → ⊥) }
+    {
+        if self.placing == 0 {
+            return Some(Placing::Fitted);
+        }
+        if self.placing != 1 {
+            return None;
+        }
+        let origin = Point::new(self.origin_x, self.origin_y, self.origin_z)?;
+        Some(Placing::Given {
+            columns: self.columns,
+            rows: self.rows,
+            layers: self.layers,
+            origin,
+        })
+    }
+}
+
+/// The unit of that number.
+pub(crate) fn unit_numbered(number: u32) -> Option<Unit>
+    ensures { result ≡ unit_numbered number }
+{
+    match number {
+        0 => Some(Unit::Millimetre),
+        1 => Some(Unit::Inch),
+        _ => None,
+    }
+}
+
+/// The rule of that number.
+fn rule_numbered(number: u32) -> Option<Rule>
+    ensures { result ≡ rule_numbered number }
+{
+    match number {
+        0 => Some(Rule::EvenOdd),
+        1 => Some(Rule::NonZero),
+        2 => Some(Rule::Positive),
+        _ => None,
+    }
+}

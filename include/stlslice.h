@@ -1,0 +1,128 @@
+/* stlslice: exact slices of a closed mesh, layer by layer.
+ *
+ *     stlslice_options options = {.pitch = 50, .layer = 50};
+ *     stlslice_mesh mesh = STLSLICE_CLOSED;
+ *     stlslice_shape shape;
+ *     char line[STLSLICE_LINE];
+ *     if (stlslice_open(text, text_size, &options, &mesh, &shape, line, sizeof line) != STLSLICE_DONE)
+ *         puts(line);
+ *     stlslice_mask(&mesh, k, image, image_room, &image_size);
+ *     stlslice_close(&mesh);
+ *
+ * Calls. Each call answers a status. Lengths are whole micrometres. Layers, columns and rows count from 0, along z, x
+ * and y. No call prints, starts a thread, reads a file or ends the program; memory comes from malloc and goes back to
+ * free. A call that answers another status than STLSLICE_DONE leaves the mesh as it was.
+ *
+ * Buffers. A call with a buffer writes into its front and leaves the rest as it was. Where it is too small nothing is
+ * written, the size that is wanted is told, and the status is STLSLICE_NO_ROOM; so a call with a null buffer of size 0
+ * asks for the size.
+ *
+ * Pointers. A text or a buffer may be null where its size is 0. Any other pointer that is null makes the status
+ * STLSLICE_OUT_OF_RANGE. A pointer that isn't null has to be good for what its type says, and what one call writes to
+ * may not overlap.
+ *
+ * Threads. A mesh may go from thread to thread, and is used by one call at a time. Different meshes are independent of
+ * each other.
+ */
+#ifndef STLSLICE_H
+#define STLSLICE_H
+
+#include <stdbool.h>
+#include <stddef.h>
+#include <stdint.h>
+
+#ifdef __cplusplus
+extern "C" {
+#endif
+
+/* Statuses. 3 to 6 are the program's. */
+typedef uint32_t stlslice_status;
+#define STLSLICE_DONE 0u
+#define STLSLICE_OUT_OF_RANGE 1u /* a number, layer, stripe or voxel is out of its range; a pointer is null */
+#define STLSLICE_TEXT 3u         /* the text is no ASCII STL */
+#define STLSLICE_OPEN_MESH 4u    /* the mesh is not closed */
+#define STLSLICE_GRID 5u         /* there is no such grid */
+#define STLSLICE_MEMORY 6u       /* an allocation failed */
+#define STLSLICE_NO_ROOM 7u      /* the buffer is too small */
+#define STLSLICE_NOT_OPEN 8u     /* the mesh is not open */
+
+/* A size that each line has room in. */
+#define STLSLICE_LINE 256
+
+/* Rules, units and places of a grid. Zeros are what the program takes by default. */
+enum { STLSLICE_EVENODD = 0, STLSLICE_NONZERO = 1, STLSLICE_POSITIVE = 2 };
+enum { STLSLICE_MILLIMETRE = 0, STLSLICE_INCH = 1 };
+enum { STLSLICE_FITTED = 0, STLSLICE_GIVEN = 1 };
+
+/* How a text is read, and how its mesh is cut into voxels. */
+typedef struct {
+    uint32_t pitch;                 /* a voxel's length along x and y, 1 to 100000 */
+    uint32_t layer;                 /* a voxel's length along z, 1 to 100000 */
+    uint32_t rule;                  /* STLSLICE_EVENODD, .. */
+    uint32_t unit;                  /* of the text's numbers: STLSLICE_MILLIMETRE, .. */
+    uint32_t placing;               /* STLSLICE_FITTED: the rest isn't read; STLSLICE_GIVEN: it is the grid */
+    uint32_t columns, rows, layers; /* at most 16384, 16384 and 65535 */
+    int32_t origin[3];              /* the corner of least x, y and z, each at most 128000000 from 0 */
+} stlslice_options;
+
+/* The facets of a text: how many, and their least and greatest x, y and z. All are 0 where there is none. */
+typedef struct {
+    uint64_t facets;
+    int32_t low[3], high[3];
+} stlslice_corners;
+
+/* An open mesh: its facets, and the counts and the corner of its grid. */
+typedef struct {
+    stlslice_corners corners;
+    uint32_t columns, rows, layers;
+    int32_t origin[3];
+} stlslice_shape;
+
+/* The signed crossings of the mesh by the rays along x and y from a voxel's centre. */
+typedef struct {
+    int32_t along_x, along_y;
+} stlslice_rays;
+
+/* A mesh, open or closed. Its fields are the library's. Zeros are a closed one; a copy may not be used beside it. */
+typedef struct {
+    bool is_open;
+    void *at;
+} stlslice_mesh;
+#define STLSLICE_CLOSED {false, NULL}
+
+/* 1000000 for 1.0.0. */
+uint32_t stlslice_version(void);
+
+/* Reads an ASCII STL text, and tells the box of its facets. After a fault, `line` has the line that the program writes
+ * for it behind "stlslice: ", ended by 0 and cut where it has no room. */
+stlslice_status stlslice_box(const uint8_t *text, size_t text_size, uint32_t unit, stlslice_corners *corners, char *line,
+                             size_t line_room);
+
+/* Opens an ASCII STL text: `mesh` has its mesh from now on, in place of one that it had. The text isn't needed any more.
+ * After a fault, `mesh` and `shape` are as they were, and `line` is as of stlslice_box. */
+stlslice_status stlslice_open(const uint8_t *text, size_t text_size, const stlslice_options *options, stlslice_mesh *mesh,
+                              stlslice_shape *shape, char *line, size_t line_room);
+
+/* The image of layer k in raw PBM, just as the program writes it: "P4", columns, rows, then rows of (columns + 7) / 8
+ * bytes from the greatest y down, the leftmost pixel in the highest bit, 1 where the voxel is filled. */
+stlslice_status stlslice_mask(stlslice_mesh *mesh, uint32_t k, uint8_t *image, size_t image_room, size_t *image_size);
+
+/* The images of the layers 8 s to 8 s + 7, as far as there are, one behind the other; faster than one by one. */
+stlslice_status stlslice_stripe(stlslice_mesh *mesh, uint64_t s, uint8_t *images, size_t images_room, size_t *images_size);
+
+/* The number of filled pixels of layer k. */
+stlslice_status stlslice_area(stlslice_mesh *mesh, uint32_t k, uint64_t *area);
+
+/* The rays from the centre of the voxel of column i, row j (from the least y up) and layer k. */
+stlslice_status stlslice_probe(stlslice_mesh *mesh, uint32_t i, uint32_t j, uint32_t k, stlslice_rays *rays);
+
+/* The text of a status, ended by 0 and cut where it has no room. */
+void stlslice_fault_text(stlslice_status status, char *line, size_t line_room);
+
+/* Closes a mesh and frees its memory. One that is closed stays so. */
+void stlslice_close(stlslice_mesh *mesh);
+
+#ifdef __cplusplus
+}
+#endif
+#endif

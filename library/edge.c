@@ -1,0 +1,80 @@
+/* The edge of the library: null pointers and sizes that no object has end here. Each call is then that of the proved
+ * library, whose names the build gives the front `proved_`. What is passed on is what Rattle wants of its caller:
+ * references that aren't null, and slices with a place, also where they are empty. */
+#include "stlslice.h"
+
+_Static_assert(sizeof(stlslice_options) == 44, "as `Options` of crates/stlslice_c/src/options.rt");
+_Static_assert(sizeof(stlslice_corners) == 32, "as `Corners` of crates/stlslice_c/src/shape.rt");
+_Static_assert(sizeof(stlslice_shape) == 56, "as `Shape` of crates/stlslice_c/src/shape.rt");
+_Static_assert(sizeof(stlslice_rays) == 8, "as `Rays` of crates/stlslice_c/src/shape.rt");
+_Static_assert(sizeof(stlslice_mesh) == 16, "as `Handle` of crates/stlslice_c/src/handle.rt");
+
+uint32_t proved_stlslice_version(void);
+uint32_t proved_stlslice_box(const uint8_t *, size_t, uint32_t, stlslice_corners *, uint8_t *, size_t);
+uint32_t proved_stlslice_open(const uint8_t *, size_t, const stlslice_options *, stlslice_mesh *, stlslice_shape *,
+                              uint8_t *, size_t);
+uint32_t proved_stlslice_mask(stlslice_mesh *, uint32_t, uint8_t *, size_t, size_t *);
+uint32_t proved_stlslice_stripe(stlslice_mesh *, uint64_t, uint8_t *, size_t, size_t *);
+uint32_t proved_stlslice_area(stlslice_mesh *, uint32_t, uint64_t *);
+uint32_t proved_stlslice_probe(stlslice_mesh *, uint32_t, uint32_t, uint32_t, stlslice_rays *);
+void proved_stlslice_fault_text(uint32_t, uint8_t *, size_t);
+void proved_stlslice_close(stlslice_mesh *);
+
+/* whether bytes can lie there */
+static bool can_lie(const void *at, size_t size) { return size == 0 || (at != NULL && size <= PTRDIFF_MAX); }
+
+uint32_t stlslice_version(void) { return proved_stlslice_version(); }
+
+void stlslice_fault_text(stlslice_status status, char *line, size_t line_room) {
+    if (line_room != 0 && can_lie(line, line_room))
+        proved_stlslice_fault_text(status, (uint8_t *)line, line_room);
+}
+
+stlslice_status stlslice_box(const uint8_t *text, size_t text_size, uint32_t unit, stlslice_corners *corners, char *line,
+                             size_t line_room) {
+    uint8_t none = 0;
+    if (!can_lie(text, text_size) || corners == NULL || !can_lie(line, line_room)) {
+        stlslice_fault_text(STLSLICE_OUT_OF_RANGE, line, line_room);
+        return STLSLICE_OUT_OF_RANGE;
+    }
+    return proved_stlslice_box(text_size ? text : &none, text_size, unit, corners, line_room ? (uint8_t *)line : &none,
+                               line_room);
+}
+
+stlslice_status stlslice_open(const uint8_t *text, size_t text_size, const stlslice_options *options, stlslice_mesh *mesh,
+                              stlslice_shape *shape, char *line, size_t line_room) {
+    uint8_t none = 0;
+    if (!can_lie(text, text_size) || options == NULL || mesh == NULL || shape == NULL || !can_lie(line, line_room)) {
+        stlslice_fault_text(STLSLICE_OUT_OF_RANGE, line, line_room);
+        return STLSLICE_OUT_OF_RANGE;
+    }
+    return proved_stlslice_open(text_size ? text : &none, text_size, options, mesh, shape,
+                                line_room ? (uint8_t *)line : &none, line_room);
+}
+
+stlslice_status stlslice_mask(stlslice_mesh *mesh, uint32_t k, uint8_t *image, size_t image_room, size_t *image_size) {
+    uint8_t none = 0;
+    if (mesh == NULL || !can_lie(image, image_room) || image_size == NULL)
+        return STLSLICE_OUT_OF_RANGE;
+    return proved_stlslice_mask(mesh, k, image_room ? image : &none, image_room, image_size);
+}
+
+stlslice_status stlslice_stripe(stlslice_mesh *mesh, uint64_t s, uint8_t *images, size_t images_room, size_t *images_size) {
+    uint8_t none = 0;
+    if (mesh == NULL || !can_lie(images, images_room) || images_size == NULL)
+        return STLSLICE_OUT_OF_RANGE;
+    return proved_stlslice_stripe(mesh, s, images_room ? images : &none, images_room, images_size);
+}
+
+stlslice_status stlslice_area(stlslice_mesh *mesh, uint32_t k, uint64_t *area) {
+    return mesh == NULL || area == NULL ? STLSLICE_OUT_OF_RANGE : proved_stlslice_area(mesh, k, area);
+}
+
+stlslice_status stlslice_probe(stlslice_mesh *mesh, uint32_t i, uint32_t j, uint32_t k, stlslice_rays *rays) {
+    return mesh == NULL || rays == NULL ? STLSLICE_OUT_OF_RANGE : proved_stlslice_probe(mesh, i, j, k, rays);
+}
+
+void stlslice_close(stlslice_mesh *mesh) {
+    if (mesh != NULL)
+        proved_stlslice_close(mesh);
+}

@@ -1,0 +1,243 @@
+/* What no caller should do, and want of memory: null pointers, sizes of 0, short lines, numbers out of range, meshes that
+ * are closed, closed twice or opened twice, and each allocation refused in turn. It is linked with
+ * --wrap=malloc,--wrap=realloc. The status is 0, or 100 where an answer is another than the header says.
+ *
+ *     hostile FILE */
+#include "stlslice.h"
+
+#include <stdio.h>
+#include <stdlib.h>
+#include <string.h>
+
+#define CHECK(holds)                                                                                                   \
+    do {                                                                                                               \
+        if (!(holds)) {                                                                                                \
+            fprintf(stderr, "%s:%d: not so: %s\n", __FILE__, __LINE__, #holds);                                        \
+            exit(100);                                                                                                 \
+        }                                                                                                              \
+    } while (0)
+
+#ifdef __cplusplus
+extern "C" {
+#endif
+void *__real_malloc(size_t size);
+void *__real_realloc(void *at, size_t size);
+void *__wrap_malloc(size_t size);
+void *__wrap_realloc(void *at, size_t size);
+#ifdef __cplusplus
+}
+#endif
+
+/* the allocation that is refused, and how many there were */
+static unsigned long refused, asked;
+static bool counts;
+
+void *__wrap_malloc(size_t size) { return counts && ++asked == refused ? NULL : __real_malloc(size); }
+void *__wrap_realloc(void *at, size_t size) { return counts && ++asked == refused ? NULL : __real_realloc(at, size); }
+
+static uint8_t *text;
+static size_t text_size;
+static stlslice_options options;
+
+static size_t read_file(const char *path) {
+    FILE *file = fopen(path, "rb");
+    if (file == NULL || fseek(file, 0, SEEK_END) != 0)
+        exit(99);
+    size_t size = (size_t)ftell(file);
+    rewind(file);
+    text = (uint8_t *)malloc(size);
+    if (text == NULL || fread(text, 1, size, file) != size)
+        exit(99);
+    fclose(file);
+    return size;
+}
+
+static void nulls(void) {
+    stlslice_mesh mesh = STLSLICE_CLOSED;
+    stlslice_shape shape;
+    stlslice_corners corners;
+    stlslice_rays rays;
+    char line[STLSLICE_LINE];
+    uint8_t byte = 0;
+    size_t size = 5;
+    uint64_t area = 5;
+    CHECK(stlslice_box(NULL, 0, 0, &corners, line, sizeof line) == STLSLICE_TEXT);
+    CHECK(strcmp(line, "input ended before solid") == 0);
+    CHECK(stlslice_box(NULL, 0, 0, &corners, NULL, 0) == STLSLICE_TEXT);
+    CHECK(stlslice_box(NULL, 1, 0, &corners, line, sizeof line) == STLSLICE_OUT_OF_RANGE);
+    CHECK(stlslice_box(text, SIZE_MAX, 0, &corners, line, sizeof line) == STLSLICE_OUT_OF_RANGE);
+    CHECK(stlslice_box(text, text_size, 0, NULL, line, sizeof line) == STLSLICE_OUT_OF_RANGE);
+    CHECK(stlslice_box(text, text_size, 0, &corners, NULL, 1) == STLSLICE_OUT_OF_RANGE);
+    CHECK(stlslice_open(NULL, 0, &options, &mesh, &shape, line, sizeof line) == STLSLICE_TEXT);
+    CHECK(stlslice_open(NULL, 1, &options, &mesh, &shape, line, sizeof line) == STLSLICE_OUT_OF_RANGE);
+    CHECK(stlslice_open(text, text_size, NULL, &mesh, &shape, line, sizeof line) == STLSLICE_OUT_OF_RANGE);
+    CHECK(stlslice_open(text, text_size, &options, NULL, &shape, line, sizeof line) == STLSLICE_OUT_OF_RANGE);
+    CHECK(stlslice_open(text, text_size, &options, &mesh, NULL, line, sizeof line) == STLSLICE_OUT_OF_RANGE);
+    CHECK(stlslice_open(text, text_size, &options, &mesh, &shape, NULL, 9) == STLSLICE_OUT_OF_RANGE);
+    CHECK(!mesh.is_open);
+    CHECK(stlslice_mask(NULL, 0, &byte, 1, &size) == STLSLICE_OUT_OF_RANGE);
+    CHECK(stlslice_stripe(NULL, 0, &byte, 1, &size) == STLSLICE_OUT_OF_RANGE);
+    CHECK(stlslice_area(NULL, 0, &area) == STLSLICE_OUT_OF_RANGE);
+    CHECK(stlslice_probe(NULL, 0, 0, 0, &rays) == STLSLICE_OUT_OF_RANGE);
+    CHECK(stlslice_open(text, text_size, &options, &mesh, &shape, NULL, 0) == STLSLICE_DONE);
+    CHECK(stlslice_mask(&mesh, 0, NULL, 1, &size) == STLSLICE_OUT_OF_RANGE);
+    CHECK(stlslice_mask(&mesh, 0, &byte, SIZE_MAX, &size) == STLSLICE_OUT_OF_RANGE);
+    CHECK(stlslice_mask(&mesh, 0, &byte, 1, NULL) == STLSLICE_OUT_OF_RANGE);
+    CHECK(stlslice_stripe(&mesh, 0, NULL, 1, &size) == STLSLICE_OUT_OF_RANGE);
+    CHECK(stlslice_stripe(&mesh, 0, &byte, 1, NULL) == STLSLICE_OUT_OF_RANGE);
+    CHECK(stlslice_area(&mesh, 0, NULL) == STLSLICE_OUT_OF_RANGE);
+    CHECK(stlslice_probe(&mesh, 0, 0, 0, NULL) == STLSLICE_OUT_OF_RANGE);
+    CHECK(size == 5 && area == 5);
+    CHECK(stlslice_stripe(&mesh, 0, NULL, 0, &size) == STLSLICE_NO_ROOM && size > 5);
+    stlslice_close(&mesh);
+    stlslice_close(NULL);
+    stlslice_fault_text(0, NULL, 0);
+    stlslice_fault_text(0, NULL, 9);
+}
+
+static void ranges(void) {
+    stlslice_mesh mesh = STLSLICE_CLOSED;
+    stlslice_shape shape;
+    stlslice_corners corners = {9, {9, 9, 9}, {9, 9, 9}};
+    char line[STLSLICE_LINE];
+    memset(&shape, 0x77, sizeof shape);
+    const stlslice_shape was = shape;
+    for (int turn = 0; turn < 12; turn++) {
+        stlslice_options wrong = options;
+        switch (turn) {
+        case 0: wrong.pitch = 0; break;
+        case 1: wrong.pitch = 100001; break;
+        case 2: wrong.layer = 0; break;
+        case 3: wrong.layer = UINT32_MAX; break;
+        case 4: wrong.rule = 3; break;
+        case 5: wrong.rule = UINT32_MAX; break;
+        case 6: wrong.unit = 2; break;
+        case 7: wrong.placing = 2; break;
+        case 8: wrong.placing = UINT32_MAX; break;
+        case 9: wrong.placing = STLSLICE_GIVEN; wrong.origin[0] = 128000001; break;
+        case 10: wrong.placing = STLSLICE_GIVEN; wrong.origin[1] = INT32_MIN; break;
+        default: wrong.placing = STLSLICE_GIVEN; wrong.origin[2] = INT32_MAX; break;
+        }
+        CHECK(stlslice_open(text, text_size, &wrong, &mesh, &shape, line, sizeof line) == STLSLICE_OUT_OF_RANGE);
+        CHECK(strlen(line) > 10 && !mesh.is_open && memcmp(&shape, &was, sizeof was) == 0);
+    }
+    stlslice_options far = options;
+    far.placing = STLSLICE_GIVEN;
+    CHECK(stlslice_open(text, text_size, &far, &mesh, &shape, line, sizeof line) == STLSLICE_GRID);
+    CHECK(strcmp(line, "grid has no cells") == 0);
+    CHECK(stlslice_box(text, text_size, 2, &corners, line, sizeof line) == STLSLICE_OUT_OF_RANGE);
+    CHECK(stlslice_box(text, text_size - 1, 0, &corners, line, sizeof line) == STLSLICE_DONE || corners.facets == 9);
+}
+
+/* a line that is cut, or has just enough room, ends with 0, and what lies behind it is as it was */
+static void lines(void) {
+    stlslice_corners corners;
+    const char *whole = "input ended before solid";
+    for (size_t room = 1; room < 40; room++) {
+        char *line = (char *)malloc(room);
+        memset(line, 'x', room);
+        CHECK(stlslice_box(text, 0, 0, &corners, line, room) == STLSLICE_TEXT);
+        size_t length = strlen(whole) < room ? strlen(whole) : room - 1;
+        CHECK(memcmp(line, whole, length) == 0 && line[length] == 0);
+        for (size_t at = length + 1; at < room; at++)
+            CHECK(line[at] == 'x');
+        free(line);
+    }
+    for (stlslice_status status = 0; status < 12; status++) {
+        char line[STLSLICE_LINE];
+        stlslice_fault_text(status, line, sizeof line);
+        CHECK(strlen(line) >= 4);
+    }
+}
+
+static void closed(void) {
+    stlslice_mesh mesh = STLSLICE_CLOSED, zeros;
+    stlslice_rays rays = {7, 7};
+    uint8_t bytes[16] = {0};
+    size_t size = 5;
+    uint64_t area = 5;
+    memset(&zeros, 0, sizeof zeros);
+    for (int turn = 0; turn < 2; turn++) {
+        CHECK(stlslice_mask(&mesh, 0, bytes, sizeof bytes, &size) == STLSLICE_NOT_OPEN);
+        CHECK(stlslice_stripe(&mesh, 0, bytes, sizeof bytes, &size) == STLSLICE_NOT_OPEN);
+        CHECK(stlslice_area(&mesh, 0, &area) == STLSLICE_NOT_OPEN);
+        CHECK(stlslice_probe(&mesh, 0, 0, 0, &rays) == STLSLICE_NOT_OPEN);
+        CHECK(size == 5 && area == 5 && rays.along_x == 7 && bytes[0] == 0);
+        stlslice_close(&mesh);
+        mesh = zeros;
+        stlslice_close(&mesh);
+    }
+}
+
+static stlslice_status attempt(int turn, stlslice_mesh *mesh, stlslice_shape *shape, uint8_t *images, size_t room) {
+    stlslice_corners corners;
+    char line[STLSLICE_LINE];
+    size_t size;
+    uint64_t area;
+    switch (turn) {
+    case 0: return stlslice_box(text, text_size, 0, &corners, line, sizeof line);
+    case 1: return stlslice_open(text, text_size, &options, mesh, shape, line, sizeof line);
+    case 2: return stlslice_mask(mesh, 3, images, room, &size);
+    case 3: return stlslice_stripe(mesh, 0, images, room, &size);
+    default: return stlslice_area(mesh, 3, &area);
+    }
+}
+
+/* each allocation of each call refused in turn: the mesh stays, the buffer stays, and nothing leaks */
+static unsigned long short_memory(void) {
+    stlslice_mesh mesh = STLSLICE_CLOSED;
+    stlslice_shape shape;
+    size_t one = 0, eight = 0, size;
+    unsigned long all = 0;
+    uint64_t area = 0, again = 0;
+    CHECK(stlslice_open(text, text_size, &options, &mesh, &shape, NULL, 0) == STLSLICE_DONE);
+    CHECK(stlslice_mask(&mesh, 3, NULL, 0, &one) == STLSLICE_NO_ROOM);
+    CHECK(stlslice_stripe(&mesh, 0, NULL, 0, &eight) == STLSLICE_NO_ROOM);
+    CHECK(stlslice_area(&mesh, 3, &area) == STLSLICE_DONE && area > 0);
+    uint8_t *image = (uint8_t *)malloc(one), *images = (uint8_t *)malloc(eight);
+    CHECK(image != NULL && images != NULL);
+    for (int turn = 0; turn < 5; turn++) {
+        CHECK(stlslice_mask(&mesh, 3, image, one, &size) == STLSLICE_DONE);
+        for (refused = 1;; refused++) {
+            memset(images, 0x3c, eight);
+            asked = 0;
+            counts = true;
+            stlslice_status status = attempt(turn, &mesh, &shape, images, eight);
+            counts = false;
+            if (asked < refused) {
+                CHECK(status == STLSLICE_DONE);
+                break;
+            }
+            all++;
+            CHECK(status == STLSLICE_MEMORY);
+            for (size_t at = 0; at < eight; at++)
+                CHECK(images[at] == 0x3c);
+            CHECK(mesh.is_open && stlslice_area(&mesh, 3, &again) == STLSLICE_DONE && again == area);
+            CHECK(stlslice_mask(&mesh, 3, images, eight, &size) == STLSLICE_DONE && memcmp(images, image, one) == 0);
+        }
+    }
+    /* an open mesh that is opened again gives up the one it had */
+    CHECK(stlslice_open(text, text_size, &options, &mesh, &shape, NULL, 0) == STLSLICE_DONE);
+    CHECK(stlslice_open(text, 5, &options, &mesh, &shape, NULL, 0) == STLSLICE_TEXT);
+    CHECK(mesh.is_open && stlslice_area(&mesh, 3, &again) == STLSLICE_DONE && again == area);
+    stlslice_close(&mesh);
+    free(image);
+    free(images);
+    return all;
+}
+
+int main(int count, char **words) {
+    if (count != 2)
+        return 99;
+    text_size = read_file(words[1]);
+    options.pitch = 200;
+    options.layer = 500;
+    CHECK(stlslice_version() >= 1000000);
+    nulls();
+    ranges();
+    lines();
+    closed();
+    printf("%lu allocations refused\n", short_memory());
+    free(text);
+    return 0;
+}

@@ -1,0 +1,169 @@
+/* Opens a text, and writes all its layers to standard output as the program does: once layer by layer and once stripe by
+ * stripe, which it compares. Each of four threads does so with a mesh of its own, and one mesh goes from thread to thread.
+ *
+ *     layers FILE PITCH LAYER RULE [COLUMNS ROWS LAYERS X0 Y0 Z0]
+ *
+ * The status is that of stlslice_open, and 100 where an answer is another than the header says. */
+#include "stlslice.h"
+
+#include <pthread.h>
+#include <stdio.h>
+#include <stdlib.h>
+#include <string.h>
+
+#define THREADS 4
+#define CHECK(holds)                                                                                                   \
+    do {                                                                                                               \
+        if (!(holds)) {                                                                                                \
+            fprintf(stderr, "%s:%d: not so: %s\n", __FILE__, __LINE__, #holds);                                        \
+            exit(100);                                                                                                 \
+        }                                                                                                              \
+    } while (0)
+
+static uint8_t *text;
+static size_t text_size;
+static stlslice_options options;
+
+typedef struct {
+    uint8_t *all;
+    size_t size;
+    stlslice_mesh mesh;
+    stlslice_shape shape;
+} Work;
+
+static size_t bits_of(const uint8_t *image, size_t size, const stlslice_shape *shape) {
+    size_t count = 0, rows = (size_t)shape->rows * ((shape->columns + 7u) / 8u);
+    for (size_t at = size - rows; at < size; at++)
+        for (unsigned bits = image[at]; bits != 0; bits &= bits - 1)
+            count++;
+    return count;
+}
+
+static void *slice(void *given) {
+    Work *work = (Work *)given;
+    char line[STLSLICE_LINE];
+    CHECK(stlslice_open(text, text_size, &options, &work->mesh, &work->shape, line, sizeof line) == STLSLICE_DONE);
+    uint32_t layers = work->shape.layers;
+    size_t one = 0, room;
+    CHECK(stlslice_mask(&work->mesh, 0, NULL, 0, &one) == STLSLICE_NO_ROOM && one > 0);
+    room = one * layers;
+    work->all = (uint8_t *)malloc(room);
+    CHECK(work->all != NULL);
+    for (uint32_t k = 0; k < layers; k++) {
+        size_t size = 0;
+        uint64_t area = 0;
+        uint8_t *image = work->all + work->size;
+        /* a buffer a byte short stays as it is */
+        if (k % 64 == 0) {
+            uint8_t *small = (uint8_t *)malloc(one - 1);
+            memset(small, 0xa5, one - 1);
+            CHECK(stlslice_mask(&work->mesh, k, small, one - 1, &size) == STLSLICE_NO_ROOM && size == one);
+            for (size_t at = 0; at < one - 1; at++)
+                CHECK(small[at] == 0xa5);
+            free(small);
+        }
+        /* a buffer of just the size is filled, and one more byte isn't touched */
+        if (k + 1 < layers)
+            image[one] = 0x5a;
+        CHECK(stlslice_mask(&work->mesh, k, image, room - work->size, &size) == STLSLICE_DONE && size == one);
+        CHECK(k + 1 == layers || image[one] == 0x5a);
+        CHECK(stlslice_area(&work->mesh, k, &area) == STLSLICE_DONE && area == bits_of(image, size, &work->shape));
+        work->size += size;
+    }
+    uint8_t *eight = (uint8_t *)malloc(8 * one);
+    CHECK(eight != NULL);
+    size_t at = 0;
+    for (uint64_t s = 0; s < (layers + 7u) / 8u; s++) {
+        size_t size = 0;
+        CHECK(stlslice_stripe(&work->mesh, s, eight, 8 * one, &size) == STLSLICE_DONE);
+        CHECK(size <= work->size - at && memcmp(eight, work->all + at, size) == 0);
+        at += size;
+    }
+    CHECK(at == work->size);
+    size_t size = 77;
+    CHECK(stlslice_mask(&work->mesh, layers, eight, 8 * one, &size) == STLSLICE_OUT_OF_RANGE);
+    CHECK(stlslice_stripe(&work->mesh, (layers + 7u) / 8u, eight, 8 * one, &size) == STLSLICE_OUT_OF_RANGE);
+    CHECK(stlslice_stripe(&work->mesh, UINT64_MAX, eight, 8 * one, &size) == STLSLICE_OUT_OF_RANGE);
+    CHECK(size == 77);
+    free(eight);
+    return NULL;
+}
+
+/* a mesh that another thread opened */
+static void *probe(void *given) {
+    Work *work = (Work *)given;
+    stlslice_rays rays = {0, 0};
+    uint32_t columns = work->shape.columns, rows = work->shape.rows, k = work->shape.layers / 2;
+    size_t one = work->size / work->shape.layers, row = (columns + 7u) / 8u;
+    const uint8_t *image = work->all + one * k + (one - row * rows);
+    for (uint32_t j = 0; j < rows; j += rows / 16 + 1)
+        for (uint32_t i = 0; i < columns; i += columns / 16 + 1) {
+            CHECK(stlslice_probe(&work->mesh, i, j, k, &rays) == STLSLICE_DONE);
+            bool inside = options.rule == STLSLICE_EVENODD ? rays.along_x % 2 != 0
+                        : options.rule == STLSLICE_NONZERO ? rays.along_x != 0 : rays.along_x > 0;
+            CHECK(inside == ((image[row * (rows - 1 - j) + i / 8] >> (7 - i % 8) & 1) != 0));
+        }
+    CHECK(stlslice_probe(&work->mesh, columns, 0, 0, &rays) == STLSLICE_OUT_OF_RANGE);
+    CHECK(stlslice_probe(&work->mesh, 0, rows, 0, &rays) == STLSLICE_OUT_OF_RANGE);
+    CHECK(stlslice_probe(&work->mesh, 0, 0, work->shape.layers, &rays) == STLSLICE_OUT_OF_RANGE);
+    stlslice_close(&work->mesh);
+    CHECK(!work->mesh.is_open);
+    stlslice_close(&work->mesh);
+    CHECK(stlslice_probe(&work->mesh, 0, 0, 0, &rays) == STLSLICE_NOT_OPEN);
+    return NULL;
+}
+
+int main(int count, char **words) {
+    if (count != 5 && count != 11)
+        return 99;
+    FILE *file = fopen(words[1], "rb");
+    if (file == NULL || fseek(file, 0, SEEK_END) != 0)
+        return 99;
+    text_size = (size_t)ftell(file);
+    rewind(file);
+    text = (uint8_t *)malloc(text_size + 1);
+    if (text == NULL || fread(text, 1, text_size, file) != text_size)
+        return 99;
+    fclose(file);
+    options.pitch = (uint32_t)strtoul(words[2], NULL, 10);
+    options.layer = (uint32_t)strtoul(words[3], NULL, 10);
+    options.rule = (uint32_t)strtoul(words[4], NULL, 10);
+    if (count == 11) {
+        options.placing = STLSLICE_GIVEN;
+        options.columns = (uint32_t)strtoul(words[5], NULL, 10);
+        options.rows = (uint32_t)strtoul(words[6], NULL, 10);
+        options.layers = (uint32_t)strtoul(words[7], NULL, 10);
+        for (int axis = 0; axis < 3; axis++)
+            options.origin[axis] = (int32_t)strtol(words[8 + axis], NULL, 10);
+    }
+    Work first = {NULL, 0, STLSLICE_CLOSED, {{0, {0, 0, 0}, {0, 0, 0}}, 0, 0, 0, {0, 0, 0}}};
+    char line[STLSLICE_LINE];
+    stlslice_status status = stlslice_open(text, text_size, &options, &first.mesh, &first.shape, line, sizeof line);
+    if (status != STLSLICE_DONE) {
+        CHECK(!first.mesh.is_open && first.shape.layers == 0);
+        fprintf(stderr, "stlslice: %s\n", line);
+        free(text);
+        return (int)status;
+    }
+    stlslice_close(&first.mesh);
+
+    pthread_t threads[THREADS];
+    Work works[THREADS];
+    for (int at = 0; at < THREADS; at++) {
+        works[at] = first;
+        CHECK(pthread_create(&threads[at], NULL, slice, &works[at]) == 0);
+    }
+    for (int at = 0; at < THREADS; at++) {
+        CHECK(pthread_join(threads[at], NULL) == 0);
+        CHECK(works[at].size == works[0].size && memcmp(works[at].all, works[0].all, works[0].size) == 0);
+    }
+    for (int at = 0; at < THREADS; at++)
+        CHECK(pthread_create(&threads[at], NULL, probe, &works[at]) == 0);
+    for (int at = 0; at < THREADS; at++)
+        CHECK(pthread_join(threads[at], NULL) == 0);
+    CHECK(fwrite(works[0].all, 1, works[0].size, stdout) == works[0].size);
+    for (int at = 0; at < THREADS; at++)
+        free(works[at].all);
+    free(text);
+    return 0;
+}

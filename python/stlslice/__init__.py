@@ -1,0 +1,321 @@
+"""stlslice: exact slices of a closed mesh, layer by layer, as numpy arrays.
+
+    import stlslice
+
+    with stlslice.open("part.stl", pitch=50, layer=50) as mesh:
+        print(mesh.shape)               # layers, rows, columns
+        mask = mesh[120]                # layer 120: a numpy array of bool, rows by columns
+        some = mesh[100:140:2]          # layers as one array of three dimensions
+        for mask in mesh:               # all of them, eight at a time behind the scenes
+            ...
+        mesh.area(120)                  # how many pixels of the layer are filled
+        mesh.probe(10, 20, 120)         # signed crossings of the rays along x and y from a voxel's centre
+
+A mask is laid out as the program's image: its first row is that of the greatest y, so the pixel of column i and row j
+(from the least y up, as `probe` counts) is `mask[rows - 1 - j, i]`, or `mask[::-1][j, i]`. Lengths are whole micrometres.
+
+What the program refuses raises a `Fault` with the program's status and line. A mesh may be used by several threads: its
+calls wait for each other. Different meshes run at the same time, since a call holds no lock of the interpreter.
+
+The work is done by libstlslice, by ctypes. numpy is needed for arrays alone.
+"""
+
+from __future__ import annotations
+
+import builtins
+import ctypes
+import operator
+import os
+import threading
+from typing import TYPE_CHECKING, Any, BinaryIO, Iterator, NamedTuple, Optional, Sequence, Tuple, Union, overload
+
+if TYPE_CHECKING:
+    import numpy
+
+__all__ = ["Box", "ClosedFault", "Fault", "MemoryFault", "Mesh", "RangeFault", "box", "open", "version"]
+
+Source = Union[str, "os.PathLike[str]", bytes, bytearray, memoryview, BinaryIO]
+Triple = Tuple[int, int, int]
+
+RULES = {"evenodd": 0, "nonzero": 1, "positive": 2}
+UNITS = {"mm": 0, "inch": 1}
+LINE = 256
+STRIPE = 8
+WORD = range(2**32)
+DONE, OUT_OF_RANGE, MEMORY, NOT_OPEN = 0, 1, 6, 8
+
+
+class Fault(Exception):
+    """What is refused: `status` is the program's (1 where a number is out of its range), `line` the program's line."""
+
+    def __init__(self, status: int, text: str) -> None:
+        super().__init__(text)
+        self.status = status
+        self.line = f"stlslice: {text}"
+
+
+class RangeFault(Fault, ValueError):
+    """A number is out of its range, or a voxel outside the grid (status 1)."""
+
+
+class MemoryFault(Fault, MemoryError):
+    """An allocation failed (status 6). What was asked is as it was before."""
+
+
+class ClosedFault(Fault, ValueError):
+    """The mesh was closed (status 8)."""
+
+
+class Box(NamedTuple):
+    """The facets of a text: how many, and their least and greatest x, y and z; zeros where there is none."""
+
+    facets: int
+    low: Triple
+    high: Triple
+
+
+class _Corners(ctypes.Structure):
+    _fields_ = [("facets", ctypes.c_uint64), ("low", ctypes.c_int32 * 3), ("high", ctypes.c_int32 * 3)]
+
+
+class _Options(ctypes.Structure):
+    _fields_ = [(name, ctypes.c_uint32) for name in ("pitch", "layer", "rule", "unit", "placing", "columns", "rows", "layers")]
+    _fields_ += [("origin", ctypes.c_int32 * 3)]
+
+
+class _Shape(ctypes.Structure):
+    _fields_ = [("corners", _Corners), ("columns", ctypes.c_uint32), ("rows", ctypes.c_uint32),
+                ("layers", ctypes.c_uint32), ("origin", ctypes.c_int32 * 3)]
+
+
+class _Rays(ctypes.Structure):
+    _fields_ = [("along_x", ctypes.c_int32), ("along_y", ctypes.c_int32)]
+
+
+class _Handle(ctypes.Structure):
+    _fields_ = [("is_open", ctypes.c_bool), ("at", ctypes.c_void_p)]
+
+
+def _library() -> ctypes.CDLL:
+    beside = os.path.join(os.path.dirname(os.path.abspath(__file__)), "libstlslice.so.1")
+    named = os.environ.get("STLSLICE_LIBRARY") or (beside if os.path.exists(beside) else "libstlslice.so.1")
+    library = ctypes.CDLL(named)
+    at, size, sized = ctypes.c_void_p, ctypes.c_size_t, ctypes.POINTER(ctypes.c_size_t)
+    text, word, handle = ctypes.c_char_p, ctypes.c_uint32, ctypes.POINTER(_Handle)
+    for name, words in {
+        "version": [],
+        "box": [text, size, word, ctypes.POINTER(_Corners), at, size],
+        "open": [text, size, ctypes.POINTER(_Options), handle, ctypes.POINTER(_Shape), at, size],
+        "mask": [handle, word, at, size, sized],
+        "stripe": [handle, ctypes.c_uint64, at, size, sized],
+        "area": [handle, word, ctypes.POINTER(ctypes.c_uint64)],
+        "probe": [handle, word, word, word, ctypes.POINTER(_Rays)],
+        "fault_text": [word, at, size],
+        "close": [handle],
+    }.items():
+        call = getattr(library, f"stlslice_{name}")
+        call.argtypes = words
+        call.restype = None if name in ("fault_text", "close") else ctypes.c_uint32
+    return library
+
+
+_lib = _library()
+
+
+def _raise(status: int, line: Optional[ctypes.Array[ctypes.c_char]] = None) -> None:
+    if line is None:
+        line = ctypes.create_string_buffer(LINE)
+        _lib.stlslice_fault_text(status, line, LINE)
+    kind = {OUT_OF_RANGE: RangeFault, MEMORY: MemoryFault, NOT_OPEN: ClosedFault}.get(status, Fault)
+    raise kind(status, line.value.decode("ascii", "replace"))
+
+
+def _text(source: Source) -> bytes:
+    """The bytes of a file, of an open file, or of what holds them already."""
+    if isinstance(source, bytes):
+        return source
+    if isinstance(source, (bytearray, memoryview)):
+        return bytes(source)
+    if hasattr(source, "read"):
+        read = source.read()
+        if not isinstance(read, bytes):
+            raise TypeError("open the file in binary mode")
+        return read
+    with builtins.open(source, "rb") as file:
+        return file.read()
+
+
+def _word(name: str, value: Any) -> int:
+    """A whole number that a C call can take; whether it is in its own range is the library's to say."""
+    number = operator.index(value)
+    if number not in WORD:
+        raise RangeFault(OUT_OF_RANGE, f"{name} is out of its range")
+    return number
+
+
+def _choice(name: str, value: str, choices: dict[str, int]) -> int:
+    if value not in choices:
+        raise RangeFault(OUT_OF_RANGE, f"{name} takes {', '.join(choices)}")
+    return choices[value]
+
+
+def version() -> str:
+    """The library's version."""
+    number = _lib.stlslice_version()
+    return f"{number // 1000000}.{number // 1000 % 1000}.{number % 1000}"
+
+
+def box(source: Source, unit: str = "mm") -> Box:
+    """The number and the box of the facets of an ASCII STL text. The mesh needn't be closed."""
+    text, corners, line = _text(source), _Corners(), ctypes.create_string_buffer(LINE)
+    status = _lib.stlslice_box(text, len(text), _choice("unit", unit, UNITS), corners, line, LINE)
+    if status:
+        _raise(status, line)
+    return Box(corners.facets, tuple(corners.low), tuple(corners.high))
+
+
+def open(source: Source, pitch: int = 50, layer: int = 50, rule: str = "evenodd", grid: Optional[Sequence[int]] = None,
+         unit: str = "mm") -> Mesh:
+    """Opens an ASCII STL text, as a path, an open binary file or its bytes.
+
+    `pitch` is a voxel's length along x and y and `layer` along z, in micrometres. `grid`, if given, has the six numbers
+    of the program's option: columns, rows and layers, then the corner of least x, y and z in micrometres. Raises a
+    `Fault` where the program would refuse the text, and `OSError` where the file can't be read.
+    """
+    return Mesh(_text(source), pitch, layer, rule, grid, unit)
+
+
+class Mesh:
+    """A closed mesh in its grid, with a rule: a sequence of its layers. `open` makes it.
+
+    `shape` has the counts of layers, rows and columns, `origin` the grid's corner of least x, y and z, and `box` the
+    number and the box of all facets that were read.
+    """
+
+    def __init__(self, text: bytes, pitch: int, layer: int, rule: str, grid: Optional[Sequence[int]], unit: str) -> None:
+        self._lock = threading.Lock()
+        self._handle = _Handle()
+        options = _Options(pitch=_word("pitch", pitch), layer=_word("layer", layer), rule=_choice("rule", rule, RULES),
+                           unit=_choice("unit", unit, UNITS))
+        if grid is not None:
+            columns, rows, layers, x, y, z = grid
+            if any(abs(operator.index(at)) >= 2**31 for at in (x, y, z)):
+                raise RangeFault(OUT_OF_RANGE, "grid is out of its range")
+            options.placing, options.origin = 1, (x, y, z)
+            options.columns, options.rows, options.layers = (_word("grid", it) for it in (columns, rows, layers))
+        shape, line = _Shape(), ctypes.create_string_buffer(LINE)
+        status = _lib.stlslice_open(text, len(text), options, self._handle, shape, line, LINE)
+        if status:
+            _raise(status, line)
+        corners = shape.corners
+        self.pitch, self.layer, self.rule = options.pitch, options.layer, rule
+        self.shape: Triple = (shape.layers, shape.rows, shape.columns)
+        self.origin: Triple = tuple(shape.origin)
+        self.box = Box(corners.facets, tuple(corners.low), tuple(corners.high))
+        self._header = len(f"P4\n{shape.columns} {shape.rows}\n")
+        self._size = self._header + shape.rows * ((shape.columns + 7) // 8)
+
+    def __enter__(self) -> Mesh:
+        return self
+
+    def __exit__(self, *_: object) -> None:
+        self.close()
+
+    def __del__(self) -> None:
+        if getattr(self, "_handle", None) is not None and _lib is not None:
+            _lib.stlslice_close(self._handle)
+
+    def __repr__(self) -> str:
+        layers, rows, columns = self.shape
+        return f"<stlslice.Mesh of {layers} layers, {rows} rows, {columns} columns>"
+
+    def __len__(self) -> int:
+        return self.shape[0]
+
+    @overload
+    def __getitem__(self, k: int) -> numpy.ndarray: ...
+
+    @overload
+    def __getitem__(self, k: slice) -> numpy.ndarray: ...
+
+    def __getitem__(self, k):
+        """Layer k, from the top where k is negative, as an array of bool; of a slice an array of three dimensions."""
+        if isinstance(k, slice):
+            return self._stack(range(*k.indices(len(self))))
+        return self._masks(self._call("mask", self._layer(k), 1), 1)[0]
+
+    def __iter__(self) -> Iterator[numpy.ndarray]:
+        """The layers from the lowest up."""
+        for first in range(0, len(self), STRIPE):
+            yield from self._stripe(first // STRIPE)
+
+    def __array__(self, dtype: Any = None, copy: Optional[bool] = None) -> numpy.ndarray:
+        stack = self[:]
+        return stack if dtype is None else stack.astype(dtype, copy=False)
+
+    def image(self, k: int) -> bytes:
+        """Layer k as the program writes it, in raw PBM."""
+        return bytes(self._call("mask", self._layer(k), 1))
+
+    def area(self, k: int) -> int:
+        """The number of the filled pixels of layer k."""
+        pixels = ctypes.c_uint64()
+        self._ask("area", self._layer(k), pixels)
+        return pixels.value
+
+    def probe(self, i: int, j: int, k: int) -> Tuple[int, int]:
+        """The signed crossings of the mesh by the rays along x and y from the centre of a voxel. Raises `RangeFault`
+        where the grid has none."""
+        rays = _Rays()
+        self._ask("probe", _word("column", i), _word("row", j), _word("layer", k), rays)
+        return rays.along_x, rays.along_y
+
+    def close(self) -> None:
+        """Frees the mesh. What is asked afterwards raises `ClosedFault`."""
+        with self._lock:
+            _lib.stlslice_close(self._handle)
+
+    def _layer(self, k: Any) -> int:
+        number = operator.index(k)
+        if not -len(self) <= number < len(self):
+            raise IndexError(f"layer {number} of {len(self)}")
+        return number % len(self)
+
+    def _ask(self, name: str, *words: Any) -> None:
+        with self._lock:
+            status = getattr(_lib, f"stlslice_{name}")(self._handle, *words)
+        if status:
+            _raise(status)
+
+    def _call(self, name: str, number: int, count: int) -> ctypes.Array[ctypes.c_char]:
+        """The bytes of this many images."""
+        images, wanted = (ctypes.c_char * (count * self._size))(), ctypes.c_size_t()
+        self._ask(name, number, images, len(images), wanted)
+        return images
+
+    def _masks(self, images: ctypes.Array[ctypes.c_char], count: int) -> numpy.ndarray:
+        import numpy
+
+        _, rows, columns = self.shape
+        packed = numpy.frombuffer(images, numpy.uint8).reshape(count, self._size)[:, self._header:]
+        return numpy.unpackbits(packed.reshape(count, rows, -1), axis=2, count=columns).view(bool)
+
+    def _stripe(self, number: int) -> numpy.ndarray:
+        count = min(STRIPE, len(self) - STRIPE * number)
+        return self._masks(self._call("stripe", number, count), count)
+
+    def _stack(self, layers: range) -> numpy.ndarray:
+        import numpy
+
+        stack = numpy.empty((len(layers), *self.shape[1:]), bool)
+        number = None
+        for place, k in enumerate(layers):
+            # a slice with wide steps has one layer of a stripe: it is asked for alone
+            if abs(layers.step) >= STRIPE:
+                stack[place] = self[k]
+                continue
+            if number != k // STRIPE:
+                number = k // STRIPE
+                eight = self._stripe(number)
+            stack[place] = eight[k % STRIPE]
+        return stack

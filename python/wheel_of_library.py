@@ -1,0 +1,64 @@
+"""Makes the wheel: the module, and the library of build/library. No other package is needed for it.
+
+    wheel_of_library.py VERSION LIBRARY FOLDER
+
+`make wheel` calls it so. As a build backend (`pip wheel python/`) it takes the library that `make library` left.
+"""
+
+import base64
+import csv
+import hashlib
+import io
+import os
+import sys
+import zipfile
+
+HERE = os.path.dirname(os.path.abspath(__file__))
+# the library asks for no symbol of a later C library than this
+TAG = "py3-none-manylinux_2_17_x86_64"
+
+
+def made(version, library, folder):
+    """The name of the wheel that was put into a folder. The same files give the same bytes."""
+    info = f"stlslice-{version}.dist-info"
+    files = {"stlslice/libstlslice.so.1": library, f"{info}/LICENSE": os.path.join(HERE, "..", "LICENSE")}
+    files.update((f"stlslice/{name}", os.path.join(HERE, "stlslice", name)) for name in ("__init__.py", "py.typed"))
+    content = {}
+    for name, path in files.items():
+        with open(path, "rb") as file:
+            content[name] = file.read()
+    content[f"{info}/METADATA"] = (
+        f"Metadata-Version: 2.1\nName: stlslice\nVersion: {version}\n"
+        "Summary: Exact slices of a closed mesh, layer by layer, as numpy arrays\n"
+        "License: MIT\nRequires-Python: >=3.8\nRequires-Dist: numpy >=1.17\n").encode()
+    content[f"{info}/WHEEL"] = f"Wheel-Version: 1.0\nGenerator: stlslice\nRoot-Is-Purelib: false\nTag: {TAG}\n".encode()
+    record = io.StringIO()
+    rows = csv.writer(record, lineterminator="\n")
+    for name, text in content.items():
+        hashed = base64.urlsafe_b64encode(hashlib.sha256(text).digest()).rstrip(b"=").decode()
+        rows.writerow([name, f"sha256={hashed}", len(text)])
+    rows.writerow([f"{info}/RECORD", "", ""])
+    content[f"{info}/RECORD"] = record.getvalue().encode()
+    wheel = f"stlslice-{version}-{TAG}.whl"
+    with zipfile.ZipFile(os.path.join(folder, wheel), "w", zipfile.ZIP_DEFLATED) as zipped:
+        for name, text in content.items():
+            entry = zipfile.ZipInfo(name)
+            entry.compress_type = zipfile.ZIP_DEFLATED
+            entry.external_attr = (0o100755 if name.endswith(".so.1") else 0o100644) << 16
+            zipped.writestr(entry, text)
+    return wheel
+
+
+def get_requires_for_build_wheel(config_settings=None):
+    return []
+
+
+def build_wheel(wheel_directory, config_settings=None, metadata_directory=None):
+    library = os.path.realpath(os.path.join(HERE, "..", "build", "library", "libstlslice.so"))
+    if not os.path.exists(library):
+        raise FileNotFoundError("there is no library: make library makes it")
+    return made(library.rpartition(".so.")[2], library, wheel_directory)
+
+
+if __name__ == "__main__":
+    print(os.path.join(sys.argv[3], made(*sys.argv[1:])))
