@@ -1,4 +1,6 @@
 //! A reader and a writer that move few bytes a call, and fail where a test wants it.
+ghost use Rattle.std.specs.Prelude.{◌≡◌, [], Some};
+
 use std::alloc::{Allocator, Global};
 use std::io::{Error, ErrorKind, Read, Result, Write};
 
@@ -14,6 +16,8 @@ pub struct OneByteReader<'a> {
 }
 
 impl<'a> Read for OneByteReader<'a> {
+    ghost remaining = { λ r. Some r.bytes.now };
+
     fn read(&mut self, buf: &mut [u8]) -> Result<usize> {
         if self.calls == 0 {
             return Err(Error::from(self.fault));
@@ -54,7 +58,13 @@ impl SmallWriter {
         most_per_call: usize,
         fault: Option<ErrorKind>,
         flushes: bool,
-    ) -> SmallWriter {
+    ) -> SmallWriter
+        ensures taken { result.taken.items ≡ [] }
+        ensures room { result.room ≡ room }
+        ensures most_per_call { result.most_per_call ≡ most_per_call }
+        ensures fault { result.fault ≡ fault }
+        ensures flushes { result.flushes ≡ flushes }
+    {
         SmallWriter {
             taken: Vec::new(alloc),
             room,
@@ -66,6 +76,8 @@ impl SmallWriter {
 }
 
 impl Write for SmallWriter {
+    ghost contents = { λ w. Some w.taken.items };
+
     fn write(&mut self, buf: &[u8]) -> Result<usize> {
         match self.fault {
             Some(fault) if self.room == 0 => Err(Error::from(fault)),
