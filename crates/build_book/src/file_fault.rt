@@ -1,4 +1,4 @@
-//! The fault of a filing.
+//! Why a piece isn't filed.
 use thiserror::Error;
 
 /// Why a book refuses a piece.

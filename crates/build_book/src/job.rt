@@ -78,7 +78,7 @@ impl<A: Allocator> Job<A> {
         u64::from(self.grid.layers().div_ceil(STRIPE_LAYERS))
     }
 
-    /// The first layer of a stripe, and the one after its last.
+    /// The number of a stripe's first layer, and that of the layer after its last.
     pub(crate) fn bounds(&self, s: u64) -> (u32, u32)
         requires { s < stripe_count self.now.grid }
         ensures first { result.0 ≡ STRIPE_LAYERS * s }

@@ -11,7 +11,7 @@ use crate::layer::Layer;
 use crate::slicer::Slicer;
 use std::alloc::{AllocError, Allocator};
 
-/// Empty places, `count` of them.
+/// A list of `count` empty places.
 pub(crate) fn empty_places<A: Allocator>(
     alloc: A,
     count: u32,

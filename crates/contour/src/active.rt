@@ -1,5 +1,6 @@
-//! The active list of a sweep: the facets that its plane cuts, in ascending order, each with the height of its top.
-//! The facets that start at a step are merged into those that stay.
+//! The active list of a sweep: the facets that its plane cuts, in ascending order of their numbers, each with the height
+//! of its top. A facet starts at its lowest corner and ends at its top, its highest corner. At each step the facets that
+//! have started and not ended are merged into those that stay.
 ghost use Rattle.std.specs.Prelude.{◌≡◌, ◌<◌, ◌≤◌, ◌++◌, ◌∷◌, ◌*ℤ◌, [], All, IfOk, List, OnOk, drop, filter, if◌then◌else◌, length, map, nat_lt, pos, take, ℕ};
 ghost use Rattle.std.specs.List.{prefix_len};
 ghost use Rattle.geometry.specs.TieRule as TieRule;
@@ -10,7 +11,7 @@ use geometry::{Facet, is_below};
 use mesh_weld::{Solid, lowest};
 use std::alloc::{AllocError, Allocator};
 
-/// The numbers of the facets that a plane cuts, each with its greatest height in micrometres.
+/// The numbers of the facets that a plane cuts, each with the height of its top in micrometres.
 #[derive(Drop)]
 pub(crate) struct ActiveFacets<A: Allocator> {
     pub(crate) numbers: Vec<u32, A>,
@@ -118,7 +119,7 @@ impl<A: Allocator + Copy + Send + Sync> ActiveFacets<A> {
     }
 
     /// Replaces this list by the facets of `before` whose tops are above the height `z2` in half-micrometres, merged
-    /// with the fresh ones. The result is in ascending order where both lists are.
+    /// with `fresh`, the numbers of the facets that became active. The result is in ascending order where both lists are.
     pub(crate) fn advance(
         &mut self,
         s: &Solid<A>,

@@ -1,5 +1,5 @@
 //! A sweep raises a plane through a mesh. It keeps the list of active facets, as a scanline's polygon fill keeps
-//! active edges, so that a step up looks only at the facets that start or are active on the way.
+//! active edges, so that a step up looks only at the facets that are active before it or whose lowest corner it passes.
 ghost use Rattle.std.specs.Prelude.{◌≡◌, ◌<◌, ◌≤ℤ◌, All, IfOk, OnErr, OnOk, filter_map, length};
 ghost use Rattle.exact_int.specs.Bounds.{IsAtMost};
 ghost use Rattle.contour.specs.Active.{active_facets, passed_count};

@@ -1,4 +1,4 @@
-//! Gates: observers of the workers. By one a test sees what each worker does, and can make a worker wait.
+//! Gates: observers of the workers. A gate sees what each worker does, to show it, or to make a worker wait in a test.
 use build_book::Piece;
 use std::alloc::Allocator;
 

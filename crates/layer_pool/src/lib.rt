@@ -6,8 +6,8 @@
 //! ```
 //!
 //! [`build`] answers the complete build of a job, the same for 1 to [`PASS_LIMIT`] workers. A [`Gate`] observes what
-//! the workers do; [`OpenGate`] is the one that ignores it. `Claims`, `Pass`, `PASS_LIMIT` and `claims_laws` are handed on
-//! from `stripe_claims`.
+//! the workers do; [`OpenGate`] is the one that ignores it. `Claims`, `Pass`, `PASS_LIMIT` and `claims_laws` are those of
+//! `stripe_claims`.
 //!
 //! Workers and stripes count from 0; a stripe is eight layers, and areas are in pixels.
 #![tactic(auto)]

@@ -273,8 +273,8 @@ fn is_too_large(columns: u32, rows: u32, layers: u32) -> bool
     columns > COLUMN_LIMIT || rows > COLUMN_LIMIT || layers > LAYER_LIMIT
 }
 
-/// Whether the centre of the last column, row or layer lies beyond `CENTRE_LIMIT`. The first centres can't: the origin is
-/// a point of a mesh.
+/// Whether the centre of the last column, row or layer lies beyond `CENTRE_LIMIT`. The first centres can't: a coordinate is
+/// within `COORDINATE_LIMIT` micrometres, and half a step more is within `CENTRE_LIMIT` half-micrometres.
 fn reaches_too_far(
     origin: Point,
     columns: u32,
@@ -298,8 +298,8 @@ fn reaches_too_far(
         || is_beyond(origin.z(), layer_height, layers)
 }
 
-/// Whether the middle of the last of `count` cells lies beyond `CENTRE_LIMIT`. The cells have length `step`, and the
-/// first begins at `start`.
+/// Whether the middle of the last of `count` cells lies beyond `CENTRE_LIMIT`. Cell 0 begins at `start`, and each has
+/// length `step`, in micrometres.
 fn is_beyond(start: i32, step: u32, count: u32) -> bool
     requires start { IsAtMost COORDINATE_LIMIT start }
     requires step { step ≤ STEP_LIMIT }
@@ -310,7 +310,8 @@ fn is_beyond(start: i32, step: u32, count: u32) -> bool
     middle(start, step, count - 1) > CENTRE_LIMIT as i64
 }
 
-/// The middle of a cell, in half-micrometres. Cells have length `step` and count from 0, which begins at `start`.
+/// The middle of the cell with this number, in half-micrometres. Cell 0 begins at `start`, and each has length `step`, in
+/// micrometres.
 fn middle(start: i32, step: u32, number: u32) -> i64
     requires start { IsAtMost COORDINATE_LIMIT start }
     requires step { step ≤ STEP_LIMIT }

@@ -139,9 +139,9 @@ impl<A: Allocator + Copy> Claims<A> {
         }
     }
 
-    /// Closes the claims and answers the last word: how many draws made an atomic step. The passes must be of these
-    /// claims. Where all passes that were opened are handed in, they have found the numbers below the word, each once;
-    /// where all of them have ended too, they were given all numbers below `stripes`, each once.
+    /// Closes the claims and answers the last value of the word: how many draws made an atomic step. The passes must be of
+    /// these claims. Where all passes that were opened are handed in, they have found the numbers below that value, each
+    /// once; where all of them have ended too, they were given all numbers below `stripes`, each once.
     pub fn close(self, passes: Vec<Pass, A>) -> u64
         requires { All (IsOwned self) passes.items }
         ensures machine { IsEnd self passes.items result }
@@ -178,7 +178,8 @@ impl<A: Allocator + Copy> Claims<A> {
         Some(all)
     }
 
-    /// Closes the claims with a seat of their table, and answers the last word: the seat's numbers are below it.
+    /// Closes the claims with a seat of their table, and answers the last value of the word: the seat's numbers are below
+    /// it.
     fn word_with(self, seat: Seat<(), Hand>) -> u64
         requires { seat.table_id ≡ self.name }
         ensures machine { HasReached self seat.me.0 result }
@@ -195,7 +196,7 @@ impl<A: Allocator + Copy> Claims<A> {
         word
     }
 
-    /// Closes the claims without a seat, and answers the last word.
+    /// Closes the claims without a seat, and answers the last value of the word.
     fn word(self) -> u64
         ensures machine { IsEnd self [] result }
         ensures most { result ≤ self.stripes + self.passes }

@@ -3,21 +3,21 @@
 use atomic_table::{Join, Play, Split, TableRule};
 use std::collections::LinkedList;
 
-/// The number of stripes that are claimed, and the number of passes that were opened.
+/// The number of stripes that are to be claimed, and the number of passes that were opened.
 #[derive(Drop)]
 pub(crate) struct Plan {
     pub stripes: u64,
     pub passes: u64,
 }
 
-/// A hand, which is the view of a seat: the number of passes for which it stands, and the numbers that they found. No
-/// value of this type is ever made.
+/// A hand: the number of passes for which a seat of the table stands, and the numbers that they found. It is what proofs
+/// know of a seat; no value of this type is ever made.
 pub(crate) struct Hand {
     pub stands_for: u64,
     pub found: LinkedList<u64>,
 }
 
-/// The rule: word and hands are a moment to which steps of the machine lead.
+/// The rule: the word and all hands together are a state of the machine (a `Moment`) that its steps can reach.
 pub(crate) struct Machine;
 
 impl TableRule<(), Hand, Plan> for Machine {

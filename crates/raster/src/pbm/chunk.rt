@@ -110,8 +110,8 @@ impl Chunk {
         self.filled = end;
     }
 
-    /// Makes room for `needed` more bytes: sends the chunk where it has less. `before` bytes of the text went out so far;
-    /// answers how many have gone out then.
+    /// Makes room for `needed` more bytes: sends the chunk where it has less. `before` is the number of the image's bytes
+    /// that were sent so far; answers how many were sent then.
     pub(crate) fn make_room<W: Sink>(
         &mut self,
         needed: usize,
@@ -138,8 +138,8 @@ impl Chunk {
         }
     }
 
-    /// Sends the bytes to a sink, and empties the chunk. `before` bytes of the text went out so far; answers how many have
-    /// gone out then.
+    /// Sends the bytes to a sink, and empties the chunk. `before` is the number of the image's bytes that were sent so far;
+    /// answers how many were sent then.
     pub(crate) fn send<W: Sink>(&mut self, w: &mut W, before: u64) -> Result<u64, WriteFault>
         requires { before ≤ 2 ^ 32 }
         ensures emptied { OnOk result (self.new ≡ []) }
