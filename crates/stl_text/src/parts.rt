@@ -28,22 +28,22 @@ pub(crate) struct Run<'t, A: Allocator> {
 }
 
 impl<'t, A: Allocator + Copy + Send + Sync> Run<'t, A> {
-    /// The runs of a text, which up to `workers` workers find at the same time, each in a part of the text.
+    /// The runs of up to `parts` parts of a text, which as many workers find at the same time.
     pub(crate) fn found_by<R: Threads + Sync>(
         rt: &R,
         alloc: A,
         text: &'t [u8],
         unit: Unit,
-        workers: u32,
+        parts: usize,
     ) -> Result<Vec<Run<'t, A>, A>, AllocError>
-        requires { 1 ≤ workers }
+        requires { 1 ≤ parts }
         ensures { IfOk result (λ runs. All (λ run. IsFacetRun unit text.now run.facets.items run.from.now run.to.now) runs.items) }
     {
         let find = |at: usize, part: &[u8]| -> Run<A>
             requires { at + length part.now ≤ length text.now }
             ensures { IsFacetRun unit text.entry.now result.facets.items result.from.now result.to.now }
         { run_of(alloc, text, unit, at, part.len()) };
-        let len = text.len() / workers as usize + 1;
+        let len = text.len() / parts + 1;
         map_chunks(rt, alloc, text, len, &find)
     }
 }
@@ -115,7 +115,7 @@ fn run_of<'t, A: Allocator>(
     ensures { IsFacetRun unit text.now result.facets.items result.from.now result.to.now }
 {
     let from = behind_end_facet(text, start, len);
-    let left = (text.len() - (start + len)).saturating_sub(END_FACET_IN_CAPITALS.len());
+    let left = (text.len() - (start + len)).saturating_sub(Word::EndFacet.text().len());
     let layout = Layout::of(from);
     let mut facets = Vec::new(alloc);
     let mut to = from;

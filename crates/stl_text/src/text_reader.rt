@@ -20,8 +20,8 @@ use std::alloc::Allocator;
 use std::marker::Model;
 use std::thread::Threads;
 
-/// The length of the shortest piece that is read by several workers, in bytes.
-const LEAST_DIVIDED: usize = 1 << 16;
+/// The least length of a part of a piece, in bytes. A piece that is too short for two parts is read by one worker.
+const LEAST_PART: usize = 1 << 15;
 
 /// Whether `facet` or `endsolid` is wanted.
 fn is_among_facets(place: Place) -> bool
@@ -437,13 +437,14 @@ impl<A: Allocator + Copy + Send + Sync> TextReader<A> {
         ensures { (limit : ℕ) (unit : LengthUnit) (taken : List Facet) (fed : List ℕ)
             → IsAfter limit unit taken self.old fed → IsAfter limit unit taken self.new (fed ++ piece.now) }
     {
+        let parts = (piece.len() / LEAST_PART).min(workers as usize);
         let stopped = matches!(self.place, Place::Stopped(_));
-        if stopped || workers < 2 || piece.len() < LEAST_DIVIDED {
+        if stopped || parts < 2 {
             self.feed(piece);
             return;
         }
         let alloc = *self.facets.allocator();
-        match Run::found_by(rt, alloc, piece, self.unit, workers) {
+        match Run::found_by(rt, alloc, piece, self.unit, parts) {
             Ok(runs) => self.feed_runs(piece, &runs),
             Err(_) => self.feed(piece),
         }
