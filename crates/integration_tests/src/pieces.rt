@@ -35,11 +35,30 @@ fn in_pieces(alloc: Global, text: &[u8], size: usize) -> Result<Vec<Facet>, StlF
     reader.finish()
 }
 
-// Whether the answer to a text is the same in pieces of 1 to 17 bytes.
+// The answer to a text that is fed in pieces of this size, where the facets are taken off the reader behind each piece.
+fn taken_off(alloc: Global, text: &[u8], size: usize) -> Result<Vec<Facet>, StlFault>
+    requires { 0 < size }
+{
+    let mut facets = Vec::new(alloc);
+    let mut reader = TextReader::new(alloc, LIMIT, Unit::Millimetre);
+    for piece in text.chunks(size) {
+        reader.feed(piece);
+        facets.extend_from_slice(reader.facets())?;
+        reader.forget();
+    }
+    let last = reader.finish()?;
+    facets.extend_from_slice(&last)?;
+    Ok(facets)
+}
+
+// Whether the answer to a text is the same in pieces of 1 to 17 bytes, with its facets taken off the reader or not.
 fn is_chopped_well(alloc: Global, text: &[u8]) -> bool {
     let whole = read_stl_at_most(alloc, text, LIMIT, Unit::Millimetre);
     for size in 1..=17 {
         if !are_same(&in_pieces(alloc, text, size), &whole) {
+            return false;
+        }
+        if !are_same(&taken_off(alloc, text, size), &whole) {
             return false;
         }
     }
@@ -73,6 +92,17 @@ fn one_facet_too_many_in_pieces(rt: HostRuntime) -> Result<(), Fail> {
     let fault = in_pieces(rt.alloc(), text.as_slice(), 64).err();
     assert!(rt; matches!(fault, Some(StlFault::TooMany { .. })));
     assert!(rt; is_cut_well(rt.alloc(), text.as_slice()));
+    Ok(())
+}
+
+#[test]
+fn forgotten_facets(rt: HostRuntime) -> Result<(), Fail> {
+    let mut reader = TextReader::new(rt.alloc(), LIMIT, Unit::Millimetre);
+    reader.feed(TWO);
+    assert!(rt; reader.facets().len() == 2);
+    reader.forget();
+    assert!(rt; reader.facets().is_empty());
+    assert!(rt; reader.finish()?.is_empty());
     Ok(())
 }
 
