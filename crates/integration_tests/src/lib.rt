@@ -31,6 +31,8 @@ mod meshes;
 #[cfg(test)]
 mod number_texts;
 #[cfg(test)]
+mod outlines;
+#[cfg(test)]
 mod pieces;
 #[cfg(test)]
 mod pool;
@@ -42,6 +44,8 @@ mod rays;
 mod refused_rises;
 #[cfg(test)]
 mod refused_welds;
+#[cfg(test)]
+mod session_pieces;
 #[cfg(test)]
 mod sessions;
 #[cfg(test)]

@@ -22,7 +22,7 @@ use stl_text::{Point, StlFault, Word};
 const EACH_RULE: [Rule; 3] = [Rule::EvenOdd, Rule::NonZero, Rule::Positive];
 
 // A setup of voxels of one size in micrometres, in a grid that fits the mesh.
-fn fitted(size: u32, rule: Rule) -> Setup {
+pub(crate) fn fitted(size: u32, rule: Rule) -> Setup {
     Setup {
         unit: Unit::Millimetre,
         pitch: size,
@@ -47,7 +47,7 @@ fn push_facet<A: Allocator>(
 }
 
 // The text of a mesh that is given in micrometres. `Err` comes only where an allocation failed.
-fn text_of<A: Allocator + Copy + Send + Sync>(
+pub(crate) fn text_of<A: Allocator + Copy + Send + Sync>(
     alloc: A,
     parts: &[Part<'_>],
 ) -> Result<String<A>, AllocError> {
@@ -62,7 +62,7 @@ fn text_of<A: Allocator + Copy + Send + Sync>(
     Ok(text)
 }
 
-fn open<A: Allocator + Copy + Send + Sync>(
+pub(crate) fn open<A: Allocator + Copy + Send + Sync>(
     alloc: A,
     parts: &[Part<'_>],
     setup: &Setup,

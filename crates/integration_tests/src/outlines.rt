@@ -1,0 +1,156 @@
+//! Outlines: worked meshes, to the nearest half-micrometre, and allocations that fail.
+use crate::meshes::{BOX, CUBE, CUBE_AND_PAIR, OCTAHEDRON, Part, TWO_CUBES};
+use crate::sessions::{fitted, open};
+use layer_session::{Outlines, PlanePoint, Session, SessionFault};
+use raster::Rule;
+use short_memory::ShortMemory;
+use std::alloc::{Allocator, Global};
+use std::test::Fail;
+
+/// Points, each as `X2 Y2` in half-micrometres.
+macro_rules! points {
+    ($($x2:literal $y2:literal),*) => {
+        [$(PlanePoint { x2: $x2, y2: $y2 }),*]
+    };
+}
+
+// The cube at half a micrometre: the diagonals of its sides are cut next to their lower ends.
+static LOW: [PlanePoint; 8] = points![1 0, 4 0, 4 1, 4 4, 1 4, 0 4, 0 1, 0 0];
+
+// The same at one and a half.
+static HIGH: [PlanePoint; 8] = points![3 0, 4 0, 4 3, 4 4, 3 4, 0 4, 0 3, 0 0];
+
+// The outlines of a layer of the session of a mesh's text.
+fn outlines_of(
+    alloc: Global,
+    parts: &[Part<'_>],
+    size: u32,
+    k: u32,
+) -> Result<Outlines<Global>, SessionFault> {
+    open(alloc, parts, &fitted(size, Rule::NonZero))?.outlines(k)
+}
+
+#[test]
+fn a_cube_counterclockwise(rt: HostRuntime) -> Result<(), Fail> {
+    let low = outlines_of(rt.alloc(), CUBE, 1, 0)?;
+    assert!(rt; low.count() == 1 && low.get(0) == Some(LOW.as_slice()) && low.get(1).is_none());
+    let high = outlines_of(rt.alloc(), CUBE, 1, 1)?;
+    assert!(rt; high.count() == 1 && high.get(0) == Some(HIGH.as_slice()));
+    Ok(())
+}
+
+// Its widest plane passes through four of its corners, and three steps up is the square of a quarter of the width.
+#[test]
+fn an_octahedron(rt: HostRuntime) -> Result<(), Fail> {
+    let corners = points![4 0, 0 4, -4 0, 0 -4];
+    let widest = outlines_of(rt.alloc(), OCTAHEDRON, 4, 0)?;
+    assert!(rt; widest.count() == 1 && widest.get(0) == Some(corners.as_slice()));
+    let near_the_top = points![1 0, 0 1, -1 0, 0 -1];
+    let top = outlines_of(rt.alloc(), OCTAHEDRON, 1, 3)?;
+    assert!(rt; top.count() == 1 && top.get(0) == Some(near_the_top.as_slice()));
+    Ok(())
+}
+
+// The two facets beside the cube share two of its nodes.
+#[test]
+fn loops_that_touch(rt: HostRuntime) -> Result<(), Fail> {
+    let found = outlines_of(rt.alloc(), CUBE_AND_PAIR, 1, 0)?;
+    assert!(rt; found.count() == 2 && found.get(0) == Some(LOW.as_slice()));
+    assert!(rt; found.get(1) == Some(points![4 1, 4 4].as_slice()));
+    assert!(rt; found.ends() == [8usize, 10].as_slice());
+    assert!(rt;
+        found.points().len() == 10
+            && found.points().get(8) == found.get(1).and_then(|part| part.first())
+    );
+    Ok(())
+}
+
+#[test]
+fn two_cubes_that_overlap(rt: HostRuntime) -> Result<(), Fail> {
+    let found = outlines_of(rt.alloc(), TWO_CUBES, 2, 1)?;
+    let near = points![6 0, 8 0, 8 6, 8 8, 6 8, 0 8, 0 6, 0 0];
+    let far = points![6 4, 12 4, 12 6, 12 12, 6 12, 4 12, 4 6, 4 4];
+    assert!(rt; found.count() == 2 && found.ends() == [8usize, 16].as_slice());
+    assert!(rt; found.get(0) == Some(near.as_slice()) && found.get(1) == Some(far.as_slice()));
+    Ok(())
+}
+
+// A box one micrometre wide and two high, left of 0: its diagonals are cut at a half of a half-micrometre.
+const NARROW: &[Part] = &[(
+    &[
+        [-1, 0, 0],
+        [-1, 0, 2],
+        [-1, 1, 0],
+        [-1, 1, 2],
+        [0, 0, 0],
+        [0, 0, 2],
+        [0, 1, 0],
+        [0, 1, 2],
+    ],
+    BOX,
+)];
+
+#[test]
+fn halves_are_rounded_upward(rt: HostRuntime) -> Result<(), Fail> {
+    let low = points![-1 0, 0 0, 0 1, 0 2, -1 2, -2 2, -2 1, -2 0];
+    let high = points![0 0, 0 0, 0 2, 0 2, 0 2, -2 2, -2 2, -2 0];
+    assert!(rt; outlines_of(rt.alloc(), NARROW, 1, 0)?.get(0) == Some(low.as_slice()));
+    assert!(rt; outlines_of(rt.alloc(), NARROW, 1, 1)?.get(0) == Some(high.as_slice()));
+    Ok(())
+}
+
+const OUTSIDE: SessionFault = SessionFault::Outside {
+    columns: 2,
+    rows: 2,
+    layers: 2,
+};
+
+#[test]
+fn no_outlines_outside_the_grid(rt: HostRuntime) -> Result<(), Fail> {
+    let session = open(rt.alloc(), CUBE, &fitted(1, Rule::NonZero))?;
+    for k in [2, u32::MAX] {
+        assert!(rt; session.outlines(k).err() == Some(OUTSIDE));
+    }
+    Ok(())
+}
+
+// The numbers of loops and of points of a layer, asked once more where there was no memory for them.
+fn counts<A: Allocator + Copy + Send + Sync>(
+    session: &Session<A>,
+) -> Result<(usize, usize), SessionFault> {
+    let found = match session.outlines(1) {
+        Err(SessionFault::Memory) => session.outlines(1)?,
+        other => other?,
+    };
+    Ok((found.count(), found.points().len()))
+}
+
+// Fails each allocation in turn until none is left to fail: how many of them were answered by `Memory`, and how many by
+// the next try. `None` where an answer was another.
+fn refused(alloc: Global) -> Option<(u32, u32)> {
+    let (mut told, mut tried) = (0u32, 0u32);
+    for turn in 1..2000u64 {
+        let memory = ShortMemory::new(alloc, turn);
+        let found = open(&memory, TWO_CUBES, &fitted(2, Rule::NonZero)).and_then(|session| counts(
+            &session,
+        ));
+        if !memory.has_refused() {
+            return (found == Ok((2, 16))).then_some((told, tried));
+        }
+        if found == Err(SessionFault::Memory) {
+            told = told.saturating_add(1);
+        } else if found == Ok((2, 16)) {
+            tried = tried.saturating_add(1);
+        } else {
+            return None;
+        }
+    }
+    None
+}
+
+#[test]
+fn memory_that_fails_is_told(rt: HostRuntime) -> Result<(), Fail> {
+    let (told, tried) = refused(rt.alloc()).ok_or("another answer")?;
+    assert!(rt; told > 10 && tried > 2);
+    Ok(())
+}

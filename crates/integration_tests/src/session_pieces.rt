@@ -1,0 +1,115 @@
+//! Sessions of texts that are fed in pieces: the answer is that of the whole text, however it is cut.
+ghost use Rattle.std.specs.Prelude.{◌<◌};
+
+use crate::meshes::{BOX, CORNERS, CUBE, CUBE_AND_FLAT, OCTAHEDRON, Part, SHEET, TWO_CUBES};
+use crate::sessions::{fitted, text_of};
+use layer_session::{Session, SessionFault, SessionReader, Setup};
+use raster::Rule;
+use short_memory::ShortMemory;
+use std::alloc::{Allocator, Global};
+use std::test::Fail;
+
+// The session of a text that is fed in pieces of this size.
+fn in_pieces<A: Allocator + Copy + Send + Sync>(
+    alloc: A,
+    text: &[u8],
+    setup: &Setup,
+    size: usize,
+) -> Result<Session<A>, SessionFault>
+    requires { 0 < size }
+{
+    let mut reader = SessionReader::new(alloc, setup);
+    for piece in text.chunks(size) {
+        reader.feed(piece);
+    }
+    reader.finish()
+}
+
+// Whether two sessions tell the same of themselves and of their first layer.
+fn are_same(one: &Session<Global>, other: &Session<Global>) -> Option<bool> {
+    Some(
+        one.facet_count() == other.facet_count()
+            && one.bounds() == other.bounds()
+            && one.grid() == other.grid()
+            && one.rule() == other.rule()
+            && one.image(0).ok()?.as_slice() == other.image(0).ok()?.as_slice(),
+    )
+}
+
+// Whether the answer to a text is the same in pieces of 1 to 17 bytes, and in one piece.
+fn is_chopped_well(alloc: Global, text: &[u8], setup: &Setup) -> Option<bool> {
+    let whole = Session::open(alloc, text, setup);
+    for size in [1, 2, 3, 5, 7, 11, 13, 17, usize::MAX] {
+        let same = match (&in_pieces(alloc, text, setup, size), &whole) {
+            (Ok(found), Ok(told)) => are_same(found, told)?,
+            (Err(found), Err(told)) => found == told,
+            _ => false,
+        };
+        if !same {
+            return Some(false);
+        }
+    }
+    Some(true)
+}
+
+#[test]
+fn meshes_in_pieces(rt: HostRuntime) -> Result<(), Fail> {
+    let open_box: &[Part] = &[(CORNERS, &BOX[1..])];
+    for parts in [
+        CUBE,
+        CUBE_AND_FLAT,
+        TWO_CUBES,
+        OCTAHEDRON,
+        SHEET,
+        open_box,
+        &[],
+    ] {
+        let text = text_of(rt.alloc(), parts)?;
+        let setup = fitted(1, Rule::EvenOdd);
+        assert_eq!(rt;
+            is_chopped_well(rt.alloc(), text.as_bytes(), &setup),
+            Some(true)
+        );
+    }
+    Ok(())
+}
+
+// The step goes before the text, and the text before the mesh.
+#[test]
+fn faults_in_pieces(rt: HostRuntime) -> Result<(), Fail> {
+    let alloc = rt.alloc();
+    let setup = fitted(1, Rule::NonZero);
+    let none = Setup { pitch: 0, ..setup };
+    let misread = b"solid\nendloop";
+    assert_eq!(rt; is_chopped_well(alloc, misread, &setup), Some(true));
+    assert_eq!(rt; is_chopped_well(alloc, misread, &none), Some(true));
+    assert!(rt; in_pieces(alloc, misread, &none, 4).err() == Some(SessionFault::Step));
+    Ok(())
+}
+
+// Fails each allocation in turn until none is left to fail: how many of them were answered by `Memory`. `None` where an
+// answer was another.
+fn refused(alloc: Global, text: &[u8]) -> Option<u32> {
+    let mut told = 0u32;
+    for turn in 1..2000u64 {
+        let memory = ShortMemory::new(alloc, turn);
+        let found = in_pieces(&memory, text, &fitted(1, Rule::NonZero), 7);
+        let facets = found.map(|session| session.facet_count());
+        if !memory.has_refused() {
+            return (facets == Ok(24)).then_some(told);
+        }
+        if facets != Err(SessionFault::Memory) {
+            return None;
+        }
+        told = told.saturating_add(1);
+    }
+    None
+}
+
+#[test]
+fn memory_that_fails_is_told(rt: HostRuntime) -> Result<(), Fail> {
+    let text = text_of(rt.alloc(), TWO_CUBES)?;
+    let told = refused(rt.alloc(), text.as_bytes()).ok_or("another answer")?;
+    assert!(rt; told > 10);
+    Ok(())
+}
