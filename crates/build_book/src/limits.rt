@@ -5,4 +5,4 @@ use geometry::LAYER_LIMIT;
 pub(crate) const STRIPE_LAYERS: u32 = 8;
 
 /// The count of stripes of a job with the most layers: 8,192.
-pub(crate) const MOST_STRIPES: u32 = (LAYER_LIMIT + STRIPE_LAYERS - 1) / STRIPE_LAYERS;
+pub const MOST_STRIPES: u32 = (LAYER_LIMIT + STRIPE_LAYERS - 1) / STRIPE_LAYERS;

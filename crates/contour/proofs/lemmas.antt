@@ -18,3 +18,4 @@ pub mod Unique
 pub mod LoopsClose
 pub mod LoopWinds
 pub mod LoopLaws
+pub mod Outlined

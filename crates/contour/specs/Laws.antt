@@ -1,13 +1,14 @@
--- What holds of the segments of every plane: how a line crosses the facets of a loop, that a closed mesh has loops, and that
--- these are one list.
-use Rattle.std.specs.Prelude.{◌≡◌, ℕ, List, ℤ, pos}
+-- What holds of the segments of every plane: how a line crosses the facets of a loop, that a closed mesh has loops, that
+-- these are one list, and where their outlines lie.
+use Rattle.std.specs.Prelude.{◌≡◌, ℕ, All, List, Some, ℤ, pos}
 use Rattle.geometry.specs.Facet.{Facet, twice}
 use Rattle.geometry.specs.Winding.{total, wind}
 use Rattle.mesh_weld.specs.Balance.{IsBalanced}
 use Rattle.mesh_weld.specs.EdgeNumbers.{AreEdgeNumbers}
 use Rattle.contour.specs.declared.segment.Segment.{Segment}
 use Rattle.contour.specs.Segment.{segments}
-use Rattle.contour.specs.Loops.{AreLoops, IsCycle, loop_facets, loops}
+use Rattle.contour.specs.Loops.{AreLoops, IsCycle, follower, loop_facets, loops}
+use Rattle.contour.specs.Outlines.{IsStartOf, end_point, start_point}
 
 -- a line along x in the plane crosses the facets of a closed cycle upward as often as downward: their windings sum up to
 -- nothing
@@ -23,3 +24,12 @@ ClosedMeshesHaveLoops = (facets : List Facet) (numbers : List (List ℕ)) (count
 -- two lists that are the loops of the segments at a height are equal
 abbrev pub LoopsAreOne : Type 0
 LoopsAreOne = (facets : List Facet) (z : ℤ) (a b : List (List Segment)) → AreLoops (segments facets z) a → AreLoops (segments facets z) b → a ≡ b
+
+-- a segment starts where the plane cuts an edge, up to the rounding to the nearest half-micrometre
+abbrev pub StartsAreCuts : Type 0
+StartsAreCuts = (facets : List Facet) (z : ℤ) → All (λ t. IsStartOf facets z t (start_point facets z t)) (segments facets z)
+
+-- a segment ends where its follower starts
+abbrev pub OutlinesJoin : Type 0
+OutlinesJoin = (facets : List Facet) (z : ℤ)
+    → All (λ s. (t : Segment) → follower (segments facets z) s ≡ Some t → end_point facets z s ≡ start_point facets z t) (segments facets z)

@@ -12,10 +12,11 @@
 //! ```
 //!
 //! - [`Segment`]: where a plane cuts one facet, from one [`Node`] to another. A node is an edge of the mesh, by the
-//!   numbers of its vertices; no coordinate of a cut is computed.
+//!   numbers of its vertices; no coordinate of a cut is computed for it.
 //! - [`segment_at`], [`segments`]: the segment of one facet, and those of all facets, at one height.
 //! - [`Sweep`]: a rising plane with its list of active facets, those that it cuts.
 //! - [`Loops`], [`Linker`], [`loops`]: the loops of a plane's segments. A linker keeps its memory from plane to plane.
+//! - [`Outlines`]: the loops as points, to the nearest half-micrometre, each a [`PlanePoint`].
 //! - [`loop_ray`]: the signed ray crossings of one loop's facets.
 //! - [`hold_loop_laws`]: states what holds of every loop.
 //!
@@ -27,12 +28,15 @@ mod active;
 mod laws;
 mod link;
 mod loop_list;
+mod outlines;
 mod segment;
 mod sweep;
 
+pub use exact_cut::PlanePoint;
 pub use laws::hold_loop_laws;
 pub use link::{Linker, loops};
 // The module is not called `loops`, since a module and a function of one name are refused.
 pub use loop_list::{Loops, loop_ray};
+pub use outlines::Outlines;
 pub use segment::{Node, Segment, segment_at, segments};
 pub use sweep::Sweep;

@@ -53,12 +53,29 @@ impl<A: Allocator> Loops<A> {
     pub fn get(&self, number: usize) -> Option<&[Segment]>
         ensures { option_map (λ part. part.now) result ≡ slice_get self.now number }
     {
-        if number >= self.ends.len() {
-            return None;
-        }
-        let start = start_in(self.ends.as_slice(), number);
-        Some(&self.flat.as_slice()[start..self.ends[number]])
+        part(self.flat.as_slice(), self.ends.as_slice(), number)
     }
+
+    /// The segments of all loops, one loop behind the other, and for each loop the position behind its last segment.
+    pub(crate) fn into_parts(self) -> (Vec<Segment, A>, Vec<usize, A>)
+        ensures parts { self ≡ parts_from 0 result.1.items result.0.items }
+        ensures ends { AreEnds 0 result.1.items (length result.0.items) }
+    {
+        let Loops { flat, ends } = self;
+        (flat, ends)
+    }
+}
+
+/// The part with this number of a list whose parts end at these positions; `None` where there is no such part.
+pub(crate) fn part<'p, T>(flat: &'p [T], ends: &[usize], number: usize) -> Option<&'p [T]>
+    requires { AreEnds 0 ends.now (length flat.now) }
+    ensures { option_map (λ part. part.now) result ≡ slice_get (parts_from 0 ends.now flat.now) number }
+{
+    if number >= ends.len() {
+        return None;
+    }
+    let start = start_in(ends, number);
+    Some(&flat[start..ends[number]])
 }
 
 /// The position where the loop with this number begins.

@@ -4,6 +4,7 @@ pub mod Ahead
 pub mod Passing
 pub mod Blends
 pub mod Sections
+pub mod Rounding
 pub mod Least
 pub mod DdaSteps
 pub mod Scanlines

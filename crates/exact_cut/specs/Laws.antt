@@ -6,6 +6,7 @@ use Rattle.geometry.specs.Winding.{turn, turn_x, normal_x, normal_y, normal_z, w
 use Rattle.exact_cut.specs.Crossing.{Winding, Crosses}
 use Rattle.exact_cut.specs.Column.{centre_x, IsLeastColumn}
 use Rattle.exact_cut.specs.Lattice.{IsUncrossed, pixel}
+use Rattle.exact_cut.specs.PlanePoint.{IsNearest, nearest}
 use Rattle.exact_cut.specs.Walk.{IsWalkOf, Walk, walk_hit}
 use Rattle.exact_cut.specs.declared.dda.lattice.Lattice.{Lattice}
 use Rattle.geometry.specs.Touch.{Touches, Between}
@@ -75,3 +76,7 @@ WalksTellHits =
 abbrev pub UncrossedRowsHaveNoHits : Type 0
 UncrossedRowsHaveNoHits =
     (t : Facet) (z : ℤ) (l : Lattice) → IsUncrossed t z l → (i j : ℕ) → j < l.rows → hit t (pixel l z i j) ≡ pos 0
+
+-- rounding gives the nearest whole number, and of two that are equally near the greater
+abbrev pub NearestIsNear : Type 0
+NearestIsNear = (num den n : ℤ) → pos 0 <ℤ den → IsNearest num den n ↔ (n ≡ nearest num den)

@@ -2,6 +2,7 @@ pub mod Bounds
 pub mod HalfPoint
 pub mod Cut
 pub mod CutPoint
+pub mod PlanePoint
 pub mod Section
 pub mod Crossing
 pub mod Column

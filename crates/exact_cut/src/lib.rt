@@ -12,7 +12,8 @@
 //! The types: [`Centre`], a point that a ray starts from; [`Cut`], the two edges that pass a height; [`Crossing`], where
 //! a scanline crosses a facet, as a fraction, and [`column`], the first pixel that is not left of it; [`Lattice`], the
 //! pixel centres of a layer, and [`Walk`], a facet's crossings with all of their rows, by a digital differential
-//! analyser (DDA) in place of a division a row. [`hold_laws`] states the laws that hold for every facet.
+//! analyser (DDA) in place of a division a row; [`PlanePoint`] and [`start_point`], where a plane passes a facet's edge, to
+//! the nearest half-micrometre. [`hold_laws`] states the laws that hold for every facet.
 //!
 //! Coordinates are half-micrometres, so that the centres between whole micrometres are whole; names of such numbers end
 //! in `2`. Facets and steps between pixels are in micrometres.
@@ -23,6 +24,7 @@ mod cut;
 mod dda;
 mod hit;
 mod laws;
+mod plane_point;
 mod scanline;
 
 pub use centre::Centre;
@@ -31,6 +33,7 @@ pub use dda::lattice::Lattice;
 pub use dda::walk::Walk;
 pub use hit::{ray_hit, ray_hit_y};
 pub use laws::hold_laws;
+pub use plane_point::{PlanePoint, start_point};
 pub use scanline::column;
 pub use scanline::crossing::Crossing;
 pub use scanline::section::crossing;

@@ -1,5 +1,5 @@
 -- What a session has, which one a text opens, and why it opens none.
-use Rattle.std.specs.Prelude.{◌≡◌, ℕ, List, length, Option, option_map, Ok, Err}
+use Rattle.std.specs.Prelude.{◌≡◌, ◌≢◌, ℕ, List, length, Option, option_map, Result, Ok, Err}
 use Rattle.geometry.specs.Point.{Point}
 use Rattle.geometry.specs.Facet.{Facet}
 use Rattle.geometry.specs.BoundingBox.{bounds}
@@ -12,7 +12,7 @@ use Rattle.build_book.specs.Job.{Job}
 use Rattle.layer_session.specs.declared.setup.Setup.{Setup}
 use Rattle.layer_session.specs.declared.session_fault.SessionFault.{SessionFault}
 use Rattle.layer_session.specs.declared.session_fault.SessionFault.TheVariants as fault
-use Rattle.layer_session.specs.Setup.{IsInRange, grid_for}
+use Rattle.layer_session.specs.Setup.{IsInRange, grid_of}
 
 -- a job, and of all facets that were read, degenerate ones among them, their number and their box
 pub record Session : Type 0 where
@@ -31,7 +31,7 @@ pub record IsSessionOf (setup : Setup) (bytes : List ℕ) (session : Session) : 
   pub reads : Reads FACET_LIMIT setup.unit bytes facets
   pub closed : IsBalanced facets
   pub solid : session.job.solid ≡ solid_of facets
-  pub grid : grid_for setup (solid_of facets).facets ≡ Ok session.job.grid
+  pub grid : grid_of setup (solid_of facets).facets ≡ Ok session.job.grid
   pub rule : session.job.rule ≡ setup.rule
   pub count : session.facet_count ≡ length facets
   pub corners : session.corners ≡ corners_of facets
@@ -45,6 +45,11 @@ IsOpenFault setup bytes (fault.Weld (weld.Open from to there back)) =
 IsOpenFault setup bytes (fault.Weld weld.Memory) = ⊥
 IsOpenFault setup bytes (fault.Grid cause) =
     IsInRange setup × ((facets : List Facet) × Reads FACET_LIMIT setup.unit bytes facets × IsBalanced facets
-    × (grid_for setup (solid_of facets).facets ≡ Err cause))
+    × (grid_of setup (solid_of facets).facets ≡ Err cause))
 IsOpenFault setup bytes fault.Memory = Unit {0}
 IsOpenFault setup bytes (fault.Outside columns rows layers) = ⊥
+
+-- what opening a text answers where memory suffices
+abbrev pub IsAnswer : Setup → List ℕ → Result Session SessionFault → Type 0
+IsAnswer setup bytes (Ok session) = IsSessionOf setup bytes session
+IsAnswer setup bytes (Err f) = (f ≢ fault.Memory) × IsOpenFault setup bytes f

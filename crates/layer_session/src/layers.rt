@@ -1,8 +1,9 @@
-//! What is made of a job's layers: loops, filled pixels and their number, and images.
+//! What is made of a job's layers: loops, as segments and as points, filled pixels and their number, and images.
 ghost use Rattle.std.specs.Prelude.{◌≡◌, ◌<◌, IfOk, OnOk};
 ghost use Rattle.std.specs.Io.KnownBytes.{Appends};
 ghost use Rattle.build_book.specs.Job.{stripe_count};
 ghost use Rattle.contour.specs.Loops.{AreLoops, loops};
+ghost use Rattle.contour.specs.Outlines.{outlines};
 ghost use Rattle.contour.specs.Segment.{segments};
 ghost use Rattle.raster.specs.Filler.{IsFillOf, area_of};
 ghost use Rattle.raster.specs.Grid.{plane};
@@ -11,7 +12,7 @@ ghost use Rattle.raster.specs.Span.{AreSpans, covers};
 ghost use Rattle.layer_session.specs.Answers.{image_of, stripe_images};
 
 use build_book::{Job, slice_stripe};
-use contour::{Linker, Loops, segments};
+use contour::{Linker, Loops, Outlines, segments};
 use raster::{Counted, Grid, Sink, Span, area, fill, write_layer};
 use std::alloc::{AllocError, Allocator};
 
@@ -27,6 +28,19 @@ pub(crate) fn layer_loops<A: Allocator + Copy + Send + Sync>(
 {
     let list = segments(alloc, job.solid(), job.grid().plane(k))?;
     Linker::new(alloc, job.solid())?.loops(job.solid(), list.as_slice())
+}
+
+/// The loops of layer k of a job as points.
+pub(crate) fn layer_outlines<A: Allocator + Copy + Send + Sync>(
+    alloc: A,
+    job: &Job<A>,
+    k: u32,
+) -> Result<Outlines<A>, AllocError>
+    requires { k < job.now.grid.layers }
+    ensures { IfOk result (λ found. found ≡ outlines job.now.solid.facets (plane job.now.grid k)) }
+{
+    let found = layer_loops(alloc, job, k)?;
+    Outlines::of(alloc, job.solid(), found, job.grid().plane(k))
 }
 
 /// The filled pixels of layer k of a job.

@@ -12,7 +12,8 @@
 //! for k in 0..session.layers() {
 //!     let image = session.image(k)?;              // raw PBM, just as the program writes it
 //!     let pixels = session.area(k)?;              // how many of its pixels are filled
-//!     let found = session.loops(k)?;              // the closed loops of its plane
+//!     let found = session.loops(k)?;              // the closed loops of its plane, by the facets that it cuts
+//!     let drawn = session.outlines(k)?;           // the same as points, in half-micrometres
 //! }
 //! let (along_x, along_y) = session.probe(3, 4, 5)?;
 //! ```
@@ -21,20 +22,22 @@
 //! - [`Setup`]: what a text is opened with; [`Placing`]: a grid that fits the mesh, or a given one.
 //! - [`SessionFault`]: why there is no session, or no answer. Its `Display` is what the program writes for that behind
 //!   `stlslice: `.
+//! - [`one_answer`]: a law. A setup and a text have one answer, a session or a fault, where memory suffices.
 //!
 //! Pitch, layer height, origin and box are in micrometres. Columns, rows and layers count from 0 along x, y and z, and
 //! stripes, which are eight layers each, from the lowest up.
 #![tactic(auto)]
 
+mod laws;
 mod layers;
-mod opening;
 mod session;
 mod session_fault;
 mod setup;
 
-pub use contour::{Loops, Node, Segment};
+pub use contour::{Loops, Node, Outlines, PlanePoint, Segment};
+pub use laws::one_answer;
 pub use micro_num::Unit;
-pub use raster::{Grid, Rule};
+pub use raster::{Grid, Placing, Rule};
 pub use session::Session;
 pub use session_fault::SessionFault;
-pub use setup::{Placing, Setup};
+pub use setup::Setup;

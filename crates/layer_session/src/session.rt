@@ -1,7 +1,9 @@
 //! Sessions: a closed mesh in its grid, with a rule, asked layer by layer.
 ghost use Rattle.std.specs.Prelude.{◌≡◌, ◌<◌, ◌≤◌, Err, IfErr, IfOk, OnOk};
 ghost use Rattle.build_book.specs.Job.{stripe_count};
+ghost use Rattle.build_book.specs.declared.limits.TheConstants.{MOST_STRIPES};
 ghost use Rattle.contour.specs.Loops.{AreLoops, loops};
+ghost use Rattle.contour.specs.Outlines.{outlines};
 ghost use Rattle.contour.specs.Segment.{segments};
 ghost use Rattle.geometry.specs.declared.limits.TheConstants.{LAYER_LIMIT};
 ghost use Rattle.raster.specs.Filler.{area_of};
@@ -11,12 +13,11 @@ ghost use Rattle.layer_session.specs.Session.{IsOpenFault, IsSessionOf, Session 
 ghost use Rattle.layer_session.specs.Setup.{IsInRange};
 ghost use Rattle.layer_session.specs.declared.session_fault.SessionFault.TheVariants.{Memory, Step};
 
-use crate::layers::{layer_area, layer_image, layer_loops, stripe_images};
-use crate::opening::grid_for;
+use crate::layers::{layer_area, layer_image, layer_loops, layer_outlines, stripe_images};
 use crate::session_fault::SessionFault;
 use crate::setup::Setup;
 use build_book::Job;
-use contour::Loops;
+use contour::{Loops, Outlines};
 use geometry::{Point, extent};
 use mesh_weld::{probe, weld};
 use raster::{Grid, Rule};
@@ -62,7 +63,7 @@ impl<A: Allocator + Copy + Send + Sync> Session<A> {
         let facet_count = facets.len();
         let corners = extent(facets.as_slice());
         let solid = weld(alloc, facets)?;
-        let grid = grid_for(&solid, setup)?;
+        let grid = setup.placing.grid(&solid, setup.pitch, setup.layer)?;
         Ok(Session {
             alloc,
             job: Job::new(solid, grid, setup.rule),
@@ -96,7 +97,8 @@ impl<A: Allocator + Copy + Send + Sync> Session<A> {
 
     /// The number of stripes, as of [`Job::stripes`]. Stripe s is the layers from 8 s to 8 s + 7, as far as the grid has them.
     pub fn stripes(&self) -> u64
-        ensures { result ≡ stripe_count self.now.job.grid }
+        ensures value { result ≡ stripe_count self.now.job.grid }
+        ensures few { result ≤ MOST_STRIPES }
     {
         self.job.stripes()
     }
@@ -172,6 +174,21 @@ impl<A: Allocator + Copy + Send + Sync> Session<A> {
     {
         self.has_layer(k)?;
         Ok(layer_loops(self.alloc, &self.job, k)?)
+    }
+
+    /// The loops of layer k as points, one for each of their segments: where it starts, x and y rounded to the nearest
+    /// half-micrometre, halves upward. The inside of a mesh whose facets face outward lies on the left of each segment, as
+    /// of [`Outlines`].
+    ///
+    /// # Errors
+    /// `Outside` exactly where there is no such layer; `Memory` only where an allocation failed.
+    pub fn outlines(&self, k: u32) -> Result<Outlines<A>, SessionFault>
+        ensures outlines { IfOk result (λ found. found ≡ outlines self.now.job.solid.facets (plane self.now.job.grid k)) }
+        ensures within { OnOk result (k < self.now.job.grid.layers) }
+        ensures fault { IfErr result (IsLayerFault self.now.job.grid k) }
+    {
+        self.has_layer(k)?;
+        Ok(layer_outlines(self.alloc, &self.job, k)?)
     }
 
     /// The signed crossings of the mesh by the rays along x and along y from the centre of the voxel of column i, row j

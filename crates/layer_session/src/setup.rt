@@ -2,24 +2,9 @@
 ghost use Rattle.std.specs.Prelude.{◌↔◌, IsTrue};
 ghost use Rattle.layer_session.specs.Setup.{IsInRange};
 
-use geometry::{Point, STEP_LIMIT};
+use geometry::STEP_LIMIT;
 use micro_num::Unit;
-use raster::Rule;
-
-/// Where the grid lies.
-#[derive(Clone, Copy, Debug, PartialEq, Eq)]
-pub enum Placing {
-    /// It begins at the mesh's least x, y and z and has the fewest columns, rows and layers that cover the mesh.
-    Fitted,
-    /// It has these counts of voxels along x, y and z.
-    Given {
-        columns: u32,
-        rows: u32,
-        layers: u32,
-        /// The corner of least x, y and z, in micrometres.
-        origin: Point,
-    },
-}
+use raster::{Placing, Rule};
 
 /// How a text is read, and how its mesh is cut into voxels.
 #[derive(Clone, Copy, Debug, PartialEq, Eq)]

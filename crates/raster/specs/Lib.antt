@@ -1,5 +1,6 @@
 pub mod Devices
 pub mod Grid
+pub mod Placing
 pub mod Rule
 pub mod Span
 pub mod Filler

@@ -10,6 +10,7 @@
 //! ```
 //!
 //! - [`Grid`]: the voxels that a mesh is sliced into; [`GridFault`] says why there is none.
+//! - [`Placing`]: whether a grid fits the mesh, or lies where it is told to.
 //! - [`Rule`]: which sums of signed crossings count as inside.
 //! - [`Span`]: a run of filled pixels in a row.
 //! - [`Filler`]: fills one layer after another, and keeps its memory.
@@ -26,6 +27,7 @@ mod devices;
 mod filler;
 mod grid;
 mod pbm;
+mod placing;
 mod rule;
 mod span;
 
@@ -33,5 +35,6 @@ pub use devices::{Counted, Failed, Failures, Sink, Source, WriteFault, put_all};
 pub use filler::{Filler, fill};
 pub use grid::{Grid, GridFault};
 pub use pbm::write_layer;
+pub use placing::Placing;
 pub use rule::Rule;
 pub use span::{Span, area};

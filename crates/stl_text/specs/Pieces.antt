@@ -1,5 +1,6 @@
 -- A text that is fed in pieces.
 --     Progress      what a reader of pieces keeps
+--     whole         it, with the facets that were taken off the reader
 --     IsReading     it has read a text up to a part that it has at hand
 --     IsAfter       it was fed these bytes
 use Rattle.std.specs.Prelude.{◌≡◌, ◌≢◌, ℕ, ◌+◌, ◌≤◌, Bool, true, false, not, List, [], ◌++◌, length}
@@ -20,6 +21,17 @@ pub record Progress : Type 0 where
   pub place : Place
   pub held : List ℕ
   pub facets : List Facet
+
+-- what a reader would keep if these facets, the first of the text, had not been taken off it
+abbrev pub whole : List Facet → Progress → Progress
+whole taken p = record {
+  limit = length taken + p.limit;
+  unit = p.unit;
+  count = p.count;
+  place = p.place;
+  held = p.held;
+  facets = taken ++ p.facets;
+}
 
 -- what is left of a text, as a word or a rest of a line sees it
 abbrev pub Sees : Bool → List ℕ → List ℕ → Type 0
@@ -43,14 +55,14 @@ IsReadingAt limit unit p (place.Word stage) text part = Waits limit unit p stage
 IsReadingAt limit unit p (place.Line stage) text part = Waits limit unit p stage true text part × (p.held ≡ [])
 IsReadingAt limit unit p (place.Stopped f) text part = f ≢ fault.Memory → (more : List ℕ) → IsFaultOf limit unit (text ++ more) f
 
--- The reader has read a text up to its last part, which it has at hand. Where it stopped at a fault, the fault is that of
--- the text, whatever follows it.
-abbrev pub IsReading : ℕ → LengthUnit → Progress → List ℕ → List ℕ → Type 0
-IsReading limit unit p text part = IsReadingAt limit unit p p.place text part
+-- The reader has read a text up to its last part, which it has at hand, and these facets were taken off it. Where it
+-- stopped at a fault, the fault is that of the text, whatever follows it.
+abbrev pub IsReading : ℕ → LengthUnit → List Facet → Progress → List ℕ → List ℕ → Type 0
+IsReading limit unit taken p text part = IsReadingAt limit unit (whole taken p) p.place text part
 
--- the reader was fed these bytes
-abbrev pub IsAfter : ℕ → LengthUnit → Progress → List ℕ → Type 0
-IsAfter limit unit p fed = IsReading limit unit p fed []
+-- the reader was fed these bytes, and these facets were taken off it
+abbrev pub IsAfter : ℕ → LengthUnit → List Facet → Progress → List ℕ → Type 0
+IsAfter limit unit taken p fed = IsReading limit unit taken p fed []
 
 abbrev pub at_line : Stage → Place
 at_line stage = place.Line stage

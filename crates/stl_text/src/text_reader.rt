@@ -1,5 +1,5 @@
 //! The reader of a text that is fed in pieces.
-ghost use Rattle.std.specs.Prelude.{◌≡◌, ◌≢◌, ◌<◌, ◌≤◌, ℕ, [], ◌∷◌, ◌++◌, List, IfErr, IfOk, IfSome, MatchResult, None, Some, length};
+ghost use Rattle.std.specs.Prelude.{◌≡◌, ◌≢◌, ◌<◌, ◌≤◌, ◌+◌, ℕ, [], ◌∷◌, ◌++◌, List, IfErr, IfOk, IfSome, MatchResult, None, Some, length};
 ghost use Rattle.geometry.specs.Facet.{Facet};
 ghost use Rattle.geometry.specs.declared.limits.TheConstants.{FACET_LIMIT};
 ghost use Rattle.micro_num.specs.declared.unit.Unit.{Unit as LengthUnit};
@@ -69,8 +69,9 @@ fn read_word<A: Allocator>(
     unit: Unit,
     facets: &mut Vec<Facet, A>,
 ) -> Place
-    ensures { (text behind : List ℕ) → AtWord limit unit stage facets.old.items text behind word.now at
-        → StandsAt limit unit result facets.new.items text behind }
+    ensures { (taken : List Facet) (text behind : List ℕ)
+        → AtWord (length taken + limit) unit stage (taken ++ facets.old.items) text behind word.now at
+        → StandsAt (length taken + limit) unit result (taken ++ facets.new.items) text behind }
 {
     let room = limit.saturating_sub(facets.len());
     let step = match stage.step(word, at, room, unit) {
@@ -88,11 +89,12 @@ fn read_word<A: Allocator>(
 }
 
 /// A reader of an ASCII STL text that arrives in pieces, cut anywhere: also in a word, a number, a name or a line break.
-/// It keeps the facets and, between two pieces, no more of the text than the front of a word that isn't whole yet. Names,
-/// rests of lines and white space take nothing, and nor does what follows a fault. A word is kept whole, however long it is.
+/// It keeps the facets until they are forgotten and, between two pieces, no more of the text than the front of a word that
+/// isn't whole yet. Names, rests of lines and white space take nothing, and nor does what follows a fault. A word is kept
+/// whole, however long it is.
 #[derive(Drop)]
 pub struct TextReader<A: Allocator> {
-    /// The number of facets that the text may have.
+    /// The number of facets that the text may have beside those that were forgotten.
     limit: usize,
     /// The unit of its numbers.
     unit: Unit,
@@ -102,7 +104,7 @@ pub struct TextReader<A: Allocator> {
     place: Place,
     /// The front of a word that isn't whole yet.
     held: Vec<u8, A>,
-    /// The facets so far.
+    /// The facets so far that were not forgotten.
     facets: Vec<Facet, A>,
 }
 
@@ -118,7 +120,7 @@ impl<A: Allocator + Copy> TextReader<A> {
     /// A reader of a text that may have up to `limit` facets, at most [`FACET_LIMIT`]. Its numbers are in `unit`.
     pub fn new(alloc: A, limit: u32, unit: Unit) -> TextReader<A>
         requires { limit ≤ FACET_LIMIT }
-        ensures { IsAfter limit unit result [] }
+        ensures { IsAfter limit unit [] result [] }
     {
         TextReader {
             limit: limit as usize,
@@ -134,40 +136,54 @@ impl<A: Allocator + Copy> TextReader<A> {
 impl<A: Allocator> TextReader<A> {
     /// Reads the next piece of the text. Where it is cut from the next doesn't matter.
     pub fn feed(&mut self, piece: &[u8])
-        ensures { (limit : ℕ) (unit : LengthUnit) (fed : List ℕ) → IsAfter limit unit self.old fed
-            → IsAfter limit unit self.new (fed ++ piece.now) }
+        ensures { (limit : ℕ) (unit : LengthUnit) (taken : List Facet) (fed : List ℕ) → IsAfter limit unit taken self.old fed
+            → IsAfter limit unit taken self.new (fed ++ piece.now) }
     {
-        self.begin(piece);
+        self.count_piece(piece);
         let mut rest = self.resume(piece);
         'piece: while !rest.is_empty() {
             rest = self.advance(rest);
         }
     }
 
-    /// The facets of the text that was fed, in file order.
+    /// The facets that were read and not forgotten, in file order. They are facets of the text only if its end has no
+    /// fault either.
+    pub fn facets(&self) -> &[Facet]
+        ensures { result.now ≡ self.now.facets }
+    {
+        self.facets.as_slice()
+    }
+
+    /// Forgets the facets that were read, and keeps their room. They still count for the limit.
+    pub fn forget(&mut self)
+        ensures after { (limit : ℕ) (unit : LengthUnit) (taken : List Facet) (fed : List ℕ) → IsAfter limit unit taken self.old fed
+            → IsAfter limit unit (taken ++ self.old.facets) self.new fed }
+        ensures none { self.new.facets ≡ [] }
+    {
+        self.limit = self.limit.saturating_sub(self.facets.len());
+        self.facets.clear();
+    }
+
+    /// The facets of the text that was fed, in file order, without those that were forgotten.
     ///
     /// # Errors
     /// A text that spells no mesh has exactly one fault, which is the answer unless memory runs out, as of
     /// [`read_stl_at_most`](crate::read_stl_at_most). `Memory` comes only if an allocation failed, or behind
     /// `usize::MAX` bytes.
     pub fn finish(self) -> Result<Vec<Facet, A>, StlFault>
-        ensures found { (limit : ℕ) (unit : LengthUnit) (fed : List ℕ) → IsAfter limit unit self fed
-            → IfOk result (λ facets. Reads limit unit fed facets.items) }
-        ensures only { (limit : ℕ) (unit : LengthUnit) (fed : List ℕ) → IsAfter limit unit self fed
+        ensures found { (limit : ℕ) (unit : LengthUnit) (taken : List Facet) (fed : List ℕ) → IsAfter limit unit taken self fed
+            → IfOk result (λ facets. Reads limit unit fed (taken ++ facets.items)) }
+        ensures only { (limit : ℕ) (unit : LengthUnit) (taken : List Facet) (fed : List ℕ) → IsAfter limit unit taken self fed
             → (facets : List Facet) → Reads limit unit fed facets
-            → MatchResult result (λ found. found.items ≡ facets) (λ fault. fault ≡ Memory) }
-        ensures fault { (limit : ℕ) (unit : LengthUnit) (fed : List ℕ) → IsAfter limit unit self fed
+            → MatchResult result (λ found. taken ++ found.items ≡ facets) (λ fault. fault ≡ Memory) }
+        ensures fault { (limit : ℕ) (unit : LengthUnit) (taken : List Facet) (fed : List ℕ) → IsAfter limit unit taken self fed
             → IfErr result (λ fault. fault ≢ Memory → IsFaultOf limit unit fed fault) }
     {
         let mut reader = self;
         let place = reader.close();
         match place {
             Place::Stopped(fault) => Err(fault),
-            Place::Word(stage) => match stage.end() {
-                Ok(()) => Ok(reader.facets),
-                Err(fault) => Err(fault),
-            },
-            Place::Line(stage) => match stage.end() {
+            Place::Word(stage) | Place::Line(stage) => match stage.end() {
                 Ok(()) => Ok(reader.facets),
                 Err(fault) => Err(fault),
             },
@@ -175,9 +191,9 @@ impl<A: Allocator> TextReader<A> {
     }
 
     /// Counts the bytes of a piece.
-    fn begin(&mut self, piece: &[u8])
-        ensures { (limit : ℕ) (unit : LengthUnit) (fed : List ℕ) → IsAfter limit unit self.old fed
-            → IsReading limit unit self.new (fed ++ piece.now) piece.now }
+    fn count_piece(&mut self, piece: &[u8])
+        ensures { (limit : ℕ) (unit : LengthUnit) (taken : List Facet) (fed : List ℕ) → IsAfter limit unit taken self.old fed
+            → IsReading limit unit taken self.new (fed ++ piece.now) piece.now }
     {
         match self.count.checked_add(piece.len()) {
             Some(count) => self.count = count,
@@ -187,8 +203,8 @@ impl<A: Allocator> TextReader<A> {
 
     /// Goes on with a word that the last piece cut: answers the text behind it.
     fn resume<'p>(&mut self, piece: &'p [u8]) -> &'p [u8]
-        ensures read { (limit : ℕ) (unit : LengthUnit) (text : List ℕ) → IsReading limit unit self.old text piece.now
-            → IsReading limit unit self.new text result.now }
+        ensures read { (limit : ℕ) (unit : LengthUnit) (taken : List Facet) (text : List ℕ)
+            → IsReading limit unit taken self.old text piece.now → IsReading limit unit taken self.new text result.now }
         ensures free { 0 < length result.now → self.new.held ≡ [] }
     {
         if self.held.is_empty() {
@@ -226,8 +242,8 @@ impl<A: Allocator> TextReader<A> {
     fn advance<'p>(&mut self, part: &'p [u8]) -> &'p [u8]
         requires free { self.old.held ≡ [] }
         requires some { 0 < length part.now }
-        ensures read { (limit : ℕ) (unit : LengthUnit) (text : List ℕ) → IsReading limit unit self.old text part.now
-            → IsReading limit unit self.new text result.now }
+        ensures read { (limit : ℕ) (unit : LengthUnit) (taken : List Facet) (text : List ℕ)
+            → IsReading limit unit taken self.old text part.now → IsReading limit unit taken self.new text result.now }
         ensures free { 0 < length result.now → self.new.held ≡ [] }
         ensures shorter { length result.now < length part.now }
     {
@@ -243,8 +259,8 @@ impl<A: Allocator> TextReader<A> {
         requires free { self.old.held ≡ [] }
         requires some { 0 < length part.now }
         requires place { self.old.place ≡ at_line stage }
-        ensures read { (limit : ℕ) (unit : LengthUnit) (text : List ℕ) → IsReading limit unit self.old text part.now
-            → IsReading limit unit self.new text result.now }
+        ensures read { (limit : ℕ) (unit : LengthUnit) (taken : List Facet) (text : List ℕ)
+            → IsReading limit unit taken self.old text part.now → IsReading limit unit taken self.new text result.now }
         ensures free { 0 < length result.now → self.new.held ≡ [] }
         ensures shorter { length result.now < length part.now }
     {
@@ -263,8 +279,8 @@ impl<A: Allocator> TextReader<A> {
         requires free { self.old.held ≡ [] }
         requires some { 0 < length part.now }
         requires place { self.old.place ≡ at_word stage }
-        ensures read { (limit : ℕ) (unit : LengthUnit) (text : List ℕ) → IsReading limit unit self.old text part.now
-            → IsReading limit unit self.new text result.now }
+        ensures read { (limit : ℕ) (unit : LengthUnit) (taken : List Facet) (text : List ℕ)
+            → IsReading limit unit taken self.old text part.now → IsReading limit unit taken self.new text result.now }
         ensures free { 0 < length result.now → self.new.held ≡ [] }
         ensures shorter { length result.now < length part.now }
     {
@@ -281,8 +297,8 @@ impl<A: Allocator> TextReader<A> {
     fn facet<'p>(&mut self, part: &'p [u8]) -> Option<&'p [u8]>
         requires free { self.old.held ≡ [] }
         requires place { self.old.place ≡ at_word in_facets }
-        ensures read { IfSome result (λ rest. (limit : ℕ) (unit : LengthUnit) (text : List ℕ)
-            → IsReading limit unit self.old text part.now → IsReading limit unit self.new text rest.now) }
+        ensures read { IfSome result (λ rest. (limit : ℕ) (unit : LengthUnit) (taken : List Facet) (text : List ℕ)
+            → IsReading limit unit taken self.old text part.now → IsReading limit unit taken self.new text rest.now) }
         ensures free { IfSome result (λ rest. self.new.held ≡ []) }
         ensures shorter { IfSome result (λ rest. length rest.now < length part.now) }
         ensures none { result ≡ None → self.new ≡ self.old }
@@ -307,8 +323,8 @@ impl<A: Allocator> TextReader<A> {
         requires free { self.old.held ≡ [] }
         requires some { 0 < length part.now }
         requires place { self.old.place ≡ at_word stage }
-        ensures read { (limit : ℕ) (unit : LengthUnit) (text : List ℕ) → IsReading limit unit self.old text part.now
-            → IsReading limit unit self.new text result.now }
+        ensures read { (limit : ℕ) (unit : LengthUnit) (taken : List Facet) (text : List ℕ)
+            → IsReading limit unit taken self.old text part.now → IsReading limit unit taken self.new text result.now }
         ensures free { 0 < length result.now → self.new.held ≡ [] }
         ensures shorter { length result.now < length part.now }
     {
@@ -330,8 +346,8 @@ impl<A: Allocator> TextReader<A> {
 
     /// Reads the last word of the text: answers where the text ends.
     fn close(&mut self) -> Place
-        ensures { (limit : ℕ) (unit : LengthUnit) (fed : List ℕ) → IsAfter limit unit self.old fed
-            → EndsAt limit unit result self.new.facets fed }
+        ensures { (limit : ℕ) (unit : LengthUnit) (taken : List Facet) (fed : List ℕ) → IsAfter limit unit taken self.old fed
+            → EndsAt limit unit result (taken ++ self.new.facets) fed }
     {
         let Place::Word(stage) = self.place else {
             return self.place;

@@ -11,7 +11,10 @@ use Rattle.geometry.specs.Winding.{ray, ray_y}
 use Rattle.mesh_weld.specs.Balance.{IsBalanced, IsLeastOpen}
 use Rattle.mesh_weld.specs.Solid.{Solid, solid_of}
 use Rattle.raster.specs.declared.grid.GridFault.{GridFault}
-use Rattle.raster.specs.Grid.{Grid, centre, fitted_grid, given_grid, grid_with}
+use Rattle.raster.specs.Grid.{Grid, centre}
+use Rattle.raster.specs.Placing.{placed_grid}
+use Rattle.raster.specs.declared.placing.Placing.{Placing}
+use Rattle.raster.specs.declared.placing.Placing.TheVariants as placing
 use Rattle.raster.specs.declared.rule.Rule.{Rule}
 use Rattle.stlslice.specs.SlicedText.{output_of, sliced_text}
 use Rattle.task_words.specs.declared.task.Given.{Given}
@@ -52,11 +55,13 @@ probe_text g facets i j k =
     ++ (codes " x " ++ (signed_decimal (ray facets (centre g i j k))
     ++ (codes " y " ++ (signed_decimal (ray_y facets (centre g i j k)) ++ codes "\n")))))))))
 
--- the grid that was handed in, or else the one that the mesh fits in
+-- where the grid lies by the words
+abbrev pub placing_of : Option Given → Placing
+placing_of None = placing.Fitted
+placing_of (Some given) = placing.Given given.columns given.rows given.layers given.origin
+
 abbrev pub grid_for : Option Given → ℕ → ℕ → List Facet → Result Grid GridFault
-grid_for None pitch layer facets = fitted_grid facets pitch layer
-grid_for (Some given) pitch layer facets =
-    given_grid (grid_with given.origin pitch layer given.columns given.rows given.layers)
+grid_for given pitch layer facets = placed_grid (placing_of given) facets pitch layer
 
 abbrev pub outside : Grid → RunFault
 outside g = fault.Outside g.columns g.rows g.layers

@@ -1,7 +1,7 @@
 //! A run: reads the whole input, does the task, writes its outcome.
 ghost use Rattle.std.specs.Prelude.{◌≡◌, ◌≤◌, Err, IfErr, IfOk, List, Ok, OnOk, true, ℕ};
 ghost use Rattle.std.specs.Io.KnownBytes.{Appends};
-ghost use Rattle.stlslice.specs.Outcome.{IsOutcome, grid_for};
+ghost use Rattle.stlslice.specs.Outcome.{IsOutcome, grid_for, placing_of};
 ghost use Rattle.stlslice.specs.Ending.{IsEnd, transcript};
 ghost use Rattle.stlslice.specs.Run.{IsRun};
 ghost use Rattle.stlslice.specs.declared.run_fault.RunFault.TheVariants as run_fault;
@@ -19,7 +19,7 @@ use build_book::Job;
 use layer_pool::{Gate, OpenGate, build};
 use mesh_weld::Solid;
 use micro_num::Unit;
-use raster::{Grid, Sink, Source};
+use raster::{Grid, Placing, Sink, Source};
 use std::alloc::Allocator;
 use std::sync::Wait;
 use std::thread::Threads;
@@ -184,15 +184,20 @@ fn grid_for<A: Allocator>(
     ensures err { IfErr result (λ fault. (cause : GridFault) × (fault ≡ run_fault.Grid cause)
         × (grid_for given pitch layer solid.now.facets ≡ Err cause)) }
 {
+    Ok(placing_of(given).grid(solid, pitch, layer)?)
+}
+
+/// Where the grid lies by the words.
+fn placing_of(given: Option<Given>) -> Placing
+    ensures { result ≡ placing_of given }
+{
     match given {
-        Some(
-            Given {
-                columns,
-                rows,
-                layers,
-                origin,
-            },
-        ) => Ok(Grid::given(origin, pitch, layer, columns, rows, layers)?),
-        None => Ok(Grid::fit(solid, pitch, layer)?),
+        Some(grid) => Placing::Given {
+            columns: grid.columns,
+            rows: grid.rows,
+            layers: grid.layers,
+            origin: grid.origin,
+        },
+        None => Placing::Fitted,
     }
 }

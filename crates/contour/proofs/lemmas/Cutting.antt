@@ -58,15 +58,15 @@ none_found p t none =
 rises_to : (u v : Point) (z : ℤ) → Rises (half_micrometres_of u) (half_micrometres_of v) z → rises_through (height u) (height v) z ≡ true
 rises_to u v z r = rises-true (height u) (height v) z r.low r.high
 
-to_rises : (u v : Point) (z : ℤ) → rises_through (height u) (height v) z ≡ true → Rises (half_micrometres_of u) (half_micrometres_of v) z
+pub to_rises : (u v : Point) (z : ℤ) → rises_through (height u) (height v) z ≡ true → Rises (half_micrometres_of u) (half_micrometres_of v) z
 to_rises u v z h = record { low = rises-low _ _ z h; high = rises-high _ _ z h }
 
-twice_start : (t : Facet) (e : ℕ) → start (twice t) e ≡ half_micrometres_of (start t e)
+pub twice_start : (t : Facet) (e : ℕ) → start (twice t) e ≡ half_micrometres_of (start t e)
 twice_start t zero = refl
 twice_start t (suc zero) = refl
 twice_start t (suc (suc e)) = refl
 
-twice_finish : (t : Facet) (e : ℕ) → finish (twice t) e ≡ half_micrometres_of (finish t e)
+pub twice_finish : (t : Facet) (e : ℕ) → finish (twice t) e ≡ half_micrometres_of (finish t e)
 twice_finish t zero = refl
 twice_finish t (suc zero) = refl
 twice_finish t (suc (suc e)) = refl

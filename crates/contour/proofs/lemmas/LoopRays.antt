@@ -21,7 +21,7 @@ use Rattle.geometry.specs.declared.limits.TheConstants.{FACET_LIMIT}
 
 -- ---- a loop is of the list's segments, and at most one longer
 module _ (list : List Segment) (P : Segment → Type 0) (all : All P list) where
-  follower_in : (s t : Segment) → follower list s ≡ Some t → P t
+  pub follower_in : (s t : Segment) → follower list s ≡ Some t → P t
   follower_in s t e =
       subst P (get_or_from_slice_get (filter (λ u. is_node u.from s.to) list) (rank_at_end list s) t t e)
       (All-filter (λ u. is_node u.from s.to) P list all (rank_at_end list s) t
@@ -57,7 +57,7 @@ run_length list first (suc n) s = by_next (run_length list first n) (follower li
         let le = by_test n (run_from list first n t) (is_segment t first) (h t) in
         omega arith
 
-loops_in : (list : List Segment) (P : Segment → Type 0) (n : ℕ) → All P list → (kept : List Segment) → AllByRecursion P kept
+pub loops_in : (list : List Segment) (P : Segment → Type 0) (n : ℕ) → All P list → (kept : List Segment) → AllByRecursion P kept
     → AllByRecursion (λ loop. AllByRecursion P loop × (length loop ≤ length list + 1)) (map (cycle list) kept)
 loops_in list P n all [] h = tt
 loops_in list P n all (s ∷ kept) h =

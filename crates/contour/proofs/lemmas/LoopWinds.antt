@@ -66,13 +66,13 @@ kept_pass p (x ∷ xs) = by_test (p x) refl (kept_pass p xs)
     by_test true h rest = (h, rest)
     by_test false h rest = rest
 
-at_node : (list : List Segment) (s t : Segment) → follower list s ≡ Some t → is_node t.from s.to ≡ true
+pub at_node : (list : List Segment) (s t : Segment) → follower list s ≡ Some t → is_node t.from s.to ≡ true
 at_node list s t e =
     subst (λ u. is_node u.from s.to ≡ true) (get_or_from_slice_get (filter (λ u. is_node u.from s.to) list) (rank_at_end list s) t t e)
     (All-from_recursion (λ u. is_node u.from s.to ≡ true) (filter (λ u. is_node u.from s.to) list) (kept_pass (λ u. is_node u.from s.to) list)
     (rank_at_end list s) t (slice_get_within (filter (λ u. is_node u.from s.to) list) (rank_at_end list s) t e))
 
-never_both : (z : ℤ) (u v : Point) → rises_through (height u) (height v) z ≡ true → rises_through (height v) (height u) z ≡ true → ⊥
+pub never_both : (z : ℤ) (u v : Point) → rises_through (height u) (height v) z ≡ true → rises_through (height v) (height u) z ≡ true → ⊥
 never_both z u v h k = grind (arith, ints)
 
 -- ---- a segment runs from its facet's edge down to its facet's edge up

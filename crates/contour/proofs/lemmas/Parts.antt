@@ -1,7 +1,7 @@
 -- A list cut into parts: how many there are, where each begins, and one more at the end.
-use Rattle.std.proofs.Common.{◌≡◌, ℕ, zero, suc, ◌+◌, ◌-◌, ◌<◌, ◌≤◌, List, [], ◌∷◌, ◌++◌, refl, sym, ◌∙◌, ap, length, take, drop, get_or, arith, Some, None}
-use Rattle.std.specs.Prelude.{slice_get}
-use Rattle.std.proofs.lemmas.List.{length-drop, drop-drop, take-append-le, drop-append-le, take_all, nil_from_length}
+use Rattle.std.proofs.Common.{◌≡◌, ℕ, zero, suc, ◌+◌, ◌-◌, ◌<◌, ◌≤◌, List, [], ◌∷◌, ◌++◌, refl, sym, ◌∙◌, ap, subst, length, take, drop, get_or, arith, Some, None}
+use Rattle.std.specs.Prelude.{flat_map, slice_get}
+use Rattle.std.proofs.lemmas.List.{length-drop, drop-drop, take-append-le, drop-append-le, take_all, take-append-drop, nil_from_length}
 use Rattle.contour.specs.Loops.{parts_from, AreEnds, start_of}
 
 pub length-parts : {X : Type 0} (at : ℕ) (ends : List ℕ) (xs : List X) → length (parts_from at ends xs) ≡ length ends
@@ -93,3 +93,15 @@ part-at ends number start end xs h l e f =
   where
     nothing_off : (n : ℕ) → n ≡ n - 0
     nothing_off n = omega arith
+
+-- the parts are the list
+pub parts-all : {X : Type 0} (at : ℕ) (ends : List ℕ) (xs : List X) → AreEnds at ends (length xs + at) → flat_map (λ part. part) (parts_from at ends xs) ≡ xs
+parts-all at [] xs h = sym (nil_from_length xs (omega (arith, h)))
+parts-all at (e ∷ ends) xs h =
+    let up = ends-up e ends (length xs + at) h.1 in let here = h.0 in
+    let rest : length (drop (e - at) xs) + e ≡ length xs + at = omega (arith, length-drop (e - at) xs, up, here) in
+    ap (λ ys. take (e - at) xs ++ ys) (parts-all e ends (drop (e - at) xs) (subst (AreEnds e ends) (sym rest) h.1))
+    ∙ take-append-drop (e - at) xs
+
+pub parts-whole : {X : Type 0} (ends : List ℕ) (xs : List X) → AreEnds 0 ends (length xs) → flat_map (λ part. part) (parts_from 0 ends xs) ≡ xs
+parts-whole ends xs h = parts-all 0 ends xs (let same : length xs ≡ length xs + 0 = omega arith in subst (AreEnds 0 ends) same h)

@@ -1,9 +1,9 @@
 -- Loops traced one by one, in order of their first segments: what they are in the end.
 use Rattle.std.proofs.Common.{◌≡◌, ℕ, zero, suc, ◌+◌, ◌<◌, ◌≤◌, Bool, true, false, cond, ◌&&◌, List, [], ◌∷◌, ◌++◌, ◌⊎◌, inl, inr, refl, sym, ◌∙◌, ap, subst, length, take, drop, get_or, arith, map}
-use Rattle.std.specs.Prelude.{flat_map, nat_le, ℤ, ◌==◌, ◌-◌}
+use Rattle.std.specs.Prelude.{nat_le, ℤ, ◌==◌}
 use Rattle.std.specs.List.{list_all, AllByRecursion}
 use Rattle.std.specs.List.Sorted.{IsStrictlyIncreasing}
-use Rattle.std.proofs.lemmas.List.{length-append, length-drop, map-append, take-append-drop, take-append-le, take_all}
+use Rattle.std.proofs.lemmas.List.{length-append, map-append, take-append-le, take_all}
 use Rattle.std.proofs.lemmas.List.Folds.{list_all-append}
 use Rattle.contour.specs.declared.segment.Segment.{Segment}
 use Rattle.contour.specs.Segment.{segments}
@@ -12,7 +12,7 @@ use Rattle.contour.specs.Link.{AreLinks, IsTracedLoop, KeepsLoopsWhole, InFacetO
 use Rattle.contour.proofs.lemmas.Counts.{count-append}
 use Rattle.geometry.specs.Facet.{Facet}
 use Rattle.contour.proofs.lemmas.Links.{AreFrom, segments_ascend}
-use Rattle.contour.proofs.lemmas.Parts.{ends-push, ends-up, parts-push}
+use Rattle.contour.proofs.lemmas.Parts.{ends-push, parts-all, parts-push}
 use Rattle.contour.proofs.lemmas.Slots.{either}
 
 pub record AreTraced (list : List Segment) (next : List ℕ) (first : ℕ) (visited : List Bool) (flat : List Segment) (ends : List ℕ) : Type 0 where
@@ -160,19 +160,6 @@ module _ (list : List Segment) (next : List ℕ) (order : InFacetOrder list) (fi
         let a = count-append (λ (s : Segment). s.facet == n) flat part in
         let b = t.once n in let c = g.once n in omega (arith, a, b, c);
   }
-
--- the parts are the list
-parts-all : {X : Type 0} (at : ℕ) (ends : List ℕ) (xs : List X) → AreEnds at ends (length xs + at) → flat_map (λ part. part) (parts_from at ends xs) ≡ xs
-parts-all at [] xs h = sym (nil_of xs (omega (arith, h)))
-  where
-    nil_of : {X : Type 0} (xs : List X) → length xs ≡ 0 → xs ≡ []
-    nil_of [] e = refl
-    nil_of (x ∷ xs) e = absurd (omega (arith, e))
-parts-all at (e ∷ ends) xs h =
-    let up = ends-up e ends (length xs + at) h.1 in let here = h.0 in
-    let rest : length (drop (e - at) xs) + e ≡ length xs + at = omega (arith, length-drop (e - at) xs, up, here) in
-    ap (λ ys. take (e - at) xs ++ ys) (parts-all e ends (drop (e - at) xs) (subst (AreEnds e ends) (sym rest) h.1))
-    ∙ take-append-drop (e - at) xs
 
 pub trace-ends : (list : List Segment) (next : List ℕ) (first : ℕ) (visited : List Bool) (flat : List Segment) (ends : List ℕ)
     → AreTraced list next first visited flat ends → length list ≤ first → AreLoops list (parts_from 0 ends flat)

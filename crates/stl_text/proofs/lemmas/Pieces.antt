@@ -1,5 +1,5 @@
 -- Reading a text in pieces: what a reader knows of the text so far, whatever follows it.
-use Rattle.std.proofs.Common.{◌≡◌, ℕ, ◌+◌, ◌-◌, ◌<◌, ◌≤◌, Bool, true, false, not, List, [], ◌∷◌, ◌++◌, length, take, drop, refl, sym, ◌∙◌, ap, subst, arith, append_assoc, append-nil, length-append, length-drop}
+use Rattle.std.proofs.Common.{◌≡◌, ℕ, ◌+◌, ◌-◌, ◌<◌, ◌≤◌, Bool, true, false, not, List, [], ◌∷◌, ◌++◌, length, take, drop, refl, sym, ◌∙◌, ap, subst, ◌⊎◌, inl, inr, arith, append_assoc, append-nil, length-append, length-drop}
 use Rattle.std.specs.Prelude.{Option, Some, None, ◌==◌, ◌||◌, if◌then◌else◌}
 use Rattle.std.specs.List.{list_all, before_first, position_or_len}
 use Rattle.std.proofs.Math.Numerals.{one-add}
@@ -17,8 +17,8 @@ use Rattle.stl_text.specs.declared.stage.Place.{Place}
 use Rattle.stl_text.specs.declared.stage.Place.TheVariants as place
 use Rattle.stl_text.specs.Text.{first_word, after_space, after_word, after_line, is_white, IsFaultOf, facet_keyword, facet_tokens, is_keyword, is_line_end, rest_behind}
 use Rattle.stl_text.specs.Reader.{facet_tail}
-use Rattle.stl_text.specs.Stage.{AtWord, Stands}
-use Rattle.stl_text.specs.Pieces.{EndsAt, IsAfter, IsReading, IsReadingAt, Progress, StandsAt, Waits}
+use Rattle.stl_text.specs.Stage.{AtWord, IsForm, Stands}
+use Rattle.stl_text.specs.Pieces.{EndsAt, IsAfter, IsReading, IsReadingAt, Progress, Sees, StandsAt, Waits, whole}
 use Rattle.stl_text.proofs.lemmas.Locality.{line-on, line-over, space-on, space-over, starts-on, tokens-on, word-first, word_next}
 use Rattle.stl_text.proofs.lemmas.Stages.{facet_read}
 use Rattle.stl_text.proofs.lemmas.Either.{after_space-le, no_word-space}
@@ -28,10 +28,10 @@ is_black byte = not (is_white byte)
 
 -- A reader before its first byte.
 
-pub at_start : (limit : ℕ) (unit : LengthUnit) → IsAfter limit unit
+pub at_start : (limit : ℕ) (unit : LengthUnit) → IsAfter limit unit []
     (record { limit = limit; unit = unit; count = 0; place = place.Word (stage.Between false); held = []; facets = [] }) []
 at_start limit unit = record {
-  limit_is = refl;
+  limit_is = omega arith;
   unit_is = refl;
   count_is = refl;
   within = omega arith;
@@ -56,10 +56,13 @@ begun_at limit unit p q in_line s fed piece e w = subst (λ r. Waits limit unit 
   sees = λ more. w.sees (piece ++ more);
 })
 
-pub begun : (limit : ℕ) (unit : LengthUnit) (p : Progress) (fed piece : List ℕ) → IsAfter limit unit p fed
-    → IsReading limit unit (record p { count = p.count + length piece }) (fed ++ piece) piece
-begun limit unit p fed piece is = at p.place is
+pub begun : (limit : ℕ) (unit : LengthUnit) (taken : List Facet) (r : Progress) (fed piece : List ℕ) → IsAfter limit unit taken r fed
+    → IsReading limit unit taken (record r { count = r.count + length piece }) (fed ++ piece) piece
+begun limit unit taken r fed piece is = at r.place is
   where
+    p : Progress
+    p = whole taken r
+
     at : (pl : Place) → IsReadingAt limit unit p pl fed [] → IsReadingAt limit unit (record p { count = p.count + length piece }) pl (fed ++ piece) piece
     at (place.Word s) w = begun_at limit unit p (record p { count = p.count + length piece }) false s fed piece refl w
     at (place.Line s) w = (begun_at limit unit p (record p { count = p.count + length piece }) true s fed piece refl w.0, w.1)
@@ -477,7 +480,54 @@ pub ends_with : (limit : ℕ) (unit : LengthUnit) (pl ql : Place) (facets others
 ends_with limit unit pl ql facets others fed place_is facets_is e =
     subst (λ v. EndsAt limit unit v others fed) place_is (subst (λ fs. EndsAt limit unit pl fs fed) facets_is e)
 
+-- the text ends at a stage
+pub ends_stage : (limit : ℕ) (unit : LengthUnit) (pl : Place) (s : Stage) (facets others : List Facet) (fed : List ℕ)
+    → (pl ≡ place.Word s) ⊎ (pl ≡ place.Line s) → facets ≡ others → EndsAt limit unit pl facets fed → EndsAt limit unit (place.Word s) others fed
+ends_stage limit unit pl s facets others fed (inl place_is) facets_is e =
+    ends_with limit unit pl (place.Word s) facets others fed place_is facets_is e
+ends_stage limit unit pl s facets others fed (inr place_is) facets_is e =
+    ends_with limit unit pl (place.Line s) facets others fed place_is facets_is e
+
 -- A piece is read up to its last part.
 pub record IsFeeding (start : Progress) (piece : List ℕ) (now : Progress) (rest : List ℕ) : Type 0 where
-  pub reading : (limit : ℕ) (unit : LengthUnit) (fed : List ℕ) → IsAfter limit unit start fed → IsReading limit unit now (fed ++ piece) rest
+  pub reading : (limit : ℕ) (unit : LengthUnit) (taken : List Facet) (fed : List ℕ) → IsAfter limit unit taken start fed
+      → IsReading limit unit taken now (fed ++ piece) rest
   pub free : 0 < length rest → now.held ≡ []
+
+-- The facets so far are taken off the reader.
+
+within_form : (limit count : ℕ) (s : Stage) (solids : List (List Facet)) (added : List Facet) → IsForm limit s solids added count → count ≤ limit
+within_form limit count (stage.Between true) solids added form = form.2
+within_form limit count (stage.Between false) solids added form = form.2
+within_form limit count stage.Facets solids added form = form
+within_form limit count (stage.Inside words t) solids added form = omega (arith, form.1)
+
+pub within_limit : (limit : ℕ) (unit : LengthUnit) (s : Stage) (facets : List Facet) (text behind : List ℕ) → Stands limit unit s facets text behind
+    → length facets ≤ limit
+within_limit limit unit s facets text behind st = within_form limit (length facets) s st.solids st.added st.form
+
+-- a reader that keeps the same but for the part of the limit that is left
+same_whole : (limit : ℕ) (unit : LengthUnit) (p q : Progress) (s : Stage) (in_line : Bool) (text part : List ℕ) → Waits limit unit p s in_line text part
+    → (length p.facets ≤ p.limit → q.limit ≡ p.limit) → q.unit ≡ p.unit → q.count ≡ p.count → q.held ≡ p.held → q.facets ≡ p.facets
+    → Waits limit unit q s in_line text part
+same_whole limit unit p q s in_line text part w limit_is unit_is count_is held_is facets_is =
+    let few : length p.facets ≤ limit = within_limit limit unit s p.facets (text ++ []) (w.behind []) (w.stands []) in
+    record {
+      limit_is = limit_is (omega (arith, few, w.limit_is)) ∙ w.limit_is;
+      unit_is = unit_is ∙ w.unit_is;
+      count_is = count_is ∙ w.count_is;
+      within = omega (arith, ap length held_is, w.within);
+      clear = ap (list_all is_black) held_is ∙ w.clear;
+      behind = w.behind;
+      stands = λ more. subst (λ fs. Stands limit unit s fs (text ++ more) (w.behind more)) (sym facets_is) (w.stands more);
+      sees = λ more. subst (λ h. Sees in_line (w.behind more) (h ++ (part ++ more))) (sym held_is) (w.sees more);
+    }
+
+pub taken_off : (limit : ℕ) (unit : LengthUnit) (p q : Progress) (pl : Place) (text part : List ℕ) → IsReadingAt limit unit p pl text part
+    → (length p.facets ≤ p.limit → q.limit ≡ p.limit) → q.unit ≡ p.unit → q.count ≡ p.count → q.held ≡ p.held → q.facets ≡ p.facets
+    → IsReadingAt limit unit q pl text part
+taken_off limit unit p q (place.Word s) text part is limit_is unit_is count_is held_is facets_is =
+    same_whole limit unit p q s false text part is limit_is unit_is count_is held_is facets_is
+taken_off limit unit p q (place.Line s) text part is limit_is unit_is count_is held_is facets_is =
+    (same_whole limit unit p q s true text part is.0 limit_is unit_is count_is held_is facets_is, held_is ∙ is.1)
+taken_off limit unit p q (place.Stopped f) text part is limit_is unit_is count_is held_is facets_is = is

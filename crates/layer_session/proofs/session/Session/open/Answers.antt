@@ -2,7 +2,7 @@ use Rattle.std.proofs.Common.{◌≡◌, ◌∙◌, rules}
 use Rattle.std.specs.Prelude.{Err, Ok}
 use Rattle.mesh_weld.specs.declared.weld_fault.WeldFault.TheVariants as weld
 use Rattle.stl_text.specs.declared.stl_fault.StlFault.TheVariants as stl
-use Rattle.layer_session.specs.Setup.{grid_for}
+use Rattle.layer_session.specs.Setup.{grid_of}
 use Rattle.layer_session.proofs.session.Session.open.Goals as goal
 
 pub returns-in_err-facets-clause-only : goal.returns-in_err-facets-clause-only
@@ -19,7 +19,7 @@ returns-in_err-solid-clause-only g c = λ session is.
 pub returns-in_err-grid-clause-only : goal.returns-in_err-grid-clause-only
 returns-in_err-grid-clause-only g c = λ session is.
     let same : c.in_ok-facets.facets.items ≡ is.facets = c.in_ok-facets.ensures.only is.facets is.reads in
-    let placed : grid_for c.args.setup.now c.in_ok-solid.solid.facets ≡ Ok session.job.grid =
+    let placed : grid_of c.args.setup.now c.in_ok-solid.solid.facets ≡ Ok session.job.grid =
     rw (c.in_ok-solid.ensures.kept, same) is.grid in
     let none : Err c.in_err-grid.field-0.0 ≡ Ok session.job.grid = c.in_err-grid.ensures ∙ placed in
     cc

@@ -1,4 +1,4 @@
-use Rattle.std.proofs.Common.{◌≡◌, false, ◌<◌, [], length, refl, sym, ◌∙◌, ap, subst, arith}
+use Rattle.std.proofs.Common.{◌≡◌, false, ◌+◌, ◌<◌, [], ◌∷◌, ◌++◌, append_assoc, length, length-append, refl, sym, ◌∙◌, ap, subst, arith}
 use Rattle.std.specs.Prelude.{Some}
 use Rattle.stl_text.specs.Text.{facet_tokens, rest_behind}
 use Rattle.stl_text.specs.Stage.{in_facets}
@@ -7,21 +7,22 @@ use Rattle.stl_text.proofs.lemmas.Pieces.{facet_passed}
 use Rattle.stl_text.proofs.text_reader.TextReader.facet.Goals as goal
 
 pub returns-in-Err-clause-read : goal.returns-in-Err-clause-read
-returns-in-Err-clause-read g c = λ limit unit text is no more. absurd (no c.in-Err.ensures.fault)
+returns-in-Err-clause-read g c = λ limit unit taken text is no more. absurd (no c.in-Err.ensures.fault)
 
 pub returns-clause-read : goal.returns-clause-read
-returns-clause-read g c = λ limit unit text is.
+returns-clause-read g c = λ limit unit taken text is.
     let i = c.self.inside in
-    let p : Progress = record { limit = i.limit; unit = i.unit; count = i.count; place = i.place; held = i.held.items; facets = i.facets.items } in
-    let q : Progress = record { limit = i.limit; unit = i.unit; count = i.count; place = i.place; held = i.held.items; facets = c.add.new.facets.items } in
+    let p : Progress = record { limit = length taken + i.limit; unit = i.unit; count = i.count; place = i.place; held = i.held.items; facets = taken ++ i.facets.items } in
+    let q : Progress = record { limit = length taken + i.limit; unit = i.unit; count = i.count; place = i.place; held = i.held.items; facets = taken ++ c.add.new.facets.items } in
     let part = c.args.part.now in
     let rest = c.in-Some.found.1.now in
     let at_place : i.place ≡ at_word in_facets = ap (λ r. r.place) c.self.view_is ∙ c.requires.place in
     let free : i.held.items ≡ [] = ap (λ r. r.held) c.self.view_is ∙ c.requires.free in
-    let here : IsReading limit unit p text part = subst (λ r. IsReading limit unit r text part) (sym c.self.view_is) is in
+    let here : IsReadingAt limit unit p i.place text part = subst (λ r. IsReading limit unit taken r text part) (sym c.self.view_is) is in
     let w : Waits limit unit p in_facets false text part = subst (λ pl. IsReadingAt limit unit p pl text part) at_place here in
-    let room : length i.facets.items < limit = omega (arith, w.limit_is, c.len.ensures, i.facets.ok.0, c.if-len-self.false) in
+    let room : length (taken ++ i.facets.items) < limit =
+    omega (arith, w.limit_is, c.len.ensures, i.facets.ok.0, c.if-len-self.false, length-append taken i.facets.items) in
     subst (λ pl. IsReadingAt limit unit q pl text rest) (sym at_place)
     (facet_passed limit unit p q c.in-Some.found.0 text part rest w free
     (subst (λ u. rest_behind u (facet_tokens c.in-Some.found.0) part ≡ Some rest) w.unit_is c.in-Some.ensures.read) c.in-Some.ensures.some
-    c.in-Some.ensures.shorter room refl refl refl refl c.in_default-add.ensures.added)
+    c.in-Some.ensures.shorter room refl refl refl refl (ap (λ fs. taken ++ fs) c.in_default-add.ensures.added ∙ sym (append_assoc taken i.facets.items (c.in-Some.found.0 ∷ []))))

@@ -1,13 +1,13 @@
-use Rattle.std.proofs.Common.{◌≡◌, false, ◌<◌, [], length, refl, sym, ◌∙◌, ap, subst, arith}
+use Rattle.std.proofs.Common.{◌≡◌, false, ◌+◌, ◌<◌, [], ◌++◌, length, refl, sym, ◌∙◌, ap, subst, arith}
 use Rattle.std.proofs.lemmas.Bool.{eqb-false}
-use Rattle.stl_text.specs.Pieces.{IsReading, IsReadingAt, Progress, Waits, at_word}
+use Rattle.stl_text.specs.Pieces.{IsReading, IsReadingAt, Progress, Waits, whole, at_word}
 use Rattle.stl_text.proofs.lemmas.Steps.{empty-list}
 use Rattle.stl_text.proofs.lemmas.Pieces.{front_held, front_le, front_word, moved_by, space_passed, word_some}
 use Rattle.stl_text.proofs.text_reader.TextReader.word.Goals as goal
 
 pub returns-then-is_empty-clause-read : goal.returns-then-is_empty-clause-read
-returns-then-is_empty-clause-read g c = λ limit unit text is.
-    let p = c.args.self.now in
+returns-then-is_empty-clause-read g c = λ limit unit taken text is.
+    let p : Progress = whole taken c.args.self.now in
     let part = c.args.part.now in
     let front = c.skip_space-front.result.now in
     let w : Waits limit unit p c.args.stage false text part = subst (λ pl. IsReadingAt limit unit p pl text part) c.requires.place is in
@@ -16,16 +16,16 @@ returns-then-is_empty-clause-read g c = λ limit unit text is.
     (empty-list front (sym c.is_empty.ensures ∙ c.if-is_empty.true)))
 
 pub returns-in_default-clause-read : goal.returns-in_default-clause-read
-returns-in_default-clause-read g c = λ limit unit text is.
+returns-in_default-clause-read g c = λ limit unit taken text is.
     let i = c.self.inside in
-    let p : Progress = record { limit = i.limit; unit = i.unit; count = i.count; place = i.place; held = i.held.items; facets = i.facets.items } in
-    let q : Progress = record { limit = i.limit; unit = i.unit; count = i.count; place = i.place; held = c.hold.new.held.items; facets = i.facets.items } in
+    let p : Progress = record { limit = length taken + i.limit; unit = i.unit; count = i.count; place = i.place; held = i.held.items; facets = taken ++ i.facets.items } in
+    let q : Progress = record { limit = length taken + i.limit; unit = i.unit; count = i.count; place = i.place; held = c.hold.new.held.items; facets = taken ++ i.facets.items } in
     let part = c.args.part.now in
     let front = c.skip_space-front.result.now in
     let rest = c.split_at.result.1.now in
     let at_place : i.place ≡ at_word c.args.stage = ap (λ r. r.place) c.self.view_is ∙ c.requires.place in
     let free : i.held.items ≡ [] = ap (λ r. r.held) c.self.view_is ∙ c.requires.free in
-    let here : IsReading limit unit p text part = subst (λ r. IsReading limit unit r text part) (sym c.self.view_is) is in
+    let here : IsReadingAt limit unit p i.place text part = subst (λ r. IsReading limit unit taken r text part) (sym c.self.view_is) is in
     let w : Waits limit unit p c.args.stage false text part = subst (λ pl. IsReadingAt limit unit p pl text part) at_place here in
     let some : 0 < length front = omega (arith, eqb-false (length front) 0 (sym c.is_empty.ensures ∙ c.if-is_empty.false)) in
     subst (λ pl. IsReadingAt limit unit q pl text rest) (sym at_place)
@@ -34,16 +34,16 @@ returns-in_default-clause-read g c = λ limit unit text is.
     refl refl refl refl c.in_default.ensures.held)
 
 pub returns-clause-read : goal.returns-clause-read
-returns-clause-read g c = λ limit unit text is.
+returns-clause-read g c = λ limit unit taken text is.
     let i = c.self.inside in
-    let p : Progress = record { limit = i.limit; unit = i.unit; count = i.count; place = i.place; held = i.held.items; facets = i.facets.items } in
+    let p : Progress = record { limit = length taken + i.limit; unit = i.unit; count = i.count; place = i.place; held = i.held.items; facets = taken ++ i.facets.items } in
     let q : Progress = record {
-      limit = i.limit;
+      limit = length taken + i.limit;
       unit = i.unit;
       count = i.count;
       place = c.read_word-self-inside.result;
       held = i.held.items;
-      facets = c.read_word-self-inside.new.facets.items;
+      facets = taken ++ c.read_word-self-inside.new.facets.items;
     } in
     let part = c.args.part.now in
     let front = c.skip_space-front.result.now in
@@ -51,14 +51,14 @@ returns-clause-read g c = λ limit unit text is.
     let word = c.split_at.result.0.now in
     let at_place : i.place ≡ at_word c.args.stage = ap (λ r. r.place) c.self.view_is ∙ c.requires.place in
     let free : i.held.items ≡ [] = ap (λ r. r.held) c.self.view_is ∙ c.requires.free in
-    let here : IsReading limit unit p text part = subst (λ r. IsReading limit unit r text part) (sym c.self.view_is) is in
+    let here : IsReadingAt limit unit p i.place text part = subst (λ r. IsReading limit unit taken r text part) (sym c.self.view_is) is in
     let w : Waits limit unit p c.args.stage false text part = subst (λ pl. IsReadingAt limit unit p pl text part) at_place here in
     let left : 0 < length rest = omega (arith, eqb-false (length rest) 0 (sym c.is_empty-2.ensures ∙ c.if-is_empty-2.false)) in
-    moved_by limit i.limit unit i.unit q c.args.stage c.read_word-self-inside.result i.facets.items text word rest c.saturating_sub-at.result
+    moved_by limit (length taken + i.limit) unit i.unit q c.args.stage c.read_word-self-inside.result (taken ++ i.facets.items) text word rest c.saturating_sub-at.result
     w.limit_is w.unit_is refl refl
     (front_word limit unit p c.args.stage text part front word rest c.saturating_sub-at.result c.word_len.result w free c.skip_space-front.ensures
     c.word_len.ensures.len c.split_at.ensures.front c.split_at.ensures.back left c.saturating_sub-at.ensures)
-    c.read_word-self-inside.ensures w.count_is free
+    (c.read_word-self-inside.ensures taken) w.count_is free
     (omega (arith, w.within, front_le part front c.skip_space-front.ensures, c.split_at.ensures.back_len))
 
 pub returns-clause-shorter : goal.returns-clause-shorter

@@ -1,13 +1,13 @@
 use Rattle.std.proofs.Common.{◌≡◌, ◌+◌, ◌++◌, ℕ, length, sym, subst, arith}
 use Rattle.stl_text.specs.Pieces.{IsAfter, IsReading, Progress}
 use Rattle.stl_text.proofs.lemmas.Pieces.{begun}
-use Rattle.stl_text.proofs.text_reader.TextReader.begin.Goals as goal
+use Rattle.stl_text.proofs.text_reader.TextReader.count_piece.Goals as goal
 
 pub returns-in-Some : goal.returns-in-Some
-returns-in-Some g c = λ limit unit fed is.
+returns-in-Some g c = λ limit unit taken fed is.
     let i = c.self.inside in
     let p : Progress = record { limit = i.limit; unit = i.unit; count = i.count; place = i.place; held = i.held.items; facets = i.facets.items } in
     let sum : c.in-Some.count ≡ i.count + length c.args.piece.now = omega (arith, c.in-Some.ensures) in
     let P : ℕ → Type 0 =
-    λ n. IsReading limit unit (record p { count = n }) (fed ++ c.args.piece.now) c.args.piece.now in
-    subst P (sym sum) (begun limit unit p fed c.args.piece.now (subst (λ r. IsAfter limit unit r fed) (sym c.self.view_is) is))
+    λ n. IsReading limit unit taken (record p { count = n }) (fed ++ c.args.piece.now) c.args.piece.now in
+    subst P (sym sum) (begun limit unit taken p fed c.args.piece.now (subst (λ r. IsAfter limit unit taken r fed) (sym c.self.view_is) is))

@@ -1,0 +1,148 @@
+-- A setup and a text have one answer.
+use Rattle.std.proofs.Common.{◌≡◌, ◌∙◌, ◌⊎◌, ℕ, ◌≤◌, List, ap, inl, inr, length, refl, subst, sym, arith}
+use Rattle.std.specs.Prelude.{Err, Ok, Result}
+use Rattle.stl_text.specs.declared.stl_fault.StlFault.{StlFault}
+use Rattle.stl_text.specs.Text.{IsFaultOf, Reads}
+use Rattle.stl_text.proofs.lemmas.OneReading.{one_reading}
+use Rattle.stl_text.proofs.lemmas.OneFault.{not_both, one_fault}
+use Rattle.stl_text.proofs.lemmas.Either.{outcome}
+use Rattle.geometry.specs.Point.{Point}
+use Rattle.geometry.specs.Facet.{Facet}
+use Rattle.geometry.specs.declared.limits.TheConstants.{FACET_LIMIT, STEP_LIMIT}
+use Rattle.mesh_weld.specs.Balance.{HasOpenEdge, IsBalanced, IsLeastOpen}
+use Rattle.mesh_weld.specs.Solid.{solid_of}
+use Rattle.mesh_weld.specs.declared.weld_fault.WeldFault.TheVariants as weld
+use Rattle.mesh_weld.proofs.lemmas.LeastOpen.{closed_not_open, closed_or_open, one_open}
+use Rattle.raster.specs.Grid.{Grid}
+use Rattle.raster.specs.declared.grid.GridFault.{GridFault}
+use Rattle.layer_session.specs.declared.setup.Setup.{Setup}
+use Rattle.layer_session.specs.declared.session_fault.SessionFault.{SessionFault}
+use Rattle.layer_session.specs.declared.session_fault.SessionFault.TheVariants as fault
+use Rattle.layer_session.specs.Session.{IsAnswer, IsSessionOf, Session, corners_of}
+use Rattle.layer_session.specs.Setup.{IsInRange, grid_of}
+
+abbrev Answer : Type 0
+Answer = Result Session SessionFault
+
+-- ---- what closed facets make
+abbrev session_with : Setup → List Facet → Grid → Session
+session_with setup facets g = record {
+  job = record { solid = solid_of facets; grid = g; rule = setup.rule };
+  facet_count = length facets;
+  corners = corners_of facets;
+}
+
+abbrev placed : Setup → List Facet → Result Grid GridFault → Answer
+placed setup facets (Ok g) = Ok (session_with setup facets g)
+placed setup facets (Err cause) = Err (fault.Grid cause)
+
+abbrev made : Setup → List Facet → Answer
+made setup facets = placed setup facets (grid_of setup (solid_of facets).facets)
+
+-- ---- an answer by the order of the checks
+abbrev OfMesh : Setup → List Facet → Answer → Type 0
+OfMesh setup facets answer =
+    (IsBalanced facets × (answer ≡ made setup facets))
+    ⊎ ((from to : Point) × (there back : ℕ) × IsLeastOpen facets from to there back × (answer ≡ Err (fault.Weld (weld.Open from to there back))))
+
+abbrev OfText : Setup → List ℕ → Answer → Type 0
+OfText setup bytes answer =
+    ((cause : StlFault) × IsFaultOf FACET_LIMIT setup.unit bytes cause × (answer ≡ Err (fault.Stl cause)))
+    ⊎ ((facets : List Facet) × Reads FACET_LIMIT setup.unit bytes facets × OfMesh setup facets answer)
+
+abbrev OfSetup : Setup → List ℕ → Answer → Type 0
+OfSetup setup bytes answer = ((IsInRange setup → ⊥) × (answer ≡ Err fault.Step)) ⊎ (IsInRange setup × OfText setup bytes answer)
+
+of_session : (setup : Setup) (bytes : List ℕ) (session : Session) (is : IsSessionOf setup bytes session) → Ok session ≡ made setup is.facets
+of_session setup bytes session is =
+    (λ i. Ok (record {
+      job = record { solid = is.solid i; grid = session.job.grid; rule = is.rule i };
+      facet_count = is.count i;
+      corners = is.corners i;
+    }))
+    ∙ sym (ap (placed setup is.facets) is.grid)
+
+by_checks : (setup : Setup) (bytes : List ℕ) (answer : Answer) → IsAnswer setup bytes answer → OfSetup setup bytes answer
+by_checks setup bytes (Ok session) is =
+    inr (is.range, inr (is.facets, is.reads, inl (is.closed, of_session setup bytes session is)))
+by_checks setup bytes (Err fault.Step) (apart, is) = inl (is, refl)
+by_checks setup bytes (Err (fault.Stl cause)) (apart, (range, is)) = inr (range, inl (cause, is, refl))
+by_checks setup bytes (Err (fault.Weld (weld.Open from to there back))) (apart, (range, (facets, reads, is))) =
+    inr (range, inr (facets, reads, inr (from, to, there, back, is, refl)))
+by_checks setup bytes (Err (fault.Weld weld.Memory)) (apart, is) = absurd is
+by_checks setup bytes (Err (fault.Grid cause)) (apart, (range, (facets, reads, closed, is))) =
+    inr (range, inr (facets, reads, inl (closed, sym (ap (placed setup facets) is))))
+by_checks setup bytes (Err fault.Memory) (apart, is) = absurd (apart refl)
+by_checks setup bytes (Err (fault.Outside columns rows layers)) (apart, is) = absurd is
+
+-- ---- no two answers
+one_of_mesh : (setup : Setup) (facets : List Facet) (answer other : Answer) → OfMesh setup facets answer → OfMesh setup facets other → answer ≡ other
+one_of_mesh setup facets answer other (inl (closed, is)) (inl (closed', js)) = is ∙ sym js
+one_of_mesh setup facets answer other (inl (closed, is)) (inr (from, to, there, back, o, js)) = absurd (closed_not_open facets from to there back closed o)
+one_of_mesh setup facets answer other (inr (from, to, there, back, o, is)) (inl (closed, js)) = absurd (closed_not_open facets from to there back closed o)
+one_of_mesh setup facets answer other (inr (from, to, there, back, o, is)) (inr (from', to', there', back', p, js)) =
+    let same = one_open facets from to from' to' there back there' back' o p in
+    is ∙ (λ i. Err (fault.Weld (weld.Open (same.0 i) (same.1 i) (same.2 i) (same.3 i)))) ∙ sym js
+
+one_of_text : (setup : Setup) (bytes : List ℕ) (answer other : Answer) → OfText setup bytes answer → OfText setup bytes other → answer ≡ other
+one_of_text setup bytes answer other (inl (cause, f, is)) (inl (cause', g, js)) =
+    is ∙ ap (λ (x : StlFault). Err (fault.Stl x)) (one_fault FACET_LIMIT setup.unit bytes cause cause' f g) ∙ sym js
+one_of_text setup bytes answer other (inl (cause, f, is)) (inr (facets, reads, m)) = absurd (not_both FACET_LIMIT setup.unit bytes facets cause reads f)
+one_of_text setup bytes answer other (inr (facets, reads, m)) (inl (cause, f, is)) = absurd (not_both FACET_LIMIT setup.unit bytes facets cause reads f)
+one_of_text setup bytes answer other (inr (facets, reads, m)) (inr (facets', reads', n)) =
+    let same : facets ≡ facets' = one_reading FACET_LIMIT setup.unit bytes facets facets' reads reads' in
+    one_of_mesh setup facets' answer other (subst (λ (x : List Facet). OfMesh setup x answer) same m) n
+
+one_of_setup : (setup : Setup) (bytes : List ℕ) (answer other : Answer) → OfSetup setup bytes answer → OfSetup setup bytes other → answer ≡ other
+one_of_setup setup bytes answer other (inl (out, is)) (inl (out', js)) = is ∙ sym js
+one_of_setup setup bytes answer other (inl (out, is)) (inr (range, t)) = absurd (out range)
+one_of_setup setup bytes answer other (inr (range, t)) (inl (out, is)) = absurd (out range)
+one_of_setup setup bytes answer other (inr (range, t)) (inr (range', u)) = one_of_text setup bytes answer other t u
+
+pub one_answer : (setup : Setup) (bytes : List ℕ) (answer other : Answer) → IsAnswer setup bytes answer → IsAnswer setup bytes other → answer ≡ other
+one_answer setup bytes answer other is js =
+    one_of_setup setup bytes answer other (by_checks setup bytes answer is) (by_checks setup bytes other js)
+
+-- ---- some answer
+in_range : (setup : Setup) → IsInRange setup ⊎ (IsInRange setup → ⊥)
+in_range setup = by setup.pitch setup.layer STEP_LIMIT
+  where
+    by : (p l n : ℕ) → ((1 ≤ p) × (p ≤ n) × (1 ≤ l) × (l ≤ n)) ⊎ ((1 ≤ p) × (p ≤ n) × (1 ≤ l) × (l ≤ n) → ⊥)
+    by p l n = grind arith
+
+pub an_answer : (setup : Setup) (bytes : List ℕ) → (answer : Answer) × IsAnswer setup bytes answer
+an_answer setup bytes = by_setup (in_range setup)
+  where
+    An : Type 0
+    An = (answer : Answer) × IsAnswer setup bytes answer
+
+    by_grid : IsInRange setup → (facets : List Facet) → Reads FACET_LIMIT setup.unit bytes facets → IsBalanced facets
+        → (answer : Result Grid GridFault) → grid_of setup (solid_of facets).facets ≡ answer → An
+    by_grid range facets reads closed (Ok g) e = (
+      Ok (session_with setup facets g),
+      record {
+        facets = facets;
+        range = range;
+        reads = reads;
+        closed = closed;
+        solid = refl;
+        grid = e;
+        rule = refl;
+        count = refl;
+        corners = refl;
+      },
+    )
+    by_grid range facets reads closed (Err cause) e = (Err (fault.Grid cause), ((λ h. cc), (range, (facets, reads, closed, e))))
+
+    by_mesh : IsInRange setup → (facets : List Facet) → Reads FACET_LIMIT setup.unit bytes facets → IsBalanced facets ⊎ HasOpenEdge facets → An
+    by_mesh range facets reads (inl closed) = by_grid range facets reads closed (grid_of setup (solid_of facets).facets) refl
+    by_mesh range facets reads (inr o) = (Err (fault.Weld (weld.Open o.0 o.1 o.2 o.3)), ((λ h. cc), (range, (facets, reads, o.4))))
+
+    by_text : IsInRange setup → ((facets : List Facet) × Reads FACET_LIMIT setup.unit bytes facets)
+        ⊎ ((cause : StlFault) × IsFaultOf FACET_LIMIT setup.unit bytes cause) → An
+    by_text range (inl h) = by_mesh range h.0 h.1 (closed_or_open h.0)
+    by_text range (inr h) = (Err (fault.Stl h.0), ((λ k. cc), (range, h.1)))
+
+    by_setup : IsInRange setup ⊎ (IsInRange setup → ⊥) → An
+    by_setup (inl range) = by_text range (outcome FACET_LIMIT setup.unit bytes)
+    by_setup (inr out) = (Err fault.Step, ((λ h. cc), out))

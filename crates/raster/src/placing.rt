@@ -1,0 +1,51 @@
+//! Where a grid lies: where the mesh is, or where it is told to lie.
+ghost use Rattle.std.specs.Prelude.{◌≡◌, ◌≤◌};
+ghost use Rattle.geometry.specs.declared.limits.TheConstants.{STEP_LIMIT};
+ghost use Rattle.raster.specs.Placing.{placed_grid};
+
+use crate::grid::{Grid, GridFault};
+use geometry::Point;
+use mesh_weld::Solid;
+use std::alloc::Allocator;
+
+/// Where a grid lies.
+#[derive(Clone, Copy, Debug, PartialEq, Eq)]
+pub enum Placing {
+    /// It begins at the mesh's least x, y and z and has the fewest columns, rows and layers that cover the mesh.
+    Fitted,
+    /// It has these counts of voxels along x, y and z.
+    Given {
+        columns: u32,
+        rows: u32,
+        layers: u32,
+        /// The corner of least x, y and z, in micrometres.
+        origin: Point,
+    },
+}
+
+impl Placing {
+    /// The grid of this pitch and layer height (micrometres, 1 to `STEP_LIMIT`) that lies so, for a mesh: as of
+    /// [`Grid::fit`], or as of [`Grid::given`], with their faults.
+    pub fn grid<A: Allocator>(
+        self,
+        s: &Solid<A>,
+        pitch: u32,
+        layer_height: u32,
+    ) -> Result<Grid, GridFault>
+        requires pitch { 1 ≤ pitch }
+        requires pitch_high { pitch ≤ STEP_LIMIT }
+        requires height { 1 ≤ layer_height }
+        requires height_high { layer_height ≤ STEP_LIMIT }
+        ensures { result ≡ placed_grid self s.now.facets pitch layer_height }
+    {
+        match self {
+            Placing::Fitted => Grid::fit(s, pitch, layer_height),
+            Placing::Given {
+                columns,
+                rows,
+                layers,
+                origin,
+            } => Grid::given(origin, pitch, layer_height, columns, rows, layers),
+        }
+    }
+}
