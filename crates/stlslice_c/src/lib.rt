@@ -12,6 +12,8 @@ mod opening;
 mod options;
 mod shape;
 mod status;
+#[cfg(test)]
+mod tests;
 
 ghost use Rattle.std.specs.Prelude.{◌≡◌, None, Some};
 ghost use Rattle.stlslice_c.specs.Answers.{IsArea, IsBox, IsLine, IsMask, IsOpening, IsProbe, IsStripe, status_text};
