@@ -5,7 +5,7 @@
 # make install    copies the program, its manual, completions, documents and examples below PREFIX, and the library
 #                 with its header where it is built
 # make uninstall  removes what make install copied
-# make deb        a Debian package of these, in build/
+# make deb        a Debian package of the program and its files, in build/, and one of the library where it is built
 # make dist       a tarball of the program and its SHA-256, in build/
 # make library    proves and builds the library for C, and leaves it in build/library
 # make wheel      a wheel of the Python module and the library, in build/
@@ -98,7 +98,7 @@ install-library:
 	ln -sf libstlslice.so.$(VERSION) $(DESTDIR)$(LIB)/libstlslice.so.1
 	ln -sf libstlslice.so.1 $(DESTDIR)$(LIB)/libstlslice.so
 	install -d $(DESTDIR)$(LIB)/pkgconfig
-	sed 's|^prefix=.*|prefix=$(PREFIX)|' build/library/stlslice.pc > $(DESTDIR)$(LIB)/pkgconfig/stlslice.pc
+	sed 's|^prefix=.*|prefix=$(PREFIX)|; s|^libdir=.*|libdir=$(LIB)|' build/library/stlslice.pc > $(DESTDIR)$(LIB)/pkgconfig/stlslice.pc
 	chmod 644 $(DESTDIR)$(LIB)/pkgconfig/stlslice.pc
 
 uninstall:
@@ -110,6 +110,7 @@ uninstall:
 
 deb: $(PROGRAM)
 	tools/deb $(PROGRAM) $(VERSION) build
+	$(if $(LIBRARY_BUILT),tools/deb_library $(VERSION) build)
 
 dist: $(PROGRAM)
 	tools/dist $(PROGRAM) $(VERSION) build

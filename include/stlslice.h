@@ -83,6 +83,11 @@ typedef struct {
     int32_t along_x, along_y;
 } stlslice_rays;
 
+/* A point of a layer's plane, in half-micrometres: each coordinate the nearest to the exact one, halves upward. */
+typedef struct {
+    int64_t x2, y2;
+} stlslice_point;
+
 /* A mesh, open or closed. Its fields are the library's. Zeros are a closed one; a copy may not be used beside it. */
 typedef struct {
     bool is_open;
@@ -115,6 +120,13 @@ stlslice_status stlslice_area(stlslice_mesh *mesh, uint32_t k, uint64_t *area);
 
 /* The rays from the centre of the voxel of column i, row j (from the least y up) and layer k. */
 stlslice_status stlslice_probe(stlslice_mesh *mesh, uint32_t i, uint32_t j, uint32_t k, stlslice_rays *rays);
+
+/* The loops in which the plane through the middle of layer k cuts the mesh: closed polygons, the inside of a mesh whose
+ * facets face outward on the left of each step. `points` gets the points of all loops, one loop behind the other, and
+ * `ends` for each loop the position behind its last point; the last point runs back to the first. Where one of the two
+ * buffers is too small, neither is written, and both numbers are told. */
+stlslice_status stlslice_loops(stlslice_mesh *mesh, uint32_t k, stlslice_point *points, size_t points_room,
+                               size_t *points_count, size_t *ends, size_t ends_room, size_t *loops_count);
 
 /* The text of a status, ended by 0 and cut where it has no room. */
 void stlslice_fault_text(stlslice_status status, char *line, size_t line_room);

@@ -7,6 +7,7 @@ _Static_assert(sizeof(stlslice_options) == 44, "as `Options` of crates/stlslice_
 _Static_assert(sizeof(stlslice_corners) == 32, "as `Corners` of crates/stlslice_c/src/shape.rt");
 _Static_assert(sizeof(stlslice_shape) == 56, "as `Shape` of crates/stlslice_c/src/shape.rt");
 _Static_assert(sizeof(stlslice_rays) == 8, "as `Rays` of crates/stlslice_c/src/shape.rt");
+_Static_assert(sizeof(stlslice_point) == 16, "as `LoopPoint` of crates/stlslice_c/src/loops.rt");
 _Static_assert(sizeof(stlslice_mesh) == 16, "as `Handle` of crates/stlslice_c/src/handle.rt");
 
 uint32_t proved_stlslice_version(void);
@@ -17,11 +18,17 @@ uint32_t proved_stlslice_mask(stlslice_mesh *, uint32_t, uint8_t *, size_t, size
 uint32_t proved_stlslice_stripe(stlslice_mesh *, uint64_t, uint8_t *, size_t, size_t *);
 uint32_t proved_stlslice_area(stlslice_mesh *, uint32_t, uint64_t *);
 uint32_t proved_stlslice_probe(stlslice_mesh *, uint32_t, uint32_t, uint32_t, stlslice_rays *);
+uint32_t proved_stlslice_loops(stlslice_mesh *, uint32_t, stlslice_point *, size_t, size_t *, size_t *, size_t, size_t *);
 void proved_stlslice_fault_text(uint32_t, uint8_t *, size_t);
 void proved_stlslice_close(stlslice_mesh *);
 
 /* whether bytes can lie there */
 static bool can_lie(const void *at, size_t size) { return size == 0 || (at != NULL && size <= PTRDIFF_MAX); }
+
+/* whether this many values of a size can */
+static bool can_all_lie(const void *at, size_t count, size_t size) {
+    return count == 0 || (at != NULL && count <= PTRDIFF_MAX / size);
+}
 
 uint32_t stlslice_version(void) { return proved_stlslice_version(); }
 
@@ -72,6 +79,17 @@ stlslice_status stlslice_area(stlslice_mesh *mesh, uint32_t k, uint64_t *area) {
 
 stlslice_status stlslice_probe(stlslice_mesh *mesh, uint32_t i, uint32_t j, uint32_t k, stlslice_rays *rays) {
     return mesh == NULL || rays == NULL ? STLSLICE_OUT_OF_RANGE : proved_stlslice_probe(mesh, i, j, k, rays);
+}
+
+stlslice_status stlslice_loops(stlslice_mesh *mesh, uint32_t k, stlslice_point *points, size_t points_room,
+                               size_t *points_count, size_t *ends, size_t ends_room, size_t *loops_count) {
+    stlslice_point no_point = {0, 0};
+    size_t no_end = 0;
+    if (mesh == NULL || !can_all_lie(points, points_room, sizeof *points) || points_count == NULL
+        || !can_all_lie(ends, ends_room, sizeof *ends) || loops_count == NULL)
+        return STLSLICE_OUT_OF_RANGE;
+    return proved_stlslice_loops(mesh, k, points_room ? points : &no_point, points_room, points_count,
+                                 ends_room ? ends : &no_end, ends_room, loops_count);
 }
 
 void stlslice_close(stlslice_mesh *mesh) {

@@ -59,7 +59,8 @@ static void nulls(void) {
     stlslice_rays rays;
     char line[STLSLICE_LINE];
     uint8_t byte = 0;
-    size_t size = 5;
+    size_t size = 5, count = 5;
+    stlslice_point point = {0, 0};
     uint64_t area = 5;
     CHECK(stlslice_box(NULL, 0, 0, &corners, line, sizeof line) == STLSLICE_TEXT);
     CHECK(strcmp(line, "input ended before solid") == 0);
@@ -79,6 +80,7 @@ static void nulls(void) {
     CHECK(stlslice_stripe(NULL, 0, &byte, 1, &size) == STLSLICE_OUT_OF_RANGE);
     CHECK(stlslice_area(NULL, 0, &area) == STLSLICE_OUT_OF_RANGE);
     CHECK(stlslice_probe(NULL, 0, 0, 0, &rays) == STLSLICE_OUT_OF_RANGE);
+    CHECK(stlslice_loops(NULL, 0, NULL, 0, &size, NULL, 0, &size) == STLSLICE_OUT_OF_RANGE);
     CHECK(stlslice_open(text, text_size, &options, &mesh, &shape, NULL, 0) == STLSLICE_DONE);
     CHECK(stlslice_mask(&mesh, 0, NULL, 1, &size) == STLSLICE_OUT_OF_RANGE);
     CHECK(stlslice_mask(&mesh, 0, &byte, SIZE_MAX, &size) == STLSLICE_OUT_OF_RANGE);
@@ -87,6 +89,11 @@ static void nulls(void) {
     CHECK(stlslice_stripe(&mesh, 0, &byte, 1, NULL) == STLSLICE_OUT_OF_RANGE);
     CHECK(stlslice_area(&mesh, 0, NULL) == STLSLICE_OUT_OF_RANGE);
     CHECK(stlslice_probe(&mesh, 0, 0, 0, NULL) == STLSLICE_OUT_OF_RANGE);
+    CHECK(stlslice_loops(&mesh, 0, NULL, 1, &size, NULL, 0, &count) == STLSLICE_OUT_OF_RANGE);
+    CHECK(stlslice_loops(&mesh, 0, NULL, 0, &size, NULL, 1, &count) == STLSLICE_OUT_OF_RANGE);
+    CHECK(stlslice_loops(&mesh, 0, NULL, 0, NULL, NULL, 0, &count) == STLSLICE_OUT_OF_RANGE);
+    CHECK(stlslice_loops(&mesh, 0, NULL, 0, &size, NULL, 0, NULL) == STLSLICE_OUT_OF_RANGE);
+    CHECK(stlslice_loops(&mesh, 0, &point, SIZE_MAX / 8, &size, NULL, 0, &count) == STLSLICE_OUT_OF_RANGE);
     CHECK(size == 5 && area == 5);
     CHECK(stlslice_stripe(&mesh, 0, NULL, 0, &size) == STLSLICE_NO_ROOM && size > 5);
     stlslice_close(&mesh);
@@ -162,6 +169,7 @@ static void closed(void) {
         CHECK(stlslice_stripe(&mesh, 0, bytes, sizeof bytes, &size) == STLSLICE_NOT_OPEN);
         CHECK(stlslice_area(&mesh, 0, &area) == STLSLICE_NOT_OPEN);
         CHECK(stlslice_probe(&mesh, 0, 0, 0, &rays) == STLSLICE_NOT_OPEN);
+        CHECK(stlslice_loops(&mesh, 0, NULL, 0, &size, NULL, 0, &size) == STLSLICE_NOT_OPEN);
         CHECK(size == 5 && area == 5 && rays.along_x == 7 && bytes[0] == 0);
         stlslice_close(&mesh);
         mesh = zeros;
@@ -179,6 +187,12 @@ static stlslice_status attempt(int turn, stlslice_mesh *mesh, stlslice_shape *sh
     case 1: return stlslice_open(text, text_size, &options, mesh, shape, line, sizeof line);
     case 2: return stlslice_mask(mesh, 3, images, room, &size);
     case 3: return stlslice_stripe(mesh, 0, images, room, &size);
+    case 4: {
+        static stlslice_point points[1000];
+        static size_t ends[100];
+        size_t count;
+        return stlslice_loops(mesh, 3, points, 1000, &size, ends, 100, &count);
+    }
     default: return stlslice_area(mesh, 3, &area);
     }
 }
@@ -196,7 +210,7 @@ static unsigned long short_memory(void) {
     CHECK(stlslice_area(&mesh, 3, &area) == STLSLICE_DONE && area > 0);
     uint8_t *image = (uint8_t *)malloc(one), *images = (uint8_t *)malloc(eight);
     CHECK(image != NULL && images != NULL);
-    for (int turn = 0; turn < 5; turn++) {
+    for (int turn = 0; turn < 6; turn++) {
         CHECK(stlslice_mask(&mesh, 3, image, one, &size) == STLSLICE_DONE);
         for (refused = 1;; refused++) {
             memset(images, 0x3c, eight);

@@ -39,6 +39,37 @@ static size_t bits_of(const uint8_t *image, size_t size, const stlslice_shape *s
     return count;
 }
 
+/* the loops of a layer: told, refused where a buffer is one short, and each of 2 points or more */
+static void loops_of(stlslice_mesh *mesh, uint32_t k) {
+    size_t points = 0, loops = 0, again = 0, more = 0;
+    stlslice_status status = stlslice_loops(mesh, k, NULL, 0, &points, NULL, 0, &loops);
+    if (points == 0) {
+        CHECK(status == STLSLICE_DONE && loops == 0);
+        return;
+    }
+    CHECK(status == STLSLICE_NO_ROOM && loops > 0);
+    stlslice_point *list = (stlslice_point *)malloc((points + 1) * sizeof *list);
+    size_t *ends = (size_t *)malloc((loops + 1) * sizeof *ends);
+    CHECK(list != NULL && ends != NULL);
+    list[0].x2 = INT64_MIN;
+    ends[0] = SIZE_MAX;
+    CHECK(stlslice_loops(mesh, k, list, points - 1, &again, ends, loops, &more) == STLSLICE_NO_ROOM);
+    CHECK(again == points && more == loops && list[0].x2 == INT64_MIN && ends[0] == SIZE_MAX);
+    CHECK(stlslice_loops(mesh, k, list, points, &again, ends, loops - 1, &more) == STLSLICE_NO_ROOM);
+    CHECK(again == points && more == loops && list[0].x2 == INT64_MIN && ends[0] == SIZE_MAX);
+    list[points].y2 = 77;
+    ends[loops] = 77;
+    CHECK(stlslice_loops(mesh, k, list, points + 1, &again, ends, loops + 1, &more) == STLSLICE_DONE);
+    CHECK(again == points && more == loops && list[points].y2 == 77 && ends[loops] == 77);
+    CHECK(ends[0] > 1 && ends[loops - 1] == points);
+    for (size_t at = 1; at < loops; at++)
+        CHECK(ends[at - 1] + 1 < ends[at]);
+    for (size_t at = 0; at < points; at++)
+        CHECK(list[at].x2 >= -256000000 && list[at].x2 <= 256000000 && list[at].y2 >= -256000000 && list[at].y2 <= 256000000);
+    free(list);
+    free(ends);
+}
+
 static void *slice(void *given) {
     Work *work = (Work *)given;
     char line[STLSLICE_LINE];
@@ -69,7 +100,11 @@ static void *slice(void *given) {
         CHECK(k + 1 == layers || image[one] == 0x5a);
         CHECK(stlslice_area(&work->mesh, k, &area) == STLSLICE_DONE && area == bits_of(image, size, &work->shape));
         work->size += size;
+        if (k % 7 == 0)
+            loops_of(&work->mesh, k);
     }
+    size_t none = 0, nothing = 0;
+    CHECK(stlslice_loops(&work->mesh, layers, NULL, 0, &none, NULL, 0, &nothing) == STLSLICE_OUT_OF_RANGE);
     uint8_t *eight = (uint8_t *)malloc(8 * one);
     CHECK(eight != NULL);
     size_t at = 0;

@@ -9,6 +9,7 @@
         for mask in mesh:               # all of them, eight at a time behind the scenes
             ...
         mesh.area(120)                  # how many pixels of the layer are filled
+        mesh.loops(120)                 # its closed polygons: arrays of points, in half-micrometres
         mesh.probe(10, 20, 120)         # signed crossings of the rays along x and y from a voxel's centre
 
 A mask is laid out as the program's image: its first row is that of the greatest y, so the pixel of column i and row j
@@ -27,7 +28,7 @@ import ctypes
 import operator
 import os
 import threading
-from typing import TYPE_CHECKING, Any, BinaryIO, Iterator, NamedTuple, Optional, Sequence, Tuple, Union, overload
+from typing import TYPE_CHECKING, Any, BinaryIO, Iterator, List, NamedTuple, Optional, Sequence, Tuple, Union, overload
 
 if TYPE_CHECKING:
     import numpy
@@ -42,7 +43,7 @@ UNITS = {"mm": 0, "inch": 1}
 LINE = 256
 STRIPE = 8
 WORD = range(2**32)
-DONE, OUT_OF_RANGE, MEMORY, NOT_OPEN = 0, 1, 6, 8
+OUT_OF_RANGE, MEMORY, NO_ROOM, NOT_OPEN = 1, 6, 7, 8
 
 
 class Fault(Exception):
@@ -110,6 +111,7 @@ def _library() -> ctypes.CDLL:
         "stripe": [handle, ctypes.c_uint64, at, size, sized],
         "area": [handle, word, ctypes.POINTER(ctypes.c_uint64)],
         "probe": [handle, word, word, word, ctypes.POINTER(_Rays)],
+        "loops": [handle, word, at, size, sized, at, size, sized],
         "fault_text": [word, at, size],
         "close": [handle],
     }.items():
@@ -263,6 +265,24 @@ class Mesh:
         self._ask("area", self._layer(k), pixels)
         return pixels.value
 
+    def loops(self, k: int) -> List[numpy.ndarray]:
+        """The loops of layer k: for each the points of a closed polygon, one a row, x and y in half-micrometres. The
+        inside of a mesh whose facets face outward is on the left of each step."""
+        import numpy
+
+        number, room = self._layer(k), (0, 0)
+        while True:
+            points, ends = numpy.empty((room[0], 2), numpy.int64), numpy.empty(room[1], numpy.uintp)
+            counts = ctypes.c_size_t(), ctypes.c_size_t()
+            status = self._status("loops", number, points.ctypes.data, room[0], counts[0], ends.ctypes.data, room[1], counts[1])
+            if status != NO_ROOM:
+                break
+            room = counts[0].value, counts[1].value
+        if status:
+            _raise(status)
+        ends = ends[:counts[1].value]
+        return numpy.split(points[:counts[0].value], ends[:-1].astype(int)) if len(ends) else []
+
     def probe(self, i: int, j: int, k: int) -> Tuple[int, int]:
         """The signed crossings of the mesh by the rays along x and y from the centre of a voxel. Raises `RangeFault`
         where the grid has none."""
@@ -281,9 +301,12 @@ class Mesh:
             raise IndexError(f"layer {number} of {len(self)}")
         return number % len(self)
 
-    def _ask(self, name: str, *words: Any) -> None:
+    def _status(self, name: str, *words: Any) -> int:
         with self._lock:
-            status = getattr(_lib, f"stlslice_{name}")(self._handle, *words)
+            return getattr(_lib, f"stlslice_{name}")(self._handle, *words)
+
+    def _ask(self, name: str, *words: Any) -> None:
+        status = self._status(name, *words)
         if status:
             _raise(status)
 

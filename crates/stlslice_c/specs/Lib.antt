@@ -2,3 +2,4 @@ pub mod Held
 pub mod Shape
 pub mod Options
 pub mod Answers
+pub mod Loops

@@ -5,8 +5,8 @@ use Rattle.micro_num.specs.declared.unit.Unit.{Unit as TextUnit}
 use Rattle.micro_num.specs.declared.unit.Unit.TheVariants as unit
 use Rattle.raster.specs.declared.rule.Rule.{Rule}
 use Rattle.raster.specs.declared.rule.Rule.TheVariants as rule
-use Rattle.layer_session.specs.declared.setup.Placing.{Placing}
-use Rattle.layer_session.specs.declared.setup.Placing.TheVariants as placing
+use Rattle.raster.specs.declared.placing.Placing.{Placing}
+use Rattle.raster.specs.declared.placing.Placing.TheVariants as placing
 use Rattle.layer_session.specs.declared.setup.Setup.{Setup}
 use Rattle.stlslice_c.specs.declared.options.Options.{Options}
 

@@ -5,20 +5,26 @@ mod asking;
 mod buffers;
 mod handle;
 mod kept;
+mod loops;
 mod loose;
 mod opened;
 mod opening;
 mod options;
 mod shape;
 mod status;
+#[cfg(test)]
+mod tests;
 
 ghost use Rattle.std.specs.Prelude.{◌≡◌, None, Some};
 ghost use Rattle.stlslice_c.specs.Answers.{IsArea, IsBox, IsLine, IsMask, IsOpening, IsProbe, IsStripe, status_text};
+ghost use Rattle.stlslice_c.specs.Loops.{IsLoops};
 ghost use Rattle.stlslice_c.specs.declared.opened.Opened.{Opened};
 
 use asking::{put_area, put_mask, put_probe, put_stripe};
 use buffers::put_line;
 pub use handle::Handle;
+pub use loops::LoopPoint;
+use loops::put_loops;
 use opening::{open, put_fault, read_corners};
 pub use options::Options;
 use options::unit_numbered;
@@ -192,6 +198,39 @@ pub extern "C" fn stlslice_probe(
         return NOT_OPEN;
     };
     let status = put_probe(&opened.session, i, j, k, rays);
+    *handle = Handle::of(opened);
+    status
+}
+
+/// Puts the loops of layer k into the fronts of two buffers: the points of all loops into `points`, one loop behind the
+/// other, and for each loop the position behind its last point into `ends`.
+#[unsafe(no_mangle)]
+pub extern "C" fn stlslice_loops(
+    alloc: Global,
+    handle: &mut Handle,
+    k: u32,
+    points: &mut [LoopPoint],
+    points_wanted: &mut usize,
+    ends: &mut [usize],
+    ends_wanted: &mut usize,
+) -> u32
+    ensures kept { handle.new.kept.opened ≡ handle.old.kept.opened }
+    ensures open { (opened : Opened) → handle.old.kept.opened ≡ Some opened
+        → IsLoops opened.session.job k points.old points.new points_wanted.new ends.old ends.new ends_wanted.new result }
+    ensures closed { handle.old.kept.opened ≡ None → (result ≡ 8) × (points.new ≡ points.old) × (ends.new ≡ ends.old) }
+{
+    let Some(opened) = handle.take(alloc) else {
+        return NOT_OPEN;
+    };
+    let status = put_loops(
+        alloc,
+        &opened.session,
+        k,
+        points,
+        points_wanted,
+        ends,
+        ends_wanted,
+    );
     *handle = Handle::of(opened);
     status
 }

@@ -1,6 +1,6 @@
 //! The numbers that C opens a text with. Nothing checks what C passes, so each is tested.
 ghost use Rattle.std.specs.Prelude.{◌≡◌, IfNone, IfSome};
-ghost use Rattle.layer_session.specs.declared.setup.Placing.{Placing};
+ghost use Rattle.raster.specs.declared.placing.Placing.{Placing};
 ghost use Rattle.layer_session.specs.declared.setup.Setup.{Setup};
 ghost use Rattle.stlslice_c.specs.Options.{IsPlaced, IsSetup, rule_numbered, unit_numbered};
 

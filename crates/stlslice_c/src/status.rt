@@ -7,6 +7,9 @@ use layer_session::SessionFault;
 /// Done.
 pub(crate) const DONE: u32 = 0;
 
+/// An allocation failed.
+pub(crate) const MEMORY: u32 = 6;
+
 /// The buffer is too small; the size that is wanted was told.
 pub(crate) const NO_ROOM: u32 = 7;
 
@@ -22,7 +25,7 @@ pub(crate) fn status_of(fault: &SessionFault) -> u32
         SessionFault::Stl(_) => 3,
         SessionFault::Weld(_) => 4,
         SessionFault::Grid(_) => 5,
-        SessionFault::Memory => 6,
+        SessionFault::Memory => MEMORY,
     }
 }
 

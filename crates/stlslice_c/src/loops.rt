@@ -1,0 +1,86 @@
+//! The loops of a layer, as C has them.
+ghost use Rattle.std.specs.Prelude.{◌≡◌, IfOk, map};
+ghost use Rattle.stlslice_c.specs.Loops.{IsLoops, IsPutLoops, point_told};
+
+use crate::status::{DONE, MEMORY, NO_ROOM, status_of};
+use layer_session::{PlanePoint, Session};
+use std::alloc::{AllocError, Global};
+
+/// A point of a loop, in half-micrometres.
+#[repr(C)]
+#[derive(Clone, Copy)]
+pub struct LoopPoint {
+    pub x2: i64,
+    pub y2: i64,
+}
+
+/// Puts the loops of layer k into the fronts of two buffers: the points, one loop behind the other, and for each loop
+/// the position behind its last point.
+pub(crate) fn put_loops(
+    alloc: Global,
+    session: &Session<Global>,
+    k: u32,
+    points: &mut [LoopPoint],
+    points_wanted: &mut usize,
+    ends: &mut [usize],
+    ends_wanted: &mut usize,
+) -> u32
+    ensures { IsLoops session.now.job k points.old points.new points_wanted.new ends.old ends.new ends_wanted.new result }
+{
+    match session.outlines(k) {
+        Ok(found) => match told_points(alloc, found.points()) {
+            Ok(told) => put_points(
+                told.as_slice(),
+                found.ends(),
+                points,
+                points_wanted,
+                ends,
+                ends_wanted,
+            ),
+            Err(_) => MEMORY,
+        },
+        Err(fault) => status_of(&fault),
+    }
+}
+
+/// The points as C has them.
+fn told_points(alloc: Global, found: &[PlanePoint]) -> Result<Vec<LoopPoint, Global>, AllocError>
+    ensures { IfOk result (λ points. points.items ≡ map point_told found.now) }
+{
+    let mut points = Vec::new(alloc);
+    for point in found {
+        points.push(told(point))?;
+    }
+    Ok(points)
+}
+
+/// The point as C has it.
+fn told(point: &PlanePoint) -> LoopPoint
+    ensures { result ≡ point_told point.now }
+{
+    LoopPoint {
+        x2: point.x2,
+        y2: point.y2,
+    }
+}
+
+/// Puts points and ends into the fronts of two buffers, where both have room for all of them, and tells their numbers.
+fn put_points(
+    found: &[LoopPoint],
+    found_ends: &[usize],
+    points: &mut [LoopPoint],
+    points_wanted: &mut usize,
+    ends: &mut [usize],
+    ends_wanted: &mut usize,
+) -> u32
+    ensures { IsPutLoops found.now found_ends.now points.old points.new points_wanted.new ends.old ends.new ends_wanted.new result }
+{
+    *points_wanted = found.len();
+    *ends_wanted = found_ends.len();
+    if found.len() > points.len() || found_ends.len() > ends.len() {
+        return NO_ROOM;
+    }
+    points[..found.len()].copy_from_slice(found);
+    ends[..found_ends.len()].copy_from_slice(found_ends);
+    DONE
+}
