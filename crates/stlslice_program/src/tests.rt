@@ -4,6 +4,7 @@
 mod allocation_runs;
 mod answers;
 mod box_runs;
+mod byte_runs;
 mod device_runs;
 mod lines;
 mod loads;
