@@ -55,6 +55,8 @@ mod text_parts;
 #[cfg(test)]
 mod walks;
 #[cfg(test)]
+mod welders;
+#[cfg(test)]
 mod welding;
 #[cfg(test)]
 mod worked_layers;

@@ -151,18 +151,25 @@ fn push_ring_facet<A: Allocator>(list: &mut Vec<Facet, A>, number: u32) -> Resul
     Ok(())
 }
 
-// The solid of the rings' first facets, this many. With all 4608 they are closed, and enough to be welded by hashes.
-fn welded_rings<A: Allocator + Copy + Send + Sync>(
-    alloc: A,
-    count: u32,
-) -> Result<Solid<A>, WeldFault>
+/// The rings' first facets, this many. With all 4608 they are closed, and enough to be welded by hashes.
+pub(crate) fn rings<A: Allocator + Copy>(alloc: A, count: u32) -> Result<Vec<Facet, A>, AllocError>
     requires { count ≤ 4608 }
 {
     let mut list = Vec::new(alloc);
     for number in 0..count {
         push_ring_facet(&mut list, number)?;
     }
-    welded(alloc, list)
+    Ok(list)
+}
+
+// The solid of the rings' first facets.
+fn welded_rings<A: Allocator + Copy + Send + Sync>(
+    alloc: A,
+    count: u32,
+) -> Result<Solid<A>, WeldFault>
+    requires { count ≤ 4608 }
+{
+    welded(alloc, rings(alloc, count)?)
 }
 
 #[test]
