@@ -7,6 +7,7 @@ use short_memory::{OneByteReader, SmallWriter};
 use std::io::ErrorKind;
 use std::sync::Wait;
 use std::thread::Threads;
+use stl_text::{StlFault, Word};
 use stlslice::{Counted, Failures, RunFault, Sink};
 
 /// A line of words, and a text.
@@ -212,4 +213,51 @@ fn all_read<R: Threads + Wait + Sync + AllocGlobal>(rt: &R, rows: &[Row<'_>]) ->
 #[test]
 fn readers_that_fail(rt: HostRuntime) -> Result<(), usize> {
     all_read(&rt, &TEXTS)
+}
+
+/// A text with a fault at its front.
+static BROKEN: &str = "facet normal 0 0 1\nsolid\nendsolid\n";
+
+/// Whether a run over a text with a fault ends by the failed read, however late that comes, and by the fault only where
+/// all of the text was read.
+fn is_read_behind_a_fault<R: Threads + Wait + Sync + AllocGlobal>(
+    rt: &R,
+    line: &str,
+    calls: u64,
+) -> bool {
+    let fault = StlFault::Expected {
+        word: Word::Solid,
+        at: 0,
+    };
+    let end = if calls <= BROKEN.len() as u64 {
+        RunFault::Read
+    } else {
+        RunFault::Stl(fault)
+    };
+    let mut source = Counted::new(OneByteReader {
+        bytes: BROKEN.as_bytes(),
+        calls,
+        fault: ErrorKind::Other,
+    });
+    let mut sink = Counted::new(Vec::new(rt.alloc()));
+    let found = end_of(rt, rt.alloc(), line, &mut source, &mut sink);
+    let is_all_read = source.inner().bytes.is_empty() || end == RunFault::Read;
+    found == Some(Err(end)) && is_all_read && sink.inner().is_empty()
+}
+
+/// Whether each task reads a text with a fault to its end.
+fn is_each_read_behind_a_fault<R: Threads + Wait + Sync + AllocGlobal>(rt: &R, calls: u64) -> bool {
+    for row in &TEXTS {
+        if !is_read_behind_a_fault(rt, row.0, calls) {
+            return false;
+        }
+    }
+    true
+}
+
+#[test]
+fn readers_that_fail_behind_a_fault(rt: HostRuntime) {
+    for calls in 0..=BROKEN.len() as u64 + 1 {
+        assert!(rt; is_each_read_behind_a_fault(&rt, calls));
+    }
 }
