@@ -11,9 +11,9 @@ use layer_session::{Placing, Rule, Setup, Unit};
 #[repr(C)]
 #[derive(Clone, Copy)]
 pub struct Options {
-    /// Micrometres along x and y, 1 to 100000.
+    /// Micrometres along x and y, 1 to `STEP_LIMIT` of `geometry`.
     pub pitch: u32,
-    /// Micrometres along z, 1 to 100000.
+    /// Micrometres along z, 1 to `STEP_LIMIT`.
     pub layer: u32,
     /// 0 even-odd, 1 non-zero, 2 positive.
     pub rule: u32,
