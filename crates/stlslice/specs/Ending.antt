@@ -11,6 +11,7 @@ use Rattle.stl_text.specs.Pieces.{IsAfter, Progress}
 use Rattle.stl_text.specs.Text.{IsFaultOf, Reads}
 use Rattle.geometry.specs.Facet.{Facet}
 use Rattle.mesh_weld.specs.Balance.{IsBalanced, IsLeastOpen}
+use Rattle.mesh_weld.specs.Naming.{Parts, parts_of}
 use Rattle.mesh_weld.specs.Solid.{Solid, solid_of}
 use Rattle.raster.specs.declared.grid.GridFault.{GridFault}
 use Rattle.task_words.specs.declared.task.Given.{Given}
@@ -53,6 +54,10 @@ IsInputFault is known f = (f ≡ fault.Read) ⊎ (f ≡ fault.Memory) ⊎ ((inpu
 -- the reader was fed what a source had at the start and has no more, and these facets were taken off it
 abbrev pub IsFed : LengthUnit → List Facet → Progress → Option (List ℕ) → Option (List ℕ) → Type 0
 IsFed unit taken reader start now = (fed : List ℕ) × Consumes start now fed × IsAfter FACET_LIMIT unit taken reader fed
+
+-- The welder has these facets, if they are no more than a mesh may have.
+abbrev pub AreWelded : List Facet → Parts → Type 0
+AreWelded taken welder = length taken ≤ FACET_LIMIT → welder ≡ parts_of taken
 
 -- the closed mesh that a text is
 abbrev pub IsSolidOf : LengthUnit → List ℕ → Solid → Type 0

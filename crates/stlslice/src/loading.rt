@@ -1,6 +1,7 @@
 //! What a run reads: the facets that its input spells, and the closed mesh that they make.
-ghost use Rattle.std.specs.Prelude.{◌≡◌, ◌≢◌, ◌<◌, ◌≤◌, ◌⊎◌, Err, IfErr, IfOk, List, Ok, OnErr, OnOk, Option, [], false, length, vec_len, ℕ};
-ghost use Rattle.std.specs.Io.KnownBytes.{IsAtEnd};
+ghost use Rattle.std.specs.Prelude.{◌≡◌, ◌≢◌, ◌<◌, ◌≤◌, ◌⊎◌, ◌++◌, Err, IfErr, IfOk, List, Ok, OnErr, OnOk, Option, [], false, length, vec_len, ℕ};
+ghost use Rattle.std.specs.Io.KnownBytes.{Consumes, IsAtEnd};
+ghost use Rattle.mesh_weld.specs.Naming.{parts_of};
 ghost use Rattle.raster.specs.Devices.{Fails};
 ghost use Rattle.stlslice.specs.declared.run_fault.RunFault.TheVariants.{Memory, Read};
 ghost use Rattle.micro_num.specs.declared.unit.Unit.{Unit as LengthUnit};
@@ -9,20 +10,24 @@ ghost use Rattle.mesh_weld.specs.Solid.{solid_of};
 ghost use Rattle.stl_text.specs.Text.{Reads};
 ghost use Rattle.geometry.specs.Facet.{Facet};
 ghost use Rattle.stlslice.specs.Extent.{IsExtentOf, extent_of};
-ghost use Rattle.stlslice.specs.Ending.{IsFed, IsInput, IsInputFault, IsLoadFault, IsMisread, IsSolidOf};
+ghost use Rattle.stlslice.specs.Ending.{AreWelded, IsFed, IsInput, IsInputFault, IsLoadFault, IsMisread, IsSolidOf};
 ghost use Rattle.geometry.specs.declared.limits.TheConstants.{FACET_LIMIT};
 
 use crate::extent::Extent;
 use crate::run_fault::RunFault;
 use geometry::{FACET_LIMIT, Facet};
-use mesh_weld::{Solid, weld};
+use mesh_weld::{Solid, Welder, weld};
 use micro_num::Unit;
 use raster::Source;
 use std::alloc::Allocator;
+use std::thread::Threads;
 use stl_text::{TextReader, read_stl};
 
 /// The length of the window that is filled from the source and then handed to the reader, in bytes.
 const WINDOW_LEN: usize = 65_536;
+
+/// The number of bytes for each worker, where several read at the same time.
+const WORKER_LEN: usize = 1 << 20;
 
 /// The closed mesh of an ASCII STL text whose numbers are in `unit`. Facets with two equal corners are dropped.
 ///
@@ -93,6 +98,129 @@ fn read_facets<A: Allocator + Copy + Send + Sync, I: Source>(
     let mut reader = TextReader::new(alloc, FACET_LIMIT, unit);
     feed_all(source, &mut reader)?;
     Ok(reader.finish()?)
+}
+
+/// The closed mesh that a source spells, which is read to its end by up to `workers` workers at the same time, and welded as
+/// its facets come. Neither its text nor a list of its facets is held. It answers what [`read_solid`] answers.
+pub(crate) fn read_solid_by<R: Threads + Sync, A: Allocator + Copy + Send + Sync, I: Source>(
+    rt: &R,
+    alloc: A,
+    source: &mut I,
+    unit: Unit,
+    workers: u32,
+) -> Result<Solid<A>, RunFault>
+    ensures ok { IfOk result (λ solid. (input : List ℕ) × IsInput (I.remaining source.old) input × IsSolidOf unit input solid) }
+    ensures err { IfErr result (IsInputFault (IsLoadFault unit) (I.remaining source.old)) }
+    ensures whole { result ≢ Err Read → result ≢ Err Memory → IsAtEnd (I.remaining source.new) }
+    ensures unread { result ≡ Err Read
+        → Fails (I.Failures.failure_count source.old) (I.Failures.failure_count source.new) }
+    ensures sound { result ≢ Err Read → I.Failures.failure_count source.new ≡ I.Failures.failure_count source.old }
+{
+    let mut reader = TextReader::new(alloc, FACET_LIMIT, unit);
+    let mut welder = Welder::new(alloc);
+    weld_all(rt, alloc, source, workers, &mut reader, &mut welder)?;
+    let last = reader.finish()?;
+    weld_next(&mut welder, last.as_slice())?;
+    weld_end(welder)
+}
+
+/// The closed mesh of the facets that a welder has.
+fn weld_end<A: Allocator + Copy + Send + Sync>(welder: Welder<A>) -> Result<Solid<A>, RunFault>
+    ensures ok { (unit : LengthUnit) (bytes : List ℕ) (facets : List Facet) → welder ≡ parts_of facets
+        → Reads FACET_LIMIT unit bytes facets → IfOk result (IsSolidOf unit bytes) }
+    ensures err { (unit : LengthUnit) (bytes : List ℕ) (facets : List Facet) → welder ≡ parts_of facets
+        → Reads FACET_LIMIT unit bytes facets → IfErr result (IsLoadFault unit bytes) }
+{
+    Ok(welder.finish()?)
+}
+
+/// Feeds a reader with all bytes of a source, takes the facets off it and adds them to a welder. Behind 2^64 - 1 rounds it
+/// answers `Memory`.
+fn weld_all<R: Threads + Sync, A: Allocator + Copy + Send + Sync, I: Source>(
+    rt: &R,
+    alloc: A,
+    source: &mut I,
+    workers: u32,
+    reader: &mut TextReader<A>,
+    welder: &mut Welder<A>,
+) -> Result<(), RunFault>
+    requires { welder.old ≡ parts_of [] }
+    ensures fed { OnOk result ((taken : List Facet) × AreWelded taken welder.new
+        × ((unit : LengthUnit) (start : Option (List ℕ)) → IsFed unit [] reader.old start (I.remaining source.old)
+        → IsFed unit taken reader.new start (I.remaining source.new))) }
+    ensures whole { OnOk result (IsAtEnd (I.remaining source.new)) }
+    ensures unread { result ≡ Err Read
+        → Fails (I.Failures.failure_count source.old) (I.Failures.failure_count source.new) }
+    ensures sound { result ≢ Err Read → I.Failures.failure_count source.new ≡ I.Failures.failure_count source.old }
+    ensures only { IfErr result (λ fault. (fault ≡ Read) ⊎ (fault ≡ Memory)) }
+{
+    let len = round_len(workers);
+    let mut round = Vec::with_capacity(alloc, len)?;
+    let mut window = [0; WINDOW_LEN];
+    for _ in 0..u64::MAX {
+        let is_more = fill_round(source, &mut window, &mut round, len)?;
+        reader.feed_by(rt, round.as_slice(), workers);
+        weld_next(welder, reader.facets())?;
+        reader.forget();
+        round.clear();
+        if !is_more {
+            return Ok(());
+        }
+    }
+    Err(RunFault::Memory)
+}
+
+/// The number of bytes that are read before the workers look at them. A single worker takes what the source gives.
+fn round_len(workers: u32) -> usize {
+    if workers < 2 {
+        return 1;
+    }
+    WORKER_LEN.saturating_mul(workers as usize)
+}
+
+/// Adds what a source has next to a round, which is empty before, up to `len` bytes or a window more: `false` at the end of
+/// the source.
+fn fill_round<A: Allocator, I: Source>(
+    source: &mut I,
+    window: &mut [u8],
+    round: &mut Vec<u8, A>,
+    len: usize,
+) -> Result<bool, RunFault>
+    requires some { 0 < length window.old }
+    requires empty { round.old.items ≡ [] }
+    ensures len { length window.new ≡ length window.old }
+    ensures taken { OnOk result (Consumes (I.remaining source.old) (I.remaining source.new) round.new.items) }
+    ensures whole { result ≡ Ok false → IsAtEnd (I.remaining source.new) }
+    ensures unread { result ≡ Err Read
+        → Fails (I.Failures.failure_count source.old) (I.Failures.failure_count source.new) }
+    ensures sound { result ≢ Err Read → I.Failures.failure_count source.new ≡ I.Failures.failure_count source.old }
+    ensures only { IfErr result (λ fault. (fault ≡ Read) ⊎ (fault ≡ Memory)) }
+{
+    'round: while round.len() < len {
+        let count = match source.pull(window) {
+            Ok(count) => count,
+            Err(_) => return Err(RunFault::Read),
+        };
+        if count == 0 {
+            return Ok(false);
+        }
+        round.extend_from_slice(&window[..count])?;
+    }
+    Ok(true)
+}
+
+/// Adds facets to a welder. A text with more of them than the limit is a fault, so these needn't be welded.
+fn weld_next<A: Allocator + Copy + Send + Sync>(
+    welder: &mut Welder<A>,
+    facets: &[Facet],
+) -> Result<(), RunFault>
+    ensures welded { (taken : List Facet) → AreWelded taken welder.old → OnOk result (AreWelded (taken ++ facets.now) welder.new) }
+    ensures only { IfErr result (λ fault. fault ≡ Memory) }
+{
+    if facets.len() <= (FACET_LIMIT as usize).saturating_sub(welder.count()) {
+        welder.add(facets)?;
+    }
+    Ok(())
 }
 
 /// How many facets a source spells, and their bounding box. It is read to its end; neither its text nor its facets are

@@ -10,7 +10,7 @@ ghost use Rattle.task_words.specs.Task.{IsInRange};
 ghost use Rattle.task_words.specs.declared.task.Task.TheVariants as task;
 ghost use Rattle.geometry.specs.declared.limits.TheConstants.{STEP_LIMIT};
 
-use crate::loading::{read_extent, read_solid};
+use crate::loading::{read_extent, read_solid, read_solid_by};
 use crate::run_fault::RunFault;
 use crate::write::box_line::box_line;
 use crate::write::probe_line::probe_voxel;
@@ -92,7 +92,7 @@ pub fn run_watched<
             report,
             grid,
         } => {
-            let solid = read_solid(alloc, source, *unit)?;
+            let solid = read_solid_by(rt, alloc, source, *unit, *workers)?;
             let grid = grid_for(&solid, *grid, *pitch, *layer)?;
             let job = Job::new(solid, grid, *rule);
             let build = build(rt, alloc, &job, *workers, gate)?;
