@@ -197,9 +197,8 @@ fn fill_round<A: Allocator, I: Source>(
     ensures only { IfErr result (λ fault. (fault ≡ Read) ⊎ (fault ≡ Memory)) }
 {
     'round: while round.len() < len {
-        let count = match source.pull(window) {
-            Ok(count) => count,
-            Err(_) => return Err(RunFault::Read),
+        let Ok(count) = source.pull(window) else {
+            return Err(RunFault::Read);
         };
         if count == 0 {
             return Ok(false);
