@@ -18,8 +18,8 @@
  * asks for the size.
  *
  * Pointers. A text or a buffer may be null where its size is 0. Any other pointer that is null makes the status
- * STLSLICE_OUT_OF_RANGE. A pointer that isn't null has to be good for what its type says, and what one call writes to
- * may not overlap.
+ * STLSLICE_OUT_OF_RANGE. A pointer that isn't null has to be good for what its type says, and what one call writes
+ * to may overlap neither that nor what it reads.
  *
  * Threads. A mesh may go from thread to thread, and is used by one call at a time. Different meshes are independent of
  * each other.
@@ -40,16 +40,16 @@ typedef uint32_t stlslice_status;
 #define STLSLICE_DONE 0u
 #define STLSLICE_OUT_OF_RANGE 1u /* a number, layer, stripe or voxel is out of its range; a pointer is null */
 #define STLSLICE_TEXT 3u         /* the text is no ASCII STL */
-#define STLSLICE_OPEN_MESH 4u    /* the mesh is not closed */
+#define STLSLICE_OPEN_MESH 4u    /* the mesh has an open edge */
 #define STLSLICE_GRID 5u         /* there is no such grid */
 #define STLSLICE_MEMORY 6u       /* an allocation failed */
 #define STLSLICE_NO_ROOM 7u      /* the buffer is too small */
-#define STLSLICE_NOT_OPEN 8u     /* the mesh is not open */
+#define STLSLICE_NOT_OPEN 8u     /* no text was opened as this mesh, or it was closed */
 
 /* A size that each line has room in. */
 #define STLSLICE_LINE 256
 
-/* Rules, units and places of a grid. Zeros are what the program takes by default. */
+/* Rules, units and where the grid lies. Zeros are what the program takes by default. Pitch and layer have no default. */
 enum { STLSLICE_EVENODD = 0, STLSLICE_NONZERO = 1, STLSLICE_POSITIVE = 2 };
 enum { STLSLICE_MILLIMETRE = 0, STLSLICE_INCH = 1 };
 enum { STLSLICE_FITTED = 0, STLSLICE_GIVEN = 1 };
@@ -88,7 +88,8 @@ typedef struct {
     int64_t x2, y2;
 } stlslice_point;
 
-/* A mesh, open or closed. Its fields are the library's. Zeros are a closed one; a copy may not be used beside it. */
+/* A mesh that a text was opened as, or none: zeros, or STLSLICE_CLOSED, as which it begins. Its fields are the library's; a
+ * copy may not be used beside it. */
 typedef struct {
     bool is_open;
     void *at;
@@ -98,13 +99,14 @@ typedef struct {
 /* 1000000 for 1.0.0. */
 uint32_t stlslice_version(void);
 
-/* Reads an ASCII STL text, and tells the box of its facets. After a fault, `line` has the line that the program writes
- * for it behind "stlslice: ", ended by 0 and cut where it has no room. */
+/* Reads an ASCII STL text, and tells the box of its facets. After a fault, `line` has what the program writes for it
+ * behind "stlslice: ", or the text of the status where the program has no such fault, ended by 0 and cut where it has no
+ * room. */
 stlslice_status stlslice_box(const uint8_t *text, size_t text_size, uint32_t unit, stlslice_corners *corners, char *line,
                              size_t line_room);
 
 /* Opens an ASCII STL text: `mesh` has its mesh from now on, in place of one that it had. The text isn't needed any more.
- * After a fault, `mesh` and `shape` are as they were, and `line` is as of stlslice_box. */
+ * After a fault, `mesh` and `shape` are as they were, and `line` is as in stlslice_box. */
 stlslice_status stlslice_open(const uint8_t *text, size_t text_size, const stlslice_options *options, stlslice_mesh *mesh,
                               stlslice_shape *shape, char *line, size_t line_room);
 

@@ -54,6 +54,9 @@ class Fault(Exception):
         self.status = status
         self.line = f"stlslice: {text}"
 
+    def __reduce__(self) -> Tuple[type, Tuple[int, str]]:
+        return type(self), (self.status, self.args[0])
+
 
 class RangeFault(Fault, ValueError):
     """A number is out of its range, or a voxel outside the grid (status 1)."""
@@ -143,7 +146,7 @@ def _text(source: Source) -> bytes:
         if not isinstance(read, bytes):
             raise TypeError("open the file in binary mode")
         return read
-    with builtins.open(source, "rb") as file:
+    with builtins.open(os.fspath(source), "rb") as file:
         return file.read()
 
 
@@ -200,6 +203,8 @@ class Mesh:
         options = _Options(pitch=_word("pitch", pitch), layer=_word("layer", layer), rule=_choice("rule", rule, RULES),
                            unit=_choice("unit", unit, UNITS))
         if grid is not None:
+            if isinstance(grid, str) or len(grid) != 6:
+                raise RangeFault(OUT_OF_RANGE, "grid takes six numbers: columns, rows, layers, x, y, z")
             columns, rows, layers, x, y, z = grid
             if any(abs(operator.index(at)) >= 2**31 for at in (x, y, z)):
                 raise RangeFault(OUT_OF_RANGE, "grid is out of its range")
@@ -227,6 +232,9 @@ class Mesh:
         if getattr(self, "_handle", None) is not None and _lib is not None:
             _lib.stlslice_close(self._handle)
 
+    def __reduce__(self) -> Any:
+        raise TypeError("a mesh can't be copied or pickled: open its text again")
+
     def __repr__(self) -> str:
         layers, rows, columns = self.shape
         return f"<stlslice.Mesh of {layers} layers, {rows} rows, {columns} columns>"
@@ -244,12 +252,14 @@ class Mesh:
         """Layer k, from the top where k is negative, as an array of bool; of a slice an array of three dimensions."""
         if isinstance(k, slice):
             return self._stack(range(*k.indices(len(self))))
-        return self._masks(self._call("mask", self._layer(k), 1), 1)[0]
+        return self._mask(memoryview(self._call("mask", self._layer(k), 1)), 0)
 
     def __iter__(self) -> Iterator[numpy.ndarray]:
         """The layers from the lowest up."""
         for first in range(0, len(self), STRIPE):
-            yield from self._stripe(first // STRIPE)
+            images = self._stripe(first // STRIPE)
+            for place in range(min(STRIPE, len(self) - first)):
+                yield self._mask(images, place)
 
     def __array__(self, dtype: Any = None, copy: Optional[bool] = None) -> numpy.ndarray:
         stack = self[:]
@@ -316,16 +326,16 @@ class Mesh:
         self._ask(name, number, images, len(images), wanted)
         return images
 
-    def _masks(self, images: ctypes.Array[ctypes.c_char], count: int) -> numpy.ndarray:
+    def _mask(self, images: memoryview, place: int) -> numpy.ndarray:
+        """One of some images, as an array. Images are unpacked one by one, since an array takes eight times their room."""
         import numpy
 
         _, rows, columns = self.shape
-        packed = numpy.frombuffer(images, numpy.uint8).reshape(count, self._size)[:, self._header:]
-        return numpy.unpackbits(packed.reshape(count, rows, -1), axis=2, count=columns).view(bool)
+        packed = numpy.frombuffer(images[place * self._size + self._header:(place + 1) * self._size], numpy.uint8)
+        return numpy.unpackbits(packed.reshape(rows, -1), axis=1, count=columns).view(bool)
 
-    def _stripe(self, number: int) -> numpy.ndarray:
-        count = min(STRIPE, len(self) - STRIPE * number)
-        return self._masks(self._call("stripe", number, count), count)
+    def _stripe(self, number: int) -> memoryview:
+        return memoryview(self._call("stripe", number, min(STRIPE, len(self) - STRIPE * number)))
 
     def _stack(self, layers: range) -> numpy.ndarray:
         import numpy
@@ -339,6 +349,6 @@ class Mesh:
                 continue
             if number != k // STRIPE:
                 number = k // STRIPE
-                eight = self._stripe(number)
-            stack[place] = eight[k % STRIPE]
+                images = self._stripe(number)
+            stack[place] = self._mask(images, k % STRIPE)
         return stack

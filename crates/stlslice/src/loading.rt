@@ -1,5 +1,5 @@
 //! What a run reads: the facets that its input spells, and the closed mesh that they make.
-ghost use Rattle.std.specs.Prelude.{◌≡◌, ◌≢◌, ◌<◌, ◌≤◌, ◌⊎◌, ◌++◌, Err, IfErr, IfOk, List, Ok, OnErr, OnOk, Option, [], false, length, vec_len, ℕ};
+ghost use Rattle.std.specs.Prelude.{◌≡◌, ◌≢◌, ◌<◌, ◌≤◌, ◌⊎◌, ◌++◌, Err, IfErr, IfOk, List, Ok, OnErr, OnOk, Option, [], false, length, true, vec_len, ℕ};
 ghost use Rattle.std.specs.Io.KnownBytes.{Consumes, IsAtEnd};
 ghost use Rattle.mesh_weld.specs.Naming.{parts_of};
 ghost use Rattle.raster.specs.Devices.{Fails};
@@ -28,6 +28,9 @@ const WINDOW_LEN: usize = 65_536;
 
 /// The number of bytes for each worker, where several read at the same time.
 const WORKER_LEN: usize = 1 << 20;
+
+/// The greatest number of bytes that are read before the workers look at them.
+const ROUND_LIMIT: usize = 1 << 23;
 
 /// The closed mesh of an ASCII STL text whose numbers are in `unit`. Facets with two equal corners are dropped.
 ///
@@ -101,7 +104,7 @@ fn read_facets<A: Allocator + Copy + Send + Sync, I: Source>(
 }
 
 /// The closed mesh that a source spells, which is read to its end by up to `workers` workers at the same time, and welded as
-/// its facets come. Neither its text nor a list of its facets is held. It answers what [`read_solid`] answers.
+/// its facets come. No more than a round of its text and of its facets is held. It answers what [`read_solid`] answers.
 pub(crate) fn read_solid_by<R: Threads + Sync, A: Allocator + Copy + Send + Sync, I: Source>(
     rt: &R,
     alloc: A,
@@ -175,11 +178,10 @@ fn round_len(workers: u32) -> usize {
     if workers < 2 {
         return 1;
     }
-    WORKER_LEN.saturating_mul(workers as usize)
+    WORKER_LEN.saturating_mul(workers as usize).min(ROUND_LIMIT)
 }
 
-/// Adds what a source has next to a round, which is empty before, up to `len` bytes or a window more: `false` at the end of
-/// the source.
+/// Adds what a source has next to a round, which is empty before, until it has `len` bytes: `false` at the end of the source.
 fn fill_round<A: Allocator, I: Source>(
     source: &mut I,
     window: &mut [u8],
@@ -190,6 +192,7 @@ fn fill_round<A: Allocator, I: Source>(
     requires empty { round.old.items ≡ [] }
     ensures len { length window.new ≡ length window.old }
     ensures taken { OnOk result (Consumes (I.remaining source.old) (I.remaining source.new) round.new.items) }
+    ensures more { result ≡ Ok true → len ≤ vec_len round.new }
     ensures whole { result ≡ Ok false → IsAtEnd (I.remaining source.new) }
     ensures unread { result ≡ Err Read
         → Fails (I.Failures.failure_count source.old) (I.Failures.failure_count source.new) }
