@@ -2,6 +2,7 @@
 
 import os
 import re
+import shutil
 import subprocess
 import sys
 import tempfile
@@ -26,6 +27,24 @@ def text_of(name):
 def version():
     """The version that the program is built with, as it stands in the source."""
     return re.search(r'(?m)^const VERSION: &str = "([^ ]+) ', text_of("crates/task_words/src/command.rt"))[1]
+
+
+LIBRARY = os.path.join("build", "library", f"libstlslice.so.{version()}")
+
+
+def library():
+    """The shared library that `make library` left, beside the static one and stlslice.pc. Where there is none, the test can't
+    run here."""
+    if not os.path.exists(os.path.join(ROOT, LIBRARY)):
+        skip("the library isn't built (make library)")
+    return os.path.join(ROOT, LIBRARY)
+
+
+def wants(**tools):
+    """Ends the test as one that can't run here where one of these tools is missing, each with its package."""
+    for tool, package in tools.items():
+        if not shutil.which(tool.replace("_", "-")):
+            skip(f"{tool.replace('_', '-')} is missing (Debian: {package})")
 
 
 def same(what, found, wanted):
@@ -67,8 +86,8 @@ class Room:
         return subprocess.run(words, stdout=subprocess.PIPE, stderr=subprocess.PIPE, **how)
 
     def make(self, *words):
-        """make with the program at hand in the place of build/stlslice; it is taken as built."""
-        ran = self.run("make", "-o", PROGRAM, f"PROGRAM={PROGRAM}", *words)
+        """make with the program at hand in the place of build/stlslice; it is taken as built, and so is a library."""
+        ran = self.run("make", "-o", PROGRAM, "-o", LIBRARY, f"PROGRAM={PROGRAM}", *words)
         if ran.returncode:
             sys.exit(f"make {' '.join(words)}: status {ran.returncode}\n{ran.stdout}{ran.stderr}")
         return ran

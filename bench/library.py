@@ -1,0 +1,138 @@
+#!/usr/bin/env python3
+"""Times the library beside the program on a mesh made here, a ring of about the given number of facets: what a preview waits
+for, and what a pipeline spends for all layers. And the memory of an open mesh.
+
+    bench/library.py PROGRAM LIBRARY [FACETS]
+
+Times are processor time, in times of a run of the program with one worker; each is the least of five. It wants numpy, and for
+the memory glibc 2.33 or later.
+"""
+
+import ctypes
+import os
+import resource
+import subprocess
+import sys
+import tempfile
+import time
+
+from measure import ring_of
+
+RUNS = 5
+SIZES = {"pitch": 100, "layer": 100}
+WORDS = [f"--{name}={value}" for name, value in SIZES.items()]
+
+
+class Heap(ctypes.Structure):
+    """`struct mallinfo2` of glibc."""
+
+    _fields_ = [(name, ctypes.c_size_t) for name in ("arena", "ordblks", "smblks", "hblks", "hblkhd", "usmblks", "fsmblks",
+                                                     "uordblks", "fordblks", "keepcost")]
+
+
+def in_use():
+    """Bytes that malloc has given out."""
+    call = ctypes.CDLL(None).mallinfo2
+    call.restype = Heap
+    told = call()
+    return told.uordblks + told.hblkhd
+
+
+def resident(name):
+    with open("/proc/self/status") as told:
+        return next(int(line.split()[1]) << 10 for line in told if line.startswith(f"{name}:"))
+
+
+def spent():
+    """Seconds of processor time of this process and of those that it has waited for."""
+    return sum(used.ru_utime + used.ru_stime for used in map(resource.getrusage, (resource.RUSAGE_SELF, resource.RUSAGE_CHILDREN)))
+
+
+def least(task):
+    found = []
+    for _ in range(RUNS):
+        start = spent()
+        task()
+        found.append(spent() - start)
+    return min(found)
+
+
+def first_layer(stlslice, text, ask):
+    """Seconds of the first layer after opening, in a mesh of its own each time."""
+    found = []
+    for _ in range(RUNS):
+        with stlslice.open(text, **SIZES) as mesh:
+            start = time.process_time()
+            ask(mesh, len(mesh) // 2)
+            found.append(time.process_time() - start)
+    return min(found)
+
+
+def through_pipe(program, path, shape, numpy):
+    """The arrays of all layers, of the program's stream."""
+    layers, rows, columns = shape
+    header = len(f"P4\n{columns} {rows}\n")
+    size = header + rows * ((columns + 7) // 8)
+    with open(path) as text, subprocess.Popen([program, *WORDS], stdin=text, stdout=subprocess.PIPE) as child:
+        for _ in range(layers):
+            packed = numpy.frombuffer(child.stdout.read(size)[header:], numpy.uint8).reshape(rows, -1)
+            numpy.unpackbits(packed, axis=1, count=columns).view(bool)
+
+
+def memory(stlslice, text):
+    """Bytes a facet that an open mesh keeps, and that opening takes at most, beside the text."""
+    before = in_use()
+    with open("/proc/self/clear_refs", "w") as peak:
+        peak.write("5")
+    start = resident("VmRSS")
+    with stlslice.open(text, **SIZES) as mesh:
+        most = resident("VmHWM") - start
+        return (in_use() - before) / mesh.box.facets, most / mesh.box.facets
+
+
+def main():
+    if len(sys.argv) not in (3, 4) or not all(word.isdecimal() for word in sys.argv[3:]):
+        sys.exit("use: bench/library.py PROGRAM LIBRARY [FACETS]")
+    program, os.environ["STLSLICE_LIBRARY"] = map(os.path.abspath, sys.argv[1:3])
+    sys.path.append(os.path.join(os.path.dirname(os.path.abspath(__file__)), "..", "python"))
+    import numpy
+    import stlslice
+
+    with tempfile.TemporaryDirectory() as folder:
+        path = os.path.join(folder, "ring.stl")
+        facets = ring_of(int(sys.argv[3]) if len(sys.argv) > 3 else 20_000, path)
+        with open(path, "rb") as file:
+            text = file.read()
+        kept, most = memory(stlslice, text)
+        with stlslice.open(text, **SIZES) as mesh:
+            shape = mesh.shape
+
+        def program_alone():
+            with open(path) as source, tempfile.TemporaryFile() as sink:
+                subprocess.run([program, *WORDS], stdin=source, stdout=sink, check=True)
+
+        def opened(ask):
+            with stlslice.open(text, **SIZES) as mesh:
+                for _ in ask(mesh):
+                    pass
+
+        whole = least(program_alone)
+        print("{} facets, {} layers of {} by {} pixels".format(facets, *shape))
+        print(f"{whole * 1000:8.0f} ms  a run of the program; in times of it:")
+        for name, seconds in (
+            ("open", least(lambda: opened(lambda mesh: ()))),
+            ("the first layer after opening", first_layer(stlslice, text, lambda mesh, k: mesh.image(k))),
+            ("the same as an array", first_layer(stlslice, text, lambda mesh, k: mesh[k])),
+            ("open, all layers one by one", least(lambda: opened(lambda mesh: map(mesh.image, range(len(mesh)))))),
+            ("open, all layers by stripes",
+             least(lambda: opened(lambda mesh: (mesh._stripe(s) for s in range((len(mesh) + 7) // 8))))),
+            ("open, all layers as arrays", least(lambda: opened(iter))),
+            ("the same arrays of the program's stream, through a pipe", least(lambda: through_pipe(program, path, shape, numpy))),
+        ):
+            print(f"{seconds / whole:8.4f}     {name}")
+        print(f"{kept:8.0f}     bytes a facet of an open mesh")
+        print(f"{most:8.0f}     bytes a facet that opening takes at most, beside the text")
+
+
+if __name__ == "__main__":
+    main()
