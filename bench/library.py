@@ -1,11 +1,11 @@
 #!/usr/bin/env python3
 """Times the library beside the program on a mesh made here, a ring of about the given number of facets: what a preview waits
-for, and what a pipeline spends for all layers. And the memory of an open mesh.
+for, and what a pipeline spends on all layers. And the memory of an open mesh.
 
     bench/library.py PROGRAM LIBRARY [FACETS]
 
-Times are processor time, in times of a run of the program with one worker; each is the least of five. It wants numpy, and for
-the memory glibc 2.33 or later.
+Times are processor time, in times of a run of the program with one worker; each is the least of eleven, taken in turn. It
+wants numpy, and for the memory glibc 2.33 or later.
 """
 
 import ctypes
@@ -14,11 +14,10 @@ import resource
 import subprocess
 import sys
 import tempfile
-import time
 
 from measure import ring_of
 
-RUNS = 5
+RUNS = 11
 SIZES = {"pitch": 100, "layer": 100}
 WORDS = [f"--{name}={value}" for name, value in SIZES.items()]
 
@@ -48,24 +47,10 @@ def spent():
     return sum(used.ru_utime + used.ru_stime for used in map(resource.getrusage, (resource.RUSAGE_SELF, resource.RUSAGE_CHILDREN)))
 
 
-def least(task):
-    found = []
-    for _ in range(RUNS):
-        start = spent()
-        task()
-        found.append(spent() - start)
-    return min(found)
-
-
-def first_layer(stlslice, text, ask):
-    """Seconds of the first layer after opening, in a mesh of its own each time."""
-    found = []
-    for _ in range(RUNS):
-        with stlslice.open(text, **SIZES) as mesh:
-            start = time.process_time()
-            ask(mesh, len(mesh) // 2)
-            found.append(time.process_time() - start)
-    return min(found)
+def took(task):
+    start = spent()
+    task()
+    return spent() - start
 
 
 def through_pipe(program, path, shape, numpy):
@@ -95,7 +80,10 @@ def main():
         sys.exit("use: bench/library.py PROGRAM LIBRARY [FACETS]")
     program, os.environ["STLSLICE_LIBRARY"] = map(os.path.abspath, sys.argv[1:3])
     sys.path.append(os.path.join(os.path.dirname(os.path.abspath(__file__)), "..", "python"))
-    import numpy
+    try:
+        import numpy
+    except ImportError:
+        sys.exit("bench: numpy is missing (Debian: python3-numpy)")
     import stlslice
 
     with tempfile.TemporaryDirectory() as folder:
@@ -107,7 +95,7 @@ def main():
         with stlslice.open(text, **SIZES) as mesh:
             shape = mesh.shape
 
-        def program_alone():
+        def run():
             with open(path) as source, tempfile.TemporaryFile() as sink:
                 subprocess.run([program, *WORDS], stdin=source, stdout=sink, check=True)
 
@@ -116,19 +104,28 @@ def main():
                 for _ in ask(mesh):
                     pass
 
-        whole = least(program_alone)
-        print("{} facets, {} layers of {} by {} pixels".format(facets, *shape))
-        print(f"{whole * 1000:8.0f} ms  a run of the program; in times of it:")
-        for name, seconds in (
-            ("open", least(lambda: opened(lambda mesh: ()))),
-            ("the first layer after opening", first_layer(stlslice, text, lambda mesh, k: mesh.image(k))),
-            ("the same as an array", first_layer(stlslice, text, lambda mesh, k: mesh[k])),
-            ("open, all layers one by one", least(lambda: opened(lambda mesh: map(mesh.image, range(len(mesh)))))),
-            ("open, all layers by stripes",
-             least(lambda: opened(lambda mesh: (mesh._stripe(s) for s in range((len(mesh) + 7) // 8))))),
-            ("open, all layers as arrays", least(lambda: opened(iter))),
-            ("the same arrays of the program's stream, through a pipe", least(lambda: through_pipe(program, path, shape, numpy))),
-        ):
+        def layer(ask, turns):
+            """The middle layer of a mesh that was just opened, when it is asked for the last of some times."""
+            with stlslice.open(text, **SIZES) as mesh:
+                return [took(lambda: ask(mesh, len(mesh) // 2)) for _ in range(turns)][-1]
+
+        tasks = {
+            "a run of the program": lambda: took(run),
+            "open": lambda: took(lambda: opened(lambda mesh: ())),
+            "the first layer that is asked for, the middle one": lambda: layer(stlslice.Mesh.image, 1),
+            "the same as an array": lambda: layer(stlslice.Mesh.__getitem__, 1),
+            "the same layer again": lambda: layer(stlslice.Mesh.image, 2),
+            "open, all layers one by one": lambda: took(lambda: opened(lambda mesh: map(mesh.image, range(len(mesh))))),
+            "open, all layers by stripes": lambda: took(lambda: opened(lambda mesh: map(mesh._stripe, range((len(mesh) + 7) // 8)))),
+            "open, all layers as arrays": lambda: took(lambda: opened(iter)),
+            "the same arrays of the program's stream, through a pipe":
+                lambda: took(lambda: through_pipe(program, path, shape, numpy)),
+        }
+        turns = [[task() for task in tasks.values()] for _ in range(RUNS)]
+        found = dict(zip(tasks, map(min, zip(*turns))))
+        whole = found["a run of the program"]
+        print("{} facets, {} layers of {} by {} pixels; a run of the program takes {:.0f} ms".format(facets, *shape, whole * 1000))
+        for name, seconds in found.items():
             print(f"{seconds / whole:8.4f}     {name}")
         print(f"{kept:8.0f}     bytes a facet of an open mesh")
         print(f"{most:8.0f}     bytes a facet that opening takes at most, beside the text")

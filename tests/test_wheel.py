@@ -71,14 +71,31 @@ def used(room, python):
          [f"{version()} 24 {hashlib.sha256(stream).hexdigest()}", f"{refused.returncode} {refused.stderr.rstrip()}"])
 
 
+def from_tree(room):
+    """The module of the tree takes the library that a variable names, and says what is missing where there is none."""
+    told = room.environment["PYTHONPATH"] = os.path.join(ROOT, "python")
+    for named, wanted in ((library(), (0, f"{version()}\n", "")), (room.file("none"), (1, "", "ImportError"))):
+        ran = room.run(sys.executable, "-B", "-c", "import stlslice; print(stlslice.version())",
+                       env={**room.environment, "STLSLICE_LIBRARY": named})
+        said = ran.stderr.splitlines()[-1].split(":")[0] if ran.stderr else ""
+        same(f"the module of {told} with {named}", (ran.returncode, ran.stdout, said), wanted)
+        holds("what is missing is said in its last line", not ran.stderr or "STLSLICE_LIBRARY" in ran.stderr.splitlines()[-1])
+    del room.environment["PYTHONPATH"]
+
+
 def documented(room, python):
     """The Python of README runs as it stands, and so does the preview, which shows the gear."""
     if room.run(python, "-c", "import numpy").returncode:
         return print("numpy is missing: the lines of README and of docs/embedding.md were not run")
     readme = re.search(r"(?ms)^```python\n(.*?)^```$", text_of("README.md"))[1]
     os.symlink(os.path.join(ROOT, "examples", "bracket.stl"), room.file("part.stl"))
-    ran = room.run(python, "-c", readme + "\nprint(mask.shape, mask.dtype, int(mask.sum()) == area)", cwd=room.path)
-    same("README's lines", (ran.returncode, ran.stdout, ran.stderr), (0, "(240, 640) bool True\n", ""))
+    shown = "print(mask.shape, mask.dtype, int(mask.sum()) == area > 0, image[:11], len(image), [len(it) > 2 for it in loops])"
+    ran = room.run(python, "-c", readme + shown, cwd=room.path)
+    words = "--pitch 50 --layer 50 --rule positive --report".split()
+    with open(room.file("part.stl"), "rb") as text:
+        count = int(re.search(r"(?m)^layer 120 loops (\d+) ", room.run("stlslice", *words, stdin=text).stdout)[1])
+    wanted = f"(240, 640) bool True b'P4\\n640 240\\n' {11 + 80 * 240} {[True] * count}\n"
+    same("README's lines", (ran.returncode, ran.stdout, ran.stderr), (0, wanted, ""))
     preview = re.search(r"(?ms)^```python\n(.*?)^```$", text_of("docs/embedding.md"))[1]
     with open(os.path.join(ROOT, "examples", "helical_gear.stl"), "rb") as part:
         ran = room.run(python, "-c", preview, stdin=part, text=False)
@@ -101,6 +118,7 @@ def main():
         same("status of pip", (ran.returncode, ran.stdout), (0, ""))
         used(room, python)
         documented(room, python)
+        from_tree(room)
 
 
 if __name__ == "__main__":
