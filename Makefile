@@ -5,7 +5,7 @@
 # make install    copies the program, its manual, completions, documents and examples below PREFIX, and the library
 #                 with its header where it is built
 # make uninstall  removes what make install copied
-# make deb        a Debian package of the program and its files, in build/, and one of the library where it is built
+# make deb        a Debian package of the program and its files, in build/, and two of the library where it is built
 # make dist       a tarball of the program, and of the library where it is built, with their SHA-256, in build/
 # make library    proves and builds the library for C, and leaves it in build/library
 # make wheel      a wheel of the Python module and the library, in build/

@@ -32,19 +32,27 @@ def version():
 LIBRARY = os.path.join("build", "library", f"libstlslice.so.{version()}")
 
 
-def library():
-    """The shared library that `make library` left, beside the static one and stlslice.pc. Where there is none, the test can't
-    run here."""
+def why_no_library():
+    """Why there is no library to be tested, or None where `make library` left one of the sources as they are."""
     if not os.path.exists(os.path.join(ROOT, LIBRARY)):
-        skip("the library isn't built (make library)")
-    return os.path.join(ROOT, LIBRARY)
+        return "the library isn't built (make library)"
+    words = {name: value for name, value in os.environ.items() if name not in ("MAKEFLAGS", "MFLAGS", "MAKELEVEL")}
+    is_old = subprocess.run(["make", "-q", LIBRARY], cwd=ROOT, env=words, stdout=subprocess.DEVNULL, stderr=subprocess.DEVNULL)
+    return "the library is older than its sources (make library)" if is_old.returncode else None
 
 
-def wants(**tools):
-    """Ends the test as one that can't run here where one of these tools is missing, each with its package."""
-    for tool, package in tools.items():
-        if not shutil.which(tool.replace("_", "-")):
-            skip(f"{tool.replace('_', '-')} is missing (Debian: {package})")
+def library():
+    """The shared library that `make library` left, beside the static one and stlslice.pc. Where there is none of the sources as
+    they are, the test can't run here."""
+    why = why_no_library()
+    return skip(why) if why else os.path.join(ROOT, LIBRARY)
+
+
+def wants(*tools):
+    """Ends the test as one that can't run here where one of these tools is missing, each told with its Debian package."""
+    for tool, package in tools:
+        if not shutil.which(tool):
+            skip(f"{tool} is missing (Debian: {package})")
 
 
 def same(what, found, wanted):

@@ -9,7 +9,7 @@ import os
 import shutil
 import tarfile
 
-from common import LIBRARY, PROGRAM, ROOT, Room, holds, same, version
+from common import LIBRARY, PROGRAM, ROOT, Room, holds, same, version, why_no_library
 
 WITHOUT = "tools/dist: the library isn't built (make library), so the tarball has the program alone\n"
 
@@ -56,11 +56,12 @@ def with_library(room):
 
 
 def main():
-    if os.path.exists(os.path.join(ROOT, LIBRARY)):
+    why = why_no_library()
+    if why:
+        print(f"{why}: no tarball was made with it")
+    else:
         with Room() as room:
             with_library(room)
-    else:
-        print("the library isn't built: no tarball was made with it")
     with Room() as room:
         tarball, first = made(room, "one", 22)
         _, second = made(room, "another", 77)

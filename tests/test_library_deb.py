@@ -1,51 +1,75 @@
 #!/usr/bin/env python3
-"""The Debian package of the library has header, libraries, stlslice.pc and licence in Debian's places; made twice it is the
-same bytes; and lintian, where it is there, has nothing to say beyond what the package's overrides explain."""
+"""The library's two Debian packages, one for programs that use it and one to build these with, have header, libraries,
+stlslice.pc and licence in Debian's places, each file in one of them; made twice they are the same bytes; a program is built with
+what both unpack; and lintian, where it is there, has nothing to say beyond what the packages' overrides explain."""
 
-import glob
 import os
 import shutil
 
 from common import ROOT, Room, holds, library, same, version, wants
 
 LIB = "usr/lib/x86_64-linux-gnu"
-DOC = "usr/share/doc/libstlslice-dev"
+SHARED = f"{LIB}/libstlslice.so.{version()}"
+FILES = {
+    "libstlslice1": {SHARED: library, f"{LIB}/libstlslice.so.1": "link",
+                     "usr/share/doc/libstlslice1/copyright": "LICENSE"},
+    "libstlslice-dev": {f"{LIB}/libstlslice.so": "link", f"{LIB}/libstlslice.a": None, f"{LIB}/pkgconfig/stlslice.pc": None,
+                        "usr/include/stlslice.h": "include/stlslice.h",
+                        "usr/share/doc/libstlslice-dev/embedding.md": "docs/embedding.md",
+                        "usr/share/doc/libstlslice-dev/preview.png": "docs/preview.png",
+                        "usr/share/doc/libstlslice-dev/copyright": "LICENSE"},
+}
+PROGRAM = '#include <stdio.h>\n#include <stlslice.h>\nint main(void) { return printf("%u\\n", stlslice_version()) < 0; }\n'
+
+
+def bytes_of(*path):
+    with open(os.path.join(*path), "rb") as file:
+        return file.read()
 
 
 def made(room, name):
     ran = room.run("tools/deb_library", library(), version(), room.file(name))
     same("status of tools/deb_library", (ran.returncode, ran.stderr), (0, ""))
-    package, = glob.glob(room.file(name, "*.deb"))
-    with open(package, "rb") as file:
-        return package, file.read()
+    packages = [room.file(name, f"{it}_{version()}-1_amd64.deb") for it in FILES]
+    same("packages", sorted(os.listdir(room.file(name))), sorted(map(os.path.basename, packages)))
+    return packages, [bytes_of(it) for it in packages]
 
 
 def main():
     library()
-    wants(dpkg_deb="dpkg", make="make")
+    wants(("dpkg-deb", "dpkg"), ("make", "make"))
     with Room() as room:
-        package, first = made(room, "one")
-        holds("both packages are the same bytes", first == made(room, "another")[1])
-        listed = [it.split() for it in room.run("dpkg-deb", "-c", package).stdout.splitlines()]
-        files = {line[5]: line for line in listed}
-        for place, mode in ((f"{LIB}/libstlslice.a", "-rw-r--r--"), (f"{LIB}/libstlslice.so.{version()}", "-rw-r--r--"),
-                            (f"{LIB}/libstlslice.so.1", "lrwxrwxrwx"), (f"{LIB}/libstlslice.so", "lrwxrwxrwx"),
-                            (f"{LIB}/pkgconfig/stlslice.pc", "-rw-r--r--"), ("usr/include/stlslice.h", "-rw-r--r--"),
-                            (f"{DOC}/embedding.md", "-rw-r--r--"), (f"{DOC}/copyright", "-rw-r--r--")):
-            line = files.get(f"./{place}")
-            same(f"mode and owner of {place}", line and line[:2], [mode, "root/root"])
-        room.run("dpkg-deb", "-x", package, room.file("opened"))
-        with open(room.file("opened", LIB, "pkgconfig", "stlslice.pc"), encoding="ascii") as told:
-            same("places in stlslice.pc", told.read().splitlines()[:3], ["prefix=/usr", f"libdir=/{LIB}", "includedir=/usr/include"])
-        with open(room.file("opened", LIB, "libstlslice.so"), "rb") as opened, open(library(), "rb") as wanted:
-            holds("the library is the one that was built", opened.read() == wanted.read())
-        text = "\n".join(open(os.path.join(ROOT, "include", "stlslice.h"), encoding="ascii"))
-        with open(room.file("opened", "usr/include/stlslice.h"), encoding="ascii") as header:
-            holds("so is the header", "\n".join(header) == text)
+        packages, first = made(room, "one")
+        holds("both makings are the same bytes", first == made(room, "another")[1])
+        seen = set()
+        for package, (name, wanted) in zip(packages, FILES.items()):
+            lines = [it.split() for it in room.run("dpkg-deb", "-c", package).stdout.splitlines()]
+            files = {it[5][2:]: it[:2] for it in lines if not it[0].startswith("d")}
+            holds(f"{name} has nothing of the other's", not seen & set(files))
+            seen |= set(files)
+            room.run("dpkg-deb", "-x", package, room.file("opened"))
+            for place, source in wanted.items():
+                mode = "lrwxrwxrwx" if source == "link" else "-rw-r--r--"
+                same(f"mode and owner of {place} in {name}", files.get(place), [mode, "root/root"])
+                if source not in (None, "link"):
+                    holds(f"{place} is as built", bytes_of(room.file("opened", place))
+                          == bytes_of(ROOT, source() if callable(source) else source))
+        told = bytes_of(room.file("opened", LIB, "pkgconfig", "stlslice.pc")).decode().splitlines()
+        same("places in stlslice.pc", told[:3], ["prefix=/usr", f"libdir=/{LIB}", "includedir=/usr/include"])
+        depends = room.run("dpkg-deb", "-f", packages[1], "Depends").stdout
+        holds("one wants the other, of just its version", f"libstlslice1 (= {version()}-1)" in depends)
+        if shutil.which("cc"):
+            with open(room.file("told.c"), "w", encoding="ascii") as file:
+                file.write(PROGRAM)
+            ran = room.run("cc", room.file("told.c"), f"-I{room.file('opened', 'usr/include')}", f"-L{room.file('opened', LIB)}",
+                           "-lstlslice", "-o", room.file("told"))
+            same("a program is built with them", (ran.returncode, ran.stderr), (0, ""))
+            ran = room.run(room.file("told"), env={**room.environment, "LD_LIBRARY_PATH": room.file("opened", LIB)})
+            same("status of that program", (ran.returncode, ran.stderr), (0, ""))
         if shutil.which("lintian"):
-            same("what lintian has to say", room.run("lintian", "--allow-root", package).stdout, "")
+            same("what lintian has to say", room.run("lintian", "--allow-root", *packages).stdout, "")
         else:
-            print("lintian is missing: the package was not looked at by it")
+            print("lintian is missing: the packages were not looked at by it")
 
 
 if __name__ == "__main__":

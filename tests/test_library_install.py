@@ -6,6 +6,7 @@ slices, and a refused part's line. make uninstall leaves nothing."""
 import os
 import re
 import shlex
+import shutil
 import stat
 
 from common import ROOT, Room, holds, library, same, text_of, version, wants
@@ -76,7 +77,7 @@ def by_program(room, part):
 
 def main():
     beside = os.path.dirname(library())
-    wants(make="make", pkg_config="pkgconf", cc="gcc", readelf="binutils")
+    wants(("make", "make"), ("pkg-config", "pkgconf"), ("cc", "gcc"), ("readelf", "binutils"))
     with Room() as room:
         where, prefix = f"DESTDIR={room.file('root')}", room.file("root", "opt", "here")
         room.make("install", where, "PREFIX=/opt/here")
@@ -96,6 +97,9 @@ def main():
         for name, ran in (("shared", by_shared), ("static", by_static)):
             same(f"status of the preview by the {name} library", (ran.returncode, ran.stderr), (0, b""))
             holds(f"the preview by the {name} library shows the program's layers", ran.stdout == wanted)
+        if shutil.which("pngtopnm"):
+            drawn = room.run("pngtopnm", "docs/preview.png", text=False)
+            holds("docs/preview.png is that picture", drawn.returncode == 0 and drawn.stdout == wanted)
         behind = f"{{ head -c {1 << 27} /dev/zero | tr '\\0' ' '; cat {part}; }} | {static}"
         ran = room.run("bash", "-c", behind, text=False)
         holds("so it does where 128 MiB of white space come first, through a pipe", ran.returncode == 0 and ran.stdout == wanted)

@@ -10,7 +10,7 @@ import shutil
 import sys
 import zipfile
 
-from common import LIBRARY, ROOT, Room, holds, same, text_of, version
+from common import LIBRARY, ROOT, Room, holds, same, text_of, version, why_no_library
 
 
 def number_of(text):
@@ -46,11 +46,12 @@ def main():
     same("the version in the library's source", int(stated.replace("_", "")), number_of(version()))
     example = re.search(r"(\d+) for ([\d.]+)\.", header)
     same("the header's example of a version", int(example[1]), number_of(example[2]))
-    if os.path.exists(os.path.join(ROOT, LIBRARY)):
+    why = why_no_library()
+    if why:
+        print(f"{why}: its version was not looked at")
+    else:
         with Room() as room:
             of_library(room)
-    else:
-        print("the library isn't built: its version was not looked at")
     source = text_of("crates/task_words/src/command.rt")
     proved = re.search(r'(?m)^const VERSION: &str = "[^ ]+ \(proved with (.*)\)";$', source)[1]
     with Room() as room:
