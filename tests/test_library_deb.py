@@ -4,6 +4,7 @@ stlslice.pc and licence in Debian's places, each file in one of them; made twice
 what both unpack; and lintian, where it is there, has nothing to say beyond what the packages' overrides explain."""
 
 import os
+import re
 import shutil
 
 from common import ROOT, Room, holds, library, same, version, wants
@@ -15,7 +16,7 @@ FILES = {
                      "usr/share/doc/libstlslice1/copyright": "LICENSE"},
     "libstlslice-dev": {f"{LIB}/libstlslice.so": "link", f"{LIB}/libstlslice.a": None, f"{LIB}/pkgconfig/stlslice.pc": None,
                         "usr/include/stlslice.h": "include/stlslice.h",
-                        "usr/share/doc/libstlslice-dev/embedding.md": "docs/embedding.md",
+                        "usr/share/doc/libstlslice-dev/embedding.md": None,
                         "usr/share/doc/libstlslice-dev/preview.png": "docs/preview.png",
                         "usr/share/doc/libstlslice-dev/copyright": "LICENSE"},
 }
@@ -56,6 +57,8 @@ def main():
                           == bytes_of(ROOT, source() if callable(source) else source))
         told = bytes_of(room.file("opened", LIB, "pkgconfig", "stlslice.pc")).decode().splitlines()
         same("places in stlslice.pc", told[:3], ["prefix=/usr", f"libdir=/{LIB}", "includedir=/usr/include"])
+        linked = re.findall(r"\]\(([^)]+)\)", bytes_of(room.file("opened", "usr/share/doc/libstlslice-dev/embedding.md")).decode())
+        same("what its document links to", sorted(linked), ["#tested", "preview.png"])
         depends = room.run("dpkg-deb", "-f", packages[1], "Depends").stdout
         holds("one wants the other, of just its version", f"libstlslice1 (= {version()}-1)" in depends)
         if shutil.which("cc"):
