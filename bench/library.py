@@ -65,14 +65,14 @@ def through_pipe(program, path, shape, numpy):
 
 
 def memory(stlslice, text):
-    """Bytes a facet that an open mesh keeps, and that opening takes at most, beside the text."""
+    """Facets of a text, bytes that their open mesh keeps, and bytes that opening takes at most, beside the text."""
     before = in_use()
     with open("/proc/self/clear_refs", "w") as peak:
         peak.write("5")
     start = resident("VmRSS")
     with stlslice.open(text, **SIZES) as mesh:
         most = resident("VmHWM") - start
-        return (in_use() - before) / mesh.box.facets, most / mesh.box.facets
+        return mesh.box.facets, in_use() - before, most
 
 
 def main():
@@ -91,7 +91,7 @@ def main():
         facets = ring_of(int(sys.argv[3]) if len(sys.argv) > 3 else 20_000, path)
         with open(path, "rb") as file:
             text = file.read()
-        kept, most = memory(stlslice, text)
+        _, kept, most = memory(stlslice, text)
         with stlslice.open(text, **SIZES) as mesh:
             shape = mesh.shape
 
@@ -127,8 +127,8 @@ def main():
         print("{} facets, {} layers of {} by {} pixels; a run of the program takes {:.0f} ms".format(facets, *shape, whole * 1000))
         for name, seconds in found.items():
             print(f"{seconds / whole:8.4f}     {name}")
-        print(f"{kept:8.0f}     bytes a facet of an open mesh")
-        print(f"{most:8.0f}     bytes a facet that opening takes at most, beside the text")
+        print(f"{kept / facets:8.0f}     bytes a facet of an open mesh")
+        print(f"{most / facets:8.0f}     bytes a facet that opening takes at most, beside the text")
 
 
 if __name__ == "__main__":
