@@ -71,8 +71,8 @@ def memory(stlslice, text):
         peak.write("5")
     start = resident("VmRSS")
     with stlslice.open(text, **SIZES) as mesh:
-        most = resident("VmHWM") - start
-        return mesh.box.facets, in_use() - before, most
+        kept, grown = in_use() - before, resident("VmHWM") - start
+        return mesh.box.facets, kept, max(kept, grown)
 
 
 def main():
