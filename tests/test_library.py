@@ -9,7 +9,6 @@ import sys
 
 from common import PROGRAM, ROOT, Room, holds, library, same, skip, text_of, version, wants
 
-PROVED = os.path.join(ROOT, "crates", "stlslice_c", "out", "libstlslice_c.a")
 
 MEASURE = """
 import sys, library, measure, stlslice
@@ -34,7 +33,8 @@ def memory(room):
 
 
 def made(room, name):
-    ran = room.run("library/build", PROVED, version(), "/usr/local", room.file(name))
+    proved = os.path.join(os.path.dirname(library()), "proved.a")
+    ran = room.run("library/build", proved, version(), "/usr/local", room.file(name))
     same(f"status of library/build in {name}", (ran.returncode, ran.stdout, ran.stderr), (0, "", ""))
     found = {}
     for it in sorted(os.listdir(room.file(name))):
@@ -46,12 +46,12 @@ def made(room, name):
 def main():
     library()
     wants(("cc", "gcc"), ("c++", "g++"), ("objcopy", "binutils"))
-    if not shutil.which("rt") or not os.path.exists(PROVED):
-        skip("rt, or what rt lib made, is missing: make library makes it")
+    if not shutil.which("rt"):
+        skip("rt is missing: it comes with the Rattle toolchain")
     with Room() as room:
         first = made(room, "one")
         same("files of library/build", sorted(first), sorted(["libstlslice.a", "libstlslice.so", "libstlslice.so.1",
-                                                              f"libstlslice.so.{version()}", "stlslice.pc"]))
+                                                              f"libstlslice.so.{version()}", "proved.a", "stlslice.pc"]))
         holds("both libraries are the same bytes", first == made(room, "another"))
         memory(room)
         ran = room.run(sys.executable, "library/test", os.path.dirname(library()), PROGRAM)
