@@ -31,7 +31,7 @@ def of_library(room):
     holds("make wheel takes it", f"wheel_of_library.py {version()} {LIBRARY} build\n" in made)
     # as pip makes it of python/pyproject.toml
     build = "import sys, wheel_of_library as it; print(it.build_wheel(sys.argv[1]))"
-    ran = room.run(sys.executable, "-c", build, room.path, cwd=os.path.join(ROOT, "python"))
+    ran = room.run(sys.executable, "-B", "-c", build, room.path, cwd=os.path.join(ROOT, "python"))
     same("status of the build of python/", (ran.returncode, ran.stderr), (0, ""))
     name = ran.stdout.rstrip("\n")
     holds("the wheel's name tells it", name.startswith(f"stlslice-{version()}-"))
