@@ -5,8 +5,8 @@
 # make install    copies the program, its manual, completions, documents and examples below PREFIX, and the library
 #                 with its header where it is built
 # make uninstall  removes what make install copied
-# make deb        a Debian package of the program and its files, in build/, and one of the library where it is built
-# make dist       a tarball of the program and its SHA-256, in build/
+# make deb        a Debian package of the program and its files, in build/, and two of the library where it is built
+# make dist       a tarball of the program, and of the library where it is built, with their SHA-256, in build/
 # make library    proves and builds the library for C, and leaves it in build/library
 # make wheel      a wheel of the Python module and the library, in build/
 # make test-library  compares the library's layers, in C, C++ and Python, with the program's; see docs/embedding.md
@@ -71,6 +71,7 @@ $(LIBRARY): $(SOURCES) include/stlslice.h library/build library/edge.c library/e
 	CC="$(CC)" library/build $(LIBRARY_CRATE)/out/libstlslice_c.a $(VERSION) $(PREFIX) build/library
 
 wheel: $(LIBRARY)
+	@mkdir -p build
 	python3 python/wheel_of_library.py $(VERSION) $(LIBRARY) build
 
 test-library: $(LIBRARY) $(PROGRAM)
@@ -91,14 +92,15 @@ install: $(PROGRAM) $(if $(LIBRARY_BUILT),install-library)
 		install -m $$mode "$$file" $(DESTDIR)$(DOCS)/examples; \
 	done
 
-install-library:
+install-library: $(LIBRARY)
 	install -D -m 644 include/stlslice.h $(DESTDIR)$(INCLUDE)/stlslice.h
-	install -D -m 644 build/library/libstlslice.a $(DESTDIR)$(LIB)/libstlslice.a
+	install -D -m 644 $(dir $(LIBRARY))libstlslice.a $(DESTDIR)$(LIB)/libstlslice.a
 	install -m 755 $(LIBRARY) $(DESTDIR)$(LIB)
 	ln -sf libstlslice.so.$(VERSION) $(DESTDIR)$(LIB)/libstlslice.so.1
 	ln -sf libstlslice.so.1 $(DESTDIR)$(LIB)/libstlslice.so
 	install -d $(DESTDIR)$(LIB)/pkgconfig
-	sed 's|^prefix=.*|prefix=$(PREFIX)|; s|^libdir=.*|libdir=$(LIB)|' build/library/stlslice.pc > $(DESTDIR)$(LIB)/pkgconfig/stlslice.pc
+	sed 's|^prefix=.*|prefix=$(PREFIX)|; s|^libdir=.*|libdir=$(LIB)|; s|^includedir=.*|includedir=$(INCLUDE)|' \
+		$(dir $(LIBRARY))stlslice.pc > $(DESTDIR)$(LIB)/pkgconfig/stlslice.pc
 	chmod 644 $(DESTDIR)$(LIB)/pkgconfig/stlslice.pc
 
 uninstall:
@@ -108,12 +110,12 @@ uninstall:
 	rm -f $(DESTDIR)$(INCLUDE)/stlslice.h $(DESTDIR)$(LIB)/libstlslice.a $(DESTDIR)$(LIB)/pkgconfig/stlslice.pc
 	rm -f $(DESTDIR)$(LIB)/libstlslice.so $(DESTDIR)$(LIB)/libstlslice.so.1 $(DESTDIR)$(LIB)/libstlslice.so.$(VERSION)
 
-deb: $(PROGRAM)
+deb: $(PROGRAM) $(LIBRARY_BUILT)
 	tools/deb $(PROGRAM) $(VERSION) build
-	$(if $(LIBRARY_BUILT),tools/deb_library $(VERSION) build)
+	$(if $(LIBRARY_BUILT),tools/deb_library $(LIBRARY) $(VERSION) build)
 
-dist: $(PROGRAM)
-	tools/dist $(PROGRAM) $(VERSION) build
+dist: $(PROGRAM) $(LIBRARY_BUILT)
+	tools/dist $(PROGRAM) $(VERSION) build $(LIBRARY_BUILT)
 
 bench: $(PROGRAM)
 	python3 bench/measure.py $(PROGRAM) $(FACETS)

@@ -2,6 +2,7 @@
 
 import os
 import re
+import shutil
 import subprocess
 import sys
 import tempfile
@@ -26,6 +27,32 @@ def text_of(name):
 def version():
     """The version that the program is built with, as it stands in the source."""
     return re.search(r'(?m)^const VERSION: &str = "([^ ]+) ', text_of("crates/task_words/src/command.rt"))[1]
+
+
+LIBRARY = os.path.join("build", "library", f"libstlslice.so.{version()}")
+
+
+def why_no_library():
+    """Why there is no library to be tested, or None where `make library` left one of the sources as they are."""
+    if not os.path.exists(os.path.join(ROOT, LIBRARY)):
+        return "the library isn't built (make library)"
+    words = {name: value for name, value in os.environ.items() if name not in ("MAKEFLAGS", "MFLAGS", "MAKELEVEL")}
+    is_old = subprocess.run(["make", "-q", LIBRARY], cwd=ROOT, env=words, stdout=subprocess.DEVNULL, stderr=subprocess.DEVNULL)
+    return "the library is older than its sources (make library)" if is_old.returncode else None
+
+
+def library():
+    """The shared library that `make library` left, beside the static one and stlslice.pc. Where there is none of the sources as
+    they are, the test can't run here."""
+    why = why_no_library()
+    return skip(why) if why else os.path.join(ROOT, LIBRARY)
+
+
+def wants(*tools):
+    """Ends the test as one that can't run here where one of these tools is missing, each told with its Debian package."""
+    for tool, package in tools:
+        if not shutil.which(tool):
+            skip(f"{tool} is missing (Debian: {package})")
 
 
 def same(what, found, wanted):
@@ -67,8 +94,8 @@ class Room:
         return subprocess.run(words, stdout=subprocess.PIPE, stderr=subprocess.PIPE, **how)
 
     def make(self, *words):
-        """make with the program at hand in the place of build/stlslice; it is taken as built."""
-        ran = self.run("make", "-o", PROGRAM, f"PROGRAM={PROGRAM}", *words)
+        """make with the program at hand in the place of build/stlslice; it is taken as built, and so is a library."""
+        ran = self.run("make", "-o", PROGRAM, "-o", LIBRARY, f"PROGRAM={PROGRAM}", *words)
         if ran.returncode:
             sys.exit(f"make {' '.join(words)}: status {ran.returncode}\n{ran.stdout}{ran.stderr}")
         return ran

@@ -33,6 +33,8 @@ def main():
         files = {line.split()[-1]: line.split() for line in listed}
         for place in PLACES:
             holds(f"{place} is in it, as root's", place in files and files[place][1] == "root/root")
+        beside = [it for it in files if it.startswith(("./usr/lib/", "./usr/include/"))]
+        same("what it has of the library, which is a package of its own", beside, [])
         room.run("dpkg-deb", "-x", package, room.file("opened"))
         with open(os.path.join(ROOT, "examples", "bracket.stl"), "rb") as part:
             told = room.run(room.file("opened", "usr/bin/stlslice"), "--box", stdin=part)

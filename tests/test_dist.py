@@ -1,6 +1,7 @@
 #!/usr/bin/env python3
 """make dist gives the same bytes at another time, in another place and under another umask; the program in the
-tarball has the SHA-256 that stands beside it, and runs."""
+tarball has the SHA-256 that stands beside it, and runs. Where the library is built it is there too, with its header, and
+pkg-config finds both wherever the tarball is unpacked; where it isn't, make dist says so."""
 
 import glob
 import hashlib
@@ -8,18 +9,20 @@ import os
 import shutil
 import tarfile
 
-from common import PROGRAM, ROOT, Room, holds, same, version
+from common import LIBRARY, PROGRAM, ROOT, Room, holds, same, version, why_no_library
+
+WITHOUT = "tools/dist: the library isn't built (make library), so the tarball has the program alone\n"
 
 
-def made(room, name, umask):
+def made(room, name, umask, library=""):
     """The tarball, made in a copy of the repository's files whose times differ."""
     copy = room.file(name)
     shutil.copytree(ROOT, copy, ignore=shutil.ignore_patterns(".git", "crates", "build", "__pycache__"))
     for at, _, names in os.walk(copy):
         for it in names:
             os.utime(os.path.join(at, it), (umask * 1000, umask * 1000))
-    ran = room.run("bash", "-c", f"umask {umask:03}; cd '{copy}'; tools/dist '{PROGRAM}' {version()} '{copy}/out'")
-    same(f"status of tools/dist in {name}", (ran.returncode, ran.stderr), (0, ""))
+    ran = room.run("bash", "-c", f"umask {umask:03}; cd '{copy}'; tools/dist '{PROGRAM}' {version()} '{copy}/out' {library}")
+    same(f"status of tools/dist in {name}", (ran.returncode, ran.stderr), (0, "" if library else WITHOUT))
     tarball, = glob.glob(f"{copy}/out/*.tar.gz")
     with open(tarball, "rb") as file:
         body = file.read()
@@ -28,7 +31,37 @@ def made(room, name, umask):
     return tarball, body
 
 
+def with_library(room):
+    """The tarball of program and library; a program is made with what was unpacked, and runs."""
+    built = os.path.join(ROOT, LIBRARY)
+    tarball, first = made(room, "one", 22, f"'{built}'")
+    holds("with the library, both tarballs are the same bytes", first == made(room, "another", 77, f"'{built}'")[1])
+    with tarfile.open(tarball) as archive:
+        archive.extractall(room.file("opened"))
+    folder, = glob.glob(room.file("opened", "*"))
+    shared = f"lib/libstlslice.so.{version()}"
+    wanted = [f"{name}: OK" for name in ("stlslice", "include/stlslice.h", "lib/libstlslice.a", shared)]
+    same("sha256sum -c", room.run("sha256sum", "-c", "SHA256SUMS", cwd=folder).stdout.splitlines(), wanted)
+    same("what the links lead to", [os.readlink(os.path.join(folder, "lib", it)) for it in ("libstlslice.so", "libstlslice.so.1")],
+         ["libstlslice.so.1", os.path.basename(shared)])
+    if not shutil.which("pkg-config") or not shutil.which("cc"):
+        return print("pkg-config or cc is missing: no program was made with the library")
+    with open(room.file("told.c"), "w", encoding="ascii") as file:
+        file.write('#include <stdio.h>\n#include <stlslice.h>\nint main(void) { return printf("%u\\n", stlslice_version()) < 0; }\n')
+    command = f"cc {room.file('told.c')} $(pkg-config --cflags --libs stlslice) -o {room.file('told')} && {room.file('told')}"
+    told = room.run("bash", "-c", command, env={**room.environment, "PKG_CONFIG_PATH": f"{folder}/lib/pkgconfig",
+                                                "LD_LIBRARY_PATH": f"{folder}/lib"})
+    number = sum(int(part) * 1000**at for at, part in enumerate(reversed(version().split("."))))
+    same("a program made with the library", (told.returncode, told.stdout, told.stderr), (0, f"{number}\n", ""))
+
+
 def main():
+    why = why_no_library()
+    if why:
+        print(f"{why}: no tarball was made with it")
+    else:
+        with Room() as room:
+            with_library(room)
     with Room() as room:
         tarball, first = made(room, "one", 22)
         _, second = made(room, "another", 77)

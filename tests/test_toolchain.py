@@ -1,6 +1,6 @@
 #!/usr/bin/env python3
-"""Without the toolchain make, make test and make demo say so in one line; and the built program needs nothing but the
-C library, of the version that this line tells at most."""
+"""Without the toolchain make, make test, make demo, make library and make wheel say so in one line; and the built program
+needs nothing but the C library, of the version that this line tells at most."""
 
 import os
 import re
@@ -18,8 +18,8 @@ def main():
         for name in ("sh", "bash", "make", "cat", "find", "python3", "test", "dirname", "mktemp", "sed"):
             os.symlink(shutil.which(name), room.file("tools", name))
         room.environment["PATH"] = room.file("tools")
-        for target in ("all", "test", "demo"):
-            ran = room.run("make", "-s", target, f"PROGRAM={room.file('none')}")
+        for target in ("all", "test", "demo", "library", "wheel"):
+            ran = room.run("make", "-s", target, f"PROGRAM={room.file('none')}", f"LIBRARY={room.file('none.so')}")
             lines = [it for it in ran.stderr.splitlines() if not it.startswith("make:")]
             same(f"make {target} says one line", (ran.returncode, ran.stdout, len(lines)), (2, "", 1))
             for word in ("rt is missing", "rattle-kit-13b", f"glibc {told}"):

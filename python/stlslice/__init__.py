@@ -18,7 +18,8 @@ A mask is laid out as the program's image: its first row is that of the greatest
 What the program refuses raises a `Fault` with the program's status and line. A mesh may be used by several threads: its
 calls wait for each other. Different meshes run at the same time, since a call holds no lock of the interpreter.
 
-The work is done by libstlslice, by ctypes. numpy is needed for arrays alone.
+The work is done by libstlslice, by ctypes: by the one that the variable STLSLICE_LIBRARY names, else the one beside this
+module, else the one that the system finds. numpy is needed for arrays and loops alone.
 """
 
 from __future__ import annotations
@@ -103,7 +104,10 @@ class _Handle(ctypes.Structure):
 def _library() -> ctypes.CDLL:
     beside = os.path.join(os.path.dirname(os.path.abspath(__file__)), "libstlslice.so.1")
     named = os.environ.get("STLSLICE_LIBRARY") or (beside if os.path.exists(beside) else "libstlslice.so.1")
-    library = ctypes.CDLL(named)
+    try:
+        library = ctypes.CDLL(named)
+    except OSError as fault:
+        raise ImportError(f"{fault}: install the library, or name it in STLSLICE_LIBRARY") from fault
     at, size, sized = ctypes.c_void_p, ctypes.c_size_t, ctypes.POINTER(ctypes.c_size_t)
     text, word, handle = ctypes.c_char_p, ctypes.c_uint32, ctypes.POINTER(_Handle)
     for name, words in {

@@ -1,0 +1,63 @@
+#!/usr/bin/env python3
+"""Where the library is built, it answers in C, C++ and Python what the program answers (library/test), in no more memory than
+docs/embedding.md tells; and library/build makes the same bytes of the same proved library in any folder."""
+
+import os
+import re
+import shutil
+import sys
+
+from common import PROGRAM, ROOT, Room, holds, library, same, skip, text_of, version, wants
+
+
+MEASURE = """
+import sys, library, measure, stlslice
+measure.ring_of(int(sys.argv[1]), sys.argv[2])
+with open(sys.argv[2], "rb") as file:
+    print(*library.memory(stlslice, file.read()))
+"""
+
+
+def memory(room):
+    """Opened meshes of several sizes keep and take at most what the document tells."""
+    told = re.search(r"at most (\d+) bytes a facet, .* takes up to (\d+) bytes a facet, and a mebibyte", text_of("docs/embedding.md"))
+    most, peak = map(int, told.groups())
+    paths = {"PYTHONPATH": f"{ROOT}/bench:{ROOT}/python", "PYTHONDONTWRITEBYTECODE": "1", "STLSLICE_LIBRARY": library()}
+    for size in (1000, 20000, 70000):
+        ran = room.run(sys.executable, "-c", MEASURE, str(size), room.file("ring.stl"), env={**room.environment, **paths})
+        same(f"status of measuring {size} facets", (ran.returncode, ran.stderr), (0, ""))
+        facets, kept, taken = map(int, ran.stdout.split())
+        print(f"{facets} facets: {kept} bytes kept, {taken} taken")
+        holds(f"an open mesh keeps at most {most} bytes a facet", 0 < kept <= most * facets)
+        holds(f"opening takes at most {peak} bytes a facet and a mebibyte", taken <= peak * facets + (1 << 20))
+
+
+def made(room, name):
+    proved = os.path.join(os.path.dirname(library()), "proved.a")
+    ran = room.run("library/build", proved, version(), "/usr/local", room.file(name))
+    same(f"status of library/build in {name}", (ran.returncode, ran.stdout, ran.stderr), (0, "", ""))
+    found = {}
+    for it in sorted(os.listdir(room.file(name))):
+        with open(room.file(name, it), "rb") as file:
+            found[it] = file.read()
+    return found
+
+
+def main():
+    library()
+    wants(("cc", "gcc"), ("c++", "g++"), ("objcopy", "binutils"))
+    if not shutil.which("rt"):
+        skip("rt is missing: it comes with the Rattle toolchain")
+    with Room() as room:
+        first = made(room, "one")
+        same("files of library/build", sorted(first), sorted(["libstlslice.a", "libstlslice.so", "libstlslice.so.1",
+                                                              f"libstlslice.so.{version()}", "proved.a", "stlslice.pc"]))
+        holds("both libraries are the same bytes", first == made(room, "another"))
+        memory(room)
+        ran = room.run(sys.executable, "library/test", os.path.dirname(library()), PROGRAM)
+        print(ran.stdout + ran.stderr)
+        same("status and last line of library/test", (ran.returncode, ran.stdout.splitlines()[-1:]), (0, ["passed"]))
+
+
+if __name__ == "__main__":
+    main()
