@@ -10,6 +10,7 @@ pub mod Within
 pub mod LoopRays
 pub mod Slots
 pub mod Balanced
+pub mod Ordered
 pub mod Followers
 pub mod Walks
 pub mod Traces

@@ -1,7 +1,7 @@
 -- A segment is where a plane cuts a facet: it runs from the node of the facet's downward edge to that of its upward edge.
 --     segments facets z     the segments at the height z, in order of facets
 -- Heights are in half-micrometres.
-use Rattle.std.specs.Prelude.{ℕ, zero, suc, Bool, ◌&&◌, List, Option, Some, None, filter_map, find, slice_index_or, min, max, ℤ, pos, ◌*ℤ◌, ◌==◌}
+use Rattle.std.specs.Prelude.{ℕ, ◌<◌, zero, suc, Bool, ◌&&◌, List, Option, Some, None, filter_map, find, slice_index_or, min, max, ℤ, pos, ◌*ℤ◌, ◌==◌}
 use Rattle.std.specs.List.{enumerate_from}
 use Rattle.geometry.specs.TieRule.{rises_through}
 use Rattle.geometry.specs.Point.{Point}
@@ -53,6 +53,10 @@ segments facets z = filter_map (segment_of (vertices facets) z) (enumerate_from 
 -- the segment of the facet with a number
 abbrev pub numbered_segment : List Facet → ℤ → ℕ → Option Segment
 numbered_segment facets z n = segment_of (vertices facets) z (n, facet_at facets n)
+
+-- the nodes of a segment are edges between two vertices, the lower number before the higher
+abbrev pub HasOrderedNodes : Segment → Type 0
+HasOrderedNodes s = (s.from.low < s.from.high) × (s.to.low < s.to.high)
 
 abbrev pub is_node : Node → Node → Bool
 is_node a b = a.low == b.low && a.high == b.high

@@ -1,11 +1,11 @@
 //! A segment is where a plane cuts a facet. It runs between edges of the mesh and not between points, so that it is
 //! exact, and so that two segments meet exactly where they name the same edge.
-ghost use Rattle.std.specs.Prelude.{◌≡◌, ◌<◌, ◌↔◌, IfOk, IsSome, length};
+ghost use Rattle.std.specs.Prelude.{◌≡◌, ◌<◌, ◌↔◌, All, IfOk, IfSome, IsSome, length};
 ghost use Rattle.exact_int.specs.Bounds.{IsAtMost};
 ghost use Rattle.geometry.specs.Facet.{twice};
 ghost use Rattle.exact_cut.specs.Cut.{IsBetween};
 ghost use Rattle.mesh_weld.specs.Solid.{facet_at, vertices};
-ghost use Rattle.contour.specs.Segment.{between, edge_node, segment_of, segments};
+ghost use Rattle.contour.specs.Segment.{HasOrderedNodes, between, edge_node, segment_of, segments};
 ghost use Rattle.geometry.specs.declared.limits.TheConstants.{CENTRE_LIMIT};
 
 use exact_cut::cuts;
@@ -42,12 +42,13 @@ pub struct Segment {
 
 /// The segment of the kept facet with this number, at the height `z2` in half-micrometres; `None` where the plane
 /// doesn't cut the facet: no corner is at most at `z2`, or none is above it. The number is below the solid's `count`,
-/// and `z2` at most `geometry::CENTRE_LIMIT` from 0.
+/// and `z2` at most `geometry::CENTRE_LIMIT` from 0. Of each node `low` is below `high`, since the corners are distinct.
 pub fn segment_at<A: Allocator>(s: &Solid<A>, facet: u32, z2: i64) -> Option<Segment>
     requires facet { facet < length s.now.facets }
     requires height { IsAtMost CENTRE_LIMIT z2 }
     ensures segment { result ≡ segment_of (vertices s.now.facets) z2 (record { 0 = facet; 1 = facet_at s.now.facets facet }) }
     ensures some { IsSome result ↔ IsBetween (twice (facet_at s.now.facets facet)) z2 }
+    ensures ordered { IfSome result HasOrderedNodes }
 {
     let cut = cuts(&s.facet(facet), z2)?;
     let corners = s.triples()[facet as usize];
@@ -79,7 +80,8 @@ pub fn segments<A: Allocator + Copy + Send + Sync>(
     z2: i64,
 ) -> Result<Vec<Segment, A>, AllocError>
     requires { IsAtMost CENTRE_LIMIT z2 }
-    ensures { IfOk result (λ list. list.items ≡ segments s.now.facets z2) }
+    ensures segments { IfOk result (λ list. list.items ≡ segments s.now.facets z2) }
+    ensures ordered { IfOk result (λ list. All HasOrderedNodes list.items) }
 {
     let mut list = Vec::new(alloc);
     for facet in 0..s.count() as u32 {

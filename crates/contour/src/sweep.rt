@@ -3,7 +3,7 @@
 ghost use Rattle.std.specs.Prelude.{◌≡◌, ◌<◌, ◌≤ℤ◌, All, IfOk, OnErr, OnOk, filter_map, length};
 ghost use Rattle.exact_int.specs.Bounds.{IsAtMost};
 ghost use Rattle.contour.specs.Active.{active_facets, passed_count};
-ghost use Rattle.contour.specs.Segment.{numbered_segment, segments};
+ghost use Rattle.contour.specs.Segment.{HasOrderedNodes, numbered_segment, segments};
 ghost use Rattle.geometry.specs.declared.limits.TheConstants.{CENTRE_LIMIT};
 
 use crate::active::{ActiveFacets, Arrivals};
@@ -102,7 +102,8 @@ impl<'m, A: Allocator + Copy + Send + Sync> Sweep<'m, A> {
 
     /// The segments at the height, in order of facets. `Err` comes only where an allocation failed.
     pub fn segments(&self) -> Result<Vec<Segment, A>, AllocError>
-        ensures { IfOk result (λ list. list.items ≡ segments self.now.facets self.now.height) }
+        ensures segments { IfOk result (λ list. list.items ≡ segments self.now.facets self.now.height) }
+        ensures ordered { IfOk result (λ list. All HasOrderedNodes list.items) }
     {
         let numbers = self.active.numbers.as_slice();
         let list = segments_of(self.alloc, self.solid, numbers, self.height)?;
@@ -119,7 +120,8 @@ fn segments_of<A: Allocator + Copy + Send + Sync>(
 ) -> Result<Vec<Segment, A>, AllocError>
     requires numbers { All (λ n. n < length s.now.facets) numbers.now }
     requires height { IsAtMost CENTRE_LIMIT z2 }
-    ensures { IfOk result (λ list. list.items ≡ filter_map (numbered_segment s.now.facets z2) numbers.now) }
+    ensures segments { IfOk result (λ list. list.items ≡ filter_map (numbered_segment s.now.facets z2) numbers.now) }
+    ensures ordered { IfOk result (λ list. All HasOrderedNodes list.items) }
 {
     let mut list = Vec::with_capacity(alloc, numbers.len())?;
     for n in numbers {

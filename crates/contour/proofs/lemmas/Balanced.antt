@@ -48,12 +48,12 @@ module _ (facets : List Facet) where
   abbrev pub node_at : ℕ → ℕ → Node
   node_at n k = node_of (vertices facets) (at n k)
 
-  ends_in : (n k : ℕ) → n < length facets → k < 3 → (is_in (at n k).from (vertices facets) ≡ true) × (is_in (at n k).to (vertices facets) ≡ true)
+  pub ends_in : (n k : ℕ) → n < length facets → k < 3 → (is_in (at n k).from (vertices facets) ≡ true) × (is_in (at n k).to (vertices facets) ≡ true)
   ends_in n k l m =
       let p = edge-at facets n k l m in
       subst (λ (e : Edge). (is_in e.from (vertices facets) ≡ true) × (is_in e.to (vertices facets) ≡ true)) p.1 (ends_are_vertices facets (3 * n + k) (edge origin origin) p.0)
 
-  same_number : (p q : Point) → is_in p (vertices facets) ≡ true → is_in q (vertices facets) ≡ true
+  pub same_number : (p q : Point) → is_in p (vertices facets) ≡ true → is_in q (vertices facets) ≡ true
       → number_of (vertices facets) p ≡ number_of (vertices facets) q → p ≡ q
   same_number p q k l e = sym (number_found p (vertices facets) k).1 ∙ ap (λ n. get_or (vertices facets) n origin) e ∙ (number_found q (vertices facets) l).1
 

@@ -1,6 +1,11 @@
 use Rattle.std.proofs.Common.{◌≡◌}
+use Rattle.std.specs.Prelude.{All}
+use Rattle.contour.specs.Segment.{HasOrderedNodes}
 use Rattle.contour.proofs.lemmas.Numbered.{segments_to}
 use Rattle.contour.proofs.segment.segments.Given as goal
 
 abbrev pub invariant-loop-facet : goal.invariant-loop-facet
-invariant-loop-facet g l = l.list.items ≡ segments_to l.s.facets l.z2 l.facet
+invariant-loop-facet g l = record {
+  segments : l.list.items ≡ segments_to l.s.facets l.z2 l.facet;
+  ordered : All HasOrderedNodes l.list.items;
+}

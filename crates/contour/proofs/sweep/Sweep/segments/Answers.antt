@@ -8,11 +8,11 @@ segments_of-requires-clause-numbers g c κs within =
     rw (c.as_slice-numbers.ensures.value, c.self.invariant.active_is)
     (active_in c.self.inside.solid.now.facets c.self.inside.height)
 
-pub returns : goal.returns
-returns g c =
+pub returns-clause-segments : goal.returns-clause-segments
+returns-clause-segments g c =
     let numbers = c.as_slice-numbers.ensures.value ∙ c.self.invariant.active_is in
     let within = c.self.invariant.within in
     let fits : SFits w64 c.self.inside.height = search rules in
     let same : to_z w64 (of_z w64 c.self.inside.height) ≡ c.self.inside.height = to_z-of_z w64 c.self.inside.height fits in
-    let found = rw (same, numbers) at c.in_ok-list.ensures in
+    let found = rw (same, numbers) at c.in_ok-list.ensures.segments in
     rw (← c.self.view_is) (found ∙ active_segments c.self.inside.solid.now.facets c.self.inside.height)
