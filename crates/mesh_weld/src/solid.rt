@@ -96,15 +96,13 @@ impl<A: Allocator> Solid<A> {
     pub fn corners(&self) -> Option<(Point, Point)>
         ensures { result ≡ option_map (λ b. record { 0 = b.low; 1 = b.high }) (bounds self.now.facets) }
     {
-        let (points, numbers) = (self.points.as_slice(), self.numbers.as_slice());
-        let start = facet_by(points, numbers.first()?).corner(0);
+        let points = self.points.as_slice();
+        let start = *points.first()?;
         let mut low = start;
         let mut high = start;
-        for own in numbers {
-            let facet = facet_by(points, own);
-            let (a, b, c) = (facet.corner(0), facet.corner(1), facet.corner(2));
-            low = lower(lower(lower(low, a), b), c);
-            high = higher(higher(higher(high, a), b), c);
+        for point in points {
+            low = lower(low, *point);
+            high = higher(high, *point);
         }
         Some((low, high))
     }

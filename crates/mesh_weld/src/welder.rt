@@ -10,7 +10,7 @@ ghost use Rattle.mesh_weld.specs.Welding.{IsWeldFault};
 ghost use Rattle.mesh_weld.specs.declared.weld_fault.WeldFault.TheVariants.{Memory};
 ghost use Rattle.geometry.specs.declared.limits.TheConstants.{FACET_LIMIT};
 
-use crate::by_hash::{CornerTable, facet_ids, named_numbering};
+use crate::by_hash::{BLOCK, CornerTable, NONE, facet_ids, named_numbering};
 use crate::facets::has_distinct_corners;
 use crate::solid::{Numbering, Solid};
 use crate::weld_fault::WeldFault;
@@ -75,8 +75,12 @@ impl<A: Allocator + Copy + Send + Sync> Welder<A> {
         ensures whole { (before : List Facet) → self.old ≡ parts_of before → OnOk result (self.new ≡ parts_of (before ++ facets.now)) }
         ensures refused { OnErr result (self.new ≡ parts_of []) }
     {
-        for facet in facets {
-            let added = self.add_facet(facet);
+        let mut guesses = [[NONE; 3]; BLOCK];
+        for at in 0..facets.len() {
+            if at % BLOCK == 0 {
+                self.table.guess_ids(&facets[at..], &mut guesses);
+            }
+            let added = self.add_facet(&facets[at], guesses[at % BLOCK]);
             if added.is_err() {
                 self.clear();
                 return added;
@@ -86,7 +90,7 @@ impl<A: Allocator + Copy + Send + Sync> Welder<A> {
     }
 
     /// Adds a facet. Where an allocation fails some facets may be lost.
-    fn add_facet(&mut self, facet: &Facet) -> Result<(), AllocError>
+    fn add_facet(&mut self, facet: &Facet, guesses: [u32; 3]) -> Result<(), AllocError>
         requires { length self.old.kept + length self.old.degenerate < FACET_LIMIT }
         ensures { OnOk result (self.new ≡ with_facets self.old (facet.now ∷ [])) }
     {
@@ -100,6 +104,7 @@ impl<A: Allocator + Copy + Send + Sync> Welder<A> {
             &mut self.points,
             &mut self.ids,
             facet,
+            guesses,
         );
         if named.is_err() {
             self.points.clear();
@@ -164,6 +169,7 @@ fn name_facet<A: Allocator + Copy>(
     points: &mut Vec<Point, A>,
     ids: &mut Vec<[u32; 3], A>,
     facet: &Facet,
+    guesses: [u32; 3],
 ) -> Result<(), AllocError>
     requires few { vec_len ids.old < FACET_LIMIT }
     requires named { AreNamed points.old.items ids.old.items }
@@ -172,7 +178,7 @@ fn name_facet<A: Allocator + Copy>(
     ensures named { OnOk result (AreNamed points.new.items ids.new.items) }
     ensures added { OnOk result (facets_by points.new.items ids.new.items ≡ facets_by points.old.items ids.old.items ++ facet.now ∷ []) }
 {
-    let own = facet_ids(alloc, table, points, facet)?;
+    let own = facet_ids(alloc, table, points, facet, guesses)?;
     ids.push(own)?;
     Ok(())
 }

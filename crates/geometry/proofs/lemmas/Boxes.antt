@@ -2,14 +2,14 @@
 use Rattle.std.proofs.Common.{◌≡◌, zero, suc, get_or, List, [], ◌∷◌, ◌⊎◌, inl, inr, refl, sym, ◌∙◌, ap, subst, arith, map, fold}
 use Rattle.std.specs.Prelude.{All, Contains, None, Option, Some, ◌++◌, flat_map, option_map, slice_get, ℤ, ◌≤ℤ◌}
 use Rattle.std.specs.Int.{int_min, int_max}
-use Rattle.std.proofs.lemmas.Int.{fold-int_min_bounds, fold-int_min_reached, fold-int_max_bounds, fold-int_max_reached}
+use Rattle.std.proofs.lemmas.Int.{ints, fold-int_min_bounds, fold-int_min_reached, fold-int_max_bounds, fold-int_max_reached}
 use Rattle.std.proofs.lemmas.Grind.{flat_map-append}
 use Rattle.std.proofs.lemmas.List.Sums.{fold-append}
 use Rattle.std.proofs.lemmas.List.{get_or-map, length-map}
-use Rattle.std.proofs.lemmas.List.Elements.{All-cons, Contains-append_right}
+use Rattle.std.proofs.lemmas.List.Elements.{All-cons, All-contains, Contains-append_right}
 use Rattle.geometry.specs.Point.{Point}
 use Rattle.geometry.specs.Facet.{Facet, corners}
-use Rattle.geometry.specs.BoundingBox.{Bounds, IsInBox, IsTight, bounds, greatest_of, least_of}
+use Rattle.geometry.specs.BoundingBox.{Bounds, IsInBox, IsTight, bounds, bounds_of, greatest_of, least_of}
 
 unmapped : (pick : Point → ℤ) (P : ℤ → Type 0) (ps : List Point) → All P (map pick ps) → All (λ q. P (pick q)) ps
 unmapped pick P ps all k d l =
@@ -141,3 +141,65 @@ grown-box (t ∷ ts) more low high least greatest e least_is greatest_is =
     let higher : greatest ≡ fold greatest_of t.a (t.b ∷ t.c ∷ flat_map corners (ts ++ more)) =
     greatest_is ∙ ap (λ p. fold greatest_of p qs) high_is ∙ sym (fold-append greatest_of t.a ps qs) ∙ ap (fold greatest_of t.a) (sym all) in
     ap (λ p. box p greatest) lower ∙ ap (λ p. box (fold least_of t.a (t.b ∷ t.c ∷ flat_map corners (ts ++ more))) p) higher
+
+-- Lists of points with the same members have one box.
+
+mapped : (pick : Point → ℤ) (P : ℤ → Type 0) (ps : List Point) → All (λ q. P (pick q)) ps → All P (map pick ps)
+mapped pick P [] all k d l = absurd (omega (arith, l))
+mapped pick P (p ∷ ps) all zero d l = all zero p (omega arith)
+mapped pick P (p ∷ ps) all (suc k) d l = mapped pick P ps (λ j e m. all (suc j) e (omega (arith, m))) k d (omega (arith, l))
+
+module _ (p q : Point) (ps qs : List Point) (within : All (Contains (q ∷ qs)) (p ∷ ps)) (covers : All (Contains (p ∷ ps)) (q ∷ qs)) where
+  -- what holds of the members of one list holds of those of the other
+  over : (P : Point → Type 0) → All P (p ∷ ps) → All P (q ∷ qs)
+  over P all k d l = All-contains P (p ∷ ps) (get_or (q ∷ qs) k d) all (covers k d l)
+
+  one_least : (pick : Point → ℤ) → ((a b : Point) → pick (least_of a b) ≡ int_min (pick a) (pick b)) → pick (fold least_of p ps) ≤ℤ pick (fold least_of q qs)
+  one_least pick each =
+      let r = pick (fold least_of p ps) in
+      All-contains (λ x. r ≤ℤ x) (map pick (q ∷ qs)) _ (mapped pick (λ x. r ≤ℤ x) (q ∷ qs) (over (λ s. r ≤ℤ pick s) (least-below pick each p ps)))
+      (least-reached pick each q qs)
+
+  one_greatest : (pick : Point → ℤ) → ((a b : Point) → pick (greatest_of a b) ≡ int_max (pick a) (pick b)) → pick (fold greatest_of q qs) ≤ℤ pick (fold greatest_of p ps)
+  one_greatest pick each =
+      let r = pick (fold greatest_of p ps) in
+      All-contains (λ x. x ≤ℤ r) (map pick (q ∷ qs)) _ (mapped pick (λ x. x ≤ℤ r) (q ∷ qs) (over (λ s. pick s ≤ℤ r) (greatest-above pick each p ps)))
+      (greatest-reached pick each q qs)
+
+antisym : (x y : ℤ) → x ≤ℤ y → y ≤ℤ x → x ≡ y
+antisym x y h k = omega (arith, ints, h, k)
+
+point_is : (p q : Point) → p.x ≡ q.x → p.y ≡ q.y → p.z ≡ q.z → p ≡ q
+point_is p q x_is y_is z_is = λ i. record { x = x_is i; y = y_is i; z = z_is i }
+
+module _ (p q : Point) (ps qs : List Point) (within : All (Contains (q ∷ qs)) (p ∷ ps)) (covers : All (Contains (p ∷ ps)) (q ∷ qs)) where
+  low-alike : fold least_of p ps ≡ fold least_of q qs
+  low-alike =
+      let one : (pick : Point → ℤ) (each : (a b : Point) → pick (least_of a b) ≡ int_min (pick a) (pick b)) → pick (fold least_of p ps) ≡ pick (fold least_of q qs) =
+      λ pick each. antisym _ _ (one_least p q ps qs within covers pick each) (one_least q p qs ps covers within pick each) in
+      point_is _ _ (one x_of (λ a b. refl)) (one y_of (λ a b. refl)) (one z_of (λ a b. refl))
+
+  high-alike : fold greatest_of p ps ≡ fold greatest_of q qs
+  high-alike =
+      let one : (pick : Point → ℤ) (each : (a b : Point) → pick (greatest_of a b) ≡ int_max (pick a) (pick b)) → pick (fold greatest_of p ps) ≡ pick (fold greatest_of q qs) =
+      λ pick each. antisym _ _ (one_greatest q p qs ps covers within pick each) (one_greatest p q ps qs within covers pick each) in
+      point_is _ _ (one x_of (λ a b. refl)) (one y_of (λ a b. refl)) (one z_of (λ a b. refl))
+
+-- the box that was folded over points from a member on is that of each list with the same members
+pub box-alike : (ps cs : List Point) (start low high : Point) → Contains ps start → All (Contains cs) ps → All (Contains ps) cs
+    → low ≡ fold least_of start ps → high ≡ fold greatest_of start ps → box low high ≡ sides (bounds_of cs)
+box-alike ps [] start low high own within covers low_is high_is =
+    let nothing : Contains [] start = All-contains (Contains []) ps start within own in
+    absurd (omega (arith, nothing.1))
+box-alike ps (c ∷ cs) start low high own within covers low_is high_is =
+    let inside : All (Contains (c ∷ cs)) (start ∷ ps) = All-cons (Contains (c ∷ cs)) start ps (All-contains (Contains (c ∷ cs)) ps start within own) within in
+    let back : All (Contains (start ∷ ps)) (c ∷ cs) = λ k d l. Contains-append_right (start ∷ []) ps _ (covers k d l) in
+    ap (λ p. box p high) (low_is ∙ low-alike start c ps cs inside back)
+    ∙ ap (λ p. box (fold least_of c cs) p) (high_is ∙ high-alike start c ps cs inside back)
+
+pub no-box : (ps cs : List Point) → slice_get ps 0 ≡ None → All (Contains ps) cs → sides (bounds_of cs) ≡ None
+no-box ps [] none covers = refl
+no-box [] (c ∷ cs) none covers =
+    let nothing : Contains [] c = covers 0 c (omega arith) in
+    absurd (omega (arith, nothing.1))
+no-box (p ∷ ps) (c ∷ cs) none covers = absurd (cc)

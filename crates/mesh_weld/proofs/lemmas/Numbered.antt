@@ -1,9 +1,7 @@
 -- Facets by the numbers of their corners are the facets themselves, where the numbers lead to the corners.
-use Rattle.std.proofs.Common.{◌≡◌, ℕ, ◌<◌, ◌+◌, ◌∷◌, ◌++◌, [], true, List, length, get_or, map, take, fold, refl, sym, ap, ◌∙◌, subst, arith}
+use Rattle.std.proofs.Common.{◌≡◌, ℕ, ◌<◌, ◌∷◌, [], true, List, length, get_or, map, refl, sym, ◌∙◌, subst, arith}
 use Rattle.std.specs.List.{All, flat_map}
-use Rattle.std.proofs.lemmas.Grind.{flat_map-append}
-use Rattle.std.proofs.lemmas.List.{get_or_default, map_more}
-use Rattle.std.proofs.lemmas.List.Sums.{fold-append}
+use Rattle.std.proofs.lemmas.List.{get_or_default}
 use Rattle.std.proofs.lemmas.List.Elements.{All-cons, All-tail}
 use Rattle.geometry.specs.Point.{Point}
 use Rattle.geometry.specs.Facet.{Facet, corners}
@@ -65,12 +63,3 @@ module _ (fs : List Facet) (points : List Point) (numbers : List (List ℕ)) (po
 
   pub numbered_below : AreBelow points numbers
   numbered_below = subst (λ l. AreBelow points l) (sym numbers_are) (subst (λ l. AreBelow l (triples fs)) (sym points_are) (triples_below fs))
-
--- a fold over the corners of one more facet
-pub corners_more : (f : Point → Point → Point) (start : Point) (ps : List Point) (ns : List (List ℕ)) (i : ℕ) (t : Facet) → i < length ns → t ≡ facet_by ps (get_or ns i [])
-    → f (f (f (fold f start (flat_map corners (facets_by ps (take i ns)))) t.a) t.b) t.c ≡ fold f start (flat_map corners (facets_by ps (take (i + 1) ns)))
-corners_more f start ps ns i t l is =
-    sym (fold-append f start (flat_map corners (facets_by ps (take i ns))) (corners t))
-    ∙ ap (fold f start)
-    (sym (flat_map-append corners (facets_by ps (take i ns)) (t ∷ []))
-    ∙ ap (flat_map corners) (ap (λ u. facets_by ps (take i ns) ++ u ∷ []) is ∙ sym (map_more (facet_by ps) ns i [] l)))

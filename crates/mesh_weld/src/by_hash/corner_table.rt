@@ -1,6 +1,6 @@
 //! The corners of facets by a table of hashes. Each gets an id: its number by first appearance, which serves until the
 //! points stand in order.
-ghost use Rattle.std.specs.Prelude.{◌≡◌, ◌≤◌, ◌<◌, ◌+◌, IfOk, IfSome, length, slice_index, slice_index_or, vec_len};
+ghost use Rattle.std.specs.Prelude.{◌≡◌, ◌≤◌, ◌<◌, ◌+◌, IfOk, IfSome, IsTrue, length, slice_index, slice_index_or, vec_len};
 ghost use Rattle.geometry.specs.Point.{origin};
 ghost use Rattle.mesh_weld.specs.Naming.{IsNamed, IsNamedFacet};
 ghost use Rattle.geometry.specs.declared.limits.TheConstants.{CORNER_LIMIT};
@@ -18,6 +18,10 @@ const SLOTS_A_POINT: usize = 3;
 
 /// A table has at least this power of two of slots.
 const LEAST_BITS: u32 = 10;
+
+/// The number of facets whose ids are guessed at once. The table is far larger than a cache, so each look into it waits for
+/// memory; the waits of one block overlap.
+pub(crate) const BLOCK: usize = 32;
 
 /// Multiplies x and y in a hash: 2⁶⁴ divided by the golden ratio.
 const XY_MULTIPLIER: u64 = 0x9e37_79b9_7f4a_7c15;
@@ -63,6 +67,23 @@ impl<A: Allocator + Copy> CornerTable<A> {
         self.shift = shift;
         Ok(())
     }
+
+    /// Guesses the ids of the corners of the first facets: those at their hashes, which may be other points' ids.
+    pub(crate) fn guess_ids(&self, facets: &[Facet], guesses: &mut [[u32; 3]]) {
+        let (ids, shift) = (self.ids.as_slice(), self.shift);
+        for (own, facet) in guesses.iter_mut().zip(facets) {
+            *own = [
+                guess_of(ids, facet.corner(0), shift),
+                guess_of(ids, facet.corner(1), shift),
+                guess_of(ids, facet.corner(2), shift),
+            ];
+        }
+    }
+}
+
+/// The id at a point's hash, or `NONE`.
+fn guess_of(ids: &[u32], point: Point, shift: u32) -> u32 {
+    ids.get(hash(point, shift)).copied().unwrap_or(NONE)
 }
 
 /// Puts the ids of points into an empty table.
@@ -122,15 +143,26 @@ fn slot_of(ids: &[u32], points: &[Point], point: Point, from: usize) -> Option<u
     None
 }
 
-/// The id of a point: its number among the points so far, behind which a new point is put.
+/// Whether an id is that of a point.
+fn leads_to(points: &[Point], id: u32, point: Point) -> bool
+    ensures { IsTrue result → (id < length points.now) × (slice_index_or points.now id origin ≡ point) }
+{
+    (id as usize) < points.len() && points[id as usize] == point
+}
+
+/// The id of a point: its number among the points so far, behind which a new point is put. A right guess saves the search.
 fn id_of<A: Allocator + Copy>(
     table: &mut CornerTable<A>,
     points: &mut Vec<Point, A>,
     point: Point,
+    guess: u32,
 ) -> Result<u32, AllocError>
     requires { vec_len points.old < CORNER_LIMIT }
     ensures { IfOk result (λ id. IsNamed points.old.items point points.new.items id) }
 {
+    if leads_to(points.as_slice(), guess, point) {
+        return Ok(guess);
+    }
     let new = points.len() as u32;
     let from = hash(point, table.shift);
     let ids = table.ids.as_mut_slice();
@@ -145,19 +177,20 @@ fn id_of<A: Allocator + Copy>(
     Ok(new)
 }
 
-/// The ids of a facet's corners.
+/// The ids of a facet's corners, of which guesses may be right.
 pub(crate) fn facet_ids<A: Allocator + Copy>(
     alloc: A,
     table: &mut CornerTable<A>,
     points: &mut Vec<Point, A>,
     facet: &Facet,
+    guesses: [u32; 3],
 ) -> Result<[u32; 3], AllocError>
     requires { vec_len points.old + 3 ≤ CORNER_LIMIT }
     ensures { IfOk result (λ ids. IsNamedFacet points.old.items facet.now points.new.items ids) }
 {
     table.make_room(alloc, points.as_slice())?;
-    let first = id_of(table, points, facet.corner(0))?;
-    let second = id_of(table, points, facet.corner(1))?;
-    let third = id_of(table, points, facet.corner(2))?;
+    let first = id_of(table, points, facet.corner(0), guesses[0])?;
+    let second = id_of(table, points, facet.corner(1), guesses[1])?;
+    let third = id_of(table, points, facet.corner(2), guesses[2])?;
     Ok([first, second, third])
 }

@@ -19,8 +19,9 @@ mod histogram;
 mod point_order;
 mod renumbering;
 
-pub(crate) use crate::by_hash::corner_table::{CornerTable, facet_ids};
+pub(crate) use crate::by_hash::corner_table::{BLOCK, CornerTable, facet_ids};
 use crate::by_hash::edges::grouped_numbers;
+pub(crate) use crate::by_hash::histogram::NONE;
 use crate::by_hash::point_order::{PointOrder, rank_points};
 use crate::by_hash::renumbering::renumber;
 use crate::by_sort::sorted_numbering;

@@ -6,5 +6,5 @@ use Rattle.mesh_weld.proofs.welder.Welder.add.Goals as goal
 
 pub add_facet-added-requires-after_bounds : goal.add_facet-added-requires-after_bounds
 add_facet-added-requires-after_bounds g c κs within =
-    let i = c.loop-facet.facet-index in let facets = c.args.facets.now in
-    omega (arith, ap (λ (p : Parts). length p.kept + length p.degenerate) c.loop-facet.invariant, with_length c.args.self.now (take i facets), length-take i facets, c.requires, c.loop-facet-test.true)
+    let i = c.loop-at.at in let facets = c.args.facets.now in
+    omega (arith, ap (λ (p : Parts). length p.kept + length p.degenerate) c.loop-at.invariant, with_length c.args.self.now (take i facets), length-take i facets, c.requires, c.loop-at-test.true)

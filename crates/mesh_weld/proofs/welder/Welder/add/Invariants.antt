@@ -2,5 +2,5 @@ use Rattle.std.proofs.Common.{◌≡◌, take}
 use Rattle.mesh_weld.specs.Naming.{with_facets}
 use Rattle.mesh_weld.proofs.welder.Welder.add.Given as goal
 
-abbrev pub invariant-loop-facet : goal.invariant-loop-facet
-invariant-loop-facet g l = l.self ≡ with_facets l.fn.self (take l.facet-index l.facets)
+abbrev pub invariant-loop-at : goal.invariant-loop-at
+invariant-loop-at g l = l.self ≡ with_facets l.fn.self (take l.at l.facets)
