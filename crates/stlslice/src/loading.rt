@@ -69,7 +69,7 @@ pub(crate) fn read_solid<A: Allocator + Copy + Send + Sync, I: Source>(
 {
     let mut reader = TextReader::new(alloc, FACET_LIMIT, unit);
     let mut welder = Welder::new(alloc);
-    weld_all(source, &mut reader, &mut welder)?;
+    weld_all(alloc, source, &mut reader, &mut welder)?;
     weld_end(reader, welder)
 }
 
@@ -121,6 +121,7 @@ fn weld_end<A: Allocator + Copy + Send + Sync>(
 /// Feeds a reader with all bytes of a source, takes the facets off it and adds them to a welder. Behind 2^64 - 1 windows it
 /// answers `Memory`.
 fn weld_all<A: Allocator + Copy + Send + Sync, I: Source>(
+    alloc: A,
     source: &mut I,
     reader: &mut TextReader<A>,
     welder: &mut Welder<A>,
@@ -135,11 +136,12 @@ fn weld_all<A: Allocator + Copy + Send + Sync, I: Source>(
     ensures sound { result ≢ Err Read → I.Failures.failure_count source.new ≡ I.Failures.failure_count source.old }
     ensures only { IfErr result (λ fault. (fault ≡ Read) ⊎ (fault ≡ Memory)) }
 {
+    let mut facets = Vec::new(alloc);
     let mut window = [0; WINDOW_LEN];
     for _ in 0..u64::MAX {
         let more = feed_next(source, &mut window, reader)?;
-        weld_next(welder, reader.facets())?;
-        reader.forget();
+        reader.take_facets(&mut facets);
+        weld_next(welder, facets.as_slice())?;
         if !more {
             return Ok(());
         }
@@ -168,12 +170,13 @@ fn weld_all_by<R: Threads + Sync, A: Allocator + Copy + Send + Sync, I: Source>(
 {
     let len = round_len(workers);
     let mut round = Vec::with_capacity(alloc, len)?;
+    let mut facets = Vec::new(alloc);
     let mut window = [0; WINDOW_LEN];
     for _ in 0..u64::MAX {
         let is_more = fill_round(source, &mut window, &mut round, len)?;
         reader.feed_by(rt, round.as_slice(), workers);
-        weld_next(welder, reader.facets())?;
-        reader.forget();
+        reader.take_facets(&mut facets);
+        weld_next(welder, facets.as_slice())?;
         round.clear();
         if !is_more {
             return Ok(());
@@ -247,14 +250,15 @@ pub(crate) fn read_extent<A: Allocator + Copy + Send + Sync, I: Source>(
     ensures sound { result ≢ Err Read → I.Failures.failure_count source.new ≡ I.Failures.failure_count source.old }
 {
     let mut reader = TextReader::new(alloc, FACET_LIMIT, unit);
-    let extent = measure_all(source, &mut reader)?;
+    let extent = measure_all(alloc, source, &mut reader)?;
     let last = reader.finish()?;
     Ok(extent.with(&last))
 }
 
 /// Feeds a reader with all bytes of a source, and takes the facets off it: answers their extent. Behind 2^64 - 1 windows
 /// it answers `Memory`.
-fn measure_all<A: Allocator, I: Source>(
+fn measure_all<A: Allocator + Copy, I: Source>(
+    alloc: A,
     source: &mut I,
     reader: &mut TextReader<A>,
 ) -> Result<Extent, RunFault>
@@ -268,11 +272,12 @@ fn measure_all<A: Allocator, I: Source>(
     ensures only { IfErr result (λ fault. (fault ≡ Read) ⊎ (fault ≡ Memory)) }
 {
     let mut extent = Extent::none();
+    let mut facets = Vec::new(alloc);
     let mut window = [0; WINDOW_LEN];
     for _ in 0..u64::MAX {
         let is_more = feed_next(source, &mut window, reader)?;
-        extent = extent.with(reader.facets());
-        reader.forget();
+        reader.take_facets(&mut facets);
+        extent = extent.with(facets.as_slice());
         if !is_more {
             return Ok(extent);
         }

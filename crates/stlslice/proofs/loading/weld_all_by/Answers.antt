@@ -2,13 +2,14 @@ use Rattle.std.proofs.Common.{◌∙◌, ◌++◌, subst}
 use Rattle.std.proofs.KnownBytes.{Consumes-trans}
 use Rattle.stl_text.specs.Pieces.{IsAfter}
 use Rattle.geometry.specs.declared.limits.TheConstants.{FACET_LIMIT}
+use Rattle.stlslice.specs.Ending.{AreWelded}
 use Rattle.stlslice.proofs.loading.weld_all_by.Goals as goal
 
 pub returns-then-not-is_more-clause-fed : goal.returns-then-not-is_more-clause-fed
 returns-then-not-is_more-clause-fed g c =
     let so_far = c.loop.invariant.fed in (
-      so_far.0 ++ c.facets.result.now,
-      c.in_ok-weld_next.ensures.welded so_far.0 so_far.1,
+      so_far.0 ++ c.take_facets.new.list.items,
+      subst (λ fs. AreWelded (so_far.0 ++ fs) c.weld_next.new.welder) c.as_slice-in-loop.ensures.value (c.in_ok-weld_next.ensures.welded so_far.0 so_far.1),
       λ unit start is.
           let fed = so_far.2 unit start is in
           let more = c.fill_round.new.round.items in
@@ -16,7 +17,7 @@ returns-then-not-is_more-clause-fed g c =
           (c.feed_by.ensures FACET_LIMIT unit so_far.0 fed.0 fed.2) in (
             fed.0 ++ more,
             Consumes-trans start _ _ fed.0 more fed.1 c.in_ok-is_more.ensures.taken,
-            rw c.facets.ensures (c.forget.ensures.after FACET_LIMIT unit so_far.0 (fed.0 ++ more) after),
+            rw c.take_facets.ensures.given (c.take_facets.ensures.after FACET_LIMIT unit so_far.0 (fed.0 ++ more) after),
           ),
     )
 
@@ -25,8 +26,8 @@ loop-preserved g c =
     let so_far = c.loop.invariant.fed in
     record {
       fed = (
-        so_far.0 ++ c.facets.result.now,
-        c.in_ok-weld_next.ensures.welded so_far.0 so_far.1,
+        so_far.0 ++ c.take_facets.new.list.items,
+        subst (λ fs. AreWelded (so_far.0 ++ fs) c.weld_next.new.welder) c.as_slice-in-loop.ensures.value (c.in_ok-weld_next.ensures.welded so_far.0 so_far.1),
         λ unit start is.
             let fed = so_far.2 unit start is in
             let more = c.fill_round.new.round.items in
@@ -34,7 +35,7 @@ loop-preserved g c =
             (c.feed_by.ensures FACET_LIMIT unit so_far.0 fed.0 fed.2) in (
               fed.0 ++ more,
               Consumes-trans start _ _ fed.0 more fed.1 c.in_ok-is_more.ensures.taken,
-              rw c.facets.ensures (c.forget.ensures.after FACET_LIMIT unit so_far.0 (fed.0 ++ more) after),
+              rw c.take_facets.ensures.given (c.take_facets.ensures.after FACET_LIMIT unit so_far.0 (fed.0 ++ more) after),
             ),
       );
       counted = c.in_ok-is_more.ensures.sound (λ e. cc) ∙ c.loop.invariant.counted;
