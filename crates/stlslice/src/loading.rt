@@ -21,7 +21,7 @@ use mesh_weld::{Solid, Welder};
 use micro_num::Unit;
 use raster::Source;
 use std::alloc::Allocator;
-use std::thread::Threads;
+use std::thread::{Threads, join_mut};
 use stl_text::TextReader;
 
 /// The number of bytes for each worker, where several read at the same time.
@@ -149,7 +149,8 @@ fn weld_all<A: Allocator + Copy + Send + Sync, I: Source>(
     Err(RunFault::Memory)
 }
 
-/// The same as [`weld_all`], by rounds that several workers read. Behind 2^64 - 1 rounds it answers `Memory`.
+/// The same as [`weld_all`], by rounds that several workers read: the facets of a round are welded while the next one is
+/// read. Behind 2^64 - 1 rounds it answers `Memory`.
 fn weld_all_by<R: Threads + Sync, A: Allocator + Copy + Send + Sync, I: Source>(
     rt: &R,
     alloc: A,
@@ -174,15 +175,49 @@ fn weld_all_by<R: Threads + Sync, A: Allocator + Copy + Send + Sync, I: Source>(
     let mut window = [0; WINDOW_LEN];
     for _ in 0..u64::MAX {
         let is_more = fill_round(source, &mut window, &mut round, len)?;
-        reader.feed_by(rt, round.as_slice(), workers);
+        weld_and_feed(
+            rt,
+            workers,
+            welder,
+            facets.as_slice(),
+            reader,
+            round.as_slice(),
+        )?;
         reader.take_facets(&mut facets);
-        weld_next(welder, facets.as_slice())?;
         round.clear();
         if !is_more {
-            return Ok(());
+            return weld_next(welder, facets.as_slice());
         }
     }
     Err(RunFault::Memory)
+}
+
+/// Adds the facets of the last round to a welder, while a reader is fed with the next round: up to `workers` workers do both
+/// at the same time, one of them welds. Where there are no such facets, all workers read.
+fn weld_and_feed<R: Threads + Sync, A: Allocator + Copy + Send + Sync>(
+    rt: &R,
+    workers: u32,
+    welder: &mut Welder<A>,
+    facets: &[Facet],
+    reader: &mut TextReader<A>,
+    round: &[u8],
+) -> Result<(), RunFault>
+    ensures welded { (taken : List Facet) → AreWelded taken welder.old → OnOk result (AreWelded (taken ++ facets.now) welder.new) }
+    ensures fed { (unit : LengthUnit) (taken : List Facet) (fed : List ℕ) → IsAfter FACET_LIMIT unit taken reader.old fed
+        → IsAfter FACET_LIMIT unit taken reader.new (fed ++ round.now) }
+    ensures only { IfErr result (λ fault. fault ≡ Memory) }
+{
+    if facets.is_empty() {
+        reader.feed_by(rt, round, workers);
+        return Ok(());
+    }
+    let readers = workers.saturating_sub(1);
+    let (welded, ()) = join_mut(
+        rt,
+        &mut || weld_next(welder, facets),
+        &mut || reader.feed_by(rt, round, readers),
+    );
+    welded
 }
 
 /// The number of bytes that are read before the workers look at them.
