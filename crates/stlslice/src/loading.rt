@@ -192,8 +192,8 @@ fn weld_all_by<R: Threads + Sync, A: Allocator + Copy + Send + Sync, I: Source>(
     Err(RunFault::Memory)
 }
 
-/// Adds the facets of the last round to a welder, while a reader is fed with the next round: up to `workers` workers do both
-/// at the same time, one of them welds. Where there are no such facets, all workers read.
+/// Adds the facets of the last round to a welder, while a reader is fed with the next round: of up to `workers` workers one
+/// welds, on the thread that calls, and the others read. Where there are no such facets, all of them read.
 fn weld_and_feed<R: Threads + Sync, A: Allocator + Copy + Send + Sync>(
     rt: &R,
     workers: u32,
@@ -212,10 +212,10 @@ fn weld_and_feed<R: Threads + Sync, A: Allocator + Copy + Send + Sync>(
         return Ok(());
     }
     let readers = workers.saturating_sub(1);
-    let (welded, ()) = join_mut(
+    let ((), welded) = join_mut(
         rt,
-        &mut || weld_next(welder, facets),
         &mut || reader.feed_by(rt, round, readers),
+        &mut || weld_next(welder, facets),
     );
     welded
 }
