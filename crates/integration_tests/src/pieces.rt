@@ -40,11 +40,12 @@ fn taken_off(alloc: Global, text: &[u8], size: usize) -> Result<Vec<Facet>, StlF
     requires { 0 < size }
 {
     let mut facets = Vec::new(alloc);
+    let mut next = Vec::new(alloc);
     let mut reader = TextReader::new(alloc, LIMIT, Unit::Millimetre);
     for piece in text.chunks(size) {
         reader.feed(piece);
-        facets.extend_from_slice(reader.facets())?;
-        reader.forget();
+        reader.take_facets(&mut next);
+        facets.extend_from_slice(&next)?;
     }
     let last = reader.finish()?;
     facets.extend_from_slice(&last)?;
@@ -96,12 +97,14 @@ fn one_facet_too_many_in_pieces(rt: HostRuntime) -> Result<(), Fail> {
 }
 
 #[test]
-fn forgotten_facets(rt: HostRuntime) -> Result<(), Fail> {
+fn facets_are_taken_once(rt: HostRuntime) -> Result<(), Fail> {
+    let mut facets = Vec::new(rt.alloc());
     let mut reader = TextReader::new(rt.alloc(), LIMIT, Unit::Millimetre);
     reader.feed(TWO);
-    assert!(rt; reader.facets().len() == 2);
-    reader.forget();
-    assert!(rt; reader.facets().is_empty());
+    reader.take_facets(&mut facets);
+    assert!(rt; facets.len() == 2);
+    reader.take_facets(&mut facets);
+    assert!(rt; facets.is_empty());
     assert!(rt; reader.finish()?.is_empty());
     Ok(())
 }

@@ -18,6 +18,7 @@ use geometry::{FACET_LIMIT, Facet};
 use micro_num::Unit;
 use std::alloc::Allocator;
 use std::marker::Model;
+use std::mem::swap;
 use std::thread::Threads;
 
 /// The least length of a part of a piece, in bytes. A piece that is too short for two parts is read by one worker.
@@ -89,12 +90,12 @@ fn read_word<A: Allocator>(
 }
 
 /// A reader of an ASCII STL text that arrives in pieces, cut anywhere: also in a word, a number, a name or a line break.
-/// It keeps the facets until they are forgotten and, between two pieces, no more of the text than the front of a word that
+/// It keeps the facets until they are taken and, between two pieces, no more of the text than the front of a word that
 /// isn't whole yet. Names, rests of lines and white space take nothing, and nor does what follows a fault. A word is kept
 /// whole, however long it is.
 #[derive(Drop)]
 pub struct TextReader<A: Allocator> {
-    /// The number of facets that the text may have beside those that were forgotten.
+    /// The number of facets that the text may have beside those that were taken.
     limit: usize,
     /// The unit of its numbers.
     unit: Unit,
@@ -104,7 +105,7 @@ pub struct TextReader<A: Allocator> {
     place: Place,
     /// The front of a word that isn't whole yet.
     held: Vec<u8, A>,
-    /// The facets so far that were not forgotten.
+    /// The facets so far that were not taken.
     facets: Vec<Facet, A>,
 }
 
@@ -203,25 +204,21 @@ impl<A: Allocator> TextReader<A> {
         rest
     }
 
-    /// The facets that were read and not forgotten, in file order. They are facets of the text only if its end has no
-    /// fault either.
-    pub fn facets(&self) -> &[Facet]
-        ensures { result.now ≡ self.now.facets }
-    {
-        self.facets.as_slice()
-    }
-
-    /// Forgets the facets that were read, and keeps their room. They still count for the limit.
-    pub fn forget(&mut self)
+    /// Hands over the facets that were read since the last call, in file order, in exchange for an empty list: `list` is
+    /// emptied first, and its room serves the facets to come. Those that were handed over still count for the limit. They
+    /// are facets of the text only if its end has no fault either.
+    pub fn take_facets(&mut self, list: &mut Vec<Facet, A>)
         ensures after { (limit : ℕ) (unit : LengthUnit) (taken : List Facet) (fed : List ℕ) → IsAfter limit unit taken self.old fed
             → IsAfter limit unit (taken ++ self.old.facets) self.new fed }
         ensures none { self.new.facets ≡ [] }
+        ensures given { list.new.items ≡ self.old.facets }
     {
         self.limit = self.limit.saturating_sub(self.facets.len());
-        self.facets.clear();
+        list.clear();
+        swap(&mut self.facets, list);
     }
 
-    /// The facets of the text that was fed, in file order, without those that were forgotten.
+    /// The facets of the text that was fed, in file order, without those that were taken.
     ///
     /// # Errors
     /// A text that spells no mesh has exactly one fault, which is the answer unless memory runs out, as of

@@ -3,4 +3,5 @@ pub mod Ends
 pub mod Extents
 pub mod Faults
 pub mod OneAnswer
+pub mod Reading
 pub mod Stream

@@ -7,6 +7,7 @@ ghost use Rattle.stlslice.specs.declared.run_fault.RunFault.TheVariants.{Memory,
 ghost use Rattle.micro_num.specs.declared.unit.Unit.{Unit as LengthUnit};
 ghost use Rattle.mesh_weld.specs.Balance.{IsBalanced};
 ghost use Rattle.mesh_weld.specs.Solid.{solid_of};
+ghost use Rattle.stl_text.specs.Pieces.{IsAfter};
 ghost use Rattle.stl_text.specs.Text.{Reads};
 ghost use Rattle.geometry.specs.Facet.{Facet};
 ghost use Rattle.stlslice.specs.Extent.{IsExtentOf, extent_of};
@@ -16,21 +17,21 @@ ghost use Rattle.geometry.specs.declared.limits.TheConstants.{FACET_LIMIT};
 use crate::extent::Extent;
 use crate::run_fault::RunFault;
 use geometry::{FACET_LIMIT, Facet};
-use mesh_weld::{Solid, Welder, weld};
+use mesh_weld::{Solid, Welder};
 use micro_num::Unit;
 use raster::Source;
 use std::alloc::Allocator;
-use std::thread::Threads;
-use stl_text::{TextReader, read_stl};
-
-/// The length of the window that is filled from the source and then handed to the reader, in bytes.
-const WINDOW_LEN: usize = 65_536;
+use std::thread::{Threads, join_mut};
+use stl_text::TextReader;
 
 /// The number of bytes for each worker, where several read at the same time.
 const WORKER_LEN: usize = 1 << 20;
 
 /// The greatest number of bytes that are read before the workers look at them.
 const ROUND_LIMIT: usize = 1 << 23;
+
+/// The length of the window that is filled from the source and then handed to the reader, in bytes.
+const WINDOW_LEN: usize = 65_536;
 
 /// The closed mesh of an ASCII STL text whose numbers are in `unit`. Facets with two equal corners are dropped.
 ///
@@ -47,26 +48,13 @@ pub fn load<A: Allocator + Copy + Send + Sync>(
     ensures only { (facets : List Facet) → Reads FACET_LIMIT unit bytes.now facets → IsBalanced facets
         → IfErr result (λ fault. fault ≡ Memory) }
 {
-    let facets = read_stl(alloc, bytes, unit)?;
-    weld_read(alloc, facets)
+    let mut reader = TextReader::new(alloc, FACET_LIMIT, unit);
+    reader.feed(bytes);
+    weld_end(reader, Welder::new(alloc))
 }
 
-/// The closed mesh of the facets that were read from a text.
-fn weld_read<A: Allocator + Copy + Send + Sync>(
-    alloc: A,
-    facets: Vec<Facet, A>,
-) -> Result<Solid<A>, RunFault>
-    requires { vec_len facets ≤ FACET_LIMIT }
-    ensures ok { (unit : LengthUnit) (bytes : List ℕ) → Reads FACET_LIMIT unit bytes facets.items
-        → IfOk result (IsSolidOf unit bytes) }
-    ensures err { (unit : LengthUnit) (bytes : List ℕ) → Reads FACET_LIMIT unit bytes facets.items
-        → IfErr result (IsLoadFault unit bytes) }
-    ensures only { IsBalanced facets.items → IfErr result (λ fault. fault ≡ Memory) }
-{
-    Ok(weld(alloc, facets)?)
-}
-
-/// The closed mesh that a source spells, which is read to its end.
+/// The closed mesh that a source spells, which is read to its end and welded as its facets come. No more than a window of
+/// its text and of its facets is held.
 pub(crate) fn read_solid<A: Allocator + Copy + Send + Sync, I: Source>(
     alloc: A,
     source: &mut I,
@@ -79,32 +67,14 @@ pub(crate) fn read_solid<A: Allocator + Copy + Send + Sync, I: Source>(
         → Fails (I.Failures.failure_count source.old) (I.Failures.failure_count source.new) }
     ensures sound { result ≢ Err Read → I.Failures.failure_count source.new ≡ I.Failures.failure_count source.old }
 {
-    let facets = read_facets(alloc, source, unit)?;
-    weld_read(alloc, facets)
-}
-
-/// The facets that a source spells, which is read to its end. Its text is not held.
-fn read_facets<A: Allocator + Copy + Send + Sync, I: Source>(
-    alloc: A,
-    source: &mut I,
-    unit: Unit,
-) -> Result<Vec<Facet, A>, RunFault>
-    ensures ok { IfOk result (λ facets. (input : List ℕ) × IsInput (I.remaining source.old) input
-        × Reads FACET_LIMIT unit input facets.items) }
-    ensures few { IfOk result (λ facets. vec_len facets ≤ FACET_LIMIT) }
-    ensures err { IfErr result (IsInputFault (IsMisread unit) (I.remaining source.old)) }
-    ensures whole { result ≢ Err Read → result ≢ Err Memory → IsAtEnd (I.remaining source.new) }
-    ensures unread { result ≡ Err Read
-        → Fails (I.Failures.failure_count source.old) (I.Failures.failure_count source.new) }
-    ensures sound { result ≢ Err Read → I.Failures.failure_count source.new ≡ I.Failures.failure_count source.old }
-{
     let mut reader = TextReader::new(alloc, FACET_LIMIT, unit);
-    feed_all(source, &mut reader)?;
-    Ok(reader.finish()?)
+    let mut welder = Welder::new(alloc);
+    weld_all(alloc, source, &mut reader, &mut welder)?;
+    weld_end(reader, welder)
 }
 
-/// The closed mesh that a source spells, which is read to its end by up to `workers` workers at the same time, and welded as
-/// its facets come. No more than a round of its text and of its facets is held. It answers what [`read_solid`] answers.
+/// The same as [`read_solid`], read by up to `workers` workers at the same time. Where they are several, no more than a
+/// round of the text and of its facets is held.
 pub(crate) fn read_solid_by<R: Threads + Sync, A: Allocator + Copy + Send + Sync, I: Source>(
     rt: &R,
     alloc: A,
@@ -119,27 +89,69 @@ pub(crate) fn read_solid_by<R: Threads + Sync, A: Allocator + Copy + Send + Sync
         → Fails (I.Failures.failure_count source.old) (I.Failures.failure_count source.new) }
     ensures sound { result ≢ Err Read → I.Failures.failure_count source.new ≡ I.Failures.failure_count source.old }
 {
+    if workers < 2 {
+        return read_solid(alloc, source, unit);
+    }
     let mut reader = TextReader::new(alloc, FACET_LIMIT, unit);
     let mut welder = Welder::new(alloc);
-    weld_all(rt, alloc, source, workers, &mut reader, &mut welder)?;
-    let last = reader.finish()?;
-    weld_next(&mut welder, last.as_slice())?;
-    weld_end(welder)
+    weld_all_by(rt, alloc, source, workers, &mut reader, &mut welder)?;
+    weld_end(reader, welder)
 }
 
-/// The closed mesh of the facets that a welder has.
-fn weld_end<A: Allocator + Copy + Send + Sync>(welder: Welder<A>) -> Result<Solid<A>, RunFault>
-    ensures ok { (unit : LengthUnit) (bytes : List ℕ) (facets : List Facet) → welder ≡ parts_of facets
-        → Reads FACET_LIMIT unit bytes facets → IfOk result (IsSolidOf unit bytes) }
-    ensures err { (unit : LengthUnit) (bytes : List ℕ) (facets : List Facet) → welder ≡ parts_of facets
-        → Reads FACET_LIMIT unit bytes facets → IfErr result (IsLoadFault unit bytes) }
+/// The closed mesh of the facets that a welder has, and of those behind them that a reader still has at the end of its
+/// text.
+fn weld_end<A: Allocator + Copy + Send + Sync>(
+    reader: TextReader<A>,
+    mut welder: Welder<A>,
+) -> Result<Solid<A>, RunFault>
+    ensures ok { (unit : LengthUnit) (taken : List Facet) (fed : List ℕ) → AreWelded taken welder
+        → IsAfter FACET_LIMIT unit taken reader fed → IfOk result (IsSolidOf unit fed) }
+    ensures err { (unit : LengthUnit) (taken : List Facet) (fed : List ℕ) → AreWelded taken welder
+        → IsAfter FACET_LIMIT unit taken reader fed → IfErr result (IsLoadFault unit fed) }
+    ensures only { (unit : LengthUnit) (taken : List Facet) (fed : List ℕ) → AreWelded taken welder
+        → IsAfter FACET_LIMIT unit taken reader fed
+        → (facets : List Facet) → Reads FACET_LIMIT unit fed facets → IsBalanced facets → IfErr result (λ fault. fault ≡ Memory) }
 {
+    let last = reader.finish()?;
+    weld_next(&mut welder, last.as_slice())?;
+    drop(last);
     Ok(welder.finish()?)
 }
 
-/// Feeds a reader with all bytes of a source, takes the facets off it and adds them to a welder. Behind 2^64 - 1 rounds it
+/// Feeds a reader with all bytes of a source, takes the facets off it and adds them to a welder. Behind 2^64 - 1 windows it
 /// answers `Memory`.
-fn weld_all<R: Threads + Sync, A: Allocator + Copy + Send + Sync, I: Source>(
+fn weld_all<A: Allocator + Copy + Send + Sync, I: Source>(
+    alloc: A,
+    source: &mut I,
+    reader: &mut TextReader<A>,
+    welder: &mut Welder<A>,
+) -> Result<(), RunFault>
+    requires { welder.old ≡ parts_of [] }
+    ensures fed { OnOk result ((taken : List Facet) × AreWelded taken welder.new
+        × ((unit : LengthUnit) (start : Option (List ℕ)) → IsFed unit [] reader.old start (I.remaining source.old)
+        → IsFed unit taken reader.new start (I.remaining source.new))) }
+    ensures whole { OnOk result (IsAtEnd (I.remaining source.new)) }
+    ensures unread { result ≡ Err Read
+        → Fails (I.Failures.failure_count source.old) (I.Failures.failure_count source.new) }
+    ensures sound { result ≢ Err Read → I.Failures.failure_count source.new ≡ I.Failures.failure_count source.old }
+    ensures only { IfErr result (λ fault. (fault ≡ Read) ⊎ (fault ≡ Memory)) }
+{
+    let mut facets = Vec::new(alloc);
+    let mut window = [0; WINDOW_LEN];
+    for _ in 0..u64::MAX {
+        let more = feed_next(source, &mut window, reader)?;
+        reader.take_facets(&mut facets);
+        weld_next(welder, facets.as_slice())?;
+        if !more {
+            return Ok(());
+        }
+    }
+    Err(RunFault::Memory)
+}
+
+/// The same as [`weld_all`], by rounds that several workers read: the facets of a round are welded while the next one is
+/// read. Behind 2^64 - 1 rounds it answers `Memory`.
+fn weld_all_by<R: Threads + Sync, A: Allocator + Copy + Send + Sync, I: Source>(
     rt: &R,
     alloc: A,
     source: &mut I,
@@ -159,25 +171,57 @@ fn weld_all<R: Threads + Sync, A: Allocator + Copy + Send + Sync, I: Source>(
 {
     let len = round_len(workers);
     let mut round = Vec::with_capacity(alloc, len)?;
+    let mut facets = Vec::new(alloc);
     let mut window = [0; WINDOW_LEN];
     for _ in 0..u64::MAX {
         let is_more = fill_round(source, &mut window, &mut round, len)?;
-        reader.feed_by(rt, round.as_slice(), workers);
-        weld_next(welder, reader.facets())?;
-        reader.forget();
+        weld_and_feed(
+            rt,
+            workers,
+            welder,
+            facets.as_slice(),
+            reader,
+            round.as_slice(),
+        )?;
+        reader.take_facets(&mut facets);
         round.clear();
         if !is_more {
-            return Ok(());
+            return weld_next(welder, facets.as_slice());
         }
     }
     Err(RunFault::Memory)
 }
 
-/// The number of bytes that are read before the workers look at them. A single worker takes what the source gives.
-fn round_len(workers: u32) -> usize {
-    if workers < 2 {
-        return 1;
+/// Adds the facets of the last round to a welder, while a reader is fed with the next round: of up to `workers` workers one
+/// welds, on the thread that calls, and the others read. Where there are no such facets, all of them read.
+fn weld_and_feed<R: Threads + Sync, A: Allocator + Copy + Send + Sync>(
+    rt: &R,
+    workers: u32,
+    welder: &mut Welder<A>,
+    facets: &[Facet],
+    reader: &mut TextReader<A>,
+    round: &[u8],
+) -> Result<(), RunFault>
+    ensures welded { (taken : List Facet) → AreWelded taken welder.old → OnOk result (AreWelded (taken ++ facets.now) welder.new) }
+    ensures fed { (unit : LengthUnit) (taken : List Facet) (fed : List ℕ) → IsAfter FACET_LIMIT unit taken reader.old fed
+        → IsAfter FACET_LIMIT unit taken reader.new (fed ++ round.now) }
+    ensures only { IfErr result (λ fault. fault ≡ Memory) }
+{
+    if facets.is_empty() {
+        reader.feed_by(rt, round, workers);
+        return Ok(());
     }
+    let readers = workers.saturating_sub(1);
+    let ((), welded) = join_mut(
+        rt,
+        &mut || reader.feed_by(rt, round, readers),
+        &mut || weld_next(welder, facets),
+    );
+    welded
+}
+
+/// The number of bytes that are read before the workers look at them.
+fn round_len(workers: u32) -> usize {
     WORKER_LEN.saturating_mul(workers as usize).min(ROUND_LIMIT)
 }
 
@@ -241,14 +285,15 @@ pub(crate) fn read_extent<A: Allocator + Copy + Send + Sync, I: Source>(
     ensures sound { result ≢ Err Read → I.Failures.failure_count source.new ≡ I.Failures.failure_count source.old }
 {
     let mut reader = TextReader::new(alloc, FACET_LIMIT, unit);
-    let extent = measure_all(source, &mut reader)?;
+    let extent = measure_all(alloc, source, &mut reader)?;
     let last = reader.finish()?;
     Ok(extent.with(&last))
 }
 
 /// Feeds a reader with all bytes of a source, and takes the facets off it: answers their extent. Behind 2^64 - 1 windows
 /// it answers `Memory`.
-fn measure_all<A: Allocator, I: Source>(
+fn measure_all<A: Allocator + Copy, I: Source>(
+    alloc: A,
     source: &mut I,
     reader: &mut TextReader<A>,
 ) -> Result<Extent, RunFault>
@@ -262,35 +307,14 @@ fn measure_all<A: Allocator, I: Source>(
     ensures only { IfErr result (λ fault. (fault ≡ Read) ⊎ (fault ≡ Memory)) }
 {
     let mut extent = Extent::none();
+    let mut facets = Vec::new(alloc);
     let mut window = [0; WINDOW_LEN];
     for _ in 0..u64::MAX {
         let is_more = feed_next(source, &mut window, reader)?;
-        extent = extent.with(reader.facets());
-        reader.forget();
+        reader.take_facets(&mut facets);
+        extent = extent.with(facets.as_slice());
         if !is_more {
             return Ok(extent);
-        }
-    }
-    Err(RunFault::Memory)
-}
-
-/// Feeds a reader with all bytes of a source. Behind 2^64 - 1 windows it answers `Memory`.
-fn feed_all<A: Allocator, I: Source>(
-    source: &mut I,
-    reader: &mut TextReader<A>,
-) -> Result<(), RunFault>
-    ensures fed { OnOk result ((unit : LengthUnit) (taken : List Facet) (start : Option (List ℕ))
-        → IsFed unit taken reader.old start (I.remaining source.old) → IsFed unit taken reader.new start (I.remaining source.new)) }
-    ensures whole { OnOk result (IsAtEnd (I.remaining source.new)) }
-    ensures unread { result ≡ Err Read
-        → Fails (I.Failures.failure_count source.old) (I.Failures.failure_count source.new) }
-    ensures sound { result ≢ Err Read → I.Failures.failure_count source.new ≡ I.Failures.failure_count source.old }
-    ensures only { IfErr result (λ fault. (fault ≡ Read) ⊎ (fault ≡ Memory)) }
-{
-    let mut window = [0; WINDOW_LEN];
-    for _ in 0..u64::MAX {
-        if !feed_next(source, &mut window, reader)? {
-            return Ok(());
         }
     }
     Err(RunFault::Memory)

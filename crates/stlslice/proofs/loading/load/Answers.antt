@@ -1,15 +1,15 @@
-use Rattle.stlslice.proofs.lemmas.Faults.{passed_on, told, unread_text}
+use Rattle.std.proofs.Common.{[]}
+use Rattle.geometry.specs.declared.limits.TheConstants.{FACET_LIMIT}
 use Rattle.stlslice.proofs.loading.load.Goals as goal
 
-pub returns-in_err-facets-clause-fault : goal.returns-in_err-facets-clause-fault
-returns-in_err-facets-clause-fault g c =
-    passed_on c.from_residual.result _ _
-    (λ f gives. unread_text c.args.unit c.args.bytes.now f (told c.args.unit c.args.bytes.now c.in_err-facets.field-0.0 f gives c.in_err-facets.ensures.fault))
-    c.from_residual.ensures.1
+pub returns-clause-ok : goal.returns-clause-ok
+returns-clause-ok g c =
+    c.weld_end.ensures.ok c.args.unit [] c.args.bytes.now (λ few. c.new.ensures) (c.feed.ensures FACET_LIMIT c.args.unit [] [] c.new-reader.ensures)
 
-pub returns-in_err-facets-clause-only : goal.returns-in_err-facets-clause-only
-returns-in_err-facets-clause-only g c = λ facets reads closed.
-    passed_on c.from_residual.result _ _ (λ f gives. gives.0 (c.in_err-facets.ensures.only facets reads)) c.from_residual.ensures.1
+pub returns-clause-fault : goal.returns-clause-fault
+returns-clause-fault g c =
+    c.weld_end.ensures.err c.args.unit [] c.args.bytes.now (λ few. c.new.ensures) (c.feed.ensures FACET_LIMIT c.args.unit [] [] c.new-reader.ensures)
 
 pub returns-clause-only : goal.returns-clause-only
-returns-clause-only g c = λ facets reads closed. c.weld_read.ensures.only (rw (c.in_ok-facets.ensures.only facets reads) closed)
+returns-clause-only g c =
+    c.weld_end.ensures.only c.args.unit [] c.args.bytes.now (λ few. c.new.ensures) (c.feed.ensures FACET_LIMIT c.args.unit [] [] c.new-reader.ensures)

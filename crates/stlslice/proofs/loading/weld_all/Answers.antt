@@ -1,23 +1,16 @@
 use Rattle.std.proofs.Common.{◌∙◌, ◌++◌, subst}
-use Rattle.std.proofs.KnownBytes.{Consumes-trans}
-use Rattle.stl_text.specs.Pieces.{IsAfter}
 use Rattle.geometry.specs.declared.limits.TheConstants.{FACET_LIMIT}
+use Rattle.stlslice.specs.Ending.{AreWelded}
 use Rattle.stlslice.proofs.loading.weld_all.Goals as goal
 
-pub returns-then-not-is_more-clause-fed : goal.returns-then-not-is_more-clause-fed
-returns-then-not-is_more-clause-fed g c =
+pub returns-then-not-more-clause-fed : goal.returns-then-not-more-clause-fed
+returns-then-not-more-clause-fed g c =
     let so_far = c.loop.invariant.fed in (
-      so_far.0 ++ c.facets.result.now,
-      c.in_ok-weld_next.ensures.welded so_far.0 so_far.1,
+      so_far.0 ++ c.take_facets.new.list.items,
+      subst (λ fs. AreWelded (so_far.0 ++ fs) c.weld_next.new.welder) c.as_slice.ensures.value (c.in_ok-weld_next.ensures.welded so_far.0 so_far.1),
       λ unit start is.
-          let fed = so_far.2 unit start is in
-          let more = c.fill_round.new.round.items in
-          let after = subst (λ p. IsAfter FACET_LIMIT unit so_far.0 c.feed_by.new.self (fed.0 ++ p)) c.as_slice.ensures.value
-          (c.feed_by.ensures FACET_LIMIT unit so_far.0 fed.0 fed.2) in (
-            fed.0 ++ more,
-            Consumes-trans start _ _ fed.0 more fed.1 c.in_ok-is_more.ensures.taken,
-            rw c.facets.ensures (c.forget.ensures.after FACET_LIMIT unit so_far.0 (fed.0 ++ more) after),
-          ),
+          let fed = c.in_ok-more.ensures.fed unit so_far.0 start (so_far.2 unit start is) in
+          (fed.0, fed.1, rw c.take_facets.ensures.given (c.take_facets.ensures.after FACET_LIMIT unit so_far.0 fed.0 fed.2)),
     )
 
 pub loop-preserved : goal.loop-preserved
@@ -25,19 +18,12 @@ loop-preserved g c =
     let so_far = c.loop.invariant.fed in
     record {
       fed = (
-        so_far.0 ++ c.facets.result.now,
-        c.in_ok-weld_next.ensures.welded so_far.0 so_far.1,
+        so_far.0 ++ c.take_facets.new.list.items,
+        subst (λ fs. AreWelded (so_far.0 ++ fs) c.weld_next.new.welder) c.as_slice.ensures.value (c.in_ok-weld_next.ensures.welded so_far.0 so_far.1),
         λ unit start is.
-            let fed = so_far.2 unit start is in
-            let more = c.fill_round.new.round.items in
-            let after = subst (λ p. IsAfter FACET_LIMIT unit so_far.0 c.feed_by.new.self (fed.0 ++ p)) c.as_slice.ensures.value
-            (c.feed_by.ensures FACET_LIMIT unit so_far.0 fed.0 fed.2) in (
-              fed.0 ++ more,
-              Consumes-trans start _ _ fed.0 more fed.1 c.in_ok-is_more.ensures.taken,
-              rw c.facets.ensures (c.forget.ensures.after FACET_LIMIT unit so_far.0 (fed.0 ++ more) after),
-            ),
+            let fed = c.in_ok-more.ensures.fed unit so_far.0 start (so_far.2 unit start is) in
+            (fed.0, fed.1, rw c.take_facets.ensures.given (c.take_facets.ensures.after FACET_LIMIT unit so_far.0 fed.0 fed.2)),
       );
-      counted = c.in_ok-is_more.ensures.sound (λ e. cc) ∙ c.loop.invariant.counted;
-      room = c.in_ok-is_more.ensures.len ∙ c.loop.invariant.room;
-      empty = c.clear.ensures.items;
+      counted = c.in_ok-more.ensures.sound ∙ c.loop.invariant.counted;
+      room = c.in_ok-more.ensures.len ∙ c.loop.invariant.room;
     }

@@ -13,5 +13,4 @@ invariant-loop g l = record {
       → IsFed unit taken l.reader start (g.I.Source.remaining l.source));
   counted : g.I.Failures.failure_count l.source ≡ g.I.Failures.failure_count l.initial.source;
   room : length l.window ≡ WINDOW_LEN;
-  empty : l.round.items ≡ [];
 }
