@@ -13,9 +13,10 @@
  * and y. No call prints, starts a thread, reads a file or ends the program; memory comes from malloc and goes back to
  * free. A call that answers another status than STLSLICE_DONE leaves the mesh as it was.
  *
- * Buffers. A call with a buffer writes into its front and leaves the rest as it was. Where it is too small nothing is
- * written, the size that is wanted is told, and the status is STLSLICE_NO_ROOM; so a call with a null buffer of size 0
- * asks for the size.
+ * Buffers. A call with a buffer writes into its front and leaves the rest as it was, and tells how much it wrote. Where
+ * the buffer is too small nothing is written, the size that is wanted is told, and the status is STLSLICE_NO_ROOM; so a
+ * call with a null buffer of size 0 asks for the size, at once for images. At any other status buffer and size are as
+ * they were.
  *
  * Pointers. A text or a buffer may be null where its size is 0. Any other pointer that is null makes the status
  * STLSLICE_OUT_OF_RANGE. A pointer that isn't null has to be good for what its type says, and what one call writes
@@ -99,9 +100,9 @@ typedef struct {
 /* 1000000 for 1.0.0. */
 uint32_t stlslice_version(void);
 
-/* Reads an ASCII STL text, and tells the box of its facets. After a fault, `line` has what the program writes for it
- * behind "stlslice: ", or the text of the status where the program has no such fault, ended by 0 and cut where it has no
- * room. */
+/* Reads an ASCII STL text, and tells the box of its facets. After a fault of text, mesh or grid, `line` has what the program
+ * writes for it behind "stlslice: "; where a number is out of its range, or memory was refused, a text of that. It is ended
+ * by 0, and cut where it has no room. At STLSLICE_DONE it is as it was. */
 stlslice_status stlslice_box(const uint8_t *text, size_t text_size, uint32_t unit, stlslice_corners *corners, char *line,
                              size_t line_room);
 

@@ -37,6 +37,6 @@ pub use file_fault::FileFault;
 pub use job::Job;
 pub use laws::{headline, one_layer};
 pub use layer::Layer;
-pub use limits::MOST_STRIPES;
+pub use limits::{MOST_STRIPES, STRIPE_LAYERS};
 pub use piece::Piece;
 pub use slicer::{Slicer, slice_stripe};

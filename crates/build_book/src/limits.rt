@@ -2,7 +2,7 @@
 use geometry::LAYER_LIMIT;
 
 /// How many layers a stripe has; the last one may have fewer.
-pub(crate) const STRIPE_LAYERS: u32 = 8;
+pub const STRIPE_LAYERS: u32 = 8;
 
 /// The count of stripes of a job with the most layers: 8,192.
 pub const MOST_STRIPES: u32 = (LAYER_LIMIT + STRIPE_LAYERS - 1) / STRIPE_LAYERS;

@@ -21,8 +21,8 @@
 //! - [`Session`]: the closed mesh of an ASCII STL text, in its grid, with a rule. Whatever it is asked, it stays as it is.
 //! - [`SessionReader`]: opens a text that arrives in pieces.
 //! - [`Setup`]: what a text is opened with; [`Placing`]: a grid that fits the mesh, or a given one.
-//! - [`SessionFault`]: why there is no session, or no answer. Its `Display` is what the program writes for that behind
-//!   `stlslice: `.
+//! - [`SessionFault`]: why there is no session, or no answer. The `Display` of a fault of text, mesh or grid, of one of memory
+//!   and of `Outside` is what the program writes for it behind `stlslice: `; the program refuses what is `Step` by its words.
 //! - [`one_answer`]: a law. A setup and a text have one answer, a session or a fault, where memory suffices.
 //!
 //! Pitch, layer height, origin and box are in micrometres. Columns, rows and layers count from 0 along x, y and z, and

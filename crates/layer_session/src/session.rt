@@ -1,5 +1,5 @@
 //! Sessions: a closed mesh in its grid, with a rule, asked layer by layer.
-ghost use Rattle.std.specs.Prelude.{◌≡◌, ◌<◌, ◌≤◌, Err, IfErr, IfOk, List, OnOk, vec_len, ℕ};
+ghost use Rattle.std.specs.Prelude.{◌≡◌, ◌<◌, ◌≤◌, ◌^◌, Err, IfErr, IfOk, List, OnOk, length, vec_len, ℕ};
 ghost use Rattle.build_book.specs.Job.{stripe_count};
 ghost use Rattle.build_book.specs.declared.limits.TheConstants.{MOST_STRIPES};
 ghost use Rattle.contour.specs.Loops.{AreLoops, loops};
@@ -17,11 +17,11 @@ ghost use Rattle.layer_session.specs.declared.session_fault.SessionFault.TheVari
 use crate::layers::{layer_area, layer_image, layer_loops, layer_outlines, stripe_images};
 use crate::session_fault::SessionFault;
 use crate::setup::Setup;
-use build_book::Job;
+use build_book::{Job, STRIPE_LAYERS};
 use contour::{Loops, Outlines};
 use geometry::{Facet, Point, extent};
 use mesh_weld::{probe, weld};
-use raster::{Grid, Rule};
+use raster::{Grid, Rule, image_len};
 use std::alloc::Allocator;
 use std::marker::Model;
 use stl_text::read_stl;
@@ -120,6 +120,25 @@ impl<A: Allocator + Copy + Send + Sync> Session<A> {
         ensures few { result ≤ MOST_STRIPES }
     {
         self.job.stripes()
+    }
+
+    /// The length in bytes of the image of a layer, which is the same for all of them.
+    pub fn image_len(&self) -> u64
+        ensures value { (k : ℕ) → length (image_of self.now.job k) ≡ result }
+        ensures small { result ≤ 2 ^ 26 }
+    {
+        image_len(self.job.grid())
+    }
+
+    /// The length in bytes of the images of stripe s.
+    pub fn stripe_len(&self, s: u64) -> u64
+        requires { s < stripe_count self.now.job.grid }
+        ensures value { result ≡ length (stripe_images self.now.job s) }
+        ensures small { result ≤ 2 ^ 29 }
+    {
+        let most = u64::from(STRIPE_LAYERS);
+        let layers = most.min(u64::from(self.layers()) - most * s);
+        layers * self.image_len()
     }
 
     /// The number of facets that were read, those with two equal corners among them.

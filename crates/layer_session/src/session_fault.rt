@@ -11,7 +11,7 @@ use stl_text::StlFault;
 use thiserror::Error;
 
 /// Why there is no session, or no answer of one. Its `Display` is the program's line on standard error, behind
-/// `stlslice: `, but for `Step`, which the program tells of its words.
+/// `stlslice: `, but for `Step`: the program checks pitch and layer height as it reads its words, and names the option.
 #[derive(Clone, Copy, Debug, PartialEq, Eq, Error)]
 pub enum SessionFault {
     /// Pitch or layer height is out of range.

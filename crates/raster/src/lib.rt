@@ -36,7 +36,7 @@ mod span;
 pub use devices::{Counted, Failed, Failures, Sink, Source, WriteFault, put_all};
 pub use filler::{Filler, fill};
 pub use grid::{Grid, GridFault};
-pub use pbm::write_layer;
+pub use pbm::{image_len, write_layer};
 pub use placing::Placing;
 pub use rule::Rule;
 pub use span::{Span, area};

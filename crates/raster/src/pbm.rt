@@ -3,6 +3,8 @@
 mod bits;
 mod chunk;
 mod image;
+mod length;
 mod rows;
 
 pub use image::write_layer;
+pub use length::image_len;

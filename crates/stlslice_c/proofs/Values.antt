@@ -1,4 +1,4 @@
--- The machine values of a `Loose` and of a `OnceBox`. Assumes `Logic`.
+-- The machine values of a `Loose` and of a `Kept`. Assumes `Logic`.
 use Rattle.std.proofs.Common.{◌≡◌, ℕ, List, [], ◌∷◌, ◌++◌, refl, subst}
 use mathlib.Core.Bool.{Bool, true, false, ◌&&◌}
 use lib.Dec.{T}
@@ -30,9 +30,8 @@ use Rattle.core.proofs.atomic.Steps.{Ptr-Good}
 use Rattle.std.specs.contracts.alloc.Global as heap
 use Rattle.std.proofs.alloc.Global.TheLaws as heap_laws
 use Rattle.std.specs.contracts.impls.GlobalAllocator.TheImpl.{ghosts}
-use Rattle.stlslice_c.specs.Held.{holds, token}
+use Rattle.stlslice_c.specs.Held.{holds, session_row, token}
 use Rattle.stlslice_c.specs.contracts.loose.Loose as loose
-use Rattle.stlslice_c.specs.contracts.opened.Opened as part
 use Rattle.stlslice_c.specs.contracts.kept.Kept as kept
 
 abbrev pub both : Val → Val → Val
@@ -92,7 +91,7 @@ module _ (P Q : RattleType) {M : Type 1} {𝓤 : Ura M} {𝓛 : Logic 𝓤} {K :
 
 -- The machine values of a `Kept`.
 abbrev pub R : RattleType
-R = part.the_row
+R = session_row
 
 abbrev pub Z : RattleType
 Z = heap.the_row
@@ -115,14 +114,14 @@ kept_good null_ptr = (tt, ((Ptr-Good null_ptr).1, tt))
 
 module _ {M : Type 1} {𝓤 : Ura M} {𝓛 : Logic 𝓤} {K : Type 0} {Γ : List (Item 𝓤)} {G : Goal 𝓤 𝓛.H} where
   pub kept_out : K → (d : Kept.Denot) (vs : List Val)
-      → (vs ≡ alone (ptr_val d.at) ∷ [] → Seq K 𝓛 (‵ (holds token R d.at d.opened) ∷ Γ) G)
+      → (vs ≡ alone (ptr_val d.at) ∷ [] → Seq K 𝓛 (‵ (holds token R d.at d.session) ∷ Γ) G)
       → Seq K 𝓛 (‵ (Kept.own_val d vs) ∷ Γ) G
   kept_out t d vs k =
       fsplit t $ fpick t (λ vss. fsplit t $ feq_l t (λ ev. fsplit t $ feq_l t (λ ep. drop t $
       k (subst (λ (ps : List Val). vs ≡ vstruct (of_list (ps ++ [])) ∷ []) ep ev))))
 
   pub kept_in : K → (p : Ptr) (x : Option R.Denot)
-      → Step K 𝓛 (‵ (Kept.own_val (record { at = p; opened = x }) (alone (ptr_val p) ∷ [])) ∷ Γ) G (‵ (holds token R p x) ∷ Γ) G
+      → Step K 𝓛 (‵ (Kept.own_val (record { at = p; session = x }) (alone (ptr_val p) ∷ [])) ∷ Γ) G (‵ (holds token R p x) ∷ Γ) G
   kept_in t p x = step (λ s. let v : Val = alone (ptr_val p) in
       nothing t $ feq_i t (List Val) (ptr_val p ∷ []) (ptr_val p ∷ []) refl $ fjoin t $ feq_i t (List Val) (v ∷ []) (v ∷ []) refl $ fjoin t $
       fpack t (Valss (RawPtr ∷ [])) (within (shape kept.the_type) (p, tt) (v ∷ [])) (ptr_val p ∷ [], tt) $ fjoin t $ s)

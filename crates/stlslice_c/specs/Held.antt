@@ -6,6 +6,12 @@ use Rattle.std.specs.contracts.impls.GlobalAllocator.TheImpl.{ghosts}
 use denote.RattleType.{RattleType}
 use denote.RawPtr.{Ptr}
 use Rattle.std_alloc.specs.Box.Ownership.{box_owns}
+use Rattle.std.specs.contracts.alloc.Global as heap
+use Rattle.layer_session.specs.contracts.session.Session as session
+
+-- a session whose memory is of the heap
+abbrev pub session_row : RattleType
+session_row = session.the_row heap.the_row ghosts
 
 -- the right to free a block of the heap
 abbrev pub token : Ty → Ptr → Fml

@@ -1,5 +1,6 @@
 pub mod Held
 pub mod Shape
 pub mod Options
+pub mod Statuses
 pub mod Answers
 pub mod Loops

@@ -23,8 +23,8 @@ rule_numbered n =
 abbrev pub IsPlaced : Options → Placing → Type 0
 IsPlaced o placing.Fitted = o.placing ≡ 0
 IsPlaced o (placing.Given columns rows layers origin) =
-    (o.placing ≡ 1) × (columns ≡ o.columns) × (rows ≡ o.rows) × (layers ≡ o.layers)
-    × (origin ≡ record { x = o.origin_x; y = o.origin_y; z = o.origin_z }) × IsMeshPoint origin
+    (o.placing ≡ 1) × (columns ≡ o.cells.columns) × (rows ≡ o.cells.rows) × (layers ≡ o.cells.layers)
+    × (origin ≡ record { x = o.cells.origin_x; y = o.cells.origin_y; z = o.cells.origin_z }) × IsMeshPoint origin
 
 -- the setup that the options stand for
 pub record IsSetup (o : Options) (s : Setup) : Type 0 where

@@ -1,7 +1,9 @@
 -- What C is told of a text's facets and of an open mesh.
 use Rattle.std.specs.Prelude.{ℕ, Option, Some, None, pos}
 use Rattle.geometry.specs.Point.{Point}
+use Rattle.raster.specs.Grid.{Grid}
 use Rattle.layer_session.specs.Session.{Session}
+use Rattle.stlslice_c.specs.declared.shape.Cells.{Cells}
 use Rattle.stlslice_c.specs.declared.shape.Corners.{Corners}
 use Rattle.stlslice_c.specs.declared.shape.Shape.{Shape}
 
@@ -26,13 +28,18 @@ corners_told n (Some box) = record {
   high_z = box.1.z;
 }
 
+abbrev pub cells_told : Grid → Cells
+cells_told g = record {
+  columns = g.columns;
+  rows = g.rows;
+  layers = g.layers;
+  origin_x = g.origin.x;
+  origin_y = g.origin.y;
+  origin_z = g.origin.z;
+}
+
 abbrev pub shape_told : Session → Shape
 shape_told s = record {
   corners = corners_told s.facet_count s.corners;
-  columns = s.job.grid.columns;
-  rows = s.job.grid.rows;
-  layers = s.job.grid.layers;
-  origin_x = s.job.grid.origin.x;
-  origin_y = s.job.grid.origin.y;
-  origin_z = s.job.grid.origin.z;
+  cells = cells_told s.job.grid;
 }

@@ -2,36 +2,42 @@
 ghost use Rattle.std.specs.Prelude.{◌≡◌};
 ghost use Rattle.stlslice_c.specs.Answers.{IsArea, IsMask, IsProbe, IsStripe};
 
-use crate::buffers::put;
+use crate::buffers::{has_room, put};
 use crate::shape::Rays;
-use crate::status::{DONE, status_of};
+use crate::status::{DONE, NO_ROOM, status_of};
 use layer_session::Session;
-use std::alloc::Global;
+use std::alloc::Allocator;
 
-/// Puts the image of layer k into the front of a buffer.
-pub(crate) fn put_mask(
-    session: &Session<Global>,
+/// Puts the image of layer k into the front of a buffer. Without room for it, nothing is sliced.
+pub(crate) fn put_mask<A: Allocator + Copy + Send + Sync>(
+    session: &Session<A>,
     k: u32,
     image: &mut [u8],
     wanted: &mut usize,
 ) -> u32
-    ensures { IsMask session.now.job k image.old image.new wanted.new result }
+    ensures { IsMask session.now.job k image.old image.new wanted.old wanted.new result }
 {
+    if k < session.layers() && !has_room(session.image_len(), image, wanted) {
+        return NO_ROOM;
+    }
     match session.image(k) {
         Ok(bytes) => put(bytes.as_slice(), image, wanted),
         Err(fault) => status_of(&fault),
     }
 }
 
-/// Puts the images of stripe s into the front of a buffer.
-pub(crate) fn put_stripe(
-    session: &Session<Global>,
+/// Puts the images of stripe s into the front of a buffer. Without room for them, nothing is sliced.
+pub(crate) fn put_stripe<A: Allocator + Copy + Send + Sync>(
+    session: &Session<A>,
     s: u64,
     images: &mut [u8],
     wanted: &mut usize,
 ) -> u32
-    ensures { IsStripe session.now.job s images.old images.new wanted.new result }
+    ensures { IsStripe session.now.job s images.old images.new wanted.old wanted.new result }
 {
+    if s < session.stripes() && !has_room(session.stripe_len(s), images, wanted) {
+        return NO_ROOM;
+    }
     match session.stripe(s) {
         Ok(bytes) => put(bytes.as_slice(), images, wanted),
         Err(fault) => status_of(&fault),
@@ -39,7 +45,11 @@ pub(crate) fn put_stripe(
 }
 
 /// Puts the number of filled pixels of layer k.
-pub(crate) fn put_area(session: &Session<Global>, k: u32, area: &mut u64) -> u32
+pub(crate) fn put_area<A: Allocator + Copy + Send + Sync>(
+    session: &Session<A>,
+    k: u32,
+    area: &mut u64,
+) -> u32
     ensures { IsArea session.now.job k area.old area.new result }
 {
     match session.area(k) {
@@ -52,7 +62,13 @@ pub(crate) fn put_area(session: &Session<Global>, k: u32, area: &mut u64) -> u32
 }
 
 /// Puts the crossings of the rays from the centre of a voxel.
-pub(crate) fn put_probe(session: &Session<Global>, i: u32, j: u32, k: u32, rays: &mut Rays) -> u32
+pub(crate) fn put_probe<A: Allocator + Copy + Send + Sync>(
+    session: &Session<A>,
+    i: u32,
+    j: u32,
+    k: u32,
+    rays: &mut Rays,
+) -> u32
     ensures { IsProbe session.now.job i j k rays.old rays.new result }
 {
     match session.probe(i, j, k) {

@@ -1,29 +1,30 @@
 //! What is put into buffers of C's.
-ghost use Rattle.std.specs.Prelude.{◌≡◌};
-ghost use Rattle.stlslice_c.specs.Answers.{IsLine, IsPut};
+ghost use Rattle.std.specs.Prelude.{◌≡◌, ◌≤◌, ◌<◌, ◌++◌, ◌↔◌, IsTrue, drop, length};
+ghost use Rattle.stlslice_c.specs.declared.status.TheConstants.{DONE};
 
-use crate::status::{DONE, NO_ROOM};
+use crate::status::DONE;
 
-/// Puts bytes into the front of a buffer, where it has room for all of them, and tells their number.
-pub(crate) fn put(bytes: &[u8], buffer: &mut [u8], wanted: &mut usize) -> u32
-    ensures { IsPut bytes.now buffer.old buffer.new wanted.new result }
+/// Whether a buffer has room for this many bytes. Where it has none, their number is told.
+pub(crate) fn has_room(count: u64, buffer: &[u8], wanted: &mut usize) -> bool
+    ensures room { IsTrue result ↔ (count ≤ length buffer.now) }
+    ensures fits { IsTrue result → wanted.new ≡ wanted.old }
+    ensures small { length buffer.now < count → wanted.new ≡ count }
 {
-    *wanted = bytes.len();
-    if bytes.len() > buffer.len() {
-        return NO_ROOM;
+    if count <= buffer.len() as u64 {
+        return true;
     }
-    buffer[..bytes.len()].copy_from_slice(bytes);
-    DONE
+    *wanted = count as usize;
+    false
 }
 
-/// Puts as much of a text into a buffer as there is room for with a 0 behind it.
-pub(crate) fn put_line(text: &[u8], line: &mut [u8])
-    ensures { IsLine text.now line.old line.new }
+/// Puts bytes into the front of a buffer that has room for them, and tells their number.
+pub(crate) fn put(bytes: &[u8], buffer: &mut [u8], wanted: &mut usize) -> u32
+    requires { length bytes.now ≤ length buffer.old }
+    ensures put { buffer.new ≡ bytes.now ++ drop (length bytes.now) buffer.old }
+    ensures told { wanted.new ≡ length bytes.now }
+    ensures done { result ≡ DONE }
 {
-    if line.len() == 0 {
-        return;
-    }
-    let count = text.len().min(line.len() - 1);
-    line[..count].copy_from_slice(&text[..count]);
-    line[count] = 0;
+    *wanted = bytes.len();
+    buffer[..bytes.len()].copy_from_slice(bytes);
+    DONE
 }

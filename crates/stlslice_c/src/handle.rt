@@ -3,7 +3,7 @@ ghost use Rattle.std.specs.Prelude.{◌≡◌, None, Some, is_some, option_map};
 
 use crate::kept::Kept;
 use crate::loose::Loose;
-use crate::opened::Opened;
+use layer_session::Session;
 use std::alloc::Global;
 
 /// A handle: an open mesh, or none. Zeros make one with none.
@@ -12,13 +12,13 @@ use std::alloc::Global;
 pub struct Handle {
     is_open: bool,
     pub kept: Kept,
-    ghost tells: { is_open ≡ is_some kept.opened },
+    ghost tells: { is_open ≡ is_some kept.session },
 }
 
 impl Handle {
     /// With no mesh.
     pub(crate) fn empty() -> Handle
-        ensures { result.kept.opened ≡ None }
+        ensures { result.kept.session ≡ None }
     {
         Handle {
             is_open: false,
@@ -27,18 +27,18 @@ impl Handle {
     }
 
     /// With a mesh.
-    pub(crate) fn of(opened: Box<Opened, Global>) -> Handle
-        ensures { result.kept.opened ≡ Some opened.value }
+    pub(crate) fn of(session: Box<Session<Global>, Global>) -> Handle
+        ensures { result.kept.session ≡ Some session.value }
     {
         Handle {
             is_open: true,
-            kept: Kept::of(Loose::of(opened)),
+            kept: Kept::of(Loose::of(session)),
         }
     }
 
     /// Its mesh, if there is one.
-    fn into_opened(self, alloc: Global) -> Option<Box<Opened, Global>>
-        ensures { option_map (λ opened. opened.value) result ≡ self.kept.opened }
+    fn into_session(self, alloc: Global) -> Option<Box<Session<Global>, Global>>
+        ensures { option_map (λ session. session.value) result ≡ self.kept.session }
     {
         let Handle { is_open, kept } = self;
         if is_open {
@@ -49,18 +49,18 @@ impl Handle {
     }
 
     /// Takes its mesh out.
-    pub(crate) fn take(&mut self, alloc: Global) -> Option<Box<Opened, Global>>
-        ensures taken { option_map (λ opened. opened.value) result ≡ self.old.kept.opened }
-        ensures empty { self.new.kept.opened ≡ None }
+    pub(crate) fn take(&mut self, alloc: Global) -> Option<Box<Session<Global>, Global>>
+        ensures taken { option_map (λ session. session.value) result ≡ self.old.kept.session }
+        ensures empty { self.new.kept.session ≡ None }
     {
-        std::mem::replace(self, Handle::empty()).into_opened(alloc)
+        std::mem::replace(self, Handle::empty()).into_session(alloc)
     }
 
     /// Puts a mesh in, in place of the one that it has.
-    pub(crate) fn put(&mut self, alloc: Global, opened: Box<Opened, Global>)
-        ensures { self.new.kept.opened ≡ Some opened.value }
+    pub(crate) fn put(&mut self, alloc: Global, session: Box<Session<Global>, Global>)
+        ensures { self.new.kept.session ≡ Some session.value }
     {
         drop(self.take(alloc));
-        *self = Handle::of(opened);
+        *self = Handle::of(session);
     }
 }

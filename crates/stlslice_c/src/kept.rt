@@ -1,9 +1,9 @@
 //! An open mesh as a pointer that C keeps, or none.
 ghost use Rattle.std.specs.Prelude.{◌≡◌, None, Option, Some, is_some, true};
-ghost use Rattle.stlslice_c.specs.declared.opened.Opened.{Opened};
+ghost use Rattle.layer_session.specs.Session.{Session as Opened};
 
 use crate::loose::Loose;
-use crate::opened::Opened;
+use layer_session::Session;
 use std::alloc::Global;
 use std::marker::Model;
 
@@ -12,14 +12,13 @@ use std::marker::Model;
 #[derive(Drop)]
 pub struct Kept {
     at: *mut u8,
-    pub ghost opened: { Option Opened },
+    pub ghost session: { Option Opened },
 }
 
 impl Model for Kept {
-    ghost use Rattle.stlslice_c.specs.Held.{holds, token};
-    ghost use Rattle.stlslice_c.specs.contracts.opened.Opened.{the_row};
+    ghost use Rattle.stlslice_c.specs.Held.{holds, session_row, token};
 
-    ghost also_owns = { λ m. holds token the_row m.at m.opened };
+    ghost also_owns = { λ m. holds token session_row m.at m.session };
 }
 
 unsafe impl Send for Kept {}
@@ -27,7 +26,7 @@ unsafe impl Send for Kept {}
 impl Kept {
     /// No mesh.
     pub(crate) fn empty() -> Kept
-        ensures { result.opened ≡ None }
+        ensures { result.session ≡ None }
     {
         Kept {
             at: std::ptr::null_mut(),
@@ -35,21 +34,21 @@ impl Kept {
     }
 
     /// The mesh of a box that was taken apart.
-    pub(crate) fn of(loose: Loose<Opened, Global>) -> Kept
-        ensures { result.opened ≡ Some loose.value }
+    pub(crate) fn of(loose: Loose<Session<Global>, Global>) -> Kept
+        ensures { result.session ≡ Some loose.value }
     {
         let Loose { at, alloc: _ } = loose;
         Kept { at: at as *mut u8 }
     }
 
     /// The box again, taken apart.
-    pub(crate) fn into_loose(self, alloc: Global) -> Loose<Opened, Global>
-        requires { is_some self.opened ≡ true }
-        ensures { self.opened ≡ Some result.value }
+    pub(crate) fn into_loose(self, alloc: Global) -> Loose<Session<Global>, Global>
+        requires { is_some self.session ≡ true }
+        ensures { self.session ≡ Some result.value }
     {
         let Kept { at } = self;
         Loose {
-            at: at as *mut Opened,
+            at: at as *mut Session<Global>,
             alloc,
         }
     }

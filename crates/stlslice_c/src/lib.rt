@@ -1,13 +1,35 @@
-//! The slicer for C: sessions of `layer_session` behind a handle that C keeps.
+//! The slicer for C: sessions of `layer_session` behind a handle that C keeps. `include/stlslice.h` declares the calls, and
+//! `library/edge.c` takes null pointers out of their way.
+//!
+//! ```c
+//! stlslice_options options = {.pitch = 50, .layer = 50};                 // micrometres
+//! stlslice_mesh mesh = STLSLICE_CLOSED;
+//! if (stlslice_open(text, size, &options, &mesh, &shape, line, sizeof line) != STLSLICE_DONE)
+//!     puts(line);                                                        // why not, ended by 0
+//! stlslice_mask(&mesh, k, NULL, 0, &wanted);                             // STLSLICE_NO_ROOM: an image's size, at once
+//! stlslice_mask(&mesh, k, image, wanted, &wanted);                       // the image of layer k
+//! stlslice_close(&mesh);                                                 // frees all
+//! ```
+//!
+//! - [`Handle`]: an open mesh, or none, with what C keeps of it, [`Kept`]. Every call but open and close leaves it as it was.
+//! - [`Options`]: what a text is opened with. [`Cells`]: the numbers of a grid, given or told.
+//! - [`Corners`], [`Shape`], [`Rays`], [`LoopPoint`]: what C is told.
+//!
+//! A call answers a status (`status.rt`): 0 done, 1 a number out of its range or outside the grid, 3 the text is no ASCII
+//! STL, 4 the mesh is open, 5 there is no such grid, 6 an allocation failed, 7 the buffer is too small, 8 no mesh is open. At
+//! 7 the size that is wanted is told; at any other status but 0, all that the caller has is as it was, but for a line of text.
+//!
+//! Lengths are in micrometres, and points of loops in half-micrometres. Columns, rows and layers count from 0 along x, y and
+//! z, and stripes, which are eight layers each, from the lowest up.
 #![tactic(auto)]
 
 mod asking;
 mod buffers;
 mod handle;
 mod kept;
+mod lines;
 mod loops;
 mod loose;
-mod opened;
 mod opening;
 mod options;
 mod shape;
@@ -16,22 +38,37 @@ mod status;
 mod tests;
 
 ghost use Rattle.std.specs.Prelude.{◌≡◌, None, Some};
-ghost use Rattle.stlslice_c.specs.Answers.{IsArea, IsBox, IsLine, IsMask, IsOpening, IsProbe, IsStripe, status_text};
-ghost use Rattle.stlslice_c.specs.Loops.{IsLoops};
-ghost use Rattle.stlslice_c.specs.declared.opened.Opened.{Opened};
+ghost use Rattle.layer_session.specs.Session.{Session};
+ghost use Rattle.stlslice_c.specs.Answers.{IsArea, IsBox, IsLine, IsMask, IsOpening, IsProbe, IsStripe};
+ghost use Rattle.stlslice_c.specs.Loops.{AreAsBefore, IsLoops};
+ghost use Rattle.stlslice_c.specs.Statuses.{status_text};
+ghost use Rattle.stlslice_c.specs.declared.status.TheConstants.{NOT_OPEN};
 
 use asking::{put_area, put_mask, put_probe, put_stripe};
-use buffers::put_line;
 pub use handle::Handle;
+pub use kept::Kept;
+use lines::{put_fault, put_status};
 pub use loops::LoopPoint;
 use loops::put_loops;
-use opening::{open, put_fault, read_corners};
+use opening::{open, read_corners};
 pub use options::Options;
 use options::unit_numbered;
 use shape::shape_told;
-pub use shape::{Corners, Rays, Shape};
-use status::{DONE, NOT_OPEN, OUT_OF_RANGE, status_of, status_text};
+pub use shape::{Cells, Corners, Rays, Shape};
+use status::{DONE, NOT_OPEN, OUT_OF_RANGE};
 use std::alloc::Global;
+
+// The answer of the mesh of a handle, which keeps its mesh.
+macro_rules! asked {
+    ($alloc:ident, $handle:ident, $session:ident => $answer:expr) => {{
+        let Some($session) = $handle.take($alloc) else {
+            return NOT_OPEN;
+        };
+        let status = $answer;
+        *$handle = Handle::of($session);
+        status
+    }};
+}
 
 /// The version: major, minor and patch, three digits each.
 const VERSION: u32 = 1_000_000;
@@ -49,7 +86,7 @@ pub extern "C" fn stlslice_version() -> u32
 pub extern "C" fn stlslice_fault_text(status: u32, line: &mut [u8])
     ensures { IsLine (status_text status) line.old line.new }
 {
-    put_line(status_text(status), line);
+    put_status(status, line);
 }
 
 /// Reads a text, and puts the number and the box of its facets into `corners`. After a fault it is as it was, and the
@@ -62,21 +99,17 @@ pub extern "C" fn stlslice_box(
     corners: &mut Corners,
     line: &mut [u8],
 ) -> u32
-    ensures { IsBox unit text.now corners.old corners.new result }
+    ensures { IsBox unit text.now corners.old corners.new line.old line.new result }
 {
     let Some(unit) = unit_numbered(unit) else {
-        put_line(status_text(OUT_OF_RANGE), line);
-        return OUT_OF_RANGE;
+        return put_status(OUT_OF_RANGE, line);
     };
     match read_corners(alloc, text, unit) {
         Ok(told) => {
             *corners = told;
             DONE
         }
-        Err(fault) => {
-            put_fault(alloc, &fault, line);
-            status_of(&fault)
-        }
+        Err(fault) => put_fault(alloc, &fault, line),
     }
 }
 
@@ -91,34 +124,32 @@ pub extern "C" fn stlslice_open(
     shape: &mut Shape,
     line: &mut [u8],
 ) -> u32
-    ensures { IsOpening options.now text.now handle.old.kept.opened handle.new.kept.opened shape.old shape.new result }
+    ensures { IsOpening options.now text.now handle.old.kept.session handle.new.kept.session shape.old shape.new
+        line.old line.new result }
 {
     let Some(setup) = options.setup() else {
-        put_line(status_text(OUT_OF_RANGE), line);
-        return OUT_OF_RANGE;
+        return put_status(OUT_OF_RANGE, line);
     };
     match open(alloc, text, &setup) {
-        Ok(opened) => {
-            *shape = shape_told(&opened.session);
-            handle.put(alloc, opened);
+        Ok(session) => {
+            *shape = shape_told(&session);
+            handle.put(alloc, session);
             DONE
         }
-        Err(fault) => {
-            put_fault(alloc, &fault, line);
-            status_of(&fault)
-        }
+        Err(fault) => put_fault(alloc, &fault, line),
     }
 }
 
 /// Closes a handle, and frees its mesh. A closed handle may be closed again.
 #[unsafe(no_mangle)]
 pub extern "C" fn stlslice_close(alloc: Global, handle: &mut Handle)
-    ensures { handle.new.kept.opened ≡ None }
+    ensures { handle.new.kept.session ≡ None }
 {
     drop(handle.take(alloc));
 }
 
-/// Puts the image of layer k into the front of `image`, as raw PBM, and its size into `wanted`.
+/// Puts the image of layer k into the front of `image`, as raw PBM, and its size into `wanted`. Without room for it, only the
+/// size is told, and nothing is sliced.
 #[unsafe(no_mangle)]
 pub extern "C" fn stlslice_mask(
     alloc: Global,
@@ -127,21 +158,16 @@ pub extern "C" fn stlslice_mask(
     image: &mut [u8],
     wanted: &mut usize,
 ) -> u32
-    ensures kept { handle.new.kept.opened ≡ handle.old.kept.opened }
-    ensures open { (opened : Opened) → handle.old.kept.opened ≡ Some opened
-        → IsMask opened.session.job k image.old image.new wanted.new result }
-    ensures closed { handle.old.kept.opened ≡ None → (result ≡ 8) × (image.new ≡ image.old) }
+    ensures kept { handle.new.kept.session ≡ handle.old.kept.session }
+    ensures open { (session : Session) → handle.old.kept.session ≡ Some session
+        → IsMask session.job k image.old image.new wanted.old wanted.new result }
+    ensures closed { handle.old.kept.session ≡ None → (result ≡ NOT_OPEN) × (image.new ≡ image.old) × (wanted.new ≡ wanted.old) }
 {
-    let Some(opened) = handle.take(alloc) else {
-        return NOT_OPEN;
-    };
-    let status = put_mask(&opened.session, k, image, wanted);
-    *handle = Handle::of(opened);
-    status
+    asked!(alloc, handle, session => put_mask(&session, k, image, wanted))
 }
 
 /// Puts the images of the layers from 8 s to 8 s + 7, as far as the grid has them, into the front of `images`, one behind the
-/// other, and their size into `wanted`.
+/// other, and their size into `wanted`. Without room for them, only the size is told, and nothing is sliced.
 #[unsafe(no_mangle)]
 pub extern "C" fn stlslice_stripe(
     alloc: Global,
@@ -150,33 +176,23 @@ pub extern "C" fn stlslice_stripe(
     images: &mut [u8],
     wanted: &mut usize,
 ) -> u32
-    ensures kept { handle.new.kept.opened ≡ handle.old.kept.opened }
-    ensures open { (opened : Opened) → handle.old.kept.opened ≡ Some opened
-        → IsStripe opened.session.job s images.old images.new wanted.new result }
-    ensures closed { handle.old.kept.opened ≡ None → (result ≡ 8) × (images.new ≡ images.old) }
+    ensures kept { handle.new.kept.session ≡ handle.old.kept.session }
+    ensures open { (session : Session) → handle.old.kept.session ≡ Some session
+        → IsStripe session.job s images.old images.new wanted.old wanted.new result }
+    ensures closed { handle.old.kept.session ≡ None → (result ≡ NOT_OPEN) × (images.new ≡ images.old) × (wanted.new ≡ wanted.old) }
 {
-    let Some(opened) = handle.take(alloc) else {
-        return NOT_OPEN;
-    };
-    let status = put_stripe(&opened.session, s, images, wanted);
-    *handle = Handle::of(opened);
-    status
+    asked!(alloc, handle, session => put_stripe(&session, s, images, wanted))
 }
 
 /// Puts the number of filled pixels of layer k into `area`.
 #[unsafe(no_mangle)]
 pub extern "C" fn stlslice_area(alloc: Global, handle: &mut Handle, k: u32, area: &mut u64) -> u32
-    ensures kept { handle.new.kept.opened ≡ handle.old.kept.opened }
-    ensures open { (opened : Opened) → handle.old.kept.opened ≡ Some opened
-        → IsArea opened.session.job k area.old area.new result }
-    ensures closed { handle.old.kept.opened ≡ None → (result ≡ 8) × (area.new ≡ area.old) }
+    ensures kept { handle.new.kept.session ≡ handle.old.kept.session }
+    ensures open { (session : Session) → handle.old.kept.session ≡ Some session
+        → IsArea session.job k area.old area.new result }
+    ensures closed { handle.old.kept.session ≡ None → (result ≡ NOT_OPEN) × (area.new ≡ area.old) }
 {
-    let Some(opened) = handle.take(alloc) else {
-        return NOT_OPEN;
-    };
-    let status = put_area(&opened.session, k, area);
-    *handle = Handle::of(opened);
-    status
+    asked!(alloc, handle, session => put_area(&session, k, area))
 }
 
 /// Puts the signed crossings of the rays along x and along y from the centre of a voxel into `rays`.
@@ -189,17 +205,12 @@ pub extern "C" fn stlslice_probe(
     k: u32,
     rays: &mut Rays,
 ) -> u32
-    ensures kept { handle.new.kept.opened ≡ handle.old.kept.opened }
-    ensures open { (opened : Opened) → handle.old.kept.opened ≡ Some opened
-        → IsProbe opened.session.job i j k rays.old rays.new result }
-    ensures closed { handle.old.kept.opened ≡ None → (result ≡ 8) × (rays.new ≡ rays.old) }
+    ensures kept { handle.new.kept.session ≡ handle.old.kept.session }
+    ensures open { (session : Session) → handle.old.kept.session ≡ Some session
+        → IsProbe session.job i j k rays.old rays.new result }
+    ensures closed { handle.old.kept.session ≡ None → (result ≡ NOT_OPEN) × (rays.new ≡ rays.old) }
 {
-    let Some(opened) = handle.take(alloc) else {
-        return NOT_OPEN;
-    };
-    let status = put_probe(&opened.session, i, j, k, rays);
-    *handle = Handle::of(opened);
-    status
+    asked!(alloc, handle, session => put_probe(&session, i, j, k, rays))
 }
 
 /// Puts the loops of layer k into the fronts of two buffers: the points of all loops into `points`, one loop behind the
@@ -214,23 +225,14 @@ pub extern "C" fn stlslice_loops(
     ends: &mut [usize],
     ends_wanted: &mut usize,
 ) -> u32
-    ensures kept { handle.new.kept.opened ≡ handle.old.kept.opened }
-    ensures open { (opened : Opened) → handle.old.kept.opened ≡ Some opened
-        → IsLoops opened.session.job k points.old points.new points_wanted.new ends.old ends.new ends_wanted.new result }
-    ensures closed { handle.old.kept.opened ≡ None → (result ≡ 8) × (points.new ≡ points.old) × (ends.new ≡ ends.old) }
+    ensures kept { handle.new.kept.session ≡ handle.old.kept.session }
+    ensures open { (session : Session) → handle.old.kept.session ≡ Some session
+        → IsLoops session.job k points.old points.new points_wanted.old points_wanted.new
+        ends.old ends.new ends_wanted.old ends_wanted.new result }
+    ensures closed { handle.old.kept.session ≡ None → (result ≡ NOT_OPEN)
+        × AreAsBefore points.old points.new points_wanted.old points_wanted.new ends.old ends.new ends_wanted.old ends_wanted.new }
 {
-    let Some(opened) = handle.take(alloc) else {
-        return NOT_OPEN;
-    };
-    let status = put_loops(
-        alloc,
-        &opened.session,
-        k,
-        points,
-        points_wanted,
-        ends,
-        ends_wanted,
-    );
-    *handle = Handle::of(opened);
-    status
+    asked!(alloc, handle, session => put_loops(
+        alloc, &session, k, points, points_wanted, ends, ends_wanted,
+    ))
 }

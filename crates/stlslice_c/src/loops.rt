@@ -4,7 +4,7 @@ ghost use Rattle.stlslice_c.specs.Loops.{IsLoops, IsPutLoops, point_told};
 
 use crate::status::{DONE, MEMORY, NO_ROOM, status_of};
 use layer_session::{PlanePoint, Session};
-use std::alloc::{AllocError, Global};
+use std::alloc::{AllocError, Allocator};
 
 /// A point of a loop, in half-micrometres.
 #[repr(C)]
@@ -16,16 +16,17 @@ pub struct LoopPoint {
 
 /// Puts the loops of layer k into the fronts of two buffers: the points, one loop behind the other, and for each loop
 /// the position behind its last point.
-pub(crate) fn put_loops(
-    alloc: Global,
-    session: &Session<Global>,
+pub(crate) fn put_loops<A: Allocator + Copy + Send + Sync>(
+    alloc: A,
+    session: &Session<A>,
     k: u32,
     points: &mut [LoopPoint],
     points_wanted: &mut usize,
     ends: &mut [usize],
     ends_wanted: &mut usize,
 ) -> u32
-    ensures { IsLoops session.now.job k points.old points.new points_wanted.new ends.old ends.new ends_wanted.new result }
+    ensures { IsLoops session.now.job k points.old points.new points_wanted.old points_wanted.new
+        ends.old ends.new ends_wanted.old ends_wanted.new result }
 {
     match session.outlines(k) {
         Ok(found) => match told_points(alloc, found.points()) {
@@ -44,7 +45,10 @@ pub(crate) fn put_loops(
 }
 
 /// The points as C has them.
-fn told_points(alloc: Global, found: &[PlanePoint]) -> Result<Vec<LoopPoint, Global>, AllocError>
+fn told_points<A: Allocator>(
+    alloc: A,
+    found: &[PlanePoint],
+) -> Result<Vec<LoopPoint, A>, AllocError>
     ensures { IfOk result (λ points. points.items ≡ map point_told found.now) }
 {
     let mut points = Vec::new(alloc);

@@ -7,16 +7,18 @@ ghost use Rattle.layer_session.specs.Session.{IsOpenFault, IsSessionOf, corners_
 ghost use Rattle.stlslice_c.specs.Answers.{IsTextFault};
 ghost use Rattle.stlslice_c.specs.Shape.{corners_told};
 
-use crate::buffers::put_line;
-use crate::opened::Opened;
 use crate::shape::{Corners, corners_told};
 use geometry::extent;
 use layer_session::{Session, SessionFault, Setup, Unit};
-use std::alloc::Global;
+use std::alloc::Allocator;
 use stl_text::read_stl;
 
 /// The number and the box of a text's facets.
-pub(crate) fn read_corners(alloc: Global, text: &[u8], unit: Unit) -> Result<Corners, SessionFault>
+pub(crate) fn read_corners<A: Allocator + Copy + Send + Sync>(
+    alloc: A,
+    text: &[u8],
+    unit: Unit,
+) -> Result<Corners, SessionFault>
     ensures found { IfOk result (λ corners. (facets : List Facet) × Reads FACET_LIMIT unit text.now facets
         × (corners ≡ corners_told (length facets) (corners_of facets))) }
     ensures fault { IfErr result (IsTextFault unit text.now) }
@@ -26,25 +28,17 @@ pub(crate) fn read_corners(alloc: Global, text: &[u8], unit: Unit) -> Result<Cor
 }
 
 /// The session of a text.
-pub(crate) fn open(
-    alloc: Global,
+pub(crate) fn open<A: Allocator + Copy + Send + Sync>(
+    alloc: A,
     text: &[u8],
     setup: &Setup,
-) -> Result<Box<Opened, Global>, SessionFault>
-    ensures found { IfOk result (λ opened. IsSessionOf setup.now text.now opened.value.session) }
+) -> Result<Box<Session<A>, A>, SessionFault>
+    ensures found { IfOk result (λ session. IsSessionOf setup.now text.now session.value) }
     ensures fault { IfErr result (IsOpenFault setup.now text.now) }
 {
     let session = Session::open(alloc, text, setup)?;
-    match Box::new(alloc, Opened { session }) {
-        Ok(opened) => Ok(opened),
+    match Box::new(alloc, session) {
+        Ok(session) => Ok(session),
         Err(_) => Err(SessionFault::Memory),
-    }
-}
-
-/// Puts the text of a fault.
-pub(crate) fn put_fault(alloc: Global, fault: &SessionFault, line: &mut [u8]) {
-    match format!(in alloc; "{fault}") {
-        Ok(text) => put_line(text.as_bytes(), line),
-        Err(_) => put_line(b"out of memory", line),
     }
 }

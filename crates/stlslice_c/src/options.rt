@@ -4,6 +4,7 @@ ghost use Rattle.raster.specs.declared.placing.Placing.{Placing};
 ghost use Rattle.layer_session.specs.declared.setup.Setup.{Setup};
 ghost use Rattle.stlslice_c.specs.Options.{IsPlaced, IsSetup, rule_numbered, unit_numbered};
 
+use crate::shape::Cells;
 use geometry::Point;
 use layer_session::{Placing, Rule, Setup, Unit};
 
@@ -21,12 +22,7 @@ pub struct Options {
     pub unit: u32,
     /// 0 a grid that fits the mesh, 1 the one that follows.
     pub placing: u32,
-    pub columns: u32,
-    pub rows: u32,
-    pub layers: u32,
-    pub origin_x: i32,
-    pub origin_y: i32,
-    pub origin_z: i32,
+    pub cells: Cells,
 }
 
 impl Options {
@@ -58,11 +54,12 @@ impl Options {
         if self.placing != 1 {
             return None;
         }
-        let origin = Point::new(self.origin_x, self.origin_y, self.origin_z)?;
+        let cells = self.cells;
+        let origin = Point::new(cells.origin_x, cells.origin_y, cells.origin_z)?;
         Some(Placing::Given {
-            columns: self.columns,
-            rows: self.rows,
-            layers: self.layers,
+            columns: cells.columns,
+            rows: cells.rows,
+            layers: cells.layers,
             origin,
         })
     }

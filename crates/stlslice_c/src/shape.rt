@@ -19,17 +19,35 @@ pub struct Corners {
     pub high_z: i32,
 }
 
-/// The facets of an open mesh, and its grid: the counts of voxels, and the corner of least x, y and z in micrometres.
+/// The corners of no facet.
+pub(crate) const NO_CORNERS: Corners = Corners {
+    facets: 0,
+    low_x: 0,
+    low_y: 0,
+    low_z: 0,
+    high_x: 0,
+    high_y: 0,
+    high_z: 0,
+};
+
+/// A grid: its counts of voxels, and its corner of least x, y and z in micrometres.
 #[repr(C)]
 #[derive(Clone, Copy)]
-pub struct Shape {
-    pub corners: Corners,
+pub struct Cells {
     pub columns: u32,
     pub rows: u32,
     pub layers: u32,
     pub origin_x: i32,
     pub origin_y: i32,
     pub origin_z: i32,
+}
+
+/// The facets of an open mesh, and its grid.
+#[repr(C)]
+#[derive(Clone, Copy)]
+pub struct Shape {
+    pub corners: Corners,
+    pub cells: Cells,
 }
 
 /// The signed crossings of the mesh by the rays from a voxel's centre.
@@ -47,12 +65,7 @@ pub(crate) fn corners_told(facets: usize, corners: Option<(Point, Point)>) -> Co
     match corners {
         None => Corners {
             facets: facets as u64,
-            low_x: 0,
-            low_y: 0,
-            low_z: 0,
-            high_x: 0,
-            high_y: 0,
-            high_z: 0,
+            ..NO_CORNERS
         },
         Some((low, high)) => Corners {
             facets: facets as u64,
@@ -74,11 +87,13 @@ pub(crate) fn shape_told(session: &Session<Global>) -> Shape
     let origin = grid.origin();
     Shape {
         corners: corners_told(session.facet_count(), session.bounds()),
-        columns: grid.columns(),
-        rows: grid.rows(),
-        layers: grid.layers(),
-        origin_x: origin.x(),
-        origin_y: origin.y(),
-        origin_z: origin.z(),
+        cells: Cells {
+            columns: grid.columns(),
+            rows: grid.rows(),
+            layers: grid.layers(),
+            origin_x: origin.x(),
+            origin_y: origin.y(),
+            origin_z: origin.z(),
+        },
     }
 }

@@ -1,11 +1,23 @@
-//! The statuses that calls answer.
+//! The statuses that calls answer, and their texts.
 ghost use Rattle.std.specs.Prelude.{◌≡◌};
-ghost use Rattle.stlslice_c.specs.Answers.{status_of, status_text};
+ghost use Rattle.stlslice_c.specs.Statuses.{status_of, status_text};
 
 use layer_session::SessionFault;
 
 /// Done.
 pub(crate) const DONE: u32 = 0;
+
+/// An argument is out of its range, or there is no such layer, stripe or voxel.
+pub(crate) const OUT_OF_RANGE: u32 = 1;
+
+/// The text is no ASCII STL.
+pub(crate) const TEXT: u32 = 3;
+
+/// The mesh has an open edge.
+pub(crate) const OPEN_MESH: u32 = 4;
+
+/// There is no such grid.
+pub(crate) const GRID: u32 = 5;
 
 /// An allocation failed.
 pub(crate) const MEMORY: u32 = 6;
@@ -22,29 +34,26 @@ pub(crate) fn status_of(fault: &SessionFault) -> u32
 {
     match fault {
         SessionFault::Step | SessionFault::Outside { .. } => OUT_OF_RANGE,
-        SessionFault::Stl(_) => 3,
-        SessionFault::Weld(_) => 4,
-        SessionFault::Grid(_) => 5,
+        SessionFault::Stl(_) => TEXT,
+        SessionFault::Weld(_) => OPEN_MESH,
+        SessionFault::Grid(_) => GRID,
         SessionFault::Memory => MEMORY,
     }
 }
-
-/// An argument is out of its range, or there is no such layer, stripe or voxel.
-pub(crate) const OUT_OF_RANGE: u32 = 1;
 
 /// The text of a status.
 pub(crate) fn status_text(status: u32) -> &'static [u8]
     ensures { result.now ≡ status_text status }
 {
     match status {
-        0 => b"done",
-        1 => b"a number is out of its range, or outside the grid",
-        3 => b"the text is no ASCII STL",
-        4 => b"the mesh is open",
-        5 => b"there is no such grid",
-        6 => b"out of memory",
-        7 => b"the buffer is too small",
-        8 => b"no mesh is open",
+        DONE => b"done",
+        OUT_OF_RANGE => b"a number is out of its range, or outside the grid",
+        TEXT => b"the text is no ASCII STL",
+        OPEN_MESH => b"the mesh is open",
+        GRID => b"there is no such grid",
+        MEMORY => b"out of memory",
+        NO_ROOM => b"the buffer is too small",
+        NOT_OPEN => b"no mesh is open",
         _ => b"no status",
     }
 }

@@ -1,12 +1,22 @@
-//! Each call once, with values from outside: a tetrahedron of 4 mm, sliced at 1 mm.
+//! Each call once, with values from outside: a tetrahedron of 4 mm, sliced at 1 mm. Then each allocation of the calls that
+//! allocate, refused in turn: the status is that of memory, nothing else changes, and the next try succeeds. The exports take
+//! the heap alone, so this calls the functions that they are made of.
+use crate::asking::{put_area, put_mask, put_stripe};
 use crate::handle::Handle;
-use crate::loops::LoopPoint;
+use crate::lines::put_fault;
+use crate::loops::{LoopPoint, put_loops};
+use crate::opening::{open, read_corners};
 use crate::options::Options;
-use crate::shape::{Corners, Rays, Shape};
+use crate::shape::{Cells, NO_CORNERS, Rays, Shape};
+use crate::status::{DONE, MEMORY, NO_ROOM};
 use crate::{
     stlslice_area, stlslice_box, stlslice_close, stlslice_fault_text, stlslice_loops,
-    stlslice_mask, stlslice_open, stlslice_probe, stlslice_stripe,
+    stlslice_mask, stlslice_open, stlslice_probe, stlslice_stripe, stlslice_version,
 };
+use layer_session::{Session, SessionFault, Unit};
+use raster::GridFault;
+use short_memory::ShortMemory;
+use std::alloc::{Allocator, Global};
 use std::test::Fail;
 
 const TETRAHEDRON: &[u8] = b"solid t
@@ -20,53 +30,44 @@ endsolid t
 // The lowest layer: x + y is below 3.5 mm.
 const LOWEST: &[u8] = b"P4\n4 4\n\x00\x80\xc0\xe0";
 
-const NO_CORNERS: Corners = Corners {
-    facets: 0,
-    low_x: 0,
-    low_y: 0,
-    low_z: 0,
-    high_x: 0,
-    high_y: 0,
-    high_z: 0,
+const NO_CELLS: Cells = Cells {
+    columns: 0,
+    rows: 0,
+    layers: 0,
+    origin_x: 0,
+    origin_y: 0,
+    origin_z: 0,
+};
+
+const MILLIMETRE: Options = Options {
+    pitch: 1000,
+    layer: 1000,
+    rule: 0,
+    unit: 0,
+    placing: 0,
+    cells: NO_CELLS,
 };
 
 #[test]
 fn a_mesh_is_opened_asked_and_closed(rt: HostRuntime) -> Result<(), Fail> {
     let alloc = rt.alloc();
-    let options = Options {
-        pitch: 1000,
-        layer: 1000,
-        rule: 0,
-        unit: 0,
-        placing: 0,
-        columns: 0,
-        rows: 0,
-        layers: 0,
-        origin_x: 0,
-        origin_y: 0,
-        origin_z: 0,
-    };
+    assert_eq!(rt; stlslice_version(), 1_000_000);
     let mut handle = Handle::empty();
     let mut shape = Shape {
         corners: NO_CORNERS,
-        columns: 0,
-        rows: 0,
-        layers: 0,
-        origin_x: 0,
-        origin_y: 0,
-        origin_z: 0,
+        cells: NO_CELLS,
     };
     let mut line = [1u8; 64];
     let status = stlslice_open(
         alloc,
         TETRAHEDRON,
-        &options,
+        &MILLIMETRE,
         &mut handle,
         &mut shape,
         &mut line,
     );
     assert_eq!(rt; status, 0);
-    assert_eq!(rt; shape.layers, 4);
+    assert_eq!(rt; shape.cells.layers, 4);
     assert_eq!(rt; shape.corners.high_x, 4000);
 
     let mut corners = NO_CORNERS;
@@ -117,5 +118,193 @@ fn a_mesh_is_opened_asked_and_closed(rt: HostRuntime) -> Result<(), Fail> {
     assert!(rt; wanted == 3 && loops == 1 && ends[0] == 3 && ends[1] == 9 && points[3].x2 == 9);
     stlslice_close(alloc, &mut handle);
     assert_eq!(rt; stlslice_area(alloc, &mut handle, 0, &mut area), 8);
+    Ok(())
+}
+
+// More turns than any call here has allocations.
+const TURNS: u64 = 1000;
+
+// A call on an open mesh.
+trait Call {
+    // Its status, and whether what a caller has is right for that status: what is told, or what was there before.
+    fn called<'a>(
+        memory: &'a ShortMemory<Global>,
+        session: &Session<&'a ShortMemory<Global>>,
+    ) -> (u32, bool);
+}
+
+struct Mask;
+
+impl Call for Mask {
+    fn called<'a>(
+        _memory: &'a ShortMemory<Global>,
+        session: &Session<&'a ShortMemory<Global>>,
+    ) -> (u32, bool) {
+        let mut image = [7u8; 11];
+        let mut wanted = 9;
+        match put_mask(session, 0, &mut image, &mut wanted) {
+            DONE => (DONE, image.as_slice() == LOWEST && wanted == 11),
+            status => (status, image == [7; 11] && wanted == 9),
+        }
+    }
+}
+
+struct Stripe;
+
+impl Call for Stripe {
+    fn called<'a>(
+        _memory: &'a ShortMemory<Global>,
+        session: &Session<&'a ShortMemory<Global>>,
+    ) -> (u32, bool) {
+        let mut images = [7u8; 44];
+        let mut wanted = 9;
+        match put_stripe(session, 0, &mut images, &mut wanted) {
+            DONE => (DONE, images.starts_with(LOWEST) && wanted == 44),
+            status => (status, images == [7; 44] && wanted == 9),
+        }
+    }
+}
+
+struct Area;
+
+impl Call for Area {
+    fn called<'a>(
+        _memory: &'a ShortMemory<Global>,
+        session: &Session<&'a ShortMemory<Global>>,
+    ) -> (u32, bool) {
+        let mut area = 9;
+        match put_area(session, 0, &mut area) {
+            DONE => (DONE, area == 6),
+            status => (status, area == 9),
+        }
+    }
+}
+
+struct Points;
+
+impl Call for Points {
+    fn called<'a>(
+        memory: &'a ShortMemory<Global>,
+        session: &Session<&'a ShortMemory<Global>>,
+    ) -> (u32, bool) {
+        let mut points = [LoopPoint { x2: 9, y2: 9 }; 3];
+        let mut ends = [9usize; 1];
+        let (mut count, mut loops) = (9, 9);
+        let status = put_loops(
+            memory,
+            session,
+            0,
+            &mut points,
+            &mut count,
+            &mut ends,
+            &mut loops,
+        );
+        match status {
+            DONE => (
+                DONE,
+                points[0].x2 != 9 && ends == [3] && count == 3 && loops == 1,
+            ),
+            _ => (
+                status,
+                points[0].x2 == 9 && ends == [9] && count == 9 && loops == 9,
+            ),
+        }
+    }
+}
+
+// Refuses each allocation in turn, of opening the mesh and of a call on it, until none is left to refuse; answers how many
+// of the call's were refused. `None` where a call wasn't right.
+fn refusals<C: Call>(alloc: Global) -> Option<u32> {
+    let setup = MILLIMETRE.setup()?;
+    let mut refused = 0u32;
+    for turn in 1..TURNS {
+        let memory = ShortMemory::new(alloc, turn);
+        match open(&memory, TETRAHEDRON, &setup) {
+            Ok(session) => {
+                let found = C::called(&memory, &session);
+                if !memory.has_refused() {
+                    return (found == (DONE, true)).then_some(refused);
+                }
+                if found != (MEMORY, true) || C::called(&memory, &session) != (DONE, true) {
+                    return None;
+                }
+                refused = refused.saturating_add(1);
+            }
+            Err(SessionFault::Memory) if memory.has_refused() => {}
+            Err(_) => return None,
+        }
+    }
+    None
+}
+
+#[test]
+fn each_refused_allocation_is_told(rt: HostRuntime) -> Result<(), Fail> {
+    let alloc = rt.alloc();
+    assert!(rt; refusals::<Mask>(alloc) > Some(0));
+    assert!(rt; refusals::<Stripe>(alloc) > Some(0));
+    assert!(rt; refusals::<Area>(alloc) > Some(0));
+    assert!(rt; refusals::<Points>(alloc) > Some(0));
+    Ok(())
+}
+
+// How many allocations of reading a box were refused in turn, each told as `Memory`, until it was right.
+fn refused_boxes(alloc: Global) -> Option<u64> {
+    for turn in 1..TURNS {
+        let memory = ShortMemory::new(alloc, turn);
+        match read_corners(&memory, TETRAHEDRON, Unit::Millimetre) {
+            Ok(told) if !memory.has_refused() => return (told.facets == 4).then_some(turn - 1),
+            Err(SessionFault::Memory) if memory.has_refused() => {}
+            _ => return None,
+        }
+    }
+    None
+}
+
+#[test]
+fn each_refused_allocation_of_a_box_is_told(rt: HostRuntime) -> Result<(), Fail> {
+    assert!(rt; refused_boxes(rt.alloc()) > Some(0));
+    Ok(())
+}
+
+// Whether the line of a grid with no cells begins so.
+fn is_line<A: Allocator>(alloc: A, start: &[u8]) -> bool {
+    let mut line = [1u8; 64];
+    put_fault(alloc, &SessionFault::Grid(GridFault::NoCells), &mut line) == 5
+        && line.starts_with(start)
+}
+
+// The sizes that buffers with a byte too little are told.
+struct Sizes;
+
+impl Call for Sizes {
+    fn called<'a>(
+        _memory: &'a ShortMemory<Global>,
+        session: &Session<&'a ShortMemory<Global>>,
+    ) -> (u32, bool) {
+        let mut wanted = 0;
+        let told = put_mask(session, 0, &mut [0u8; 10], &mut wanted) == NO_ROOM
+            && wanted == 11
+            && put_stripe(session, 0, &mut [0u8; 43], &mut wanted) == NO_ROOM
+            && wanted == 44;
+        (DONE, told)
+    }
+}
+
+#[test]
+fn what_is_told_without_memory(rt: HostRuntime) -> Result<(), Fail> {
+    let alloc = rt.alloc();
+    assert!(rt; is_line(alloc, b"grid has no cells\0"));
+    assert!(rt; is_line(&ShortMemory::new(alloc, 1), b"out of memory\0"));
+    // the size of an image is told without slicing: no allocation is left to refuse
+    assert_eq!(rt; refusals::<Sizes>(alloc), Some(0));
+    Ok(())
+}
+
+#[test]
+fn the_line_of_a_step_is_the_fault_s(rt: HostRuntime) -> Result<(), Fail> {
+    let mut line = [1u8; 64];
+    assert_eq!(rt; put_fault(rt.alloc(), &SessionFault::Step, &mut line), 1);
+    let text = format!(in rt.alloc(); "{}", SessionFault::Step)?;
+    assert!(rt; line.starts_with(text.as_bytes()));
     Ok(())
 }

@@ -1,16 +1,16 @@
 //! The output of slicing: the images of all layers, one after the other.
-ghost use Rattle.std.specs.Prelude.{◌≡◌, ◌≤◌, ◌+◌, ◌^◌, Bool, IfErr, IfOk, OnOk, decimal, length, true, ℕ};
+ghost use Rattle.std.specs.Prelude.{◌≡◌, ◌≤◌, ◌+◌, ◌^◌, IfErr, IfOk, OnOk, length, true, ℕ};
 ghost use Rattle.std.specs.Io.KnownBytes.{Appends};
 ghost use Rattle.raster.specs.Devices.{AppendsFirst, Fails};
 ghost use Rattle.raster.specs.Span.{AreSpans};
-ghost use Rattle.raster.specs.Picture.{picture, pictures};
+ghost use Rattle.raster.specs.Picture.{pictures};
 ghost use Rattle.stlslice.specs.SlicedText.{image};
 ghost use Rattle.stlslice.specs.declared.run_fault.RunFault.TheVariants.{Write};
 
 use crate::run_fault::RunFault;
 use crate::write::settle;
 use build_book::Build;
-use raster::{Grid, Sink, Span, write_layer};
+use raster::{Grid, Sink, Span, image_len, write_layer};
 use std::alloc::Allocator;
 
 /// Writes the images of all layers of a build, one at a time, and flushes them. On a fault just the first `written`
@@ -64,21 +64,4 @@ pub(crate) fn write_image<O: Sink>(
             written: before + fault.written,
         }),
     }
-}
-
-/// The length in bytes of the image of a layer of this grid, which is the same for all of them.
-pub fn image_len(grid: &Grid) -> u64
-    ensures value { (pixel : ℕ → ℕ → Bool) → length (picture grid.now.columns grid.now.rows pixel) ≡ result }
-    ensures small { result ≤ 2 ^ 26 }
-{
-    let header = 5 + digit_count(grid.columns()) + digit_count(grid.rows());
-    header + u64::from(grid.rows()) * u64::from(grid.columns().div_ceil(8))
-}
-
-/// How many digits a number has in plain decimal.
-fn digit_count(n: u32) -> u64
-    ensures value { result ≡ length (decimal n) }
-    ensures few { result ≤ 10 }
-{
-    if n < 10 { 1 } else { 1 + digit_count(n / 10) }
 }

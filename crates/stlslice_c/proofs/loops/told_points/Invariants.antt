@@ -3,4 +3,4 @@ use Rattle.stlslice_c.specs.Loops.{point_told}
 use Rattle.stlslice_c.proofs.loops.told_points.Given as goal
 
 abbrev pub invariant-loop-point : goal.invariant-loop-point
-invariant-loop-point l = l.points.items ≡ map point_told (take l.point-index l.found)
+invariant-loop-point g l = l.points.items ≡ map point_told (take l.point-index l.found)

@@ -9,18 +9,22 @@ use denote.Param.Send.{IsSend, AllSend, owning_send, struct_send, sendable}
 use Rattle.std.specs.Prelude.{Option, None, Some}
 use Rattle.std.proofs.Crossing as heap
 use Rattle.std_alloc.proofs.SendSync.{quiet, lies}
-use Rattle.stlslice_c.specs.Held.{holds, token}
-use Rattle.stlslice_c.specs.contracts.opened.Opened as Opened
-use Rattle.stlslice_c.proofs.opened.Opened.TheSendSync.{the_send as opened_send}
+use Rattle.std.specs.contracts.alloc.Global as Heap
+use Rattle.std.specs.contracts.impls.GlobalAllocator.TheImpl.{ghosts}
+use Rattle.layer_session.proofs.session.Session.TheSendSync.{the_send as the_session_send}
+use Rattle.stlslice_c.specs.Held.{holds, session_row, token}
 use Rattle.stlslice_c.specs.contracts.kept.Kept.{the_row, the_type}
 
-kept_keyless : (p : Ptr) (x : Option (Opened.the_row).Denot) → Keyless (holds token Opened.the_row p x)
+session_send : IsSend session_row
+session_send = the_session_send Heap.the_row ghosts heap.send heap.frees
+
+kept_keyless : (p : Ptr) (x : Option session_row.Denot) → Keyless (holds token session_row p x)
 kept_keyless p None = tt
 kept_keyless p (Some x) =
-    (lies Opened.the_row opened_send p x, heap.frees.frees (record { memory = record { seal = tt } }) (raw (lone (Opened.the_row).mir)) p)
+    (lies session_row session_send p x, heap.frees.frees (record { memory = record { seal = tt } }) (raw (lone session_row.mir)) p)
 
 pub send : IsSend the_row
 send =
     let all : AllSend (fields the_type) = (search sendable, tt) in
-    owning_send the_type all (λ d. kept_keyless d.at d.opened)
+    owning_send the_type all (λ d. kept_keyless d.at d.session)
     (λ k. quiet (to the_type) (exits_of k (fields the_type)) ((struct_send (shape the_type) all).leaving k))

@@ -1,0 +1,27 @@
+-- The statuses that calls answer, and their texts.
+use Rattle.std.specs.Prelude.{ℕ, List, nat_eq, codes, if◌then◌else◌}
+use Rattle.layer_session.specs.declared.session_fault.SessionFault.{SessionFault}
+use Rattle.layer_session.specs.declared.session_fault.SessionFault.TheVariants as fault
+use Rattle.stlslice_c.specs.declared.status.TheConstants.{GRID, MEMORY, OPEN_MESH, OUT_OF_RANGE, TEXT}
+
+-- the program's statuses; what is out of range, or outside the grid, has one of its own
+abbrev pub status_of : SessionFault → ℕ
+status_of fault.Step = OUT_OF_RANGE
+status_of (fault.Stl cause) = TEXT
+status_of (fault.Weld cause) = OPEN_MESH
+status_of (fault.Grid cause) = GRID
+status_of fault.Memory = MEMORY
+status_of (fault.Outside columns rows layers) = OUT_OF_RANGE
+
+-- The text of a status. The numbers are those that a caller in C sees.
+abbrev pub status_text : ℕ → List ℕ
+status_text n =
+    if nat_eq n 0 then codes "done"
+    else if nat_eq n 1 then codes "a number is out of its range, or outside the grid"
+    else if nat_eq n 3 then codes "the text is no ASCII STL"
+    else if nat_eq n 4 then codes "the mesh is open"
+    else if nat_eq n 5 then codes "there is no such grid"
+    else if nat_eq n 6 then codes "out of memory"
+    else if nat_eq n 7 then codes "the buffer is too small"
+    else if nat_eq n 8 then codes "no mesh is open"
+    else codes "no status"
