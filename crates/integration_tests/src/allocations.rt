@@ -9,7 +9,7 @@ pub(crate) trait Count {
 }
 
 /// Fails each allocation in turn until none is left to fail, and answers which turn that was. `None` where an earlier
-/// turn counted anything, where the last one didn't reach the usual count, or where `turns` turns don't suffice.
+/// turn counted anything, where the last one did not reach the usual count, or where `turns` turns do not suffice.
 pub(crate) fn first_free_turn<C: Count>(alloc: Global, turns: u64, usual: usize) -> Option<u64> {
     for turn in 1..turns {
         let memory = ShortMemory::new(alloc, turn);
@@ -32,7 +32,7 @@ pub(crate) trait Retry {
 }
 
 /// Fails each allocation in turn until none is left to fail, and answers how many first tries were refused. `None` where
-/// all wasn't right in a turn, or where `turns` turns don't suffice.
+/// all was not right in a turn, or where `turns` turns do not suffice.
 pub(crate) fn refusals<R: Retry>(alloc: Global, turns: u64) -> Option<u32> {
     let mut refused = 0u32;
     for turn in 1..turns {

@@ -69,13 +69,13 @@ pub(crate) fn piece_of<'m, A: Allocator + Copy + Send + Sync>(
     }
 }
 
-/// The fault of a piece that a book doesn't take, with the stripe of the piece that comes back.
+/// The fault of a piece that a book does not take, with the stripe of the piece that comes back.
 pub(crate) type Refusal = Option<(FileFault, u64)>;
 
 /// What a book shows: how many places are taken, the area of their layers, and that of layer 8 and of layer 0.
 pub(crate) type Shown = (u32, u64, Option<u64>, Option<u64>);
 
-/// Why a book doesn't take a piece.
+/// Why a book does not take a piece.
 pub(crate) fn refusal<'m>(book: &mut Book<'m, Global>, piece: Piece<'m, Global>) -> Refusal {
     let (fault, back) = book.file(piece).err()?;
     Some((fault, back.stripe()))
@@ -96,7 +96,7 @@ pub(crate) fn shown(book: &Book<'_, Global>) -> Shown {
     )
 }
 
-/// Whether a stripe is of the other one of two jobs, and its number; why a book of the first doesn't take it, and what
+/// Whether a stripe is of the other one of two jobs, and its number; why a book of the first does not take it, and what
 /// the book shows then.
 pub(crate) type Filing = (bool, u64, Refusal, Shown);
 
@@ -231,7 +231,7 @@ fn one_slicer_in_any_order(rt: HostRuntime) -> Result<(), Fail> {
     Ok(())
 }
 
-// Why a book of this job doesn't take a piece of it where it compares no jobs.
+// Why a book of this job does not take a piece of it where it compares no jobs.
 fn own_refusal<'m, A: Allocator + Copy + Send + Sync>(
     book: &mut Book<'m, A>,
     piece: Piece<'m, A>,

@@ -24,7 +24,7 @@ fn writer(alloc: Global, (most_per_call, fault): Way, room: usize) -> Counted<Sm
 }
 
 // Whether the image of the lowest layer of a mesh went out to a writer of this way up to its room: the first bytes of
-// the image, and one failure where these aren't all.
+// the image, and one failure where these are not all.
 fn is_filled(
     alloc: Global,
     parts: &[Part<'_>],
@@ -150,7 +150,7 @@ fn passed(alloc: Global, calls: u64, room: usize) -> (bool, Vec<u8>, [u64; 2]) {
 
 #[test]
 fn a_byte_at_a_time_from_reader_to_writer(rt: HostRuntime) -> Result<(), Fail> {
-    // the call behind the nine bytes gives the end
+    // the call after the nine bytes gives the end
     for (calls, room, told) in [
         (10, 9, (true, 9, [0, 0])),
         (10, 8, (false, 8, [0, 1])),

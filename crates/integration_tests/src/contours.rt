@@ -12,7 +12,7 @@ use short_memory::ShortMemory;
 use std::alloc::{AllocError, Allocator, Global};
 use std::test::Fail;
 
-/// Segments, each as `FACET: LOW HIGH to LOW HIGH` by the vertices of the edges that it runs between.
+/// Segments, each as `FACET: LOW HIGH to LOW HIGH` by the vertices of the edges that it lies between.
 macro_rules! cut {
     ($($facet:literal: $a:literal $b:literal to $c:literal $d:literal);*) => {
         [$(Segment {

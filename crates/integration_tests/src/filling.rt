@@ -104,7 +104,7 @@ fn layers_of_two_cubes(rt: HostRuntime) -> Result<(), Fail> {
     Ok(())
 }
 
-// Writes the image of a layer behind others.
+// Writes the image of a layer after others.
 fn push_image(
     w: &mut Counted<Vec<u8>>,
     alloc: Global,

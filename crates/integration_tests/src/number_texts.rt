@@ -127,7 +127,7 @@ fn long_words(rt: HostRuntime) -> Result<(), Fail> {
     Ok(())
 }
 
-/// Whether `word` is read in the same way where the text goes on far behind it, where it ends soon, and by itself.
+/// Whether `word` is read in the same way where a long text follows it, where a short one does, and by itself.
 fn is_read_alike(alloc: Global, word: &[u8], unit: Unit) -> Result<bool, AllocError> {
     let far = long_word(alloc, word, b' ', 40, b"")?;
     let near = long_word(alloc, word, b' ', 1, b"")?;

@@ -1,15 +1,16 @@
 //! Texts that are fed in pieces: the answer is that of the whole text, however it is cut.
 ghost use Rattle.std.specs.Prelude.{◌<◌};
 
-use crate::stl_texts::cube_file;
+use crate::stl_texts::{Text, cube_file, worked_texts};
 use crate::text_parts::are_same;
 use micro_num::Unit;
 use short_memory::ShortMemory;
 use std::alloc::{AllocError, Global};
 use std::test::Fail;
-use stl_text::{Facet, StlFault, TextReader, read_stl_at_most};
+use std::thread::Threads;
+use stl_text::{Facet, StlFault, TextReader};
 
-const LIMIT: u32 = 13;
+const LIMIT: u8 = 13;
 
 // A text of two facets, with a name and a rest of a line that look like facets, and each kind of line end.
 const TWO: &[u8] = b" solid endfacet facet\r\n\x0bfacet normal nan facet 1e9\touter loop\r\
@@ -17,31 +18,44 @@ const TWO: &[u8] = b" solid endfacet facet\r\n\x0bfacet normal nan facet 1e9\tou
     vertex 4 5 6 vertex 7 8 9 endloop endfacet endsolid facet normal\n\rsolid\nendsolid";
 
 // The answer to a text that is fed in two pieces.
-fn in_two(alloc: Global, front: &[u8], back: &[u8]) -> Result<Vec<Facet>, StlFault> {
-    let mut reader = TextReader::new(alloc, LIMIT, Unit::Millimetre);
-    reader.feed(front);
-    reader.feed(back);
+fn in_two<R: Threads + Sync>(
+    rt: &R,
+    mut reader: TextReader<Global>,
+    pieces: (&[u8], &[u8]),
+    workers: u32,
+) -> Result<Vec<Facet>, StlFault> {
+    reader.feed_by(rt, pieces.0, workers);
+    reader.feed_by(rt, pieces.1, workers);
     reader.finish()
 }
 
 // The answer to a text that is fed in pieces of this size.
-fn in_pieces(alloc: Global, text: &[u8], size: usize) -> Result<Vec<Facet>, StlFault>
+fn in_pieces<R: Threads + Sync>(
+    rt: &R,
+    mut reader: TextReader<Global>,
+    text: &[u8],
+    size: usize,
+    workers: u32,
+) -> Result<Vec<Facet>, StlFault>
     requires { 0 < size }
 {
-    let mut reader = TextReader::new(alloc, LIMIT, Unit::Millimetre);
     for piece in text.chunks(size) {
-        reader.feed(piece);
+        reader.feed_by(rt, piece, workers);
     }
     reader.finish()
 }
 
-// The answer to a text that is fed in pieces of this size, where the facets are taken off the reader behind each piece.
-fn taken_off(alloc: Global, text: &[u8], size: usize) -> Result<Vec<Facet>, StlFault>
+// The answer to a text that is fed in pieces of this size, where the facets are taken off the reader after each piece.
+fn taken_off(
+    alloc: Global,
+    mut reader: TextReader<Global>,
+    text: &[u8],
+    size: usize,
+) -> Result<Vec<Facet>, StlFault>
     requires { 0 < size }
 {
     let mut facets = Vec::new(alloc);
     let mut next = Vec::new(alloc);
-    let mut reader = TextReader::new(alloc, LIMIT, Unit::Millimetre);
     for piece in text.chunks(size) {
         reader.feed(piece);
         reader.take_facets(&mut next);
@@ -52,54 +66,92 @@ fn taken_off(alloc: Global, text: &[u8], size: usize) -> Result<Vec<Facet>, StlF
     Ok(facets)
 }
 
-// Whether the answer to a text is the same in pieces of 1 to 17 bytes, with its facets taken off the reader or not.
-fn is_chopped_well(alloc: Global, text: &[u8]) -> bool {
-    let whole = read_stl_at_most(alloc, text, LIMIT, Unit::Millimetre);
+// Whether the answer to a text is that of the whole in pieces of 1 to 17 bytes, with its facets taken off the reader or
+// not.
+fn is_chopped_well<R: Threads + Sync>(rt: &R, alloc: Global, text: Text<'_>, workers: u32) -> bool {
+    let whole = text.whole(alloc);
     for size in 1..=17 {
-        if !are_same(&in_pieces(alloc, text, size), &whole) {
+        let found = in_pieces(rt, text.reader(alloc), text.bytes, size, workers);
+        if !are_same(&found, &whole) {
             return false;
         }
-        if !are_same(&taken_off(alloc, text, size), &whole) {
+        let taken = taken_off(alloc, text.reader(alloc), text.bytes, size);
+        if !are_same(&taken, &whole) {
             return false;
         }
     }
     true
 }
 
-// Whether the answer to a text is the same for each cut in two, and in pieces of 1 to 17 bytes.
-fn is_cut_well(alloc: Global, text: &[u8]) -> bool {
-    let whole = read_stl_at_most(alloc, text, LIMIT, Unit::Millimetre);
-    for cut in 0..=text.len() {
-        let (front, back) = text.split_at(cut);
-        if !are_same(&in_two(alloc, front, back), &whole) {
+// Whether the answer to a text is that of the whole for each cut in two, and in pieces of 1 to 17 bytes.
+fn is_cut_well<R: Threads + Sync>(rt: &R, alloc: Global, text: Text<'_>, workers: u32) -> bool {
+    let whole = text.whole(alloc);
+    for cut in 0..=text.bytes.len() {
+        let found = in_two(rt, text.reader(alloc), text.bytes.split_at(cut), workers);
+        if !are_same(&found, &whole) {
             return false;
         }
     }
-    is_chopped_well(alloc, text)
+    is_chopped_well(rt, alloc, text, workers)
+}
+
+// The number of the first worked text whose answer is not that of the whole for each cut, if there is one.
+fn first_cut_badly<R: Threads + Sync>(
+    rt: &R,
+    alloc: Global,
+    workers: u32,
+) -> Result<Option<usize>, AllocError> {
+    for (k, worked) in worked_texts(alloc)?.iter().enumerate() {
+        if !is_cut_well(rt, alloc, worked.text(), workers) {
+            return Ok(Some(k));
+        }
+    }
+    Ok(None)
+}
+
+// A text in millimetres that may have up to `LIMIT` facets.
+fn limited(bytes: &[u8]) -> Text<'_> {
+    Text {
+        bytes,
+        limit: LIMIT,
+        unit: Unit::Millimetre,
+    }
 }
 
 #[test]
-fn a_cube_in_pieces(rt: HostRuntime) -> Result<(), Fail> {
-    let text = cube_file(rt.alloc())?;
-    assert!(rt; is_cut_well(rt.alloc(), text.as_slice()));
+fn worked_texts_in_pieces_by_one_worker(rt: HostRuntime) -> Result<(), Fail> {
+    assert_eq!(rt; first_cut_badly(&rt, rt.alloc(), 1)?, None);
+    Ok(())
+}
+
+#[test]
+fn worked_texts_in_pieces_by_two_workers(rt: HostRuntime) -> Result<(), Fail> {
+    assert_eq!(rt; first_cut_badly(&rt, rt.alloc(), 2)?, None);
+    Ok(())
+}
+
+#[test]
+fn worked_texts_in_pieces_by_64_workers(rt: HostRuntime) -> Result<(), Fail> {
+    assert_eq!(rt; first_cut_badly(&rt, rt.alloc(), 64)?, None);
     Ok(())
 }
 
 // The thirteenth facet is the last that the limit permits.
 #[test]
 fn one_facet_too_many_in_pieces(rt: HostRuntime) -> Result<(), Fail> {
-    let mut text = cube_file(rt.alloc())?;
-    text.extend_from_slice(TWO)?;
-    let fault = in_pieces(rt.alloc(), text.as_slice(), 64).err();
+    let mut bytes = cube_file(rt.alloc())?;
+    bytes.extend_from_slice(TWO)?;
+    let text = limited(bytes.as_slice());
+    let fault = text.whole(rt.alloc()).err();
     assert!(rt; matches!(fault, Some(StlFault::TooMany { .. })));
-    assert!(rt; is_cut_well(rt.alloc(), text.as_slice()));
+    assert!(rt; is_cut_well(&rt, rt.alloc(), text, 2));
     Ok(())
 }
 
 #[test]
 fn facets_are_taken_once(rt: HostRuntime) -> Result<(), Fail> {
     let mut facets = Vec::new(rt.alloc());
-    let mut reader = TextReader::new(rt.alloc(), LIMIT, Unit::Millimetre);
+    let mut reader = limited(TWO).reader(rt.alloc());
     reader.feed(TWO);
     reader.take_facets(&mut facets);
     assert!(rt; facets.len() == 2);
@@ -112,7 +164,7 @@ fn facets_are_taken_once(rt: HostRuntime) -> Result<(), Fail> {
 #[test]
 fn each_beginning_in_pieces(rt: HostRuntime) -> Result<(), Fail> {
     for len in 0..=TWO.len() {
-        assert!(rt; is_cut_well(rt.alloc(), &TWO[..len]));
+        assert!(rt; is_cut_well(&rt, rt.alloc(), limited(&TWO[..len]), 2));
     }
     Ok(())
 }
@@ -131,7 +183,7 @@ fn each_byte_spoiled_in_pieces(rt: HostRuntime) -> Result<(), Fail> {
     for at in 0..TWO.len() {
         for byte in [b'x', b'\n'] {
             let text = spoiled(rt.alloc(), at, byte)?;
-            assert!(rt; is_chopped_well(rt.alloc(), text.as_slice()));
+            assert!(rt; is_chopped_well(&rt, rt.alloc(), limited(text.as_slice()), 2));
         }
     }
     Ok(())
@@ -141,7 +193,7 @@ fn each_byte_spoiled_in_pieces(rt: HostRuntime) -> Result<(), Fail> {
 fn each_allocation_of_a_reader_fails_in_turn(rt: HostRuntime) -> Result<(), Fail> {
     for turn in 1..100 {
         let memory = ShortMemory::new(rt.alloc(), turn);
-        let mut reader = TextReader::new(&memory, LIMIT, Unit::Millimetre);
+        let mut reader = TextReader::new(&memory, u32::from(LIMIT), Unit::Millimetre);
         for piece in TWO.chunks(3) {
             reader.feed(piece);
         }

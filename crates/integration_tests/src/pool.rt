@@ -118,7 +118,7 @@ impl HoldsTheFirst {
         }
     }
 
-    // Counts where a worker has made a stripe that it hadn't come to before.
+    // Counts where a worker has made a stripe that it had not come to before.
     fn note_order(&self, worker: u64, stripe: u64) {
         let unit = unit_of(stripe);
         if unit == 0 || self.arrived.load(SeqCst) / unit % BYTE != worker {

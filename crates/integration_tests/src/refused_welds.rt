@@ -19,7 +19,7 @@ fn outcome(memory: &ShortMemory<Global>, parts: &[Part<'_>]) -> Option<Outcome> 
 }
 
 // Fails each allocation in turn until none is left to fail: how many of the failed ones were the weld's. `None` where
-// one of these welds answered anything else, or where the last answer isn't the usual one.
+// one of these welds answered anything else, or where the last answer is not the usual one.
 fn refused(alloc: Global, parts: &[Part<'_>], usual: Outcome) -> Option<u32> {
     let mut refused = 0u32;
     for turn in 1..200u64 {

@@ -169,7 +169,7 @@ fn a_column_of_seventeen_layers(rt: HostRuntime) -> Result<(), Fail> {
     Ok(())
 }
 
-// The box holds a degenerate facet too, which the grid doesn't.
+// The box holds a degenerate facet too, which the grid does not.
 #[test]
 fn the_box_is_that_of_all_facets(rt: HostRuntime) -> Result<(), Fail> {
     let far: &[Part] = &[

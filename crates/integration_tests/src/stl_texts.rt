@@ -4,7 +4,7 @@ use micro_num::{NumFault, Unit};
 use short_memory::ShortMemory;
 use std::alloc::{AllocError, Allocator, Global};
 use std::test::Fail;
-use stl_text::{Facet, Point, StlFault, Word, read_stl, read_stl_at_most};
+use stl_text::{Facet, Point, StlFault, TextReader, Word, read_stl, read_stl_at_most};
 
 // How the parts of a file are spelled.
 struct Style {
@@ -111,17 +111,87 @@ fn each_beginning_of_a_file(rt: HostRuntime) -> Result<(), Fail> {
     Ok(())
 }
 
-// What is wrong with a text.
-fn fault_of(alloc: Global, text: &[u8]) -> Option<StlFault> {
-    read_stl(alloc, text, Unit::Millimetre).err()
+/// A text and how it is read.
+#[derive(Clone, Copy)]
+pub(crate) struct Text<'t> {
+    pub(crate) bytes: &'t [u8],
+    /// The number of facets that it may have.
+    pub(crate) limit: u8,
+    pub(crate) unit: Unit,
 }
 
-#[test]
-fn faults_of_short_texts(rt: HostRuntime) -> Result<(), Fail> {
-    let ended = |word| StlFault::Ended { word };
-    let expected = |word, at| StlFault::Expected { word, at };
-    let number = |cause, at| StlFault::Number { cause, at };
-    let rows: [(&[u8], StlFault); 18] = [
+impl Text<'_> {
+    /// The answer to the whole text.
+    pub(crate) fn whole(&self, alloc: Global) -> Result<Vec<Facet>, StlFault> {
+        read_stl_at_most(alloc, self.bytes, u32::from(self.limit), self.unit)
+    }
+
+    /// A reader to which it can be fed.
+    pub(crate) fn reader(&self, alloc: Global) -> TextReader<Global> {
+        TextReader::new(alloc, u32::from(self.limit), self.unit)
+    }
+}
+
+// What a text is read as: cubes, by the least and the greatest coordinate of each, or its fault.
+type Answer = Result<&'static [(i32, i32)], StlFault>;
+
+/// A text with its answer.
+#[derive(Drop)]
+pub(crate) struct Worked {
+    bytes: Vec<u8>,
+    limit: u8,
+    unit: Unit,
+    answer: Answer,
+}
+
+impl Worked {
+    pub(crate) fn text(&self) -> Text<'_> {
+        Text {
+            bytes: self.bytes.as_slice(),
+            limit: self.limit,
+            unit: self.unit,
+        }
+    }
+}
+
+// A limit that none of the texts here passes.
+const ENOUGH: u8 = 24;
+
+// Adds a text that is read in millimetres.
+fn put(
+    list: &mut Vec<Worked>,
+    bytes: Vec<u8>,
+    limit: u8,
+    answer: Answer,
+) -> Result<(), AllocError> {
+    list.push(Worked {
+        bytes,
+        limit,
+        unit: Unit::Millimetre,
+        answer,
+    })?;
+    Ok(())
+}
+
+fn ended(word: Word) -> Answer {
+    Err(StlFault::Ended { word })
+}
+
+fn expected(word: Word, at: usize) -> Answer {
+    Err(StlFault::Expected { word, at })
+}
+
+fn number(cause: NumFault, at: usize) -> Answer {
+    Err(StlFault::Number { cause, at })
+}
+
+fn too_many(at: usize) -> Answer {
+    Err(StlFault::TooMany { at })
+}
+
+// Adds texts with a fault in no facet or in the first one.
+fn put_faulty(alloc: Global, list: &mut Vec<Worked>) -> Result<(), AllocError> {
+    let rows: [(&[u8], Answer); 18] = [
         (b"", ended(Word::Solid)),
         (b" \t\r\n\x0b\x0c", ended(Word::Solid)),
         (b"solidx", expected(Word::Solid, 0)),
@@ -162,127 +232,135 @@ fn faults_of_short_texts(rt: HostRuntime) -> Result<(), Fail> {
             expected(Word::Vertex, 49),
         ),
     ];
-    for (text, fault) in rows {
-        assert_eq!(rt; fault_of(rt.alloc(), text), Some(fault));
+    for (text, answer) in rows {
+        put(list, text.to_vec(alloc)?, ENOUGH, answer)?;
     }
     Ok(())
 }
 
-#[test]
-fn a_number_of_256_digits(rt: HostRuntime) -> Result<(), Fail> {
-    let mut text = b"solid\nfacet normal 0 0 1\nouter loop\nvertex 1 ".to_vec(rt.alloc())?;
-    for _ in 0..256 {
-        text.push(b'0')?;
-    }
-    text.extend_from_slice(b" 3")?;
-    let fault = StlFault::Number {
-        cause: NumFault::TooLong,
-        at: 45,
-    };
-    assert_eq!(rt; fault_of(rt.alloc(), text.as_slice()), Some(fault));
-    Ok(())
-}
-
-// The mark with which some programs begin a text is part of the first word.
-#[test]
-fn a_file_behind_a_mark(rt: HostRuntime) -> Result<(), Fail> {
-    let mut text = b"\xef\xbb\xbf".to_vec(rt.alloc())?;
-    put_cube(&mut text, &PLAIN, b"0.000", b"0.002")?;
-    let fault = StlFault::Expected {
-        word: Word::Solid,
-        at: 0,
-    };
-    assert_eq!(rt; fault_of(rt.alloc(), text.as_slice()), Some(fault));
-    Ok(())
-}
-
-#[test]
-fn a_file_cut_behind_a_loop(rt: HostRuntime) -> Result<(), Fail> {
-    let file = cube_file(rt.alloc())?;
-    let text = file.as_slice().get(0..120).ok_or("short")?;
-    let fault = StlFault::Ended {
-        word: Word::EndFacet,
-    };
-    assert_eq!(rt; fault_of(rt.alloc(), text), Some(fault));
-    Ok(())
-}
-
-#[test]
-fn texts_of_no_facets(rt: HostRuntime) -> Result<(), Fail> {
-    let texts: [&[u8]; 4] = [
+// Adds texts of no facets.
+fn put_empty(alloc: Global, list: &mut Vec<Worked>) -> Result<(), AllocError> {
+    let rows: [&[u8]; 4] = [
         b"solid facet normal\nENDSOLID",
         b"solid \x00\xff\nendsolid solid\n",
         b"\r\n Solid a\rendSolid b\nsolid\n\x0b\x0cendsolid\r \n",
         b"solid a\x0bendsolid\nendsolid facet\x0csolid",
     ];
-    for text in texts {
-        let facets = read_stl(rt.alloc(), text, Unit::Inch).map_err(|_| "refused")?;
-        assert_eq!(rt; facets.len(), 0);
+    for text in rows {
+        put(list, text.to_vec(alloc)?, 0, Ok(&[]))?;
     }
     Ok(())
 }
 
-#[test]
-fn limits(rt: HostRuntime) -> Result<(), Fail> {
-    let file = cube_file(rt.alloc())?;
-    let text = file.as_slice();
-    let refused = read_stl_at_most(rt.alloc(), text, 2, Unit::Millimetre).err();
-    assert_eq!(rt; refused, Some(StlFault::TooMany { at: 252 }));
-    let none = read_stl_at_most(rt.alloc(), text, 0, Unit::Millimetre).err();
-    assert_eq!(rt; none, Some(StlFault::TooMany { at: 8 }));
-    let facets = read_stl_at_most(rt.alloc(), text, 12, Unit::Millimetre).map_err(|_| "refused")?;
-    assert!(rt; are_cube(&facets, 0, 2));
-    Ok(())
-}
+// The cube from 0 to 2 micrometres.
+const CUBE: &[(i32, i32)] = &[(0, 2)];
 
-// What is wrong with the file of a cube and these bytes behind it, of which at most 12 facets are read.
-fn fault_behind(alloc: Global, back: &[u8]) -> Result<Option<StlFault>, AllocError> {
-    let mut text = cube_file(alloc)?;
-    text.extend_from_slice(back)?;
-    Ok(read_stl_at_most(alloc, text.as_slice(), 12, Unit::Millimetre).err())
-}
-
-// Facets are counted over all solids. The word behind the second solid's name begins at byte 1491.
-#[test]
-fn limit_over_two_solids(rt: HostRuntime) -> Result<(), Fail> {
-    let cube = cube_file(rt.alloc())?;
-    let many = StlFault::TooMany { at: 1491 };
-    let other = StlFault::Expected {
-        word: Word::FacetOrEnd,
-        at: 1491,
-    };
-    let rows: [(&[u8], Option<StlFault>); 5] = [
-        (cube.as_slice(), Some(many)),
-        (b"solid t\nfacet", Some(many)),
-        (b"solid t\nfacets", Some(other)),
-        (b"solid t\nvertex", Some(other)),
-        (b"solid t\nendsolid", None),
+// Adds the file of a cube under several limits, with bytes before and after it. The mark with which some programs begin
+// a text is part of the first word. Facets are counted over all solids: the word after the second solid's name begins
+// at byte 1491.
+fn put_limited(alloc: Global, list: &mut Vec<Worked>) -> Result<(), AllocError> {
+    let cube = cube_file(alloc)?;
+    let rows: [(&[u8], &[u8], u8, Answer); 9] = [
+        (b"", b"", 12, Ok(CUBE)),
+        (b"", b"", 2, too_many(252)),
+        (b"", b"", 0, too_many(8)),
+        (b"\xef\xbb\xbf", b"", 12, expected(Word::Solid, 0)),
+        (b"", cube.as_slice(), 12, too_many(1491)),
+        (b"", b"solid t\nfacet", 12, too_many(1491)),
+        (
+            b"",
+            b"solid t\nfacets",
+            12,
+            expected(Word::FacetOrEnd, 1491),
+        ),
+        (
+            b"",
+            b"solid t\nvertex",
+            12,
+            expected(Word::FacetOrEnd, 1491),
+        ),
+        (b"", b"solid t\nendsolid", 12, Ok(CUBE)),
     ];
-    for (back, fault) in rows {
-        assert_eq!(rt; fault_behind(rt.alloc(), back)?, fault);
+    for (front, back, limit, answer) in rows {
+        let mut bytes = front.to_vec(alloc)?;
+        bytes.extend_from_slice(cube.as_slice())?;
+        bytes.extend_from_slice(back)?;
+        put(list, bytes, limit, answer)?;
     }
     Ok(())
 }
 
-#[test]
-fn two_solids_in_capitals(rt: HostRuntime) -> Result<(), Fail> {
-    let mut text = Vec::new(rt.alloc());
-    put_cube(&mut text, &LOUD, b"+0", b"4E-3")?;
-    put_cube(&mut text, &LOUD, b".002", b"6.e-3")?;
-    let facets = read_stl(rt.alloc(), text.as_slice(), Unit::Millimetre).map_err(|_| "refused")?;
-    let all = facets.as_slice();
-    assert_eq!(rt; all.len(), 24);
-    assert!(rt; are_cube(&all[..12], 0, 4));
-    assert!(rt; are_cube(&all[12..], 2, 6));
+// Adds the file of a cube that ends after a loop, two cubes in capitals, and a cube in inches.
+fn put_cubes(alloc: Global, list: &mut Vec<Worked>) -> Result<(), AllocError> {
+    let mut short = cube_file(alloc)?;
+    short.truncate(120);
+    put(list, short, ENOUGH, ended(Word::EndFacet))?;
+    let mut loud = Vec::new(alloc);
+    put_cube(&mut loud, &LOUD, b"+0", b"4E-3")?;
+    put_cube(&mut loud, &LOUD, b".002", b"6.e-3")?;
+    put(list, loud, ENOUGH, Ok(&[(0, 4), (2, 6)]))?;
+    let mut bytes = Vec::new(alloc);
+    put_cube(&mut bytes, &PLAIN, b"-1", b"0.002")?;
+    list.push(Worked {
+        bytes,
+        limit: ENOUGH,
+        unit: Unit::Inch,
+        answer: Ok(&[(-INCH, 51)]),
+    })?;
     Ok(())
 }
 
+// Adds a text with a number of 256 digits.
+fn put_long_number(alloc: Global, list: &mut Vec<Worked>) -> Result<(), AllocError> {
+    let mut bytes = b"solid\nfacet normal 0 0 1\nouter loop\nvertex 1 ".to_vec(alloc)?;
+    for _ in 0..256 {
+        bytes.push(b'0')?;
+    }
+    bytes.extend_from_slice(b" 3")?;
+    put(list, bytes, ENOUGH, number(NumFault::TooLong, 45))
+}
+
+/// The texts whose answers are known.
+pub(crate) fn worked_texts(alloc: Global) -> Result<Vec<Worked>, AllocError> {
+    let mut list = Vec::new(alloc);
+    put_faulty(alloc, &mut list)?;
+    put_empty(alloc, &mut list)?;
+    put_limited(alloc, &mut list)?;
+    put_cubes(alloc, &mut list)?;
+    put_long_number(alloc, &mut list)?;
+    Ok(list)
+}
+
+// Whether these are the facets of cubes, one after another.
+fn are_cubes(facets: &[Facet], cubes: &[(i32, i32)]) -> bool {
+    if facets.len() / FACETS.len() != cubes.len() {
+        return false;
+    }
+    for (cube, (low, high)) in facets.chunks(FACETS.len()).zip(cubes) {
+        if !are_cube(cube, *low, *high) {
+            return false;
+        }
+    }
+    true
+}
+
+// Whether a text is read as its answer says.
+fn is_answered(worked: &Worked, found: &Result<Vec<Facet>, StlFault>) -> bool {
+    match (found, &worked.answer) {
+        (Ok(facets), Ok(cubes)) => are_cubes(facets, cubes),
+        (Err(fault), Err(wanted)) => fault == wanted,
+        _ => false,
+    }
+}
+
 #[test]
-fn a_cube_in_inches(rt: HostRuntime) -> Result<(), Fail> {
-    let mut text = Vec::new(rt.alloc());
-    put_cube(&mut text, &PLAIN, b"-1", b"0.002")?;
-    let facets = read_stl(rt.alloc(), text.as_slice(), Unit::Inch).map_err(|_| "refused")?;
-    assert!(rt; are_cube(&facets, -INCH, 51));
+fn worked_texts_have_their_answers(rt: HostRuntime) -> Result<(), Fail> {
+    let list = worked_texts(rt.alloc())?;
+    assert_eq!(rt; list.len(), 35);
+    for (k, worked) in list.iter().enumerate() {
+        let found = worked.text().whole(rt.alloc());
+        assert!(rt; is_answered(worked, &found), "text {k}");
+    }
     Ok(())
 }
 

@@ -11,6 +11,12 @@ use stl_text::{FACET_LIMIT, Facet, StlFault, TextReader, read_stl_at_most, read_
 
 const WORKERS: [u32; 5] = [1, 2, 3, 7, 64];
 
+// The least number of workers that read parts, and the greatest that the program takes.
+const TWO_AND_MOST: [u32; 2] = [2, 64];
+
+// The least length of a text that is read in two parts, in bytes.
+const LEAST_OF_TWO_PARTS: usize = 65_536;
+
 // The least length of the texts here, in bytes: each half is longer than the shortest piece that is read in parts.
 const LONG: usize = 131_074;
 
@@ -36,7 +42,7 @@ fn put_facet(out: &mut Vec<u8>, digit: u8) -> Result<(), AllocError> {
     out.extend_from_slice(b" 1e-3 7 vertex 2 2 2 VERTEX 3 0 5 endloop EndFacet ")
 }
 
-// A solid of `count` facets.
+// A solid of `count` facets, with its name at both ends.
 fn put_solid(out: &mut Vec<u8>, name: &[u8], count: u32) -> Result<(), AllocError> {
     out.extend_from_slice(b"solid ")?;
     out.extend_from_slice(name)?;
@@ -44,7 +50,9 @@ fn put_solid(out: &mut Vec<u8>, name: &[u8], count: u32) -> Result<(), AllocErro
     for k in 0..count {
         put_facet(out, (k % 251) as u8)?;
     }
-    out.extend_from_slice(b"endsolid\n")
+    out.extend_from_slice(b"endsolid ")?;
+    out.extend_from_slice(name)?;
+    out.extend_from_slice(b"\n")
 }
 
 // Whether two answers are the same.
@@ -123,15 +131,18 @@ fn names_that_spell_facets(rt: HostRuntime) -> Result<(), Fail> {
     Ok(())
 }
 
-// Solids of one facet: a run goes on from one to the next.
+// Solids of one facet: a run of facets goes on from one to the next. Where a part begins in a name that ends in
+// `endfacet`, the worker finds a run that begins in the name, and the reader never comes to it.
 #[test]
 fn solids_of_one_facet(rt: HostRuntime) -> Result<(), Fail> {
-    let mut text = Vec::new(rt.alloc());
-    for _ in 0..1300 {
-        put_solid(&mut text, b"one", 1)?;
+    for name in [&b"one"[..], b"endfacet", b"endfacet facet"] {
+        let mut text = Vec::new(rt.alloc());
+        for _ in 0..1300 {
+            put_solid(&mut text, name, 1)?;
+        }
+        assert!(rt; LONG < text.len());
+        assert!(rt; any_workers(&rt, rt.alloc(), &text, FACET_LIMIT));
     }
-    assert!(rt; LONG < text.len());
-    assert!(rt; any_workers(&rt, rt.alloc(), &text, FACET_LIMIT));
     Ok(())
 }
 
@@ -158,7 +169,7 @@ fn a_fault_in_each_part(rt: HostRuntime) -> Result<(), Fail> {
     Ok(())
 }
 
-// The limit is passed at the begin, in each part, at the last facet and not at all.
+// The limit is passed at the beginning, in each part, at the last facet and not at all.
 #[test]
 fn a_limit_in_each_part(rt: HostRuntime) -> Result<(), Fail> {
     let mut text = Vec::new(rt.alloc());
@@ -190,14 +201,95 @@ fn capitals(rt: HostRuntime) -> Result<(), Fail> {
 fn a_facet_cut_at_each_byte(rt: HostRuntime) -> Result<(), Fail> {
     let mut text = Vec::new(rt.alloc());
     put_solid(&mut text, b"part", 500)?;
-    put_solid(&mut text, b"endfacet facet", 800)?;
+    put_solid(&mut text, b"endfacet facet", 1000)?;
     assert!(rt; FIRST_CUT + CUTS < text.len());
     let one = read_stl_at_most(rt.alloc(), &text, FACET_LIMIT, Unit::Millimetre);
     assert!(rt; one.is_ok());
     for cut in FIRST_CUT..FIRST_CUT + CUTS {
-        let pieces = text.split_at(cut.min(text.len()));
-        let many = in_two(&rt, rt.alloc(), pieces, FACET_LIMIT, 3);
-        assert!(rt; are_same(&one, &many));
+        for workers in TWO_AND_MOST {
+            let pieces = text.split_at(cut.min(text.len()));
+            let many = in_two(&rt, rt.alloc(), pieces, FACET_LIMIT, workers);
+            assert!(rt; are_same(&one, &many));
+        }
+    }
+    Ok(())
+}
+
+// A text of two parts, however many workers there are.
+fn two_parts(alloc: Global) -> Result<Vec<u8>, AllocError> {
+    let mut text = Vec::new(alloc);
+    put_solid(&mut text, b"endfacet facet", 720)?;
+    Ok(text)
+}
+
+// Whether two workers and the most of them answer what one reader does.
+fn two_and_most<R: Threads + Sync>(rt: &R, alloc: Global, text: &[u8], limit: u32) -> bool
+    requires { limit ≤ FACET_LIMIT }
+{
+    let one = read_stl_at_most(alloc, text, limit, Unit::Millimetre);
+    for workers in TWO_AND_MOST {
+        if workers == 0 {
+            return false;
+        }
+        let many = read_stl_by(rt, alloc, text, limit, Unit::Millimetre, workers);
+        if !are_same(&one, &many) {
+            return false;
+        }
+    }
+    true
+}
+
+// Two parts meet at each byte of a facet: two bytes more at the end of the text move the middle by one.
+#[test]
+fn parts_that_meet_at_each_byte_of_a_facet(rt: HostRuntime) -> Result<(), Fail> {
+    let mut text = two_parts(rt.alloc())?;
+    assert!(rt; LEAST_OF_TWO_PARTS <= text.len());
+    for _ in 0..CUTS {
+        text.extend_from_slice(b"\n\n")?;
+        assert!(rt; two_and_most(&rt, rt.alloc(), &text, FACET_LIMIT));
+    }
+    assert!(rt; text.len() < LONG);
+    Ok(())
+}
+
+// Each byte of a facet where two parts meet is replaced.
+#[test]
+fn a_fault_at_each_byte_where_parts_meet(rt: HostRuntime) -> Result<(), Fail> {
+    let mut text = two_parts(rt.alloc())?;
+    assert!(rt; LEAST_OF_TWO_PARTS <= text.len());
+    let first = text.len() / 2 - CUTS / 2;
+    for at in first..first + CUTS {
+        assert!(rt; at < text.len());
+        let byte = text[at];
+        text[at] = b'#';
+        assert!(rt; two_and_most(&rt, rt.alloc(), &text, FACET_LIMIT));
+        text[at] = byte;
+    }
+    Ok(())
+}
+
+// The limit is passed shortly before the second part, at its first facets and in it.
+#[test]
+fn a_limit_where_parts_meet(rt: HostRuntime) -> Result<(), Fail> {
+    let text = two_parts(rt.alloc())?;
+    assert!(rt; LEAST_OF_TWO_PARTS <= text.len());
+    for limit in 350..370 {
+        assert!(rt; two_and_most(&rt, rt.alloc(), &text, limit));
+    }
+    Ok(())
+}
+
+// A text that is long enough for a part to each of 64 workers, without a fault and with one in some of the parts.
+#[test]
+fn sixty_four_parts(rt: HostRuntime) -> Result<(), Fail> {
+    let mut text = Vec::new(rt.alloc());
+    put_solid(&mut text, b"part", 22_500)?;
+    assert!(rt; 32 * LEAST_OF_TWO_PARTS <= text.len());
+    assert!(rt; two_and_most(&rt, rt.alloc(), &text, FACET_LIMIT));
+    for at in [2_000_000, 1_000_000, 40_000] {
+        assert!(rt; at < text.len());
+        text[at] = b'#';
+        assert!(rt; two_and_most(&rt, rt.alloc(), &text, FACET_LIMIT));
     }
     Ok(())
 }

@@ -9,7 +9,7 @@ const MULTIPLIER: u64 = 6_364_136_223_846_793_005;
 
 const INCREMENT: u64 = 1_442_695_040_888_963_407;
 
-/// Numbers in no order, the same in each run.
+/// Numbers in no order, the same each time.
 #[derive(Drop)]
 struct Draws {
     state: u64,

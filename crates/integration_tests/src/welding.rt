@@ -52,7 +52,7 @@ fn place(point: Point) -> [i32; 3] {
     [point.x(), point.y(), point.z()]
 }
 
-// The open edge of facets that aren't closed: from where to where, and how many there are there and back.
+// The open edge of facets that are not closed: from where to where, and how many there are there and back.
 fn open_edge(welded: Result<Solid<Global>, WeldFault>) -> Option<([i32; 3], [i32; 3], u32, u32)> {
     let fault = welded.err()?;
     match fault {
@@ -176,7 +176,7 @@ fn welded_rings<A: Allocator + Copy + Send + Sync>(
 fn rings_of_many_facets(rt: HostRuntime) -> Result<(), Fail> {
     let all = counts(welded_rings(rt.alloc(), 4608));
     assert_eq!(rt; all, Some((4608, 0, 2304, 6912)));
-    // the last facet, which is left out, runs from its second corner to its third
+    // the last facet, which is left out, leads from its second corner to its third
     let open = open_edge(welded_rings(rt.alloc(), 4607));
     assert_eq!(rt; open, Some(([0, 0, 0], [43, 0, 47], 0, 1)));
     Ok(())

@@ -2,7 +2,7 @@
 use build_book::Piece;
 use std::alloc::Allocator;
 
-/// An observer of the workers, which count from 0. A worker calls it while it doesn't hold the lock on the book, so a
+/// An observer of the workers, which count from 0. A worker calls it while it does not hold the lock on the book, so a
 /// gate that waits delays only the worker that calls it.
 pub trait Gate<A: Allocator> {
     /// A worker has drawn a stripe and is about to slice it.

@@ -18,7 +18,7 @@ use stripe_claims::{Claims, Pass};
 /// The complete build of a job, for 1 to `PASS_LIMIT` workers and every gate.
 ///
 /// Each worker draws stripes from claims without a lock. It takes the lock on the book to file one piece, and for nothing
-/// else. A stripe for which a worker gets no memory is made at the end, on the caller's thread. Where a worker can't be
+/// else. A stripe for which a worker gets no memory is made at the end, on the caller's thread. Where a worker cannot be
 /// started, the others draw its share. `Err` comes only where an allocation failed on the caller's thread.
 pub fn build<'m, R: Threads + Wait + Sync, A: Allocator + Copy + Send + Sync, G: Gate<A> + Sync>(
     rt: &R,
