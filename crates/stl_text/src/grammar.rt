@@ -1,5 +1,5 @@
-//! The grammar of ASCII STL, from vertices to solids. Each rule is a method of the reader. And what stands at the front of a
-//! text: a facet, or where one solid ends and the next begins.
+//! What stands whole at the front of a text: a facet, or the end of one solid and the beginning of the next. Each rule of a
+//! facet is a method of the reader.
 ghost use Rattle.std.specs.Prelude.{◌≡◌, ◌≢◌, ◌-◌, ◌<◌, ◌≤◌, [], ◌∷◌, ◌++◌, length, flat_map, IfErr, IfOk, IfSome, IsTrue, List, Some, vec_len};
 ghost use Rattle.std.specs.Bool.{MatchBool};
 ghost use Rattle.stl_text.specs.declared.stl_fault.StlFault.TheVariants.{Ended, Memory};
@@ -12,12 +12,11 @@ ghost use Rattle.stl_text.specs.Parts.{next_solid};
 ghost use Rattle.stl_text.specs.Text.{after_space, end_word, facet_tokens, facet_word, facets_of, loop_tokens, normal_tokens, rest_behind, solid_tokens, vertex_tokens};
 
 use crate::reader::Reader;
-use crate::scanning::{behind_keyword, is_keyword, skip_line};
+use crate::scanning::{behind_keyword, skip_line};
 use crate::stl_fault::StlFault;
 use crate::word::{END_SOLID, FACET, SOLID, Word};
 use geometry::{Facet, Point};
 use micro_num::Unit;
-use std::alloc::Allocator;
 
 impl<'t> Reader<'t> {
     /// Reads a vertex: `vertex` and three coordinates.
@@ -69,94 +68,6 @@ impl<'t> Reader<'t> {
         let facet = self.outer_loop()?;
         self.keyword(Word::EndFacet)?;
         Ok(facet)
-    }
-
-    /// Reads `facet` or `endsolid`, and tells whether it is `facet`. `room` is the number of facets that may still
-    /// begin: where it is 0, `facet` is a fault.
-    #[inline(always)]
-    fn begins_facet(&mut self, room: usize) -> Result<bool, StlFault>
-        ensures read { IfOk result (λ more. MatchBool more
-            (Spells (facet_word ∷ []) self.old self.new) (Spells (end_word ∷ []) self.old self.new)) }
-        ensures room { IfOk result (λ more. IsTrue more → 0 < room) }
-        ensures fault { IfErr result (Stops room (facet_word ∷ []) self.old) }
-    {
-        if room > 0 {
-            if let Some(rest) = behind_keyword(self.rest, FACET) {
-                self.rest = rest;
-                return Ok(true);
-            }
-        }
-        self.begins_word(room)
-    }
-
-    /// The slow part of `begins_facet`, which also finds the fault.
-    #[cold]
-    #[inline(never)]
-    fn begins_word(&mut self, room: usize) -> Result<bool, StlFault>
-        ensures read { IfOk result (λ more. MatchBool more
-            (Spells (facet_word ∷ []) self.old self.new) (Spells (end_word ∷ []) self.old self.new)) }
-        ensures room { IfOk result (λ more. IsTrue more → 0 < room) }
-        ensures fault { IfErr result (Stops room (facet_word ∷ []) self.old) }
-    {
-        let word = self.next_word();
-        if is_keyword(word, FACET) {
-            if room == 0 {
-                return Err(StlFault::TooMany {
-                    at: self.offset_of(word),
-                });
-            }
-            return Ok(true);
-        }
-        if is_keyword(word, END_SOLID) {
-            return Ok(false);
-        }
-        Err(self.fault_at(word, Word::FacetOrEnd))
-    }
-
-    /// Reads a solid, from `solid` to the rest of the line of `endsolid`, and adds its facets to `facets`, which may
-    /// have up to `limit` facets in all.
-    fn solid<A: Allocator>(
-        &mut self,
-        limit: usize,
-        facets: &mut Vec<Facet, A>,
-    ) -> Result<(), StlFault>
-        requires { vec_len facets.old ≤ limit }
-        ensures read { IfOk result (λ _. (added : List Facet) × (facets.new.items ≡ facets.old.items ++ added)
-            × Spells (solid_tokens added) self.old self.new) }
-        ensures few { IfOk result (λ _. vec_len facets.new ≤ limit) }
-        ensures fault { IfErr result (λ fault. fault ≢ Memory
-            → (added : List Facet) × Stops (limit - vec_len facets.old) (solid_tokens added) self.old fault) }
-    {
-        self.keyword(Word::Solid)?;
-        self.end_line();
-        'facets: while self.begins_facet(limit - facets.len())? {
-            let facet = self.facet()?;
-            facets.push(facet)?;
-        }
-        self.end_line();
-        Ok(())
-    }
-
-    /// Reads all solids of a text, and adds their facets to `facets`, which is empty before and may have up to `limit`.
-    pub(crate) fn solids<A: Allocator>(
-        &mut self,
-        limit: usize,
-        facets: &mut Vec<Facet, A>,
-    ) -> Result<(), StlFault>
-        requires { facets.old.items ≡ [] }
-        ensures read { IfOk result (λ _. (solids : List (List Facet)) × (0 < length solids)
-            × (facets.new.items ≡ facets_of solids) × Spells (flat_map solid_tokens solids) self.old self.new) }
-        ensures whole { IfOk result (λ _. after_space self.new.rest ≡ []) }
-        ensures few { IfOk result (λ _. vec_len facets.new ≤ limit) }
-        ensures fault { IfErr result (λ fault. fault ≢ Memory
-            → (solids : List (List Facet)) × Stops limit (flat_map solid_tokens solids) self.old fault) }
-        ensures no_solid { IfErr result (λ fault. fault ≡ Ended Solid → after_space self.old.rest ≡ []) }
-    {
-        self.solid(limit, facets)?;
-        'solids: while !self.is_at_end() {
-            self.solid(limit, facets)?;
-        }
-        Ok(())
     }
 }
 

@@ -67,13 +67,6 @@ impl<'t> Reader<'t> {
         word
     }
 
-    /// Reads the rest of a line.
-    pub(crate) fn end_line(&mut self)
-        ensures { self.new ≡ left_at self.old (after_line self.old.rest) }
-    {
-        self.rest = skip_line(self.rest);
-    }
-
     /// The byte offset of `word`, which was read last.
     pub(crate) fn offset_of(&self, word: &[u8]) -> usize
         requires { length word.now + length self.now.rest ≤ self.now.whole }
