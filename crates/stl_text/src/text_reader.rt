@@ -5,12 +5,12 @@ ghost use Rattle.geometry.specs.declared.limits.TheConstants.{FACET_LIMIT};
 ghost use Rattle.micro_num.specs.declared.unit.Unit.{Unit as LengthUnit};
 ghost use Rattle.stl_text.specs.declared.stl_fault.StlFault.TheVariants.{Memory};
 ghost use Rattle.stl_text.specs.Text.{IsFaultOf, Reads};
-ghost use Rattle.stl_text.specs.Parts.{IsFacetRun};
+ghost use Rattle.stl_text.specs.Run.{IsFacetRun};
 ghost use Rattle.stl_text.specs.Stage.{AtWord, in_facets};
 ghost use Rattle.stl_text.specs.Pieces.{EndsAt, IsAfter, IsReading, StandsAt, at_line, at_word};
 
 use crate::layout::{Layout, front_facet};
-use crate::parts::{Run, layout_within};
+use crate::run::{Run, layout_within};
 use crate::scanning::{skip_line, skip_space, word_len};
 use crate::stage::{Place, Stage, Step};
 use crate::stl_fault::StlFault;

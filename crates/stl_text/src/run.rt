@@ -3,7 +3,7 @@
 //! A run says only that from some byte on these facets stand, which is so whatever the text wants there. So where a
 //! part begins may be guessed, and a wrong guess does no more than find a run that the reader never comes to.
 ghost use Rattle.std.specs.Prelude.{◌≡◌, ◌≤◌, ◌<◌, ◌+◌, ℕ, All, IfOk, IfSome, List, None, length};
-ghost use Rattle.stl_text.specs.Parts.{IsFacetRun, IsRestOf};
+ghost use Rattle.stl_text.specs.Run.{IsFacetRun, IsRestOf};
 
 use crate::grammar::behind_solid;
 use crate::layout::{Layout, front_facet};
@@ -83,6 +83,7 @@ fn run_on<'t, A: Allocator>(
     ensures run { IfSome result (λ rest. (text from : List ℕ) → IsFacetRun unit text facets.old.items from to.now
         → IsFacetRun unit text facets.new.items from rest.now) }
     ensures shorter { IfSome result (λ rest. length rest.now < length to.now) }
+    ensures left { IfSome result (λ rest. left < length rest.now) }
     ensures none { result ≡ None → facets.new.items ≡ facets.old.items }
 {
     if let Some(found) = front_facet(to, unit, layout) {

@@ -1,5 +1,5 @@
 use Rattle.stl_text.proofs.lemmas.Runs.{run_facet, run_solid}
-use Rattle.stl_text.proofs.parts.run_on.Goals as goal
+use Rattle.stl_text.proofs.run.run_on.Goals as goal
 
 pub returns-in-Ok-clause-run : goal.returns-in-Ok-clause-run
 returns-in-Ok-clause-run g c = λ text from run.
