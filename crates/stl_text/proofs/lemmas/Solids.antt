@@ -1,19 +1,16 @@
 -- The tokens of solids, one facet and one solid after another; and a text that reads as facets has no fault.
-use Rattle.std.proofs.Common.{◌≡◌, ◌≢◌, ℕ, ◌+◌, ◌-◌, ◌<◌, ◌≤◌, Bool, true, false, ◌&&◌, ◌⊎◌, inl, inr, List, [], ◌∷◌, ◌++◌, length, refl, sym, ◌∙◌, ap, subst, arith, append_assoc, append-nil, length-append}
-use Rattle.std.specs.Prelude.{Some, None, flat_map, if◌then◌else◌}
+use Rattle.std.proofs.Common.{◌≡◌, ◌≢◌, ℕ, ◌⊎◌, inl, inr, List, [], ◌∷◌, ◌++◌, refl, sym, ◌∙◌, ap, append-nil}
+use Rattle.std.specs.Prelude.{flat_map}
 use Rattle.std.proofs.lemmas.Grind.{flat_map-append}
-use Rattle.stl_text.specs.declared.word.Word.{Word}
-use Rattle.stl_text.specs.declared.word.Word.TheVariants.{Solid, FacetOrEnd, Normal, Outer, Loop, Vertex, Number, EndLoop, EndFacet}
+use Rattle.stl_text.specs.declared.word.Word.TheVariants.{Solid}
 use Rattle.stl_text.specs.declared.stl_fault.StlFault.{StlFault}
 use Rattle.stl_text.specs.declared.stl_fault.StlFault.TheVariants as fault
 use Rattle.micro_num.specs.declared.unit.Unit.{Unit as LengthUnit}
-use Rattle.geometry.specs.Point.{origin}
-use Rattle.geometry.specs.Facet.{Facet, facet_with}
-use Rattle.stl_text.specs.Text.{Token, keyword, normal_part, coordinate, rest_of_line, wanted, facets_of, after_space, Reads, Wants, IsFaultOf, facet_word, end_word, facet_tokens, solid_tokens, is_keyword, first_word, after_word, after_line, rest_behind, keyword_of, keyword_text, facet_keyword, facet_count}
+use Rattle.geometry.specs.Facet.{Facet}
+use Rattle.stl_text.specs.Text.{Token, rest_of_line, facets_of, Reads, IsFaultOf, facet_word, end_word, facet_tokens, solid_tokens, keyword_of}
 use Rattle.stl_text.specs.Reader.{facet_tail}
-use Rattle.stl_text.proofs.lemmas.OneFault.{facet_count-facets, facet_count-solids, not_both}
-use Rattle.stl_text.proofs.lemmas.Either.{after_word-lt, open_tokens, rest-le, no_word-space}
-use Rattle.std.proofs.lemmas.Bool.{and_parts, false≢true}
+use Rattle.stl_text.proofs.lemmas.OneFault.{not_both}
+use Rattle.stl_text.proofs.lemmas.Either.{open_tokens}
 
 abbrev pub end_tokens : List Token
 end_tokens = end_word ∷ rest_of_line ∷ []

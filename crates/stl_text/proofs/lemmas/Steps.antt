@@ -1,6 +1,6 @@
 -- Reading tokens one after another: a whole reading, or its fault, from those of the parts.
-use Rattle.std.proofs.Common.{◌≡◌, ◌≢◌, ℕ, ◌+◌, ◌-◌, ◌≤◌, Bool, true, false, List, [], ◌∷◌, ◌++◌, length, refl, sym, ◌∙◌, ap, subst, arith, append_assoc}
-use Rattle.std.specs.Prelude.{Option, Some, None, Ok, Err, Result, ℤ, pos, nat_lt, ◌==◌, if◌then◌else◌}
+use Rattle.std.proofs.Common.{◌≡◌, ◌≢◌, ℕ, Bool, true, false, List, [], ◌∷◌, ◌++◌, length, refl, ◌∙◌, ap, subst, arith}
+use Rattle.std.specs.Prelude.{Option, Some, None, Ok, Err, Result, ℤ, nat_lt, ◌==◌, if◌then◌else◌}
 use Rattle.micro_num.specs.declared.unit.Unit.{Unit as LengthUnit}
 use Rattle.micro_num.specs.declared.num_fault.NumFault.{NumFault}
 use Rattle.micro_num.specs.declared.num_fault.NumFault.TheVariants.{TooLong, OutOfRange}
@@ -10,12 +10,8 @@ use Rattle.micro_num.specs.Numeral.{Numeral, numeral_of}
 use Rattle.micro_num.specs.Micrometres.{coordinate_of, numeral_coordinate, is_coordinate, micro}
 use Rattle.stl_text.specs.declared.word.Word.{Word}
 use Rattle.stl_text.specs.declared.word.Word.TheVariants.{Solid, FacetOrEnd, Normal, Outer, Loop, Vertex, Number, EndLoop, EndFacet}
-use Rattle.stl_text.specs.declared.stl_fault.StlFault.{StlFault}
-use Rattle.stl_text.specs.declared.stl_fault.StlFault.TheVariants as fault
-use Rattle.stl_text.specs.Text.{Token, keyword_of, coordinate, normal_part, is_facet_word, is_keyword, is_wanted, keyword_text, HasOneKeyword, wanted, rest_behind, first_word, after_space, after_word, facet_count}
+use Rattle.stl_text.specs.Text.{Token, is_keyword, is_wanted, keyword_text, HasOneKeyword, rest_behind}
 use Rattle.stl_text.specs.Reader.{Reader, Spells}
-use Rattle.std.proofs.lemmas.List.Sums.{sum_by-append}
-use Rattle.std.proofs.Common.{cond}
 use Rattle.std.proofs.lemmas.Bool.{eqb-true, leb-true}
 use Rattle.std.proofs.Common.{to_z, of_z, w32}
 use Rattle.stl_text.proofs.lemmas.OneReading.{then_on, rest-append}
