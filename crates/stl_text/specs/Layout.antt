@@ -1,22 +1,22 @@
 -- The layout of facets: the keywords between their numbers, each as the bytes with which one file writes it.
---     Skips          a reader goes on over tokens and the white space behind them
---     IsSeparator    bytes that stand for tokens whatever follows them
---     part_tokens    the keywords of each part
---     IsLayout       the bytes of each part
+--     Skips              a reader goes on over tokens and the white space behind them
+--     IsSeparator        bytes that stand for tokens whatever follows them
+--     separator_tokens   the keywords of each separator
+--     IsLayout           the bytes of each separator
 use Rattle.std.specs.Prelude.{◌≡◌, ◌<◌, List, [], ◌∷◌, Some, drop, length, ℕ}
 use Rattle.micro_num.specs.declared.unit.Unit.{Unit as LengthUnit}
 use Rattle.stl_text.specs.Reader.{Reader}
 use Rattle.stl_text.specs.Text.{Token, after_space, facet_word, keyword_of, rest_behind}
-use Rattle.stl_text.specs.declared.layout.Part.{Part}
-use Rattle.stl_text.specs.declared.layout.Part.TheVariants as part
+use Rattle.stl_text.specs.declared.grammar.Separator.{Separator}
+use Rattle.stl_text.specs.declared.grammar.Separator.TheVariants as separator
 use Rattle.stl_text.specs.declared.word.Word.TheVariants.{EndFacet, EndLoop, Loop, Normal, Outer, Vertex}
 
 -- the keywords that stand before, between and behind the numbers of a facet
-abbrev pub part_tokens : Part → List Token
-part_tokens part.Opening = facet_word ∷ keyword_of Normal ∷ []
-part_tokens part.First = keyword_of Outer ∷ keyword_of Loop ∷ keyword_of Vertex ∷ []
-part_tokens part.Next = keyword_of Vertex ∷ []
-part_tokens part.Closing = keyword_of EndLoop ∷ keyword_of EndFacet ∷ []
+abbrev pub separator_tokens : Separator → List Token
+separator_tokens separator.Opening = facet_word ∷ keyword_of Normal ∷ []
+separator_tokens separator.First = keyword_of Outer ∷ keyword_of Loop ∷ keyword_of Vertex ∷ []
+separator_tokens separator.Next = keyword_of Vertex ∷ []
+separator_tokens separator.Closing = keyword_of EndLoop ∷ keyword_of EndFacet ∷ []
 
 -- the text between two readers is these tokens and white space
 pub record Skips (tokens : List Token) (old new : Reader) : Type 0 where
@@ -24,7 +24,6 @@ pub record Skips (tokens : List Token) (old new : Reader) : Type 0 where
   pub spelled : rest_behind old.unit tokens old.rest ≡ Some behind
   pub space : after_space behind ≡ after_space new.rest
   pub same_unit : new.unit ≡ old.unit
-  pub same_whole : new.whole ≡ old.whole
 
 -- Bytes that stand for these tokens and white space behind them, at least one byte of it: so they stand for them whatever
 -- follows.
@@ -38,7 +37,7 @@ pub record IsSeparator (tokens : List Token) (bytes : List ℕ) : Type 0 where
 -- keywords with the white space before each.
 pub record IsClosing (words_len : ℕ) (bytes : List ℕ) : Type 0 where
   pub some : words_len < length bytes
-  pub spelled : (unit : LengthUnit) → rest_behind unit (part_tokens part.Closing) bytes ≡ Some (drop words_len bytes)
+  pub spelled : (unit : LengthUnit) → rest_behind unit (separator_tokens separator.Closing) bytes ≡ Some (drop words_len bytes)
 
 pub record Layout : Type 0 where
   pub opening : List ℕ
@@ -48,7 +47,7 @@ pub record Layout : Type 0 where
   pub words_len : ℕ
 
 pub record IsLayout (layout : Layout) : Type 0 where
-  pub opening : IsSeparator (part_tokens part.Opening) layout.opening
-  pub first : IsSeparator (part_tokens part.First) layout.first
-  pub next : IsSeparator (part_tokens part.Next) layout.next
+  pub opening : IsSeparator (separator_tokens separator.Opening) layout.opening
+  pub first : IsSeparator (separator_tokens separator.First) layout.first
+  pub next : IsSeparator (separator_tokens separator.Next) layout.next
   pub closing : IsClosing layout.words_len layout.closing

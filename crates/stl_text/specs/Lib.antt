@@ -1,6 +1,6 @@
 pub mod Text
 pub mod Reader
-pub mod Parts
+pub mod Run
 pub mod Layout
 pub mod Written
 pub mod Stage

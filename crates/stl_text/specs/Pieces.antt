@@ -13,7 +13,7 @@ use Rattle.stl_text.specs.declared.stage.Place.{Place}
 use Rattle.stl_text.specs.declared.stage.Place.TheVariants as place
 use Rattle.stl_text.specs.Text.{after_space, after_word, after_line, is_white, IsFaultOf}
 use Rattle.stl_text.specs.Stage.{Stands}
-use Rattle.stl_text.specs.Parts.{IsRestOf}
+use Rattle.stl_text.specs.Run.{IsRestOf}
 
 pub record Progress : Type 0 where
   pub limit : ℕ

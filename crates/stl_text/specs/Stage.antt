@@ -2,12 +2,14 @@
 --     front            the tokens that were read
 --     Stands           a text is read up to a stage
 --     AtWord           it is, and this word comes next
+--     IsStop           what a fault says of a text at its offset
 --     StandsAfter      a word leads to this step
-use Rattle.std.specs.Prelude.{◌≡◌, ◌≢◌, ℕ, ◌+◌, ◌<◌, ◌≤◌, Bool, true, false, List, [], ◌∷◌, ◌++◌, take, drop, length, Some, ℤ, flat_map}
+use Rattle.std.specs.Prelude.{◌≡◌, ◌≢◌, Err, ℕ, ◌+◌, ◌<◌, ◌≤◌, Bool, true, false, List, [], ◌∷◌, ◌++◌, take, drop, length, Some, ℤ, flat_map}
 use Rattle.micro_num.specs.declared.unit.Unit.{Unit as LengthUnit}
+use Rattle.micro_num.specs.Micrometres.{coordinate_of}
 use Rattle.geometry.specs.Point.{Point}
 use Rattle.geometry.specs.Facet.{Facet, facet_with}
-use Rattle.stl_text.specs.declared.word.Word.TheVariants.{Solid}
+use Rattle.stl_text.specs.declared.word.Word.TheVariants.{Number, Solid}
 use Rattle.stl_text.specs.declared.stl_fault.StlFault.{StlFault}
 use Rattle.stl_text.specs.declared.stl_fault.StlFault.TheVariants as faults
 use Rattle.stl_text.specs.declared.stage.Axis.{Axis}
@@ -21,8 +23,8 @@ use Rattle.stl_text.specs.declared.stage.Stage.TheVariants as stage
 use Rattle.stl_text.specs.declared.stage.Step.{Step}
 use Rattle.stl_text.specs.declared.stage.Step.TheVariants as step
 use Rattle.stl_text.specs.declared.stage.TheConstants.{LAST_WORD}
-use Rattle.stl_text.specs.Text.{Token, keyword_of, normal_part, coordinate, rest_of_line, facet_word, facet_tokens, solid_tokens, HasOneKeyword, begins_with, after_token, rest_behind, first_word, after_space, after_word, after_line, facets_of}
-use Rattle.stl_text.specs.Reader.{IsStop, facet_tail, start}
+use Rattle.stl_text.specs.Text.{wanted as wanted_at, is_keyword, is_wanted, facet_keyword, Token, keyword_of, normal_part, coordinate, rest_of_line, facet_word, facet_tokens, solid_tokens, HasOneKeyword, begins_with, after_token, rest_behind, first_word, after_space, after_word, after_line, facets_of}
+use Rattle.stl_text.specs.Reader.{facet_tail}
 
 -- a point with another coordinate
 abbrev pub with_axis : Axis → ℤ → Point → Point
@@ -60,13 +62,28 @@ pub record ReadInside (unit : LengthUnit) (words : ℕ) (t : Facet) (behind : Li
   pub begins : begins_with unit token behind ≡ true
   pub after : after_token token behind ≡ after_word behind
 
+-- What a fault says of a text at its offset, where `rest` is left: `token` is wanted there, and `facets_before` facets have
+-- begun, of the `room` facets that may begin.
+abbrev pub IsStop : ℕ → LengthUnit → List ℕ → Token → ℕ → List ℕ → StlFault → Type 0
+IsStop room unit text token facets_before rest (faults.Expected kind at) =
+    (wanted_at token ≡ Some kind) × (kind ≢ Number) × (0 < length (first_word rest)) × (is_wanted kind (first_word rest) ≡ false)
+    × (at + length (after_space rest) ≡ length text)
+IsStop room unit text token facets_before rest (faults.Ended kind) = (wanted_at token ≡ Some kind) × (first_word rest ≡ [])
+IsStop room unit text token facets_before rest (faults.Number cause at) =
+    ((z : ℤ) × (token ≡ coordinate z)) × (0 < length (first_word rest)) × (coordinate_of unit (first_word rest) ≡ Err cause)
+    × (at + length (after_space rest) ≡ length text)
+IsStop room unit text token facets_before rest (faults.TooMany at) =
+    (token ≡ facet_word) × (facets_before ≡ room) × (is_keyword facet_keyword (first_word rest) ≡ true)
+    × (at + length (after_space rest) ≡ length text)
+IsStop room unit text token facets_before rest faults.Memory = ⊥
+
 -- the next word of the text behind t doesn't fit
 pub record StopsInside (unit : LengthUnit) (words : ℕ) (t : Facet) (behind : List ℕ) (at : ℕ) (fault : StlFault) : Type 0 where
   pub token : Token
   pub u : Facet
   pub goes : Goes words token t u
   pub stop : (room before : ℕ) (text : List ℕ) → at + length (after_space behind) ≡ length text
-      → IsStop room (start unit text) token before behind fault
+      → IsStop room unit text token before behind fault
   pub other : fault ≢ faults.Ended Solid
 
 -- a solid that is open behind these facets

@@ -21,7 +21,7 @@ use Rattle.stl_text.specs.declared.stl_fault.StlFault.TheVariants as fault
 use Rattle.geometry.specs.Point.{Point}
 use Rattle.geometry.specs.Facet.{Facet}
 
--- Words. White space is the bytes 9 to 13 and 32, and a word is a longest run of other bytes.
+-- Words. White space is the bytes 9 to 13 and 32, and a word is other bytes, as many as stand together.
 
 abbrev pub is_white : ℕ → Bool
 is_white byte = byte == 32 || (nat_le 9 byte && nat_le byte 13)

@@ -1,162 +1,93 @@
-//! The grammar of ASCII STL, from vertices to solids. Each rule is a method of the reader. And what stands at the front of a
-//! text: a facet, or where one solid ends and the next begins.
-ghost use Rattle.std.specs.Prelude.{◌≡◌, ◌≢◌, ◌-◌, ◌<◌, ◌≤◌, [], ◌∷◌, ◌++◌, length, flat_map, IfErr, IfOk, IfSome, IsTrue, List, Some, vec_len};
-ghost use Rattle.std.specs.Bool.{MatchBool};
-ghost use Rattle.stl_text.specs.declared.stl_fault.StlFault.TheVariants.{Ended, Memory};
-ghost use Rattle.stl_text.specs.declared.word.Word.TheVariants.{Solid};
-ghost use Rattle.geometry.specs.Facet.{Facet};
-ghost use Rattle.geometry.specs.Point.{Point};
-ghost use Rattle.stl_text.specs.Reader.{Breaks, Spells, Stops, facet_tail};
+//! The grammar of a facet, each rule a method of the reader. And what stands whole at the front of a text: a facet, or the end
+//! of one solid and the beginning of the next.
+ghost use Rattle.std.specs.Prelude.{◌≡◌, ◌<◌, [], ◌∷◌, IfSome, Some, length};
 ghost use Rattle.micro_num.specs.declared.unit.Unit.{Unit as LengthUnit};
-ghost use Rattle.stl_text.specs.Parts.{next_solid};
-ghost use Rattle.stl_text.specs.Text.{after_space, end_word, facet_tokens, facet_word, facets_of, loop_tokens, normal_tokens, rest_behind, solid_tokens, vertex_tokens};
+ghost use Rattle.stl_text.specs.Layout.{separator_tokens};
+ghost use Rattle.stl_text.specs.Run.{next_solid};
+ghost use Rattle.stl_text.specs.Reader.{Spells};
+ghost use Rattle.stl_text.specs.Text.{coordinate, facet_tokens, normal_part, rest_behind};
 
 use crate::reader::Reader;
-use crate::scanning::{behind_keyword, is_keyword, skip_line};
-use crate::stl_fault::StlFault;
+use crate::scanning::{behind_keyword, skip_line};
 use crate::word::{END_SOLID, FACET, SOLID, Word};
 use geometry::{Facet, Point};
 use micro_num::Unit;
-use std::alloc::Allocator;
+
+/// The keywords that stand together before, between or behind the numbers of a facet.
+#[derive(Clone, Copy)]
+pub(crate) enum Separator {
+    /// `facet normal`
+    Opening,
+    /// `outer loop vertex`, before the first vertex
+    First,
+    /// `vertex`, before the others
+    Next,
+    /// `endloop endfacet`
+    Closing,
+}
 
 impl<'t> Reader<'t> {
-    /// Reads a vertex: `vertex` and three coordinates.
-    fn vertex(&mut self) -> Result<Point, StlFault>
-        ensures read { IfOk result (λ p. Spells (vertex_tokens p) self.old self.new) }
-        ensures fault { IfErr result (λ fault. (p : Point) × Breaks (vertex_tokens p) self.old fault) }
+    /// Reads the keywords of a separator, if they stand here. Where they don't, the reader may be left anywhere.
+    #[inline(always)]
+    pub(crate) fn separator(&mut self, separator: Separator) -> Option<()>
+        ensures { IfSome result (λ _. Spells (separator_tokens separator) self.old self.new) }
     {
-        self.keyword(Word::Vertex)?;
-        let x = self.coordinate()?;
-        let y = self.coordinate()?;
-        let z = self.coordinate()?;
-        let Some(point) = Point::new(x, y, z) else {
-            unreachable!();
-        };
-        Ok(point)
+        match separator {
+            Separator::Opening => {
+                self.rest = behind_keyword(self.rest, FACET)?;
+                self.keyword(Word::Normal)
+            },
+            Separator::First => {
+                self.keyword(Word::Outer)?;
+                self.keyword(Word::Loop)?;
+                self.keyword(Word::Vertex)
+            },
+            Separator::Next => self.keyword(Word::Vertex),
+            Separator::Closing => {
+                self.keyword(Word::EndLoop)?;
+                self.keyword(Word::EndFacet)
+            },
+        }
     }
 
-    /// Reads a normal: `normal` and any three words.
-    fn normal(&mut self) -> Result<(), StlFault>
-        ensures read { IfOk result (λ _. Spells normal_tokens self.old self.new) }
-        ensures fault { IfErr result (Breaks normal_tokens self.old) }
+    /// Reads the three words of a normal, if they stand here.
+    #[inline(always)]
+    pub(crate) fn normal_parts(&mut self) -> Option<()>
+        ensures { IfSome result (λ _. Spells (normal_part ∷ normal_part ∷ normal_part ∷ []) self.old self.new) }
     {
-        self.keyword(Word::Normal)?;
         self.normal_part()?;
         self.normal_part()?;
         self.normal_part()
     }
 
-    /// Reads the loop of a facet: `outer loop`, three vertices, `endloop`.
-    fn outer_loop(&mut self) -> Result<Facet, StlFault>
-        ensures read { IfOk result (λ t. Spells (loop_tokens t) self.old self.new) }
-        ensures fault { IfErr result (λ fault. (t : Facet) × Breaks (loop_tokens t) self.old fault) }
-    {
-        self.keyword(Word::Outer)?;
-        self.keyword(Word::Loop)?;
-        let a = self.vertex()?;
-        let b = self.vertex()?;
-        let c = self.vertex()?;
-        self.keyword(Word::EndLoop)?;
-        Ok(Facet::of(a, b, c))
-    }
-
-    /// Reads the rest of a facet, behind its keyword `facet`: a normal, a loop, `endfacet`.
-    pub(crate) fn facet(&mut self) -> Result<Facet, StlFault>
-        ensures read { IfOk result (λ t. Spells (facet_tail t) self.old self.new) }
-        ensures fault { IfErr result (λ fault. (t : Facet) × Breaks (facet_tail t) self.old fault) }
-    {
-        self.normal()?;
-        let facet = self.outer_loop()?;
-        self.keyword(Word::EndFacet)?;
-        Ok(facet)
-    }
-
-    /// Reads `facet` or `endsolid`, and tells whether it is `facet`. `room` is the number of facets that may still
-    /// begin: where it is 0, `facet` is a fault.
+    /// Reads the three coordinates of a vertex, if they stand here.
     #[inline(always)]
-    fn begins_facet(&mut self, room: usize) -> Result<bool, StlFault>
-        ensures read { IfOk result (λ more. MatchBool more
-            (Spells (facet_word ∷ []) self.old self.new) (Spells (end_word ∷ []) self.old self.new)) }
-        ensures room { IfOk result (λ more. IsTrue more → 0 < room) }
-        ensures fault { IfErr result (Stops room (facet_word ∷ []) self.old) }
+    pub(crate) fn point(&mut self) -> Option<Point>
+        ensures { IfSome result (λ p. Spells (coordinate p.x ∷ coordinate p.y ∷ coordinate p.z ∷ []) self.old self.new) }
     {
-        if room > 0 {
-            if let Some(rest) = behind_keyword(self.rest, FACET) {
-                self.rest = rest;
-                return Ok(true);
-            }
-        }
-        self.begins_word(room)
+        let x = self.coordinate()?;
+        let y = self.coordinate()?;
+        let z = self.coordinate()?;
+        let Some(point) = Point::new(x, y, z) else {
+            return None;
+        };
+        Some(point)
     }
 
-    /// The slow part of `begins_facet`, which also finds the fault.
-    #[cold]
-    #[inline(never)]
-    fn begins_word(&mut self, room: usize) -> Result<bool, StlFault>
-        ensures read { IfOk result (λ more. MatchBool more
-            (Spells (facet_word ∷ []) self.old self.new) (Spells (end_word ∷ []) self.old self.new)) }
-        ensures room { IfOk result (λ more. IsTrue more → 0 < room) }
-        ensures fault { IfErr result (Stops room (facet_word ∷ []) self.old) }
+    /// Reads a facet word by word, if one stands here. Where none does, the reader may be left anywhere.
+    fn facet(&mut self) -> Option<Facet>
+        ensures { IfSome result (λ t. Spells (facet_tokens t) self.old self.new) }
     {
-        let word = self.next_word();
-        if is_keyword(word, FACET) {
-            if room == 0 {
-                return Err(StlFault::TooMany {
-                    at: self.offset_of(word),
-                });
-            }
-            return Ok(true);
-        }
-        if is_keyword(word, END_SOLID) {
-            return Ok(false);
-        }
-        Err(self.fault_at(word, Word::FacetOrEnd))
-    }
-
-    /// Reads a solid, from `solid` to the rest of the line of `endsolid`, and adds its facets to `facets`, which may
-    /// have up to `limit` facets in all.
-    fn solid<A: Allocator>(
-        &mut self,
-        limit: usize,
-        facets: &mut Vec<Facet, A>,
-    ) -> Result<(), StlFault>
-        requires { vec_len facets.old ≤ limit }
-        ensures read { IfOk result (λ _. (added : List Facet) × (facets.new.items ≡ facets.old.items ++ added)
-            × Spells (solid_tokens added) self.old self.new) }
-        ensures few { IfOk result (λ _. vec_len facets.new ≤ limit) }
-        ensures fault { IfErr result (λ fault. fault ≢ Memory
-            → (added : List Facet) × Stops (limit - vec_len facets.old) (solid_tokens added) self.old fault) }
-    {
-        self.keyword(Word::Solid)?;
-        self.end_line();
-        'facets: while self.begins_facet(limit - facets.len())? {
-            let facet = self.facet()?;
-            facets.push(facet)?;
-        }
-        self.end_line();
-        Ok(())
-    }
-
-    /// Reads all solids of a text, and adds their facets to `facets`, which is empty before and may have up to `limit`.
-    pub(crate) fn solids<A: Allocator>(
-        &mut self,
-        limit: usize,
-        facets: &mut Vec<Facet, A>,
-    ) -> Result<(), StlFault>
-        requires { facets.old.items ≡ [] }
-        ensures read { IfOk result (λ _. (solids : List (List Facet)) × (0 < length solids)
-            × (facets.new.items ≡ facets_of solids) × Spells (flat_map solid_tokens solids) self.old self.new) }
-        ensures whole { IfOk result (λ _. after_space self.new.rest ≡ []) }
-        ensures few { IfOk result (λ _. vec_len facets.new ≤ limit) }
-        ensures fault { IfErr result (λ fault. fault ≢ Memory
-            → (solids : List (List Facet)) × Stops limit (flat_map solid_tokens solids) self.old fault) }
-        ensures no_solid { IfErr result (λ fault. fault ≡ Ended Solid → after_space self.old.rest ≡ []) }
-    {
-        self.solid(limit, facets)?;
-        'solids: while !self.is_at_end() {
-            self.solid(limit, facets)?;
-        }
-        Ok(())
+        self.separator(Separator::Opening)?;
+        self.normal_parts()?;
+        self.separator(Separator::First)?;
+        let a = self.point()?;
+        self.separator(Separator::Next)?;
+        let b = self.point()?;
+        self.separator(Separator::Next)?;
+        let c = self.point()?;
+        self.separator(Separator::Closing)?;
+        Some(Facet::of(a, b, c))
     }
 }
 
@@ -168,11 +99,7 @@ pub(crate) fn facet_by_words(bytes: &[u8], unit: Unit) -> Option<(Facet, &[u8])>
     ensures shorter { IfSome result (λ found. length found.1.now < length bytes.now) }
 {
     let mut reader = Reader::new(bytes, unit);
-    let behind = behind_keyword(bytes, FACET)?;
-    reader.rest = behind;
-    let Ok(facet) = reader.facet() else {
-        return None;
-    };
+    let facet = reader.facet()?;
     let rest = reader.rest;
     if rest.is_empty() {
         return None;

@@ -1,33 +1,19 @@
 //! The layout of facets: what a file writes before, between and behind the numbers of a facet. Most files write it with the
 //! same bytes in each facet, so that these are compared as a whole, and not read word by word.
-ghost use Rattle.std.specs.Prelude.{◌≡◌, ◌<◌, [], ◌∷◌, IfSome, List, Some, length};
-ghost use Rattle.stl_text.specs.Layout.{IsClosing, IsSeparator, Skips, part_tokens};
+ghost use Rattle.std.specs.Prelude.{◌≡◌, ◌<◌, IfSome, List, Some, length};
+ghost use Rattle.stl_text.specs.Layout.{IsClosing, IsSeparator, Skips, separator_tokens};
 ghost use Rattle.stl_text.specs.Reader.{Spells};
-ghost use Rattle.stl_text.specs.Text.{Token, coordinate, facet_tokens, normal_part, rest_behind};
-ghost use Rattle.stl_text.specs.declared.layout.Part.TheVariants as part;
+ghost use Rattle.stl_text.specs.Text.{Token, facet_tokens, rest_behind};
+ghost use Rattle.stl_text.specs.declared.grammar.Separator.TheVariants.{Closing};
 
-use crate::grammar::facet_by_words;
+use crate::grammar::{Separator, facet_by_words};
 use crate::reader::Reader;
-use crate::scanning::{behind_keyword, skip_space};
-use crate::word::{FACET, Word};
-use geometry::{Facet, Point};
+use crate::scanning::skip_space;
+use geometry::Facet;
 use micro_num::Unit;
 use std::marker::Model;
 
-/// The keywords that stand together in a facet.
-#[derive(Clone, Copy)]
-pub(crate) enum Part {
-    /// `facet normal`
-    Opening,
-    /// `outer loop vertex`, before the first vertex
-    First,
-    /// `vertex`, before the others
-    Next,
-    /// `endloop endfacet`
-    Closing,
-}
-
-/// The bytes with which a file writes each part, with white space at the end of each.
+/// The bytes with which a file writes each separator, with white space at the end of each.
 #[derive(Drop)]
 pub(crate) struct Layout<'t> {
     opening: &'t [u8],
@@ -49,28 +35,6 @@ impl<'t> Model for Layout<'t> {
 }
 
 impl<'t> Reader<'t> {
-    /// Reads the keywords of a part, if they stand here. Where they don't, the reader may be left anywhere.
-    fn part(&mut self, part: Part) -> Option<()>
-        ensures { IfSome result (λ _. Spells (part_tokens part) self.old self.new) }
-    {
-        match part {
-            Part::Opening => {
-                self.rest = behind_keyword(self.rest, FACET)?;
-                self.keyword(Word::Normal).ok()
-            },
-            Part::First => {
-                self.keyword(Word::Outer).ok()?;
-                self.keyword(Word::Loop).ok()?;
-                self.keyword(Word::Vertex).ok()
-            },
-            Part::Next => self.keyword(Word::Vertex).ok(),
-            Part::Closing => {
-                self.keyword(Word::EndLoop).ok()?;
-                self.keyword(Word::EndFacet).ok()
-            },
-        }
-    }
-
     /// Goes on behind these bytes, if the text goes on with them.
     #[inline(always)]
     fn skip(&mut self, bytes: &[u8]) -> Option<()>
@@ -80,40 +44,10 @@ impl<'t> Reader<'t> {
         Some(())
     }
 
-    /// Reads the three words of a normal, if they stand here.
-    #[inline(always)]
-    fn normal_parts(&mut self) -> Option<()>
-        ensures { IfSome result (λ _. Spells (normal_part ∷ normal_part ∷ normal_part ∷ []) self.old self.new) }
-    {
-        self.normal_part().ok()?;
-        self.normal_part().ok()?;
-        self.normal_part().ok()
-    }
-
-    /// Reads the three coordinates of a vertex, if they stand here.
-    #[inline(always)]
-    fn point(&mut self) -> Option<Point>
-        ensures { IfSome result (λ p. Spells (coordinate p.x ∷ coordinate p.y ∷ coordinate p.z ∷ []) self.old self.new) }
-    {
-        let Ok(x) = self.coordinate() else {
-            return None;
-        };
-        let Ok(y) = self.coordinate() else {
-            return None;
-        };
-        let Ok(z) = self.coordinate() else {
-            return None;
-        };
-        let Some(point) = Point::new(x, y, z) else {
-            return None;
-        };
-        Some(point)
-    }
-
     /// Goes on behind the words of a closing, if the text goes on with its bytes.
     #[inline(always)]
     fn close(&mut self, layout: &Layout<'_>) -> Option<()>
-        ensures { IfSome result (λ _. Spells (part_tokens part.Closing) self.old self.new) }
+        ensures { IfSome result (λ _. Spells (separator_tokens Closing) self.old self.new) }
     {
         let start = self.rest;
         start.strip_prefix(layout.closing)?;
@@ -140,29 +74,30 @@ impl<'t> Reader<'t> {
     }
 }
 
-/// The bytes at the front of a text that stand for a part, with the white space behind them, of which there has to be some.
-fn separator(text: &[u8], part: Part) -> Option<&[u8]>
-    ensures { IfSome result (λ bytes. IsSeparator (part_tokens part) bytes.now) }
+/// The bytes at the front of a text that stand for a separator, with the white space behind them, of which there has to be
+/// some.
+fn separator_at(text: &[u8], separator: Separator) -> Option<&[u8]>
+    ensures { IfSome result (λ bytes. IsSeparator (separator_tokens separator) bytes.now) }
 {
     let mut reader = Reader::new(text, Unit::Millimetre);
-    reader.part(part)?;
+    reader.separator(separator)?;
     let behind = skip_space(reader.rest);
     let (bytes, _) = text.split_at(text.len().saturating_sub(behind.len()));
     let mut again = Reader::new(bytes, Unit::Millimetre);
-    again.part(part)?;
+    again.separator(separator)?;
     if again.rest.is_empty() || !again.is_at_end() {
         return None;
     }
     Some(bytes)
 }
 
-/// The number of bytes of a closing up to the end of its last word, if the closing stands for its part, and there is more
+/// The number of bytes of a closing up to the end of its last word, if its keywords stand there, and there is more
 /// behind it.
 fn words_len(closing: &[u8]) -> Option<usize>
     ensures { IfSome result (λ n. IsClosing n closing.now) }
 {
     let mut reader = Reader::new(closing, Unit::Millimetre);
-    reader.part(Part::Closing)?;
+    reader.separator(Separator::Closing)?;
     if reader.rest.is_empty() {
         return None;
     }
@@ -172,19 +107,19 @@ fn words_len(closing: &[u8]) -> Option<usize>
 impl<'t> Layout<'t> {
     /// The layout of the facet at the front of a text, if one stands there. The unit of its numbers doesn't matter.
     pub(crate) fn of(text: &'t [u8]) -> Option<Layout<'t>> {
-        let opening = separator(text, Part::Opening)?;
+        let opening = separator_at(text, Separator::Opening)?;
         let mut reader = Reader::new(text, Unit::Millimetre);
-        reader.part(Part::Opening)?;
+        reader.separator(Separator::Opening)?;
         reader.normal_parts()?;
-        let first = separator(reader.rest, Part::First)?;
-        reader.part(Part::First)?;
+        let first = separator_at(reader.rest, Separator::First)?;
+        reader.separator(Separator::First)?;
         reader.point()?;
-        let next = separator(reader.rest, Part::Next)?;
-        reader.part(Part::Next)?;
+        let next = separator_at(reader.rest, Separator::Next)?;
+        reader.separator(Separator::Next)?;
         reader.point()?;
-        reader.part(Part::Next)?;
+        reader.separator(Separator::Next)?;
         reader.point()?;
-        let closing = separator(reader.rest, Part::Closing)?;
+        let closing = separator_at(reader.rest, Separator::Closing)?;
         let words_len = words_len(closing)?;
         Some(Layout {
             opening,

@@ -24,9 +24,9 @@
 mod grammar;
 mod laws;
 mod layout;
-mod parts;
 mod reader;
 mod reading;
+mod run;
 mod scanning;
 mod stage;
 mod stl_fault;

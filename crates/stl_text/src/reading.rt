@@ -1,11 +1,10 @@
-//! The reader of a whole text: the main function of this crate.
+//! The facets of a text that is at hand as a whole: a [`TextReader`] that is fed once.
 ghost use Rattle.std.specs.Prelude.{◌≡◌, ◌≢◌, ◌≤◌, IfErr, IfOk, List, MatchResult};
 ghost use Rattle.stl_text.specs.declared.stl_fault.StlFault.TheVariants.{Memory};
 ghost use Rattle.stl_text.specs.Text.{IsFaultOf, Reads};
 ghost use Rattle.geometry.specs.Facet.{Facet};
 ghost use Rattle.geometry.specs.declared.limits.TheConstants.{FACET_LIMIT};
 
-use crate::reader::Reader;
 use crate::stl_fault::StlFault;
 use crate::text_reader::TextReader;
 use geometry::{FACET_LIMIT, Facet};
@@ -40,9 +39,9 @@ pub fn read_stl_at_most<A: Allocator + Copy + Send + Sync>(
         → MatchResult result (λ found. found.items ≡ facets) (λ fault. fault ≡ Memory) }
     ensures fault { IfErr result (λ fault. fault ≢ Memory → IsFaultOf limit unit bytes.now fault) }
 {
-    let mut facets = Vec::new(alloc);
-    Reader::new(bytes, unit).solids(limit as usize, &mut facets)?;
-    Ok(facets)
+    let mut reader = TextReader::new(alloc, limit, unit);
+    reader.feed(bytes);
+    reader.finish()
 }
 
 /// The facets of an ASCII STL text in file order, at most [`FACET_LIMIT`] of them: [`read_stl_at_most`] with this
@@ -70,8 +69,7 @@ pub fn read_stl_by<R: Threads + Sync, A: Allocator + Copy + Send + Sync>(
     unit: Unit,
     workers: u32,
 ) -> Result<Vec<Facet, A>, StlFault>
-    requires limit { limit ≤ FACET_LIMIT }
-    requires workers { 1 ≤ workers }
+    requires { limit ≤ FACET_LIMIT }
     ensures found { IfOk result (λ facets. Reads limit unit bytes.now facets.items) }
     ensures only { (facets : List Facet) → Reads limit unit bytes.now facets
         → MatchResult result (λ found. found.items ≡ facets) (λ fault. fault ≡ Memory) }

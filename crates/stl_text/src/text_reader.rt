@@ -1,16 +1,16 @@
 //! The reader of a text that is fed in pieces.
-ghost use Rattle.std.specs.Prelude.{◌≡◌, ◌≢◌, ◌<◌, ◌≤◌, ◌+◌, ℕ, [], ◌∷◌, ◌++◌, All, List, IfErr, IfOk, IfSome, IsTrue, MatchResult, None, length};
+ghost use Rattle.std.specs.Prelude.{◌≡◌, ◌≢◌, ◌<◌, ◌≤◌, ◌+◌, ◌-◌, ℕ, [], ◌∷◌, ◌++◌, All, List, IfErr, IfOk, IfSome, IsTrue, MatchResult, None, length};
 ghost use Rattle.geometry.specs.Facet.{Facet};
 ghost use Rattle.geometry.specs.declared.limits.TheConstants.{FACET_LIMIT};
 ghost use Rattle.micro_num.specs.declared.unit.Unit.{Unit as LengthUnit};
 ghost use Rattle.stl_text.specs.declared.stl_fault.StlFault.TheVariants.{Memory};
 ghost use Rattle.stl_text.specs.Text.{IsFaultOf, Reads};
-ghost use Rattle.stl_text.specs.Parts.{IsFacetRun};
+ghost use Rattle.stl_text.specs.Run.{IsFacetRun};
 ghost use Rattle.stl_text.specs.Stage.{AtWord, in_facets};
 ghost use Rattle.stl_text.specs.Pieces.{EndsAt, IsAfter, IsReading, StandsAt, at_line, at_word};
 
 use crate::layout::{Layout, front_facet};
-use crate::parts::{Run, layout_within};
+use crate::run::{Run, layout_within};
 use crate::scanning::{skip_line, skip_space, word_len};
 use crate::stage::{Place, Stage, Step};
 use crate::stl_fault::StlFault;
@@ -276,19 +276,7 @@ impl<A: Allocator> TextReader<A> {
         if rest.is_empty() {
             return none;
         }
-        let at = self
-            .count
-            .saturating_sub(rest.len())
-            .saturating_sub(self.held.len());
-        self.place = read_word(
-            stage,
-            self.held.as_slice(),
-            at,
-            self.limit,
-            self.unit,
-            &mut self.facets,
-        );
-        self.held.clear();
+        self.read_held(stage, rest.len());
         rest
     }
 
@@ -414,7 +402,23 @@ impl<A: Allocator> TextReader<A> {
         if self.held.is_empty() {
             return self.place;
         }
-        let at = self.count.saturating_sub(self.held.len());
+        self.read_held(stage, 0);
+        self.place
+    }
+
+    /// Reads the word that is held, behind which the text so far has `left` bytes.
+    fn read_held(&mut self, stage: Stage, left: usize)
+        ensures read { (taken : List Facet) (text behind : List ℕ)
+            → AtWord (length taken + self.old.limit) self.old.unit stage (taken ++ self.old.facets) text behind self.old.held
+            (self.old.count - left - length self.old.held)
+            → StandsAt (length taken + self.old.limit) self.old.unit self.new.place (taken ++ self.new.facets) text behind }
+        ensures same { (self.new.limit ≡ self.old.limit) × (self.new.unit ≡ self.old.unit) × (self.new.count ≡ self.old.count) }
+        ensures free { self.new.held ≡ [] }
+    {
+        let at = self
+            .count
+            .saturating_sub(left)
+            .saturating_sub(self.held.len());
         self.place = read_word(
             stage,
             self.held.as_slice(),
@@ -423,7 +427,7 @@ impl<A: Allocator> TextReader<A> {
             self.unit,
             &mut self.facets,
         );
-        self.place
+        self.held.clear();
     }
 }
 

@@ -18,7 +18,7 @@ use Rattle.stl_text.specs.Text.{first_word, after_space, after_word, after_line,
 use Rattle.stl_text.specs.Reader.{facet_tail}
 use Rattle.stl_text.specs.Stage.{AtWord, IsForm, Stands}
 use Rattle.stl_text.specs.Pieces.{EndsAt, IsAfter, IsReading, IsReadingAt, Progress, Sees, StandsAt, Waits, whole}
-use Rattle.stl_text.specs.Parts.{IsFacetRun, IsRestOf, StandsBefore}
+use Rattle.stl_text.specs.Run.{IsFacetRun, IsRestOf, StandsBefore}
 use Rattle.stl_text.specs.declared.word.Word.TheVariants.{FacetOrEnd}
 use Rattle.stl_text.proofs.lemmas.Locality.{line-on, line-over, seen_keyword, space-on, space-over, starts-on, tokens-on, word-first, word_next}
 use Rattle.stl_text.proofs.lemmas.Runs.{added_rest, drop_rest, no_rest, rest_behind-rest, rest_then, rest_within, same_rest, whole_rest}

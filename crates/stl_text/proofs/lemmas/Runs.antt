@@ -7,7 +7,7 @@ use Rattle.std.specs.List.{position_or_len, prefix_len}
 use Rattle.std.proofs.Math.Seq.{drop-append_seam, drop-length}
 use Rattle.micro_num.specs.declared.unit.Unit.{Unit as LengthUnit}
 use Rattle.geometry.specs.Facet.{Facet}
-use Rattle.stl_text.specs.Parts.{IsRestOf, IsFacetRun, StandsBefore, next_solid}
+use Rattle.stl_text.specs.Run.{IsRestOf, IsFacetRun, StandsBefore, next_solid}
 use Rattle.stl_text.specs.Reader.{facet_tail}
 use Rattle.stl_text.specs.Text.{Token, keyword, normal_part, coordinate, rest_of_line, after_space, after_token, after_word, begins_with, end_keyword, facet_keyword, is_line_end, is_white, keyword_of, facet_tokens, rest_behind}
 use Rattle.stl_text.specs.declared.word.Word.TheVariants.{FacetOrEnd, Solid}

@@ -15,13 +15,13 @@ use Rattle.stl_text.specs.declared.stl_fault.StlFault.{StlFault}
 use Rattle.stl_text.specs.declared.stl_fault.StlFault.TheVariants as fault
 use Rattle.stl_text.specs.declared.stage.Stage.TheVariants as stage
 use Rattle.stl_text.specs.declared.stage.TheConstants.{LAST_WORD}
-use Rattle.stl_text.specs.Text.{Token, keyword_of, keyword_text, rest_of_line, facet_word, end_word, facet_keyword, end_keyword, facet_tokens, solid_tokens, is_keyword, is_facet_word, is_read_as, begins_with, after_token, rest_behind, first_word, after_space, after_word, after_line, facets_of, facet_count, is_white, IsFaultOf, Reads}
-use Rattle.stl_text.specs.Reader.{Reader, IsStop, Spells, start as begin, facet_tail, left_at}
-use Rattle.stl_text.specs.Stage.{Goes, IsForm, Stands, ReadInside, front, opened}
-use Rattle.stl_text.specs.Parts.{next_solid}
+use Rattle.stl_text.specs.Text.{Token, keyword_of, keyword_text, rest_of_line, facet_word, end_word, facet_keyword, end_keyword, facet_tokens, solid_tokens, is_keyword, is_facet_word, is_read_as, begins_with, after_token, rest_behind, first_word, after_space, after_word, after_line, facets_of, facet_count, is_white, IsFaultOf, Reads, Wants}
+use Rattle.stl_text.specs.Reader.{facet_tail}
+use Rattle.stl_text.specs.Stage.{Goes, IsForm, IsStop, Stands, ReadInside, front, opened}
+use Rattle.stl_text.specs.Run.{next_solid}
 use Rattle.stl_text.proofs.lemmas.OneFault.{facet_count-solids}
-use Rattle.stl_text.proofs.lemmas.Either.{cut_facet, facet_count-open}
-use Rattle.stl_text.proofs.lemmas.Solids.{facet_shorter, facets-more, fault_is, open-more, tokens-more}
+use Rattle.stl_text.proofs.lemmas.Either.{cut_facet, facet_count-open, no_word-space}
+use Rattle.stl_text.proofs.lemmas.Solids.{facets-more, open-more, tokens-more}
 use Rattle.stl_text.proofs.lemmas.Steps.{spelled-append}
 
 abbrev end_tokens : List Token
@@ -162,12 +162,63 @@ inside_whole limit unit words facets t u text behind s read last =
 
 stuck : (limit : ℕ) (unit : LengthUnit) (text behind : List ℕ) (solids : List (List Facet)) (tokens more : List Token) (p : Token) (f : StlFault)
     → flat_map solid_tokens solids ≡ tokens ++ p ∷ more → rest_behind unit tokens text ≡ Some behind → facet_count tokens ≤ limit
-    → IsStop limit (begin unit text) p (facet_count tokens) behind f → (f ≡ fault.Ended Solid → after_space text ≡ [])
+    → IsStop limit unit text p (facet_count tokens) behind f → (f ≡ fault.Ended Solid → after_space text ≡ [])
     → IsFaultOf limit unit text f
-stuck limit unit text behind solids tokens more p f cut spelled few stop no_solid =
-    fault_is limit unit text solids f
-    (record { front = tokens; token = p; more = more; cut = cut; rest = behind; spelled = spelled; few = few; stop = stop })
-    no_solid
+stuck limit unit text behind solids tokens more p f cut spelled few stop no_solid = by_fault f stop no_solid
+  where
+    wants : (at : ℕ) (word : List ℕ) → at + length (after_space behind) ≡ length text → word ≡ first_word behind
+        → Wants limit unit text at p (facet_count tokens) word
+    wants at word offset stands = record {
+      solids = solids;
+      front = tokens;
+      more = more;
+      cut = cut;
+      count = refl;
+      few = few;
+      rest = behind;
+      spelled = spelled;
+      offset = offset;
+      stands = stands;
+    }
+
+    by_fault : (g : StlFault) → IsStop limit unit text p (facet_count tokens) behind g
+        → (g ≡ fault.Ended Solid → after_space text ≡ []) → IsFaultOf limit unit text g
+    by_fault (fault.Expected kind at) s h = record {
+      token = p;
+      facets_before = facet_count tokens;
+      word = first_word behind;
+      wants = wants at (first_word behind) s.4 refl;
+      kind_is = s.0;
+      keyword_wanted = s.1;
+      stands = s.2;
+      other = s.3;
+    }
+    by_fault (fault.Ended kind) s h =
+        let at_end : length (after_space behind) ≡ 0 = ap length (no_word-space behind s.1) in
+        record {
+          token = p;
+          facets_before = facet_count tokens;
+          wants = wants (length text) [] (omega (arith, at_end)) (sym s.1);
+          kind_is = s.0;
+          no_solid = λ e. h (ap fault.Ended e);
+        }
+    by_fault (fault.Number cause at) s h = record {
+      z = s.0.0;
+      facets_before = facet_count tokens;
+      word = first_word behind;
+      wants = subst (λ q. Wants limit unit text at q (facet_count tokens) (first_word behind)) s.0.1
+          (wants at (first_word behind) s.3 refl);
+      stands = s.1;
+      refused = s.2;
+    }
+    by_fault (fault.TooMany at) s h = record {
+      word = first_word behind;
+      wants = subst (λ n. Wants limit unit text at facet_word n (first_word behind)) s.1
+          (subst (λ q. Wants limit unit text at q (facet_count tokens) (first_word behind)) s.0
+          (wants at (first_word behind) s.3 refl));
+      facet = s.2;
+    }
+    by_fault fault.Memory s h = s
 
 form_few : (limit : ℕ) (some : Bool) (solids : List (List Facet)) (added : List Facet) (count : ℕ)
     → IsForm limit (stage.Between some) solids added count → (added ≡ []) × (count ≤ limit)
@@ -177,7 +228,7 @@ form_few limit false solids added count h = (h.0, h.2)
 -- where `solid` is wanted
 pub stuck_between : (limit : ℕ) (unit : LengthUnit) (some : Bool) (facets : List Facet) (text behind : List ℕ) (f : StlFault)
     → Stands limit unit (stage.Between some) facets text behind
-    → ((before : ℕ) → IsStop limit (begin unit text) (keyword_of Solid) before behind f)
+    → ((before : ℕ) → IsStop limit unit text (keyword_of Solid) before behind f)
     → (f ≡ fault.Ended Solid → after_space text ≡ []) → IsFaultOf limit unit text f
 stuck_between limit unit some facets text behind f s stop no_solid =
     let form : (s.added ≡ []) × (length facets ≤ limit) = form_few limit some s.solids s.added (length facets) s.form in
@@ -194,18 +245,18 @@ facets_count limit unit facets solids added items =
 
 -- where `facet` or `endsolid` is wanted
 pub stuck_facets : (limit : ℕ) (unit : LengthUnit) (facets : List Facet) (text behind : List ℕ) (f : StlFault)
-    → Stands limit unit stage.Facets facets text behind → IsStop limit (begin unit text) end_word (length facets) behind f
+    → Stands limit unit stage.Facets facets text behind → IsStop limit unit text end_word (length facets) behind f
     → (f ≡ fault.Ended Solid → after_space text ≡ []) → IsFaultOf limit unit text f
 stuck_facets limit unit facets text behind f s stop no_solid =
     let P : List Token = flat_map solid_tokens s.solids in
     let count : facet_count (P ++ opened s.added) ≡ length facets = facets_count limit unit facets s.solids s.added s.items in
     stuck limit unit text behind (s.solids ++ s.added ∷ []) (P ++ opened s.added) (rest_of_line ∷ []) end_word f
     (tokens-more s.solids s.added ∙ sym (append_assoc P (opened s.added) end_tokens)) s.spelled (omega (arith, count, s.form))
-    (subst (λ n. IsStop limit (begin unit text) end_word n behind f) (sym count) stop) no_solid
+    (subst (λ n. IsStop limit unit text end_word n behind f) (sym count) stop) no_solid
 
 -- where one facet too many begins
 pub too_many : (limit : ℕ) (unit : LengthUnit) (facets : List Facet) (text behind : List ℕ) (f : StlFault)
-    → Stands limit unit stage.Facets facets text behind → IsStop limit (begin unit text) facet_word (length facets) behind f
+    → Stands limit unit stage.Facets facets text behind → IsStop limit unit text facet_word (length facets) behind f
     → (f ≡ fault.Ended Solid → after_space text ≡ []) → IsFaultOf limit unit text f
 too_many limit unit facets text behind f s stop no_solid =
     let P : List Token = flat_map solid_tokens s.solids in
@@ -215,12 +266,12 @@ too_many limit unit facets text behind f s stop no_solid =
     stuck limit unit text behind (s.solids ++ (s.added ++ zero_facet ∷ []) ∷ []) Q more facet_word f
     (cut_facet s.solids s.added zero_facet [] facet_word (facet_tail zero_facet) refl ∙ ap (λ r. r ++ facet_word ∷ more) (append-nil Q))
     s.spelled (omega (arith, count, s.form))
-    (subst (λ n. IsStop limit (begin unit text) facet_word n behind f) (sym count) stop) no_solid
+    (subst (λ n. IsStop limit unit text facet_word n behind f) (sym count) stop) no_solid
 
 -- inside a facet
 pub stuck_inside : (limit : ℕ) (unit : LengthUnit) (words : ℕ) (facets : List Facet) (t u : Facet) (p : Token) (text behind : List ℕ) (f : StlFault)
     → Stands limit unit (stage.Inside words t) facets text behind → Goes words p t u
-    → ((before : ℕ) → IsStop limit (begin unit text) p before behind f)
+    → ((before : ℕ) → IsStop limit unit text p before behind f)
     → (f ≡ fault.Ended Solid → after_space text ≡ []) → IsFaultOf limit unit text f
 stuck_inside limit unit words facets t u p text behind f s goes stop no_solid =
     let P : List Token = flat_map solid_tokens s.solids in
@@ -279,23 +330,3 @@ pub reads_number : (unit : LengthUnit) (bytes word : List ℕ) (z : ℤ) → fir
     → is_read_as z (first_word bytes) unit ≡ true
 reads_number unit bytes word z is read =
     ap (λ o. elim o [ Ok x ↦ int_eq x z | Err cause ↦ false ]) (ap (coordinate_of unit) is ∙ read) ∙ (Decides-int_eq z z).1 refl
-
--- A whole facet at the front of a text.
-
-pub whole_facet : (unit other : LengthUnit) (t : Facet) (bytes behind rest last : List ℕ) → is_keyword facet_keyword (first_word bytes) ≡ true
-    → behind ≡ after_word bytes → rest_behind other (facet_tail t) behind ≡ Some last → other ≡ unit → last ≡ rest
-    → rest_behind unit (facet_tokens t) bytes ≡ Some rest
-whole_facet unit other t bytes behind rest last h behind_is spelled same last_is =
-    rw h
-    (ap (rest_behind unit (facet_tail t)) (sym behind_is) ∙ ap (λ u. rest_behind u (facet_tail t) behind) (sym same) ∙ spelled
-    ∙ ap {B = Option (List ℕ)} Some last_is)
-
-pub whole_shorter : (other : LengthUnit) (t : Facet) (bytes behind rest last : List ℕ) → is_keyword facet_keyword (first_word bytes) ≡ true
-    → behind ≡ after_word bytes → rest_behind other (facet_tail t) behind ≡ Some last → last ≡ rest → length rest < length bytes
-whole_shorter other t bytes behind rest last h behind_is spelled last_is =
-    let now : Reader = begin other bytes in
-    let mid : Reader = left_at now behind in
-    let next : Reader = left_at now last in
-    let first : Spells (facet_word ∷ []) now mid = record { spelled = rw h (ap {B = Option (List ℕ)} Some (sym behind_is)); same_unit = refl; same_whole = refl } in
-    let tail : Spells (facet_tail t) mid next = record { spelled = spelled; same_unit = refl; same_whole = refl } in
-    omega (arith, facet_shorter t now mid next first tail, ap length last_is)

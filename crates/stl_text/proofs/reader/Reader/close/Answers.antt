@@ -13,4 +13,4 @@ returns c =
     let whole : text ≡ bytes ++ rest = sym (take-append-drop (length bytes) text) ∙ ap (λ x. x ++ drop (length bytes) text) front ∙ ap (λ x. bytes ++ x) (sym at.cases.1) in
     let here : text ≡ c.args.self.now.rest = ap (λ r. r.rest) c.self.view_is in
     closed c.layout.inside.words_len bytes rest c.args.self.now _ c.layout.invariant.closing (sym here ∙ whole)
-    (c.split_at.ensures.back ∙ ap (drop c.layout.inside.words_len) here) (ap (λ r. r.unit) c.self.view_is) (ap (λ r. r.whole) c.self.view_is)
+    (c.split_at.ensures.back ∙ ap (drop c.layout.inside.words_len) here) (ap (λ r. r.unit) c.self.view_is)

@@ -8,9 +8,9 @@ use Rattle.stl_text.proofs.reader.Reader.point.Goals as goal
 
 pub returns : goal.returns
 returns c =
-    let to_y = spells_then (coordinate c.in-Ok.x ∷ []) (coordinate c.in-Ok-coordinate.y ∷ []) c.in-Ok.ensures.read c.in-Ok-coordinate.ensures.read in
-    let to_z = spells_then (coordinate c.in-Ok.x ∷ coordinate c.in-Ok-coordinate.y ∷ []) (coordinate c.in-Ok-coordinate-2.z ∷ []) to_y c.in-Ok-coordinate-2.ensures.read in
-    let x_fits : FitsSigned w32 c.in-Ok.x = search rules in
-    let y_fits : FitsSigned w32 c.in-Ok-coordinate.y = search rules in
-    let z_fits : FitsSigned w32 c.in-Ok-coordinate-2.z = search rules in
+    let to_y = spells_then (coordinate c.in_ok-x.x ∷ []) (coordinate c.in_ok-y.y ∷ []) c.in_ok-x.ensures c.in_ok-y.ensures in
+    let to_z = spells_then (coordinate c.in_ok-x.x ∷ coordinate c.in_ok-y.y ∷ []) (coordinate c.in_ok-z.z ∷ []) to_y c.in_ok-z.ensures in
+    let x_fits : FitsSigned w32 c.in_ok-x.x = search rules in
+    let y_fits : FitsSigned w32 c.in_ok-y.y = search rules in
+    let z_fits : FitsSigned w32 c.in_ok-z.z = search rules in
     rw c.in-Some.ensures.value (simp to_z-of_z to_z)

@@ -12,4 +12,4 @@ returns c = λ tokens is.
     let front : take (length bytes) text ≡ bytes = (bytes_eq-Decides (take (length bytes) text) bytes).0 at.cases.0 in
     let whole : text ≡ bytes ++ rest = sym (take-append-drop (length bytes) text) ∙ ap (λ x. x ++ drop (length bytes) text) front ∙ ap (λ x. bytes ++ x) (sym at.cases.1) in
     separated tokens bytes rest c.args.self.now _ is (sym (ap (λ r. r.rest) c.self.view_is) ∙ whole) refl
-    (ap (λ r. r.unit) c.self.view_is) (ap (λ r. r.whole) c.self.view_is)
+    (ap (λ r. r.unit) c.self.view_is)

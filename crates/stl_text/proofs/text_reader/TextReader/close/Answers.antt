@@ -1,6 +1,6 @@
-use Rattle.std.proofs.Common.{◌≡◌, false, ◌+◌, ◌<◌, [], ◌++◌, length, sym, ◌∙◌, ap, subst, arith}
+use Rattle.std.proofs.Common.{◌≡◌, false, ◌+◌, ◌-◌, ◌<◌, [], ◌++◌, refl, length, sym, ◌∙◌, ap, subst, arith}
 use Rattle.std.proofs.lemmas.Bool.{eqb-false, eqb-true}
-use Rattle.stl_text.specs.Pieces.{IsAfter, IsReadingAt, Progress, Waits}
+use Rattle.stl_text.specs.Pieces.{EndsAt, IsAfter, IsReadingAt, Progress, Waits, whole}
 use Rattle.stl_text.proofs.lemmas.Pieces.{ended_by, ends_between, ends_free, nil-of-length}
 use Rattle.stl_text.proofs.text_reader.TextReader.close.Goals as goal
 
@@ -21,15 +21,14 @@ returns-then-is_empty g c = λ limit unit taken fed is.
 
 pub returns : goal.returns
 returns g c = λ limit unit taken fed is.
-    let i = c.self.inside in
-    let p : Progress = record { limit = length taken + i.limit; unit = i.unit; count = i.count; place = i.place; held = i.held.items; facets = taken ++ i.facets.items } in
+    let old : Progress = c.args.self.now in
+    let new : Progress = c.read_held.new.self in
     let stage = c.in-Word.stage in
-    let here : IsReadingAt limit unit p i.place fed [] = subst (λ r. IsAfter limit unit taken r fed) (sym c.self.view_is) is in
-    let w : Waits limit unit p stage false fed [] = subst (λ pl. IsReadingAt limit unit p pl fed []) c.in-Word.is here in
-    let some : 0 < length i.held.items = omega (arith, i.held.ok.0, eqb-false _ 0 (sym c.is_empty.ensures ∙ c.if-is_empty.false)) in
-    let word = c.as_slice.result.now in
-    let same : i.held.items ≡ word = sym c.as_slice.ensures.value in
-    let at_is : c.saturating_sub-at.result + length word ≡ length fed =
-    omega (arith, c.saturating_sub-at.ensures, c.len.ensures, i.held.ok.0, w.count_is, w.within, ap length same) in
-    ended_by limit (length taken + i.limit) unit i.unit p stage c.read_word-self-inside.result (taken ++ c.read_word-self-inside.new.facets.items) fed word c.saturating_sub-at.result
-    w.limit_is w.unit_is w same (omega (arith, some, ap length same)) at_is (c.read_word-self-inside.ensures taken)
+    let w : Waits limit unit (whole taken old) stage false fed [] =
+    subst (λ pl. IsReadingAt limit unit (whole taken old) pl fed []) (sym (ap (λ r. r.place) c.self.view_is) ∙ c.in-Word.is) is in
+    let some : 0 < length old.held =
+    omega (arith, ap (λ r. length r.held) c.self.view_is, c.self.inside.held.ok.0, eqb-false _ 0 (sym c.is_empty.ensures ∙ c.if-is_empty.false)) in
+    let ends : EndsAt limit unit new.place (taken ++ new.facets) fed =
+    ended_by limit (length taken + old.limit) unit old.unit (whole taken old) stage new.place (taken ++ new.facets) fed old.held (old.count - 0 - length old.held)
+    w.limit_is w.unit_is w refl some (omega (arith, w.count_is, w.within)) (c.read_held.ensures.read taken) in
+    subst (λ pl. EndsAt limit unit pl (taken ++ new.facets) fed) (sym (ap (λ r. r.place) c.self-2.view_is)) ends

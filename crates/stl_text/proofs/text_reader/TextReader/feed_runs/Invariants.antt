@@ -1,7 +1,7 @@
 use Rattle.std.proofs.Common.{◌≡◌, ◌<◌, ℕ, List, [], ◌++◌, All, length}
 use Rattle.geometry.specs.Facet.{Facet}
 use Rattle.micro_num.specs.declared.unit.Unit.{Unit as LengthUnit}
-use Rattle.stl_text.specs.Parts.{IsFacetRun}
+use Rattle.stl_text.specs.Run.{IsFacetRun}
 use Rattle.stl_text.specs.Pieces.{IsAfter, IsReading}
 use Rattle.stl_text.proofs.text_reader.TextReader.feed_runs.Given as goal
 
