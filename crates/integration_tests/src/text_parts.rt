@@ -279,14 +279,20 @@ fn a_limit_where_parts_meet(rt: HostRuntime) -> Result<(), Fail> {
     Ok(())
 }
 
+// Facets enough for a text with a part for each of 64 workers.
+const FACETS_OF_ALL_PARTS: u32 = 22_500;
+
+// Bytes in a late part of that text, in one in the middle and in an early one.
+const BYTES_OF_PARTS: [usize; 3] = [2_000_000, 1_000_000, 40_000];
+
 // A text that is long enough for a part to each of 64 workers, without a fault and with one in some of the parts.
 #[test]
 fn sixty_four_parts(rt: HostRuntime) -> Result<(), Fail> {
     let mut text = Vec::new(rt.alloc());
-    put_solid(&mut text, b"part", 22_500)?;
+    put_solid(&mut text, b"part", FACETS_OF_ALL_PARTS)?;
     assert!(rt; 32 * LEAST_OF_TWO_PARTS <= text.len());
     assert!(rt; two_and_most(&rt, rt.alloc(), &text, FACET_LIMIT));
-    for at in [2_000_000, 1_000_000, 40_000] {
+    for at in BYTES_OF_PARTS {
         assert!(rt; at < text.len());
         text[at] = b'#';
         assert!(rt; two_and_most(&rt, rt.alloc(), &text, FACET_LIMIT));

@@ -8,6 +8,6 @@ use Rattle.stlslice.specs.declared.extent.Extent.{Extent}
 abbrev pub extent_of : List Facet → Extent
 extent_of facets = record { count = length facets; corners = option_map (λ b. (b.low, b.high)) (bounds facets) }
 
--- it is that of these facets, if a mesh may have so many
+-- the extent of these facets, if they are no more than a mesh may have
 abbrev pub IsExtentOf : List Facet → Extent → Type 0
 IsExtentOf facets extent = length facets ≤ FACET_LIMIT → extent ≡ extent_of facets
