@@ -19,8 +19,8 @@
  * they were.
  *
  * Pointers. A text or a buffer may be null where its size is 0. Any other pointer that is null makes the status
- * STLSLICE_OUT_OF_RANGE. A pointer that isn't null has to be good for what its type says, and what one call writes
- * to may overlap neither that nor what it reads.
+ * STLSLICE_OUT_OF_RANGE. A pointer that isn't null has to be good for what its type says. The places that one call
+ * writes to overlap neither each other nor what it reads.
  *
  * Threads. A mesh may go from thread to thread, and is used by one call at a time. Different meshes are independent of
  * each other.
@@ -72,7 +72,7 @@ typedef struct {
     int32_t low[3], high[3];
 } stlslice_corners;
 
-/* An open mesh: its facets, and the counts and the corner of its grid. */
+/* A mesh that was opened: its facets, and the counts and the least corner of its grid. */
 typedef struct {
     stlslice_corners corners;
     uint32_t columns, rows, layers;
@@ -115,7 +115,7 @@ stlslice_status stlslice_open(const uint8_t *text, size_t text_size, const stlsl
  * bytes from the greatest y down, the leftmost pixel in the highest bit, 1 where the voxel is filled. */
 stlslice_status stlslice_mask(stlslice_mesh *mesh, uint32_t k, uint8_t *image, size_t image_room, size_t *image_size);
 
-/* The images of the layers 8 s to 8 s + 7, as far as there are, one behind the other; faster than one by one. */
+/* The images of the layers 8 s to 8 s + 7, as far as there are, one after the other; this is faster than one by one. */
 stlslice_status stlslice_stripe(stlslice_mesh *mesh, uint64_t s, uint8_t *images, size_t images_room, size_t *images_size);
 
 /* The number of filled pixels of layer k. */
@@ -125,8 +125,8 @@ stlslice_status stlslice_area(stlslice_mesh *mesh, uint32_t k, uint64_t *area);
 stlslice_status stlslice_probe(stlslice_mesh *mesh, uint32_t i, uint32_t j, uint32_t k, stlslice_rays *rays);
 
 /* The loops in which the plane through the middle of layer k cuts the mesh: closed polygons, the inside of a mesh whose
- * facets face outward on the left of each step. `points` gets the points of all loops, one loop behind the other, and
- * `ends` for each loop the position behind its last point; the last point runs back to the first. Where one of the two
+ * facets face outward on the left of each step. `points` gets the points of all loops, one loop after the other, and
+ * `ends` for each loop the position after its last point; the last point runs back to the first. Where one of the two
  * buffers is too small, neither is written, and both numbers are told. */
 stlslice_status stlslice_loops(stlslice_mesh *mesh, uint32_t k, stlslice_point *points, size_t points_room,
                                size_t *points_count, size_t *ends, size_t ends_room, size_t *loops_count);

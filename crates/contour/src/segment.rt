@@ -12,7 +12,7 @@ use exact_cut::cuts;
 use mesh_weld::Solid;
 use std::alloc::{AllocError, Allocator};
 
-/// An edge without direction, by the numbers of its vertices, `low` before `high`.
+/// An edge without direction, by the numbers of its vertices. In the segments of a mesh `low` is below `high`.
 #[derive(Clone, Copy, Debug, PartialEq, Eq)]
 pub struct Node {
     pub low: u32,

@@ -2,7 +2,7 @@
 //!
 //! - [`Point`]: a point of a mesh, in whole micrometres; [`points_in_order`]: their order.
 //! - [`Facet`]: a triangle by its three corners, counterclockwise as seen from outside.
-//! - [`extent`], [`extent_with`]: the bounding box of facets, and of facets behind others; [`lower`], [`higher`]: the
+//! - [`extent`], [`extent_with`]: the bounding box of facets, and of facets after others; [`lower`], [`higher`]: the
 //!   corners of the box of two points.
 //! - [`is_below`], [`rises_through`]: the tie rule, the same for every cut and every ray.
 //! - [`COORDINATE_LIMIT`] and the other limits of coordinates, grids and meshes.

@@ -46,8 +46,6 @@ impl Draws {
     }
 }
 
-// The lattices that facets are looked at in. Columns and rows of the first lie inside the range of coordinates, and
-// those of the others beyond it to some side.
 /// The first centres of a lattice at the ends of the range, in half-micrometres, and its step in micrometres.
 const FAR_START: i64 = -250_000_000;
 
@@ -56,6 +54,8 @@ const FAR_STEP: u32 = 100_000;
 /// What small coordinates are multiplied by there.
 const FAR_SCALE: i32 = 10_000_000;
 
+// The lattices that facets are looked at in. Columns and rows of the first lie inside the range of coordinates, and
+// those of the others beyond it to some side.
 const LATTICES: [Lattice; 4] = [
     Lattice {
         x2: -13,

@@ -2,7 +2,7 @@
 //!
 //! [`ShortMemory`] fails one allocation. A test repeats a call, and fails the first allocation, then the second, and so
 //! on, until the call has none left to fail. [`OneByteReader`] and [`SmallWriter`] move few bytes a call, and fail at a
-//! call, or behind a byte, that the test chooses.
+//! call, or after a byte, that the test chooses.
 #![tactic(auto)]
 
 mod devices;

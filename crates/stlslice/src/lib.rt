@@ -3,7 +3,7 @@
 //! [`read_words`] turns the command's words into a [`Task`], and [`run`] does it: it reads ASCII STL to its end, and
 //! writes the images of all layers, a report, the box of the mesh, or the two rays of a voxel. A [`RunFault`] says why a
 //! run wrote nothing, or not all; its `Display` is the line on standard error, and its `status` the exit status.
-//! [`run_watched`] also tells a [`Gate`] of the layers as they are made.
+//! [`run_watched`] also tells a [`Gate`] of the layers as they are made. [`load`] is the closed mesh of a text at hand.
 //! [`one_answer`] is a law: a task and an input have one outcome, whatever the number of workers.
 //!
 //! ```text

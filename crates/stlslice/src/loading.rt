@@ -27,7 +27,7 @@ use stl_text::TextReader;
 /// The number of bytes for each worker, where several read at the same time.
 const WORKER_LEN: usize = 1 << 20;
 
-/// The greatest number of bytes that are read before the workers look at them.
+/// The greatest number of bytes that a round waits for. The last window may reach beyond them.
 const ROUND_LIMIT: usize = 1 << 23;
 
 /// The length of the window that is filled from the source and then handed to the reader, in bytes.
@@ -53,8 +53,8 @@ pub fn load<A: Allocator + Copy + Send + Sync>(
     weld_end(reader, Welder::new(alloc))
 }
 
-/// The closed mesh that a source spells, which is read to its end and welded as its facets come. No more than a window of
-/// its text and of its facets is held.
+/// The closed mesh that a source spells, which is read to its end and welded as its facets come. Of the text no more is held
+/// than a window and the front of a word that it cuts; of the facets that aren't welded yet, those of a window.
 pub(crate) fn read_solid<A: Allocator + Copy + Send + Sync, I: Source>(
     alloc: A,
     source: &mut I,
@@ -73,8 +73,8 @@ pub(crate) fn read_solid<A: Allocator + Copy + Send + Sync, I: Source>(
     weld_end(reader, welder)
 }
 
-/// The same as [`read_solid`], read by up to `workers` workers at the same time. Where they are several, no more than a
-/// round of the text and of its facets is held.
+/// The same as [`read_solid`], read by up to `workers` workers at the same time. Where they are several, a round stands in
+/// place of a window, and the facets of two rounds are held: those that are welded, and those that are read meanwhile.
 pub(crate) fn read_solid_by<R: Threads + Sync, A: Allocator + Copy + Send + Sync, I: Source>(
     rt: &R,
     alloc: A,
@@ -98,7 +98,7 @@ pub(crate) fn read_solid_by<R: Threads + Sync, A: Allocator + Copy + Send + Sync
     weld_end(reader, welder)
 }
 
-/// The closed mesh of the facets that a welder has, and of those behind them that a reader still has at the end of its
+/// The closed mesh of the facets that a welder has, and of those after them that a reader still has at the end of its
 /// text.
 fn weld_end<A: Allocator + Copy + Send + Sync>(
     reader: TextReader<A>,
@@ -118,7 +118,7 @@ fn weld_end<A: Allocator + Copy + Send + Sync>(
     Ok(welder.finish()?)
 }
 
-/// Feeds a reader with all bytes of a source, takes the facets off it and adds them to a welder. Behind 2^64 - 1 windows it
+/// Feeds a reader with all bytes of a source, takes the facets off it and adds them to a welder. After 2^64 - 1 windows it
 /// answers `Memory`.
 fn weld_all<A: Allocator + Copy + Send + Sync, I: Source>(
     alloc: A,
@@ -150,7 +150,7 @@ fn weld_all<A: Allocator + Copy + Send + Sync, I: Source>(
 }
 
 /// The same as [`weld_all`], by rounds that several workers read: the facets of a round are welded while the next one is
-/// read. Behind 2^64 - 1 rounds it answers `Memory`.
+/// read. After 2^64 - 1 rounds it answers `Memory`.
 fn weld_all_by<R: Threads + Sync, A: Allocator + Copy + Send + Sync, I: Source>(
     rt: &R,
     alloc: A,
@@ -220,7 +220,7 @@ fn weld_and_feed<R: Threads + Sync, A: Allocator + Copy + Send + Sync>(
     welded
 }
 
-/// The number of bytes that are read before the workers look at them.
+/// The number of bytes that a round of these workers waits for.
 fn round_len(workers: u32) -> usize {
     WORKER_LEN.saturating_mul(workers as usize).min(ROUND_LIMIT)
 }
@@ -290,7 +290,7 @@ pub(crate) fn read_extent<A: Allocator + Copy + Send + Sync, I: Source>(
     Ok(extent.with(&last))
 }
 
-/// Feeds a reader with all bytes of a source, and takes the facets off it: answers their extent. Behind 2^64 - 1 windows
+/// Feeds a reader with all bytes of a source, and takes the facets off it: answers their extent. After 2^64 - 1 windows
 /// it answers `Memory`.
 fn measure_all<A: Allocator + Copy, I: Source>(
     alloc: A,

@@ -60,8 +60,8 @@ abbrev pub IsLine : List ℕ → List ℕ → List ℕ → Type 0
 IsLine text old new = (1 ≤ length old)
     → new ≡ take (min (length text) (length old - 1)) text ++ 0 ∷ drop (min (length text) (length old - 1) + 1) old
 
--- The line of a fault. What the program writes for a text, a mesh or a grid is the `Display` of the fault, of which the
--- prover knows nothing but that it is a text.
+-- The line of a fault. What the program writes for a text, a mesh or a grid is the `Display` of the fault. `thiserror`
+-- derives it without a contract, so no more is said of it than that it is a text.
 abbrev pub IsFaultLine : SessionFault → List ℕ → List ℕ → Type 0
 IsFaultLine fault.Step old new = IsLine (codes "pitch and layer height take 1 to 100000 micrometres") old new
 IsFaultLine fault.Memory old new = IsLine (status_text MEMORY) old new

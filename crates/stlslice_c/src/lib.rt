@@ -17,7 +17,7 @@
 //!
 //! A call answers a status (`status.rt`): 0 done, 1 a number out of its range or outside the grid, 3 the text is no ASCII
 //! STL, 4 the mesh is open, 5 there is no such grid, 6 an allocation failed, 7 the buffer is too small, 8 no mesh is open. At
-//! 7 the size that is wanted is told; at any other status but 0, all that the caller has is as it was, but for a line of text.
+//! 7 the size that is wanted is told; at any other status but 0 nothing of the caller's changes but a line of text.
 //!
 //! Lengths are in micrometres, and points of loops in half-micrometres. Columns, rows and layers count from 0 along x, y and
 //! z, and stripes, which are eight layers each, from the lowest up.
@@ -58,7 +58,7 @@ pub use shape::{Cells, Corners, Rays, Shape};
 use status::{DONE, NOT_OPEN, OUT_OF_RANGE};
 use std::alloc::Global;
 
-// The answer of the mesh of a handle, which keeps its mesh.
+// Takes the mesh out of a handle, asks it, and puts it back: the status of the answer, or of a handle with no mesh.
 macro_rules! asked {
     ($alloc:ident, $handle:ident, $session:ident => $answer:expr) => {{
         let Some($session) = $handle.take($alloc) else {
