@@ -8,6 +8,7 @@ use Rattle.raster.specs.Filler.{area_of}
 use Rattle.build_book.specs.Job.{Job, stripe_count}
 use Rattle.layer_session.specs.Answers.{image_of, outside, probed, stripe_images}
 use Rattle.layer_session.specs.Session.{IsOpenFault, IsSessionOf, Session, corners_of}
+use Rattle.layer_session.specs.Setup.{IsInRange}
 use Rattle.layer_session.specs.declared.setup.Setup.{Setup}
 use Rattle.layer_session.specs.declared.session_fault.SessionFault.{SessionFault}
 use Rattle.layer_session.specs.declared.session_fault.SessionFault.TheVariants as fault
@@ -108,11 +109,16 @@ pub record IsOpened (o : Options) (text : List ℕ) (new : Option Session) (shap
   pub held : new ≡ Some session
   pub told : shape ≡ shape_told session
 
+-- Where pitch or layer height is out of range, just that is the fault.
+abbrev pub IsStepFirst : Setup → SessionFault → Type 0
+IsStepFirst setup told = (IsInRange setup → ⊥) → told ≡ fault.Step
+
 -- options that stand for no setup, or why the text opens no session, with the line of that
 abbrev pub IsUnopened : Options → List ℕ → List ℕ → List ℕ → ℕ → Type 0
 IsUnopened o text before after status =
     (((setup : Setup) → IsSetup o setup → ⊥) × (status ≡ OUT_OF_RANGE) × IsLine (status_text OUT_OF_RANGE) before after)
     ⊎ ((setup : Setup) × (fault : SessionFault) × IsSetup o setup × IsOpenFault setup text fault
+    × IsStepFirst setup fault
     × (status ≡ status_of fault) × IsFaultLine fault before after)
 
 -- a handle that wasn't opened has what it had; a line is there just where it wasn't

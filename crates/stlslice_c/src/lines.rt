@@ -3,7 +3,7 @@ ghost use Rattle.std.specs.Prelude.{◌≡◌};
 ghost use Rattle.stlslice_c.specs.Answers.{IsFaultLine, IsLine};
 ghost use Rattle.stlslice_c.specs.Statuses.{status_of, status_text};
 
-use crate::status::{MEMORY, status_of, status_text};
+use crate::status::{status_of, status_text};
 use layer_session::SessionFault;
 use std::alloc::Allocator;
 
@@ -42,7 +42,7 @@ pub(crate) fn put_fault<A: Allocator>(alloc: A, fault: &SessionFault, line: &mut
         SessionFault::Memory | SessionFault::Outside { .. } => put_line(status_text(status), line),
         _ => match format!(in alloc; "{fault}") {
             Ok(text) => put_line(text.as_bytes(), line),
-            Err(_) => put_line(status_text(MEMORY), line),
+            Err(_) => put_line(status_text(status), line),
         },
     }
     status

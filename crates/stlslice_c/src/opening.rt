@@ -1,8 +1,10 @@
 //! What is read of a text.
-ghost use Rattle.std.specs.Prelude.{◌≡◌, IfErr, IfOk, List, length};
+ghost use Rattle.std.specs.Prelude.{◌≡◌, Err, IfErr, IfOk, List, length};
 ghost use Rattle.geometry.specs.Facet.{Facet};
 ghost use Rattle.geometry.specs.declared.limits.TheConstants.{FACET_LIMIT};
 ghost use Rattle.stl_text.specs.Text.{Reads};
+ghost use Rattle.layer_session.specs.Setup.{IsInRange};
+ghost use Rattle.layer_session.specs.declared.session_fault.SessionFault.TheVariants.{Step};
 ghost use Rattle.layer_session.specs.Session.{IsOpenFault, IsSessionOf, corners_of};
 ghost use Rattle.stlslice_c.specs.Answers.{IsTextFault};
 ghost use Rattle.stlslice_c.specs.Shape.{corners_told};
@@ -35,6 +37,7 @@ pub(crate) fn open<A: Allocator + Copy + Send + Sync>(
 ) -> Result<Box<Session<A>, A>, SessionFault>
     ensures found { IfOk result (λ session. IsSessionOf setup.now text.now session.value) }
     ensures fault { IfErr result (IsOpenFault setup.now text.now) }
+    ensures step { (IsInRange setup.now → ⊥) → result ≡ Err Step }
 {
     let session = Session::open(alloc, text, setup)?;
     match Box::new(alloc, session) {

@@ -294,7 +294,7 @@ impl Call for Sizes {
 fn what_is_told_without_memory(rt: HostRuntime) -> Result<(), Fail> {
     let alloc = rt.alloc();
     assert!(rt; is_line(alloc, b"grid has no cells\0"));
-    assert!(rt; is_line(&ShortMemory::new(alloc, 1), b"out of memory\0"));
+    assert!(rt; is_line(&ShortMemory::new(alloc, 1), b"there is no such grid\0"));
     // the size of an image is told without slicing: no allocation is left to refuse
     assert_eq!(rt; refusals::<Sizes>(alloc), Some(0));
     Ok(())
