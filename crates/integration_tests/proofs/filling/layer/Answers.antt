@@ -8,5 +8,5 @@ use Rattle.integration_tests.proofs.filling.layer.Goals as goal
 pub fill-requires-clause-list : goal.fill-requires-clause-list
 fill-requires-clause-list g c =
     λ lifetimes lives. let fits : FitsSigned w64 c.plane.result = search rules in
-    c.as_slice.ensures.value ∙ c.in_ok-cut.ensures
+    c.as_slice.ensures.value ∙ c.in_ok-cut.ensures.segments
     ∙ ap (λ z. segments c.args.s.now.facets z) (to_z-of_z w64 c.plane.result fits ∙ c.plane.ensures.value)
