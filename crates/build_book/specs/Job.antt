@@ -1,4 +1,4 @@
--- What is to be sliced, and the stripes that it is cut into.
+-- Jobs: what is to be sliced; and the stripes that a job is cut into.
 use Rattle.std.specs.Prelude.{ℕ, ◌*◌, ◌-◌, [], min}
 use Rattle.std.specs.Int.{div_ceil}
 use Rattle.geometry.specs.Point.{origin}

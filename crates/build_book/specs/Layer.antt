@@ -1,4 +1,4 @@
--- Layers that are what the solid, the grid and the rule make of them.
+-- Layers, and when a layer is lawful: when it is what solid, grid and rule determine.
 use Rattle.std.specs.Prelude.{◌≡◌, ℕ, ◌+◌, ◌<◌, List, [], ◌∷◌, sum_by}
 use Rattle.raster.specs.declared.span.Span.{Span}
 use Rattle.contour.specs.declared.segment.Segment.{Segment}
@@ -26,7 +26,7 @@ pub record IsLawful (job : Job) (k : ℕ) (layer : Layer) : Type 0 where
       → covers layer.spans i j ≡ is_filled job.rule job.solid.facets (centre job.grid i j k)
   pub area : layer.area ≡ area_of job.grid job.rule job.solid.facets k
 
--- the layers of a list are those from k on
+-- the first layer of the list is the lawful one of place k, the next that of k + 1, and so on
 abbrev pub AreLawfulFrom : Job → ℕ → List Layer → Type 0
 AreLawfulFrom job k [] = Unit {0}
 AreLawfulFrom job k (layer ∷ layers) = IsLawful job k layer × AreLawfulFrom job (k + 1) layers

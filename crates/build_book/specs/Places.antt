@@ -15,10 +15,11 @@ total_area places = sum_by place_area places
 abbrev pub IsTaken : List (Option Layer) → ℕ → Type 0
 IsTaken places k = (layer : Layer) × (slice_get places k ≡ Some (Some layer))
 
--- of the places from `first` up to and without `end`: k is the least that is taken; none is taken
+-- k is the least taken place from `first` up to, but not including, `end`
 abbrev pub IsTakenAt : List (Option Layer) → ℕ → ℕ → ℕ → Type 0
 IsTakenAt places first end k = (first ≤ k) × (k < end) × IsTaken places k × ((n : ℕ) → first ≤ n → n < k → slice_get places n ≡ Some None)
 
+-- no place from `first` up to, but not including, `end` is taken
 abbrev pub AreFree : List (Option Layer) → ℕ → ℕ → Type 0
 AreFree places first end = (k : ℕ) → first ≤ k → k < end → slice_get places k ≡ Some None
 

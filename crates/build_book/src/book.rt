@@ -53,9 +53,9 @@ impl<'m, A: Allocator + Copy + Send + Sync> Book<'m, A> {
 
     /// Files a piece: its layers go into their places.
     ///
-    /// `Stranger` where the content of the piece's job isn't that of the book's. `Double` where it is and a place of
-    /// the piece is taken; its `layer` is the least such. On an error the book is unchanged, and the piece comes back.
-    /// It compares the jobs, which takes a pass over their facets; `file_own` doesn't.
+    /// `Stranger` where the jobs of piece and book differ in content. `Double` where they are the same and a place of the
+    /// piece is taken already; its `layer` is the least such place. On an error the book is unchanged, and the piece
+    /// comes back. The jobs are compared facet by facet; `file_own` compares none.
     pub fn file(&mut self, piece: Piece<'m, A>) -> Result<(), (FileFault, Piece<'m, A>)>
         ensures ok { OnOk result (Files self.old piece.entry self.new) }
         ensures fault { IfErr result (λ refusal. IsFileFault self.old piece.entry refusal.0) }
@@ -68,7 +68,8 @@ impl<'m, A: Allocator + Copy + Send + Sync> Book<'m, A> {
         self.file_own(piece)
     }
 
-    /// Files a piece of the book's own job as `file` does, but compares no jobs. So the only error is `Double`.
+    /// Files a piece as `file` does, but compares no jobs: the piece's job has to be that of the book, in content. So the
+    /// only error is `Double`.
     pub fn file_own(&mut self, piece: Piece<'m, A>) -> Result<(), (FileFault, Piece<'m, A>)>
         requires own { piece.job ≡ self.old.job }
         ensures ok { OnOk result (Files self.old piece.entry self.new) }
@@ -84,7 +85,8 @@ impl<'m, A: Allocator + Copy + Send + Sync> Book<'m, A> {
         Ok(())
     }
 
-    /// Why a piece of the book's own job isn't filed: a place of the piece is taken. `None` where all are free.
+    /// The fault of filing a piece of the book's own job: the least place of the piece that is taken. `None` where all its
+    /// places are free.
     fn fault_of(&self, piece: &Piece<'m, A>) -> Option<FileFault>
         requires { piece.now.job ≡ self.now.job }
         ensures fault { IfSome result (λ fault. IsFileFault self.now piece.now fault) }
@@ -92,7 +94,7 @@ impl<'m, A: Allocator + Copy + Send + Sync> Book<'m, A> {
     {
         // wakes the invariant: a piece has just the layers of its stripe
         let _layers = piece.layers();
-        let (first, end) = self.job.bounds(piece.stripe());
+        let (first, end) = self.job.layer_range(piece.stripe());
         let places = self.places.as_slice();
         let taken = first_taken(places, first as usize, end as usize)?;
         let layer = taken as u32;
@@ -107,12 +109,12 @@ impl<'m, A: Allocator + Copy + Send + Sync> Book<'m, A> {
     {
         // wakes the invariant: a piece has just the layers of its stripe
         let _layers = piece.layers();
-        let (first, _) = self.job.bounds(piece.stripe());
+        let (first, _) = self.job.layer_range(piece.stripe());
         let places = self.places.as_mut_slice();
         fill_gaps(places, first as usize, piece.into_layers());
     }
 
-    /// The layer in place k, or `None` where the place is empty or isn't in the grid.
+    /// The layer in place k, or `None` where that place is empty or the grid has no such layer.
     pub fn layer(&self, k: u32) -> Option<&Layer<A>>
         ensures some { IfSome result (λ layer. slice_get self.now.places k ≡ Some (Some layer.now)) }
         ensures none { result ≡ None → (layer : _) → slice_get self.now.places k ≢ Some (Some layer) }
@@ -121,7 +123,8 @@ impl<'m, A: Allocator + Copy + Send + Sync> Book<'m, A> {
         self.places.get(k as usize)?.as_ref()
     }
 
-    /// The number of places that are taken. That a book is lawful is a clause here, since every book is.
+    /// The number of places that are taken. The clause `lawful` holds of every book; it stands here so that a caller can
+    /// use it.
     pub fn filed(&self) -> u32
         ensures count { result ≡ filed_count self.now.places }
         ensures lawful { IsLawfulBook self.now }

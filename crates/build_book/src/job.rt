@@ -55,7 +55,7 @@ impl<A: Allocator> Job<A> {
         self.rule
     }
 
-    /// Whether solid, grid and rule are equal in content. This takes a pass over the facets.
+    /// Whether solid, grid and rule are equal in content. It compares facet by facet.
     pub fn same(&self, other: &Job<A>) -> bool
         ensures { IsTrue result ↔ (self.now ≡ other.now) }
     {
@@ -69,7 +69,7 @@ impl<A: Allocator> Job<A> {
         self.grid == other.grid && self.rule == other.rule
     }
 
-    /// The number of stripes, at most `MOST_STRIPES`. Stripe s is the `STRIPE_LAYERS` layers from `STRIPE_LAYERS * s` on, as
+    /// The number of stripes, at most `MOST_STRIPES`. Stripe s consists of the `STRIPE_LAYERS` layers from `STRIPE_LAYERS * s` on, as
     /// far as the grid has them.
     pub fn stripes(&self) -> u64
         ensures value { result ≡ stripe_count self.now.grid }
@@ -78,8 +78,8 @@ impl<A: Allocator> Job<A> {
         u64::from(self.grid.layers().div_ceil(STRIPE_LAYERS))
     }
 
-    /// The number of a stripe's first layer, and that of the layer after its last.
-    pub(crate) fn bounds(&self, s: u64) -> (u32, u32)
+    /// The layers of stripe s: the number of its first layer, and that of the layer after its last.
+    pub(crate) fn layer_range(&self, s: u64) -> (u32, u32)
         requires { s < stripe_count self.now.grid }
         ensures first { result.0 ≡ STRIPE_LAYERS * s }
         ensures end { result.1 ≡ STRIPE_LAYERS * s + stripe_length self.now.grid s }

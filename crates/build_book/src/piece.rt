@@ -38,7 +38,7 @@ impl<'m, A: Allocator> Piece<'m, A> {
         }
     }
 
-    /// The job that it is of.
+    /// The job whose layers these are.
     pub fn job(&self) -> &'m Job<A>
         ensures { result.now ≡ self.now.job }
     {

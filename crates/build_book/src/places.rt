@@ -55,7 +55,7 @@ fn place_area<A: Allocator>(place: &Option<Layer<A>>) -> u64
     }
 }
 
-/// The least of the places from `first` up to and without `end` that is taken.
+/// The least taken place from `first` up to, but not including, `end`; `None` where none of these is taken.
 pub(crate) fn first_taken<A: Allocator>(
     places: &[Option<Layer<A>>],
     first: usize,
@@ -73,7 +73,8 @@ pub(crate) fn first_taken<A: Allocator>(
     None
 }
 
-/// Puts layers into those of the places from `first` on that are free. Answers the number of these.
+/// Puts layers into the places from `first` on, one each, where the place is free; a taken place stays as it is. Answers how
+/// many were free.
 pub(crate) fn fill_gaps<A: Allocator>(
     places: &mut [Option<Layer<A>>],
     first: usize,
@@ -143,7 +144,7 @@ fn make_stripe<A: Allocator + Copy + Send + Sync>(
     ensures made { IfOk result (λ made. made + filed_count places.old ≡ filed_count places.new) }
     ensures slicer { slicer.new ≡ slicer.old }
 {
-    let (first, end) = job.bounds(s);
+    let (first, end) = job.layer_range(s);
     if is_full(places, first as usize, end as usize) {
         return Ok(0);
     }
@@ -151,7 +152,7 @@ fn make_stripe<A: Allocator + Copy + Send + Sync>(
     Ok(fill_gaps(places, first as usize, piece.into_layers()))
 }
 
-/// Whether the places from `first` up to and without `end` are taken.
+/// Whether all places from `first` up to, but not including, `end` are taken.
 fn is_full<A: Allocator>(places: &[Option<Layer<A>>], first: usize, end: usize) -> bool
     requires { end ≤ length places.now }
     ensures { IsTrue result → (k : ℕ) → first ≤ k → k < end → IsTaken places.now k }
@@ -164,7 +165,7 @@ fn is_full<A: Allocator>(places: &[Option<Layer<A>>], first: usize, end: usize) 
     true
 }
 
-/// The layers in the places, without the empty ones.
+/// The layers that stand in the places, in order.
 pub(crate) fn all_layers<A: Allocator>(
     alloc: A,
     places: Vec<Option<Layer<A>>, A>,

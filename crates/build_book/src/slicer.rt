@@ -53,8 +53,8 @@ impl<'m, A: Allocator + Copy + Send + Sync> Slicer<'m, A> {
         })
     }
 
-    /// Slices stripe s of the job, its layers from the lowest up. `Err` comes only where an allocation failed; the
-    /// slicer can be used again.
+    /// Slices stripe s of the job, its layers from the lowest up; s is below `Job::stripes`. `Err` comes only where an
+    /// allocation failed; the slicer can be used again.
     pub fn slice(&mut self, s: u64) -> Result<Piece<'m, A>, AllocError>
         requires { s < stripe_count self.old.grid }
         ensures job { IfOk result (λ piece. piece.job ≡ self.old) }
@@ -62,7 +62,7 @@ impl<'m, A: Allocator + Copy + Send + Sync> Slicer<'m, A> {
         ensures lawful { IfOk result (λ piece. IsStripe piece.job piece.stripe piece.layers) }
         ensures kept { self.new ≡ self.old }
     {
-        let (first, end) = self.job.bounds(s);
+        let (first, end) = self.job.layer_range(s);
         let mut sweep = self.sweep_at(first)?;
         let layers = slice_layers(
             self.alloc,
@@ -95,7 +95,8 @@ impl<'m, A: Allocator + Copy + Send + Sync> Slicer<'m, A> {
     }
 }
 
-/// Slices stripe s of a job, its layers from the lowest up. `Err` comes only where an allocation failed.
+/// Slices stripe s of a job, its layers from the lowest up; s is below `Job::stripes`. `Err` comes only where an
+/// allocation failed. For several stripes a [`Slicer`] takes less time.
 pub fn slice_stripe<'m, A: Allocator + Copy + Send + Sync>(
     alloc: A,
     job: &'m Job<A>,
@@ -109,7 +110,7 @@ pub fn slice_stripe<'m, A: Allocator + Copy + Send + Sync>(
     Slicer::new(alloc, job)?.slice(s)
 }
 
-/// Slices the layers from `first` up to and without `end` by a sweep that stands at the first.
+/// Slices the layers from `first` up to, but not including, `end` by a sweep that stands at the first.
 fn slice_layers<A: Allocator + Copy + Send + Sync>(
     alloc: A,
     job: &Job<A>,

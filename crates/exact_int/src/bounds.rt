@@ -1,4 +1,4 @@
-//! Bounds on magnitudes. The ranges of points and of centres are tested by this function.
+//! Bounds on magnitudes. Points and centres test their ranges by this function.
 ghost use Rattle.std.specs.Prelude.{◌↔◌, IsTrue};
 ghost use Rattle.exact_int.specs.Bounds.{IsAtMost};
 

@@ -1,7 +1,7 @@
-//! Division that rounds up: it finds the first column whose centre isn't left of a crossing.
+//! Division that rounds up. Callers find by it the first column whose centre is not left of a crossing.
 ghost use Rattle.std.specs.Prelude.{ℤ, pos, ◌*ℤ◌, ◌≤ℤ◌, ◌<ℤ◌, ◌↔◌};
 
-/// The least whole number that isn't below `n / d`, for a `d` above 0: 4 for 7 / 2, and -3 for -7 / 2.
+/// The least whole number that is not below `n / d`, for a `d` above 0: 4 for 7 / 2, and -3 for -7 / 2.
 pub fn ceil_div(n: i128, d: i128) -> i128
     requires { pos 0 <ℤ d }
     ensures { (q : ℤ) → (result ≤ℤ q) ↔ (n ≤ℤ (q *ℤ d)) }
@@ -10,7 +10,7 @@ pub fn ceil_div(n: i128, d: i128) -> i128
     if n % d > 0 { q + 1 } else { q }
 }
 
-/// What [`ceil_div`] answers, for numbers of 64 bits: the least whole number that isn't below `n / d`, for a `d` above 0.
+/// What [`ceil_div`] answers, for numbers of 64 bits: the least whole number that is not below `n / d`, for a `d` above 0.
 pub fn ceil_div_64(n: i64, d: i64) -> i64
     requires { pos 0 <ℤ d }
     ensures { (q : ℤ) → (result ≤ℤ q) ↔ (n ≤ℤ (q *ℤ d)) }
@@ -19,7 +19,8 @@ pub fn ceil_div_64(n: i64, d: i64) -> i64
     if n % d <= 0 { q } else { q + 1 }
 }
 
-/// What [`ceil_div`] answers, sooner where both numbers fit 64 bits, since a division of these takes a fraction of the time.
+/// What [`ceil_div`] answers, in less time where both numbers fit 64 bits: a division of these takes a fraction of the time
+/// that one of 128 bits takes.
 pub fn quick_ceil_div(n: i128, d: i128) -> i128
     requires { pos 0 <ℤ d }
     ensures { (q : ℤ) → (result ≤ℤ q) ↔ (n ≤ℤ (q *ℤ d)) }

@@ -1,4 +1,4 @@
--- The bounding box of a mesh: the least and the greatest x, y and z of its corners.
+-- Bounding boxes (`Bounds`): the least and the greatest x, y and z of some points, or of the corners of facets.
 use Rattle.std.specs.Prelude.{List, [], ◌∷◌, Option, Some, None, Contains, flat_map, fold, map, ◌≤ℤ◌}
 use Rattle.std.specs.Int.{int_min, int_max}
 use Rattle.geometry.specs.Point.{Point}
@@ -10,25 +10,27 @@ least_of p q = record { x = int_min p.x q.x; y = int_min p.y q.y; z = int_min p.
 abbrev pub greatest_of : Point → Point → Point
 greatest_of p q = record { x = int_max p.x q.x; y = int_max p.y q.y; z = int_max p.z q.z }
 
+-- a bounding box by its low and its high corner
 pub record Bounds : Type 0 where
   pub low : Point
   pub high : Point
 
+-- the bounding box of points
 abbrev pub bounds_of : List Point → Option Bounds
 bounds_of [] = None
 bounds_of (p ∷ ps) = Some (record { low = fold least_of p ps; high = fold greatest_of p ps })
 
--- none where there is no facet
+-- the bounding box of facets; none where there is no facet
 abbrev pub bounds : List Facet → Option Bounds
 bounds facets = bounds_of (flat_map corners facets)
 
--- p lies in the box from low to high
+-- p lies in the bounding box from low to high
 pub record IsInBox (low high p : Point) : Type 0 where
   pub x_in : (low.x ≤ℤ p.x) × (p.x ≤ℤ high.x)
   pub y_in : (low.y ≤ℤ p.y) × (p.y ≤ℤ high.y)
   pub z_in : (low.z ≤ℤ p.z) × (p.z ≤ℤ high.z)
 
--- each of the box's six coordinates is that of one of the points, so no smaller box holds them all
+-- each of the bounding box's six coordinates is that of one of the points, so no smaller box holds them all
 pub record IsTight (low high : Point) (ps : List Point) : Type 0 where
   pub low_x : Contains (map (λ (p : Point). p.x) ps) low.x
   pub low_y : Contains (map (λ (p : Point). p.y) ps) low.y

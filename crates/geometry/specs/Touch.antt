@@ -1,4 +1,4 @@
--- Whether a point lies on a facet, and whether a facet meets the segment between two points: by whole weights of the
+-- When a point lies on a facet, and when a facet meets the segment between two points. Both are said by whole weights of the
 -- corners (barycentric coordinates without the division). All coordinates are in half-micrometres.
 use Rattle.std.specs.Prelude.{◌≡◌, ℕ, ◌+◌, ◌<◌, pos, ◌+ℤ◌, ◌*ℤ◌}
 use Rattle.geometry.specs.Point.{Point}

@@ -1,5 +1,5 @@
--- The signed crossings of a mesh by a ray. The fill rules (nonzero, even-odd, positive) judge the count of them by the ray
--- from a centre, as PostScript and SVG judge winding numbers. The tie rule (`TieRule`) says on which side of a ray a
+-- The signed crossings of a mesh by a ray. The fill rules (nonzero, even-odd, positive) judge the count for the ray from a
+-- centre, as PostScript and SVG judge winding numbers. The tie rule (`TieRule`) says on which side of a ray a
 -- corner at the ray's height counts. All coordinates are in half-micrometres, except those of a mesh.
 --     left u v y z       orient2d: twice the signed area of the triangle u, v, (y, z), seen along x
 --     turn u v y z       1 where the edge rises through height z with (y, z) on its left, -1 where it falls through it with
@@ -65,11 +65,11 @@ total f (x ∷ xs) = f x +ℤ total f xs
 abbrev pub ray : List Facet → Point → ℤ
 ray facets c = total (λ t. hit (twice t) c) facets
 
--- the signed crossings of the line through c along x that don't lie ahead of c
+-- the signed crossings of the line through c along x that do not lie ahead of c
 abbrev pub ray_back : List Facet → Point → ℤ
 ray_back facets c = total (λ t. wind (twice t) c.y c.z -ℤ hit (twice t) c) facets
 
--- the crossings ahead of c in a closed mesh, by those that don't lie ahead: the crossings of a whole line add up to 0
+-- the negative of that: in a closed mesh the crossings of a whole line add up to 0, so this is the ray from c
 abbrev pub neg_ray_back : List Facet → Point → ℤ
 neg_ray_back facets c = neg_ℤ (ray_back facets c)
 

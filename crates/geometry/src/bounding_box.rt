@@ -1,4 +1,5 @@
-//! The bounding box of facets, which a grid is fitted to, and which grows as facets come.
+//! The bounding box of facets: a grid is fitted to it. It can be computed from all facets at once or in parts, as facets
+//! come. A bounding box is a pair: its low corner (the least x, y and z), then its high corner (the greatest).
 ghost use Rattle.std.specs.Prelude.{◌≡◌, ◌++◌, All, IfSome, List, flat_map, fold, option_map};
 ghost use Rattle.geometry.specs.BoundingBox.{IsInBox, IsTight, bounds, greatest_of, least_of};
 ghost use Rattle.geometry.specs.Facet.{Facet, corners};
@@ -6,8 +7,8 @@ ghost use Rattle.geometry.specs.Facet.{Facet, corners};
 use crate::facet::Facet;
 use crate::point::Point;
 
-/// The bounding box of facets: the point of the least x, y and z of their corners, and that of the greatest, in
-/// micrometres. `None` where there is no facet. Each corner lies in the box, and each of its six sides has a corner.
+/// The bounding box of facets, in micrometres: its low corner and its high corner. `None` exactly where there is no facet. Each
+/// corner of a facet lies in the box, and on each of the box's six sides lies a corner of a facet.
 pub fn extent(facets: &[Facet]) -> Option<(Point, Point)>
     ensures value { result ≡ option_map (λ b. record { 0 = b.low; 1 = b.high }) (bounds facets.now) }
     ensures holds { IfSome result (λ b. All (IsInBox b.0 b.1) (flat_map corners facets.now)) }
@@ -17,7 +18,8 @@ pub fn extent(facets: &[Facet]) -> Option<(Point, Point)>
     Some(grown(start, start, facets))
 }
 
-/// The bounding box of facets and of others before them, whose bounding box is `before`. `None` where there is no facet.
+/// The bounding box of facets and of earlier ones together, in micrometres, where `before` is the bounding box of the earlier
+/// ones. `None` exactly where there is no facet at all.
 pub fn extent_with(before: Option<(Point, Point)>, facets: &[Facet]) -> Option<(Point, Point)>
     ensures { (earlier : List Facet) → before ≡ option_map (λ b. record { 0 = b.low; 1 = b.high }) (bounds earlier)
         → result ≡ option_map (λ b. record { 0 = b.low; 1 = b.high }) (bounds (earlier ++ facets.now)) }
@@ -28,7 +30,7 @@ pub fn extent_with(before: Option<(Point, Point)>, facets: &[Facet]) -> Option<(
     }
 }
 
-/// The bounding box of two points and of the corners of facets.
+/// The bounding box of two points, the one low and the other high, and of the corners of facets.
 fn grown(low: Point, high: Point, facets: &[Facet]) -> (Point, Point)
     ensures low { result.0 ≡ fold least_of low (flat_map corners facets.now) }
     ensures high { result.1 ≡ fold greatest_of high (flat_map corners facets.now) }
@@ -43,7 +45,7 @@ fn grown(low: Point, high: Point, facets: &[Facet]) -> (Point, Point)
     (least, greatest)
 }
 
-/// The point of the lesser x, y and z of two points.
+/// The low corner of the bounding box of two points: the lesser x, y and z, in micrometres.
 pub fn lower(p: Point, q: Point) -> Point
     ensures { result ≡ least_of p q }
 {
@@ -53,7 +55,7 @@ pub fn lower(p: Point, q: Point) -> Point
     point
 }
 
-/// The point of the greater x, y and z of two points.
+/// The high corner of the bounding box of two points: the greater x, y and z, in micrometres.
 pub fn higher(p: Point, q: Point) -> Point
     ensures { result ≡ greatest_of p q }
 {

@@ -1,4 +1,4 @@
-//! The order of points, as a law. Their comparison is derived, so it has no contract that could state the order.
+//! The order of points, as a law. A derived comparison has no contract, so a function of its own states the order.
 ghost use Rattle.std.specs.Prelude.{◌≡◌};
 ghost use Rattle.std.specs.Ordering.{is_lt};
 ghost use Rattle.geometry.specs.Point.{Point, is_before};

@@ -2,8 +2,8 @@
 //!
 //! - [`Point`]: a point of a mesh, in whole micrometres; [`points_in_order`]: their order.
 //! - [`Facet`]: a triangle by its three corners, counterclockwise as seen from outside.
-//! - [`extent`], [`extent_with`]: the bounding box of facets, and of facets after others; [`lower`], [`higher`]: the
-//!   corners of the box of two points.
+//! - [`extent`], [`extent_with`]: the bounding box of facets, and of facets and earlier ones; [`lower`], [`higher`]: the
+//!   corners of the bounding box of two points.
 //! - [`is_below`], [`rises_through`]: the tie rule, the same for every cut and every ray.
 //! - [`COORDINATE_LIMIT`] and the other limits of coordinates, grids and meshes.
 //!
@@ -16,7 +16,7 @@
 //!
 //! Units: points are in whole micrometres. The centre of a pixel may lie halfway between two of them, so coordinates
 //! that are compared with a centre are in half-micrometres (units of 0.5 µm). In this unit every centre is a whole
-//! number, and no comparison rounds. Names of such coordinates end in `2`.
+//! number, and no comparison rounds. In code the names of such coordinates end in `2`.
 //!
 //! The definitions that other crates cite are in `specs/`: winding and signed ray crossings (`Winding`), touch
 //! (`Touch`), half-edges (`Facet`), the tie rule (`TieRule`).

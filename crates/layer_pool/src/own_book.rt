@@ -7,8 +7,8 @@ use build_book::{Book, Piece};
 use std::alloc::Allocator;
 use std::marker::{Brand, PhantomData};
 
-/// A type that stands for the job of a build; the job is a ghost member, and takes no memory. All that a proof knows of a
-/// value behind a lock is its type, so the type of the shared book names the job.
+/// A type that stands for the job of a build; the job is a ghost member, and takes no memory. A proof knows
+/// nothing of a value inside a lock but its type, so the type of the shared book names the job.
 pub(crate) trait OfJob {
     ghost job: { Job };
 }

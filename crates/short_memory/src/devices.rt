@@ -4,14 +4,14 @@ ghost use Rattle.std.specs.Prelude.{◌≡◌, [], Some};
 use std::alloc::{Allocator, Global};
 use std::io::{Error, ErrorKind, Read, Result, Write};
 
-/// Gives one byte a call, and fails with `fault` at the call after the first `calls`.
+/// Gives one byte a call, and after `calls` calls fails with `fault` at each further one.
 #[derive(Drop)]
 pub struct OneByteReader<'a> {
     /// The bytes that it still gives.
     pub bytes: &'a [u8],
-    /// The calls before the one that fails.
+    /// How many calls are left before it fails.
     pub calls: u64,
-    /// The fault of that call.
+    /// The error of the calls that fail.
     pub fault: ErrorKind,
 }
 
@@ -34,8 +34,8 @@ impl<'a> Read for OneByteReader<'a> {
     }
 }
 
-/// Takes at most `most_per_call` bytes a call while it has room. Then it fails with `fault`; or, without one, it takes nothing
-/// and calls that no error.
+/// Takes at most `most_per_call` bytes a call while it has room. Once it has none, it fails with `fault`; where `fault` is
+/// `None`, it answers that it took 0 bytes, without an error.
 #[derive(Drop)]
 pub struct SmallWriter {
     /// The bytes that it took.
@@ -44,14 +44,14 @@ pub struct SmallWriter {
     pub room: usize,
     /// The most that it takes a call.
     pub most_per_call: usize,
-    /// The fault with which it has no more room.
+    /// The error of a write once it has no room.
     pub fault: Option<ErrorKind>,
-    /// Whether a flush succeeds.
+    /// Whether a flush succeeds; if not, it fails with `ErrorKind::Other`.
     pub flushes: bool,
 }
 
 impl SmallWriter {
-    /// One that has taken nothing.
+    /// A writer that has taken nothing yet; its parts are those of the fields with these names.
     pub fn new(
         alloc: Global,
         room: usize,

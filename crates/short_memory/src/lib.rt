@@ -1,4 +1,4 @@
-//! What fails where a test wants it: an allocator, a reader and a writer.
+//! An allocator, a reader and a writer that fail at a point that a test chooses.
 //!
 //! [`ShortMemory`] fails one allocation. A test repeats a call, and fails the first allocation, then the second, and so
 //! on, until the call has none left to fail. [`OneByteReader`] and [`SmallWriter`] move few bytes a call, and fail at a
@@ -17,20 +17,20 @@ use std::sync::atomic::Ordering::SeqCst;
 /// `&ShortMemory<Global>` is an allocator too, and `Copy + Send + Sync`: several threads share one count.
 pub struct ShortMemory<B: Allocator> {
     inner: B,
-    // The number of allocations up to and including the one that fails. It wraps round below zero after that.
+    // How many allocations are left up to and including the one that fails; after that one the count wraps around.
     left: AtomicU64,
 }
 
 impl<B: Allocator> ShortMemory<B> {
-    /// An allocator that fails the allocation numbered `turn`, counted from 1, and no other of the first 2^63.
-    pub fn new(inner: B, turn: u64) -> ShortMemory<B> {
+    /// An allocator that fails the allocation of this number, counted from 1, and no other of the first 2^63.
+    pub fn new(inner: B, number: u64) -> ShortMemory<B> {
         ShortMemory {
             inner,
-            left: AtomicU64::new(turn),
+            left: AtomicU64::new(number),
         }
     }
 
-    /// Whether the allocation that fails was reached, for a `turn` from 1 to 2^63.
+    /// Whether the allocation that fails was reached, where its number is 1 to 2^63.
     pub fn has_refused(&self) -> bool {
         self.left.load(SeqCst).wrapping_sub(1) > u64::MAX / 2
     }
@@ -42,9 +42,9 @@ impl<B: Allocator> Drop for ShortMemory<B> {
     }
 }
 
-// Counts one allocation, and tells whether it is the one that fails. The count is atomic, so only one thread is told
-// so.
-fn is_turn(left: &AtomicU64) -> bool {
+// Counts one allocation, and answers whether it is the one that fails. The count is atomic, so the answer is `true` once,
+// in one thread.
+fn is_refused(left: &AtomicU64) -> bool {
     left.fetch_sub(1, SeqCst) == 1
 }
 
@@ -52,7 +52,7 @@ unsafe impl<B: Allocator> Allocator for ShortMemory<B> {
     ghost dealloc_token = { λ heap ty ptr. B.dealloc_token heap.inner ty ptr };
 
     fn allocate(&self, size: usize, align: usize) -> Result<*mut u8, AllocError> {
-        if is_turn(&self.left) {
+        if is_refused(&self.left) {
             return Err(AllocError);
         }
         self.inner.allocate(size, align)

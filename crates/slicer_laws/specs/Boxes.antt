@@ -1,4 +1,4 @@
--- A box: its twelve facets, and the points that it holds.
+-- The mesh of a box, by its twelve facets, and its laws: which points it holds, so which rays and voxels it has.
 use Rattle.std.specs.Prelude.{◌≡◌, ℕ, Bool, ◌&&◌, List, [], ◌∷◌, ◌++◌, ℤ, pos, ◌*ℤ◌, int_le, int_lt, if◌then◌else◌}
 use Rattle.geometry.specs.Point.{Point}
 use Rattle.geometry.specs.Facet.{Facet, facet_with}

@@ -1,4 +1,4 @@
--- A mesh turned inside out: each facet faces the other way.
+-- The laws of a mesh turned inside out, so that each facet faces the other way: its rays change sign.
 use Rattle.std.specs.Prelude.{◌≡◌, ℕ, List, map, neg_ℤ}
 use Rattle.geometry.specs.Point.{Point}
 use Rattle.geometry.specs.Facet.{Facet, facet_with}

@@ -1,4 +1,4 @@
--- A mesh and a grid that are moved together, by whole micrometres.
+-- The laws of a mesh and a grid that are moved together, by whole micrometres: rays, images and areas stay.
 use Rattle.std.specs.Prelude.{◌≡◌, ℕ, List, map, ◌+ℤ◌}
 use Rattle.geometry.specs.Point.{Point, half_micrometres_of}
 use Rattle.geometry.specs.Facet.{Facet, facet_with}

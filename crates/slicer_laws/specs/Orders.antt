@@ -1,4 +1,4 @@
--- The same facets in another order.
+-- The laws of the same facets in another order: rays, images and areas stay.
 use Rattle.std.specs.Prelude.{◌≡◌, ℕ, List, IsPermutation}
 use Rattle.geometry.specs.Point.{Point}
 use Rattle.geometry.specs.Facet.{Facet}

@@ -1,4 +1,4 @@
--- Two meshes sliced together.
+-- The laws of two meshes that are sliced together: their rays, filled voxels and areas.
 use Rattle.std.specs.Prelude.{◌≡◌, ℕ, ◌+◌, ◌<◌, false, ◌&&◌, ◌||◌, List, ◌++◌, pos, ◌+ℤ◌, ◌≤ℤ◌}
 use Rattle.geometry.specs.Point.{Point}
 use Rattle.geometry.specs.Facet.{Facet}
@@ -14,7 +14,7 @@ RaysAdd = (a b : List Facet) (c : Point) → ray (a ++ b) c ≡ ray a c +ℤ ray
 abbrev pub RaysAlongYAdd : Type 0
 RaysAlongYAdd = (a b : List Facet) (c : Point) → ray_y (a ++ b) c ≡ ray_y a c +ℤ ray_y b c
 
--- where a voxel isn't filled by both meshes, both together fill it exactly where one of them does
+-- where a voxel is not filled by both meshes, both together fill it exactly where one of them does
 abbrev pub VoxelsJoin : Rule → Type 0
 VoxelsJoin rule = (a b : List Facet) (c : Point) → (is_filled rule a c && is_filled rule b c) ≡ false
     → is_filled rule (a ++ b) c ≡ (is_filled rule a c || is_filled rule b c)

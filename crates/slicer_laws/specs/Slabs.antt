@@ -1,4 +1,4 @@
--- A grid cut between two layers: the first layers, and those above.
+-- The laws of a grid cut between two layers, into its first layers and those above: images, planes and areas stay.
 use Rattle.std.specs.Prelude.{◌≡◌, ◌↔◌, ℕ, ◌+◌, ◌-◌, ◌*◌, ◌≤◌, ◌<◌, List, ◌++◌, pos, ◌+ℤ◌, ◌≤ℤ◌}
 use Rattle.geometry.specs.Point.{Point}
 use Rattle.geometry.specs.Facet.{Facet}

@@ -44,7 +44,7 @@ pub fn moved_together()
     ensures areas { AreasMoveAlong }
 {}
 
-/// A ray of two meshes together is the sum of their rays. A voxel that isn't filled by both meshes is filled by both
+/// A ray of two meshes together is the sum of their rays. A voxel that is not filled by both meshes is filled by both
 /// together exactly where one of them fills it; where that holds for all voxels of a layer, the areas add. By
 /// `positive` neither mesh may have a negative ray there.
 pub fn shells_add()

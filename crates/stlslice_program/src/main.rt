@@ -53,7 +53,7 @@ fn main(rt: HostRuntime) -> ExitCode {
     }
 }
 
-/// The arguments behind the program's name, which alone may be no text.
+/// The arguments after the program's name; the name alone need not be a text.
 struct AfterName<'r, R>(&'r R);
 
 impl<'r, R: Env> Env for AfterName<'r, R> {

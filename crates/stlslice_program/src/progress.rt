@@ -20,7 +20,7 @@ pub(crate) struct Bar {
     pub(crate) stage: Stage,
     pub(crate) done: u64,
     pub(crate) total: u64,
-    /// When the stage began. `None` before that, and where the clock can't be read.
+    /// When the stage began. `None` before that, and where the clock cannot be read.
     pub(crate) begun: Option<Instant>,
 }
 
@@ -101,7 +101,7 @@ impl BarText {
 pub(crate) struct Progress<'r, R> {
     rt: &'r R,
     is_terminal: bool,
-    /// Whether the run writes images. A report is written at once, so its bytes aren't shown.
+    /// Whether the run writes images. A report is written at once, so its bytes are not shown.
     has_images: bool,
     state: Mutex<State>,
 }
@@ -117,7 +117,7 @@ struct State {
 }
 
 impl<'r, R: Clock + Eprint + Wait> Progress<'r, R> {
-    /// The progress of a task that hasn't begun.
+    /// The progress of a task that has not begun.
     pub(crate) fn new(rt: &'r R, task: &Task, is_terminal: bool) -> Progress<'r, R> {
         let bar = Bar {
             stage: Stage::Slicing,
@@ -161,7 +161,7 @@ impl<'r, R: Clock + Eprint + Wait> Progress<'r, R> {
         }
     }
 
-    /// Shows a bar. Where standard error can't be written, nothing is shown.
+    /// Shows a bar. Where standard error cannot be written, nothing is shown.
     fn show(&self, bar: &Bar) {
         let seconds_left = match self.now() {
             Some(now) => bar.seconds_left(now),
@@ -174,7 +174,7 @@ impl<'r, R: Clock + Eprint + Wait> Progress<'r, R> {
         });
     }
 
-    /// Begins the stage of writing, where it hasn't begun.
+    /// Begins the stage of writing, where it has not begun.
     fn begin_writing(&self) {
         let mut state = self.state.lock(self.rt);
         if state.bar.stage == Stage::Slicing {

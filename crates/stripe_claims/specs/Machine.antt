@@ -5,8 +5,8 @@
 --     IsSplit     a hand that has found nothing is cut in two
 --     IsJoin      one hand takes over all of another
 --     Reached     a moment that any such steps lead to
---     IsKept      the rule of the table in which the claims lie: its word and its views are such a moment
---     IsFair      what holds at every such moment
+--     IsKept      the rule of the table in which the claims lie: its word and its views are a moment that is reached
+--     IsFair      what holds at every moment that is reached
 use Rattle.std.specs.Prelude.{◌≡◌, ◌≢◌, ℕ, ◌+◌, ◌-◌, ◌<◌, ◌≤◌, Bool, List, [], ◌∷◌, ◌++◌, length, filter, All, sum_by, flat_map, slice_set, ◌==◌, nat_lt, nat_le, if◌then◌else◌}
 use mathlib.Core.Option.{some}
 use lib.ListN.{get_elem?}
@@ -109,7 +109,7 @@ one_less h = hand (h.stands_for - 1) h.found
 abbrev pub new_pass : Hand → Hand
 new_pass h = hand 1 []
 
--- What holds at every moment.
+-- What holds at every moment that is reached.
 pub record IsFair (plan : Plan) (m : Moment) : Type 0 where
   -- all lists together hold each number below the word once and nothing else, so they are as long as the word
   pub each_once : IsEachOnce m.word (all_found m.hands)

@@ -49,8 +49,9 @@ impl Model for Pass {
 }
 
 impl<A: Allocator + Copy> Claims<A> {
-    /// Claims to the numbers below `stripes`, of which there are at most `STRIPE_LIMIT`, and 1 to `PASS_LIMIT` passes,
-    /// none of which has drawn. `Err` comes only where an allocation failed; nothing is left behind then.
+    /// Claims to the numbers below `stripes`, which is at most `STRIPE_LIMIT`, and as many passes as `passes` says, 1 to
+    /// `PASS_LIMIT`, none of which has drawn. `Err` comes only where an allocation failed; the memory that was taken before
+    /// is then freed.
     pub fn open(
         alloc: A,
         stripes: u64,
@@ -79,7 +80,7 @@ impl<A: Allocator + Copy> Claims<A> {
         Ok((Claims { table, stripes }, rest))
     }
 
-    /// Cuts a seat that stands for all passes, and has found nothing, into these passes.
+    /// Cuts a seat that stands for all passes, and has found nothing, into single passes.
     fn deal(
         &self,
         alloc: A,

@@ -1,4 +1,4 @@
-//! Stripes that several threads share out among themselves without a lock, each once.
+//! Gives stripes out to several threads, each stripe once, without a lock.
 //!
 //! ```text
 //! let (claims, passes) = Claims::open(alloc, stripes, workers)?;
@@ -8,7 +8,8 @@
 //! }
 //! ```
 //!
-//! - [`Claims`]: the stripes that no thread has drawn yet, from a number on. In memory it is one word, that number.
+//! - [`Claims`]: the stripes that no thread has drawn yet. These are the stripes from one number on, and this number is the
+//!   one word that threads share.
 //! - [`Pass`]: what one thread draws with. A **draw** takes the next number by one `fetch_add` on the word. A pass has
 //!   **ended** once it has found a number for which there is no stripe.
 //! - [`claims_laws`]: what holds after any number of draws, by any number of passes in any order.

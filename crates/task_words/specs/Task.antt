@@ -1,4 +1,4 @@
--- Tasks whose numbers are in range.
+-- The ranges of the numbers in a task.
 use Rattle.std.specs.Prelude.{◌≤◌}
 use Rattle.task_words.specs.declared.task.Task.{Task}
 use Rattle.task_words.specs.declared.task.Task.TheVariants as task

@@ -1,11 +1,11 @@
--- What the faults of words say, and the exit status of a program that ends with one.
+-- The faults of words: that want of memory is a fault of its own, and the exit status of each fault.
 use Rattle.std.specs.Prelude.{◌≡◌, ◌≢◌, ℕ}
 use Rattle.clap.specs.Words.{kind_of}
 use Rattle.clap.specs.declared.error.kind.ErrorKind.TheVariants.{DisplayHelp, DisplayVersion, OutOfMemory}
 use Rattle.task_words.specs.declared.word_fault.WordFault.{WordFault}
 use Rattle.task_words.specs.declared.word_fault.WordFault.TheVariants as words
 
--- a refusal is no want of memory, which has a fault of its own
+-- a fault `Refused` never stands for a want of memory, which has the fault `Memory`
 abbrev pub IsNoMemoryRefusal : WordFault → Type 0
 IsNoMemoryRefusal (words.Refused refusal) = kind_of refusal ≢ OutOfMemory
 IsNoMemoryRefusal (words.Missing option) = Unit {0}

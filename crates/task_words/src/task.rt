@@ -3,21 +3,23 @@ use geometry::Point;
 use micro_num::Unit;
 use raster::Rule;
 
-/// A grid that was handed in, in place of one that fits the mesh.
+/// A grid that was handed in, in place of one that fits the mesh: the counts of its columns, rows and layers, and where it
+/// begins. The texts of `--grid` may give any counts; whether there is such a grid is judged later.
 #[derive(Clone, Copy, Debug, PartialEq, Eq)]
 pub struct Given {
     pub columns: u32,
     pub rows: u32,
     pub layers: u32,
-    /// The corner of least x, y and z, in micrometres.
+    /// Its corner of least x, y and z, in micrometres.
     pub origin: Point,
 }
 
-/// What the program is to do with the mesh on its input, whose numbers are in `unit`. Pitch and layer height are 1
-/// to `STEP_LIMIT` micrometres, and there are 1 to `PASS_LIMIT` workers.
+/// What the program is to do with the mesh on its input, whose numbers are in `unit`. Pitch (`pitch`) and layer height
+/// (`layer`) are in micrometres, 1 to `STEP_LIMIT`, and there are 1 to `PASS_LIMIT` workers. Without a `grid` the grid fits
+/// the mesh.
 #[derive(Clone, Copy, Debug, PartialEq, Eq)]
 pub enum Task {
-    /// Write how many facets there are, and their box.
+    /// Write how many facets there are, and their bounding box.
     Box {
         unit: Unit,
     },

@@ -11,7 +11,7 @@ use std::alloc::AllocError;
 use std::fmt::{self, Display, Formatter, Write};
 use thiserror::Error;
 
-/// A wanted option: one that every task but the box needs. [`WordFault::Missing`] names the one that isn't there.
+/// A wanted option: one that every task but the box needs. [`WordFault::Missing`] names the one that is not given.
 #[derive(Clone, Copy, Debug, PartialEq, Eq)]
 pub enum Wanted {
     Pitch,
@@ -32,7 +32,7 @@ impl Display for Wanted {
 /// lines.
 #[derive(Debug, Drop, Error)]
 pub enum WordFault {
-    /// The words don't fit the command, or ask for its help or its version.
+    /// The words do not fit the command, or ask for its help or its version.
     #[error("{0}")]
     Refused(Refusal),
     /// A task other than the box needs this option.

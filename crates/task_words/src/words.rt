@@ -20,9 +20,10 @@ use stripe_claims::PASS_LIMIT;
 
 /// The task that the words after the program's name stand for.
 ///
-/// Faults are looked for in this order: words that are not of the command's form, or ask for help or the version; the
-/// rule, the unit, the grid, the voxel; and, unless the task is the box, a missing pitch, then a missing layer height.
-/// `Memory` comes only where an allocation failed, and that is never told as `Refused`.
+/// The first of these faults is answered: `Refused` where the words are not of the command's form, or ask for help or the
+/// version; `BadRule`, `BadUnit`, `BadGrid`, `BadProbe` where the text of that option names no rule, unit, grid or voxel;
+/// and, unless the task is the box, `Missing` where the pitch is not given, then where the layer height is not. `Memory`
+/// comes only where an allocation failed, and a failed allocation is never answered as `Refused`.
 pub fn read_words(alloc: Global, words: &[String]) -> Result<Task, WordFault>
     ensures range { IfOk result IsInRange }
     ensures refused { IfErr result IsNoMemoryRefusal }
@@ -54,14 +55,14 @@ fn task_of(matches: &ArgMatches<'_>) -> Result<Task, WordFault>
     let pitch = wanted(matches, PITCH, Wanted::Pitch)?;
     let layer = wanted(matches, LAYER, Wanted::Layer)?;
     Ok(match voxel {
-        Some(Voxel { i, j, k }) => Task::Probe {
+        Some(voxel) => Task::Probe {
             unit,
             pitch,
             layer,
             grid,
-            i,
-            j,
-            k,
+            i: voxel.i,
+            j: voxel.j,
+            k: voxel.k,
         },
         None => Task::Slice {
             unit,
@@ -120,7 +121,7 @@ fn wanted(matches: &ArgMatches<'_>, name: &str, option: Wanted) -> Result<u32, W
 }
 
 /// The number of an option, 1 to `most`. The command refuses all other numbers before, so `None` means that the option
-/// isn't there.
+/// is not given.
 fn number_of(matches: &ArgMatches<'_>, name: &str, most: u32) -> Option<u32>
     ensures { IfSome result (λ n. (1 ≤ n) × (n ≤ most)) }
 {

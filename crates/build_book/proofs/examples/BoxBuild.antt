@@ -1,5 +1,5 @@
 -- A worked example: the build of a box, and a book with one of its layers. So the laws of books and builds speak of
--- something: a layer with a loop, filled pixels and pixels that aren't, of facets of which one is degenerate.
+-- something: a layer with a loop, filled pixels and pixels that are not, of facets of which one is degenerate.
 use Rattle.std.proofs.Common.{◌≡◌, ℕ, zero, suc, ◌<◌, List, [], ◌∷◌, Option, Some, None, refl, subst, arith, slice_get}
 use Rattle.std.specs.Prelude.{pos}
 use Rattle.geometry.proofs.examples.Meshes.{at, cube}

@@ -14,7 +14,7 @@ use Rattle.raster.specs.Grid.{Grid, centre}
 use Rattle.geometry.specs.Facet.{Facet}
 use Rattle.build_book.proofs.lemmas.OneLayer.{holds, Holds, holds-is, none_later, UpTo, within-parts}
 
--- sums over a run of numbers
+-- sums over n numbers from a on
 
 same_sums : (f g : ℕ → ℕ) (a n : ℕ) → ((i : ℕ) → i < a + n → f i ≡ g i)
     → sum_by f (range_with_len a n) ≡ sum_by g (range_with_len a n)
@@ -45,19 +45,19 @@ no_sum f a (suc n) none =
 abbrev one_if : Bool → ℕ
 one_if b = cond b 1 0
 
--- of a run of columns those from `from` up to and without `to`
+-- how many of n columns from a on lie from `from` up to but not including `to`
 between_count : (from to a n : ℕ)
     → sum_by (λ i. one_if (nat_le from i && nat_lt i to)) (range_with_len a n) ≡ min to (a + n) - max from a
 between_count from to a zero = omega arith
 between_count from to a (suc n) = simp sum_by-cons (by_order (leb_tells from a) (leb_tells (suc a) to) (between_count from to (a + 1) n))
   where
-    behind : ℕ
-    behind = sum_by (λ i. one_if (nat_le from i && nat_lt i to)) (range_with_len (a + 1) n)
+    after : ℕ
+    after = sum_by (λ i. one_if (nat_le from i && nat_lt i to)) (range_with_len (a + 1) n)
 
     by_order : ((nat_le from a ≡ true) × (from ≤ a)) ⊎ ((nat_le from a ≡ false) × (a < from))
         → ((nat_le (suc a) to ≡ true) × (suc a ≤ to)) ⊎ ((nat_le (suc a) to ≡ false) × (to < suc a))
-        → behind ≡ min to (a + 1 + n) - max from (a + 1)
-        → one_if (nat_le from a && nat_lt a to) + behind ≡ min to (a + suc n) - max from a
+        → after ≡ min to (a + 1 + n) - max from (a + 1)
+        → one_if (nat_le from a && nat_lt a to) + after ≡ min to (a + suc n) - max from a
     by_order (inl x) (inl y) rest = rw (x.0, y.0) (omega (arith, x.1, y.1, rest))
     by_order (inl x) (inr y) rest = rw (x.0, y.0) (omega (arith, x.1, y.1, rest))
     by_order (inr x) other rest = rw x.0 (omega (arith, x.1, rest))
@@ -69,22 +69,22 @@ elsewhere r w j apart = by_test (r == j) refl
     by_test true e = absurd (apart (eqb-true _ _ e))
     by_test false e = refl
 
--- a number that stands in one place of a run
+-- w for the one number that is r, 0 for the others, summed over n numbers from a on
 once_sum : (r w a n : ℕ) → a ≤ r → r < a + n → sum_by (λ j. cond (r == j) w 0) (range_with_len a n) ≡ w
 once_sum r w a zero low high = absurd (omega (arith, low, high))
 once_sum r w a (suc n) low high = simp sum_by-cons (by_test (r == a) refl (once_sum r w (a + 1) n))
   where
-    behind : ℕ
-    behind = sum_by (λ j. cond (r == j) w 0) (range_with_len (a + 1) n)
+    after : ℕ
+    after = sum_by (λ j. cond (r == j) w 0) (range_with_len (a + 1) n)
 
-    by_test : (b : Bool) → (r == a) ≡ b → (a + 1 ≤ r → r < a + 1 + n → behind ≡ w) → cond b w 0 + behind ≡ w
+    by_test : (b : Bool) → (r == a) ≡ b → (a + 1 ≤ r → r < a + 1 + n → after ≡ w) → cond b w 0 + after ≡ w
     by_test true e later =
         let at : r ≡ a = eqb-true _ _ e in
-        let rest : behind ≡ 0 = no_sum (λ j. cond (r == j) w 0) (a + 1) n (λ j l. elsewhere r w j (λ same. omega (arith, at, same, l))) in
+        let rest : after ≡ 0 = no_sum (λ j. cond (r == j) w 0) (a + 1) n (λ j l. elsewhere r w j (λ same. omega (arith, at, same, l))) in
         omega (arith, rest)
     by_test false e later =
         let apart : r ≡ a → ⊥ = grind (arith, nat_tests) in
-        let rest : behind ≡ w = later (omega (arith, apart, low)) (omega (arith, high)) in
+        let rest : after ≡ w = later (omega (arith, apart, low)) (omega (arith, high)) in
         omega (arith, rest)
 
 -- the pixels that a span has in one row

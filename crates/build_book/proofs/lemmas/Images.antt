@@ -1,4 +1,4 @@
--- The layers in a list of lawful layers, and their images, one behind the other.
+-- The layers in a list of lawful layers, and their images, one after the other.
 use Rattle.std.proofs.Common.{◌≡◌, ℕ, zero, suc, ◌+◌, ◌<◌, List, [], ◌∷◌, ◌++◌, length, ap, sym, subst, ◌∙◌, arith, slice_index_or}
 use Rattle.std.specs.Prelude.{flat_map, map}
 use Rattle.std.specs.List.{range_with_len}
@@ -29,7 +29,7 @@ picture_of job k x lawful =
     same-picture job.grid.columns job.grid.rows (covers x.spans)
     (λ m n. is_filled job.rule job.solid.facets (centre job.grid m n k)) lawful.filled
 
--- the part of a number behind the parts of those from `a` on
+-- the part of k comes after the parts of the numbers from `a` on
 pub part_more : (f : ℕ → List ℕ) (a n k : ℕ) → a + n ≡ k
     → flat_map f (range_with_len a (n + 1)) ≡ flat_map f (range_with_len a n) ++ f k
 part_more f a n k at =

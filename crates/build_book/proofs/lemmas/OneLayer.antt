@@ -40,7 +40,7 @@ before-is s t h = by_tests (nat_lt s.row t.row) (s.row == t.row) refl refl h
     by_tests false true low same e = inr (eqb-true _ _ same, leb-true _ _ e)
     by_tests false false low same e = cc
 
--- a pixel up to the one behind a span
+-- a pixel up to the one after a span
 unfoldable pub UpTo : Span → ℕ → ℕ → Type 0
 UpTo s i j = (j < s.row) ⊎ ((j ≡ s.row) × (i ≤ s.to))
 
@@ -87,7 +87,7 @@ not_before x xs i j some apart h = by_order (leb_tells (suc x.row) j) (leb_tells
     by_order (inr a) (inl under) = by_head (holds i j x) refl (inl under.1)
     by_order (inr a) (inr b) = in_row (omega (arith, a.1, b.1)) (leb_tells i x.to)
 
--- two ends: the pixel behind a span is in no span of its list
+-- the pixel after the first span is in no span of the list
 end_free : (x : Span) (xs : List Span) → list_all (is_span_before x) xs ≡ true → covers (x ∷ xs) x.to x.row ≡ false
 unfolding UpTo
 end_free x xs apart = by_test (holds x.to x.row x) refl

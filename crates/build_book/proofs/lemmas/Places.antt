@@ -311,7 +311,7 @@ stripe_filed job s first end ys zs ps qs new lawful stripe at last is free same 
     ∙ ap (λ l. take (8 * s) ps ++ map Some l ++ drop (8 * s + length l) ps) same
     ∙ ap (λ l. take (8 * s) l ++ map Some zs ++ drop (8 * s + length zs) l) equal
 
--- the bounds of a stripe, and its layers, have room
+-- the places of a stripe are in the list, and its layers fit there
 pub below_end : (first end : ℕ) → first < end → end ≤ LAYER_LIMIT → Fits w64 first
 below_end first end below few = omega (arith, below, few)
 

@@ -1,4 +1,4 @@
--- What is promised of a layer holds of each lawful one, and leaves no choice of it. Nor is there a choice of whole builds.
+-- A lawful layer is as promised, and no other layer is. A job has one complete build at most.
 use Rattle.std.proofs.Common.{◌≡◌, ℕ, zero, suc, ◌+◌, ◌<◌, Bool, true, false, cond, Decides, List, [], ◌∷◌, length, refl, sym, ◌∙◌, ap, subst, arith, Some, slice_get}
 use Rattle.std.specs.Prelude.{ℤ, pos, nat_abs, int_lt, ◌<ℤ◌, ◌%◌, ◌==◌, filter}
 use Rattle.std.specs.Ordering.{int_eq}

@@ -1,9 +1,11 @@
--- Any pixels of a grid are the pixels of some spans: the rows from the last to the first, each from the right.
+-- For any set of pixels of a grid there are spans that cover just these. They are built from the last row to the first,
+-- each row from the right.
 use Rattle.std.proofs.Common.{◌≡◌, ℕ, zero, suc, ◌+◌, ◌<◌, ◌≤◌, ◌⊎◌, inl, inr, Bool, true, false, ◌&&◌, ◌||◌, List, [], ◌∷◌, refl, sym, ◌∙◌, ap, subst, arith}
 use Rattle.std.specs.Prelude.{nat_lt, nat_le, ◌==◌}
 use Rattle.std.specs.List.{list_all}
-use Rattle.std.proofs.lemmas.Bool.{and_from, and_parts}
+use Rattle.std.proofs.lemmas.Bool.{and_from}
 use Rattle.std.proofs.lemmas.Bool.Decides.{nat_tests, leb_tells}
+use Rattle.exact_int.proofs.lemmas.Lists.{all-weaker}
 use Rattle.raster.specs.declared.span.Span.{Span}
 use Rattle.raster.specs.Span.{AreSpans, covers, is_span_within, is_span_before, are_apart}
 use Rattle.build_book.proofs.lemmas.OneLayer.{UpTo, none_later, holds, holds-by}
@@ -11,30 +13,24 @@ use Rattle.build_book.proofs.lemmas.OneLayer.{UpTo, none_later, holds, holds-by}
 abbrev span : ℕ → ℕ → ℕ → Span
 span row from to = record { row = row; from = from; to = to }
 
--- the spans lie behind column n of row j, with a gap
-abbrev AreBehind : ℕ → ℕ → List Span → Type 0
-AreBehind j n spans = list_all (is_span_before (span j 0 n)) spans ≡ true
+-- the spans come after column n of row j, with a gap
+abbrev AreAfter : ℕ → ℕ → List Span → Type 0
+AreAfter j n spans = list_all (is_span_before (span j 0 n)) spans ≡ true
 
-weaker : (p q : Span → Bool) → ((s : Span) → p s ≡ true → q s ≡ true) → (spans : List Span) → list_all p spans ≡ true → list_all q spans ≡ true
-weaker p q f [] h = refl
-weaker p q f (s ∷ spans) h =
-    let parts : (p s ≡ true) × (list_all p spans ≡ true) = and_parts _ _ h in
-    and_from (q s) (list_all q spans) (f s parts.0) (weaker p q f spans parts.1)
-
-behind-earlier : (j m n : ℕ) (spans : List Span) → n ≤ m → AreBehind j m spans → AreBehind j n spans
-behind-earlier j m n spans less h = weaker _ _ (λ s. by s.row s.from) spans h
+after-earlier : (j m n : ℕ) (spans : List Span) → n ≤ m → AreAfter j m spans → AreAfter j n spans
+after-earlier j m n spans less h = all-weaker _ _ (λ s. by s.row s.from) spans h
   where
     by : (row from : ℕ) → (nat_lt j row || (j == row && nat_lt m from)) ≡ true → (nat_lt j row || (j == row && nat_lt n from)) ≡ true
     by row from h = grind (arith, nat_tests)
 
-behind-rows : (j n : ℕ) (spans : List Span) → AreBehind j n spans → list_all (λ s. nat_le j s.row) spans ≡ true
-behind-rows j n spans h = weaker _ _ (λ s. by s.row s.from) spans h
+after-rows : (j n : ℕ) (spans : List Span) → AreAfter j n spans → list_all (λ s. nat_le j s.row) spans ≡ true
+after-rows j n spans h = all-weaker _ _ (λ s. by s.row s.from) spans h
   where
     by : (row from : ℕ) → (nat_lt j row || (j == row && nat_lt n from)) ≡ true → nat_le j row ≡ true
     by row from h = grind (arith, nat_tests)
 
-rows-behind : (j n : ℕ) (spans : List Span) → list_all (λ s. nat_le (suc j) s.row) spans ≡ true → AreBehind j n spans
-rows-behind j n spans h = weaker _ _ (λ s. by s.row s.from) spans h
+rows-after : (j n : ℕ) (spans : List Span) → list_all (λ s. nat_le (suc j) s.row) spans ≡ true → AreAfter j n spans
+rows-after j n spans h = all-weaker _ _ (λ s. by s.row s.from) spans h
   where
     by : (row from : ℕ) → nat_le (suc j) row ≡ true → (nat_lt j row || (j == row && nat_lt n from)) ≡ true
     by row from h = grind (arith, nat_tests)
@@ -46,17 +42,17 @@ holds-not i j s h = by s.row s.from s.to h
     by row from to h = grind (arith, nat_tests)
 
 module _ (p : ℕ → ℕ → Bool) (columns rows : ℕ) where
-  -- the spans have the pixels of the rows behind row j, and those of row j from column n on
+  -- the spans have the pixels of the rows after row j, and those of row j from column n on
   record Made (j n : ℕ) (spans : List Span) : Type 0 where
     within : list_all (is_span_within columns rows) spans ≡ true
     apart : are_apart spans ≡ true
     later : (i r : ℕ) → i < columns → j < r → r < rows → covers spans i r ≡ p i r
     here : (i : ℕ) → n ≤ i → i < columns → covers spans i j ≡ p i j
 
-  -- the pixel of the column before isn't filled
-  skipped : (j n : ℕ) (spans : List Span) → p n j ≡ false → AreBehind j n spans → Made j (suc n) spans → Made j n spans
+  -- the pixel of the column before is not filled
+  skipped : (j n : ℕ) (spans : List Span) → p n j ≡ false → AreAfter j n spans → Made j (suc n) spans → Made j n spans
   unfolding UpTo
-  skipped j n spans empty behind m = record {
+  skipped j n spans empty after m = record {
     within = m.within;
     apart = m.apart;
     later = m.later;
@@ -67,14 +63,14 @@ module _ (p : ℕ → ℕ → Bool) (columns rows : ℕ) where
       by_order i low high (inl x) = m.here i x.1 high
       by_order i low high (inr x) =
           let same : n ≡ i = omega (arith, x.1, low) in
-          none_later (span j 0 n) spans i j behind (inr (refl, omega (arith, same))) ∙ sym empty ∙ ap (λ c. p c j) same
+          none_later (span j 0 n) spans i j after (inr (refl, omega (arith, same))) ∙ sym empty ∙ ap (λ c. p c j) same
 
-  -- a run of filled pixels is a span before those behind it
+  -- a stretch of filled pixels is a span before those after it
   joined : (j from to : ℕ) (spans : List Span) → j < rows → from < to → to ≤ columns → ((i : ℕ) → from ≤ i → i < to → p i j ≡ true)
-      → AreBehind j to spans → Made j to spans → Made j from (span j from to ∷ spans)
-  joined j from to spans low some within run behind m = record {
+      → AreAfter j to spans → Made j to spans → Made j from (span j from to ∷ spans)
+  joined j from to spans low some within filled after m = record {
     within = and_from _ _ (inside j from to low some within) m.within;
-    apart = and_from _ _ behind m.apart;
+    apart = and_from _ _ after m.apart;
     later = λ i r x y z. ap (λ b. b || covers spans i r) (holds-not i r (span j from to) (λ e f. absurd (omega (arith, e, y)))) ∙ m.later i r x y z;
     here = λ i x y. by_order i x y (leb_tells to i);
   }
@@ -85,13 +81,13 @@ module _ (p : ℕ → ℕ → Bool) (columns rows : ℕ) where
       by_order : (i : ℕ) → from ≤ i → i < columns → ((nat_le to i ≡ true) × (to ≤ i)) ⊎ ((nat_le to i ≡ false) × (i < to)) → covers (span j from to ∷ spans) i j ≡ p i j
       by_order i x y (inl past) =
           ap (λ b. b || covers spans i j) (holds-not i j (span j from to) (λ e f. past.1)) ∙ m.here i past.1 y
-      by_order i x y (inr in_run) =
-          ap (λ b. b || covers spans i j) (holds-by i j (span j from to) refl x in_run.1) ∙ sym (run i x in_run.1)
+      by_order i x y (inr earlier) =
+          ap (λ b. b || covers spans i j) (holds-by i j (span j from to) refl x earlier.1) ∙ sym (filled i x earlier.1)
 
-  -- row j from column n on, where the pixel at n isn't filled; and where it is in a run of filled pixels up to `to`
+  -- row j from column n on: in `Shut` no span reaches column n, in `Open` the pixels from n up to `to` are filled
   record Shut (j n : ℕ) : Type 0 where
     spans : List Span
-    behind : AreBehind j n spans
+    after : AreAfter j n spans
     made : Made j n spans
 
   record Open (j n : ℕ) : Type 0 where
@@ -99,8 +95,8 @@ module _ (p : ℕ → ℕ → Bool) (columns rows : ℕ) where
     to : ℕ
     some : n < to
     within : to ≤ columns
-    run : (i : ℕ) → n ≤ i → i < to → p i j ≡ true
-    behind : AreBehind j to spans
+    filled : (i : ℕ) → n ≤ i → i < to → p i j ≡ true
+    after : AreAfter j to spans
     made : Made j to spans
 
   record Row (j : ℕ) : Type 0 where
@@ -109,11 +105,11 @@ module _ (p : ℕ → ℕ → Bool) (columns rows : ℕ) where
     made : Made j 0 spans
 
   row : (j : ℕ) → j < rows → (n : ℕ) → n ≤ columns → Shut j n ⊎ Open j n → Row j
-  row j low zero at (inl s) = record { spans = s.spans; from_row = behind-rows j 0 s.spans s.behind; made = s.made }
+  row j low zero at (inl s) = record { spans = s.spans; from_row = after-rows j 0 s.spans s.after; made = s.made }
   row j low zero at (inr s) = record {
     spans = span j 0 s.to ∷ s.spans;
-    from_row = and_from _ _ (own j) (behind-rows j s.to s.spans s.behind);
-    made = joined j 0 s.to s.spans low s.some s.within s.run s.behind s.made;
+    from_row = and_from _ _ (own j) (after-rows j s.to s.spans s.after);
+    made = joined j 0 s.to s.spans low s.some s.within s.filled s.after s.made;
   }
     where
       own : (j : ℕ) → nat_le j j ≡ true
@@ -126,24 +122,24 @@ module _ (p : ℕ → ℕ → Bool) (columns rows : ℕ) where
         to = suc n;
         some = omega arith;
         within = at;
-        run = λ i x y. let same : n ≡ i = omega (arith, x, y) in subst (λ c. p c j ≡ true) same e;
-        behind = s.behind;
+        filled = λ i x y. let same : n ≡ i = omega (arith, x, y) in subst (λ c. p c j ≡ true) same e;
+        after = s.after;
         made = s.made;
       }))
       by_test rest false e =
-          let behind : AreBehind j n s.spans = behind-earlier j (suc n) n s.spans (omega arith) s.behind in
-          rest (inl (record { spans = s.spans; behind = behind; made = skipped j n s.spans e behind s.made }))
+          let after : AreAfter j n s.spans = after-earlier j (suc n) n s.spans (omega arith) s.after in
+          rest (inl (record { spans = s.spans; after = after; made = skipped j n s.spans e after s.made }))
   row j low (suc n) at (inr s) = by_test (row j low n (omega (arith, at))) (p n j) refl
     where
       order : (n to : ℕ) → suc n < to → n ≤ to
       order n to h = omega (arith, h)
 
       longer : (b : p n j ≡ true) (i : ℕ) → n ≤ i → i < s.to → ((nat_le (suc n) i ≡ true) × (suc n ≤ i)) ⊎ ((nat_le (suc n) i ≡ false) × (i < suc n)) → p i j ≡ true
-      longer e i x y (inl past) = s.run i past.1 y
+      longer e i x y (inl past) = s.filled i past.1 y
       longer e i x y (inr first) = let same : n ≡ i = omega (arith, x, first.1) in subst (λ c. p c j ≡ true) same e
 
-      first_behind : (j n to : ℕ) → is_span_before (span j 0 n) (span j (suc n) to) ≡ true
-      first_behind j n to = grind (arith, nat_tests)
+      first_after : (j n to : ℕ) → is_span_before (span j 0 n) (span j (suc n) to) ≡ true
+      first_after j n to = grind (arith, nat_tests)
 
       by_test : (Shut j n ⊎ Open j n → Row j) → (b : Bool) → p n j ≡ b → Row j
       by_test rest true e = let some : suc n < s.to = s.some in rest (inr (record {
@@ -151,17 +147,17 @@ module _ (p : ℕ → ℕ → Bool) (columns rows : ℕ) where
         to = s.to;
         some = omega (arith, some);
         within = s.within;
-        run = λ i x y. longer e i x y (leb_tells (suc n) i);
-        behind = s.behind;
+        filled = λ i x y. longer e i x y (leb_tells (suc n) i);
+        after = s.after;
         made = s.made;
       }))
       by_test rest false e =
-          let behind : AreBehind j n (span j (suc n) s.to ∷ s.spans) =
-          and_from _ _ (first_behind j n s.to) (behind-earlier j s.to n s.spans (order n s.to s.some) s.behind) in
+          let after : AreAfter j n (span j (suc n) s.to ∷ s.spans) =
+          and_from _ _ (first_after j n s.to) (after-earlier j s.to n s.spans (order n s.to s.some) s.after) in
           rest (inl (record {
             spans = span j (suc n) s.to ∷ s.spans;
-            behind = behind;
-            made = skipped j n (span j (suc n) s.to ∷ s.spans) e behind (joined j (suc n) s.to s.spans low s.some s.within s.run s.behind s.made);
+            after = after;
+            made = skipped j n (span j (suc n) s.to ∷ s.spans) e after (joined j (suc n) s.to s.spans low s.some s.within s.filled s.after s.made);
           }))
 
   -- the rows from j on
@@ -184,7 +180,7 @@ module _ (p : ℕ → ℕ → Bool) (columns rows : ℕ) where
       this : Row j
       this = row j low columns (omega arith) (inl (record {
         spans = rest.spans;
-        behind = rows-behind j columns rest.spans rest.from_row;
+        after = rows-after j columns rest.spans rest.from_row;
         made = record {
           within = rest.within;
           apart = rest.apart;

@@ -6,7 +6,7 @@ use Rattle.raster.specs.Grid.{Grid, plane}
 use Rattle.build_book.specs.Job.{Job}
 use Rattle.build_book.specs.Layer.{Layer, IsLawful, AreLawfulFrom}
 
--- planes of later layers aren't lower
+-- planes of later layers are not lower
 pub planes_rise : (g : Grid) (j k : ℕ) → j ≤ k → plane g j ≤ℤ plane g k
 planes_rise g j k h = raised (pos 2 *ℤ g.origin.z) _ _ (mul-le-mul_left g.layer_height (omega (arith, h)))
   where

@@ -31,19 +31,19 @@ record Pair : Type 0 where
 fields : (p : Pair) (f : ℤ → ℤ) → (p.one +ℤ f p.two) *ℤ (p.one -ℤ f p.two) ≡ p.one *ℤ p.one -ℤ f p.two *ℤ f p.two
 fields p f = identity (p.one ∷ f p.two ∷ []) (search reads depth 40) refl
 
--- a result fits its type, by bounds on the magnitudes of the numbers that it is computed from
-fitting : (x y z : ℤ) → IsAtMost 128000000 x → IsAtMost 128000000 y → IsAtMost 256200000 z → FitsSigned w128 ((pos 2 *ℤ x -ℤ z) *ℤ (pos 2 *ℤ y -ℤ x) *ℤ z -ℤ z *ℤ z *ℤ z *ℤ z)
+-- a result fits its type, by bounds on the magnitudes of the numbers that it is computed from; these bounds are examples
+fitting : (x y z : ℤ) → IsAtMost 1000000000 x → IsAtMost 1000000000 y → IsAtMost 2000000000 z → FitsSigned w128 ((pos 2 *ℤ x -ℤ z) *ℤ (pos 2 *ℤ y -ℤ x) *ℤ z -ℤ z *ℤ z *ℤ z *ℤ z)
 fitting x y z hx hy hz = fits w128 (search sizes depth 40) refl
 
 bounded : (x y : ℤ) → IsAtMost 10 x → IsAtMost 20 y → IsAtMost 230 (x *ℤ y +ℤ pos 3 *ℤ x)
 bounded x y hx hy = is_at_most 230 (search sizes depth 40) refl
 
 -- a goal of the code: each result is stored in the bits of its type and read back
-as_in_code : (x y : ℤ) → IsAtMost 128000000 x → IsAtMost 128000000 y → to_z w64 (of_z w64 (pos 2 *ℤ to_z w64 (of_z w64 x))) *ℤ to_z w64 (of_z w64 y) ≡ y *ℤ x +ℤ x *ℤ y
+as_in_code : (x y : ℤ) → IsAtMost 1000000000 x → IsAtMost 1000000000 y → to_z w64 (of_z w64 (pos 2 *ℤ to_z w64 (of_z w64 x))) *ℤ to_z w64 (of_z w64 y) ≡ y *ℤ x +ℤ x *ℤ y
 as_in_code x y hx hy = identity (x ∷ y ∷ []) (search (reads, sizes) depth 40 fits 5000) refl
 
--- a cast of an unsigned number is taken whole, as one variable
-cast : (x : ℤ) (n : ℕ) → IsAtMost 128000000 x → n ≤ 100000 → to_z w64 (of_z w64 (pos 2 *ℤ to_z w64 n)) *ℤ to_z w64 (of_z w64 x) ≡ x *ℤ (pos 2 *ℤ to_z w64 n)
+-- a cast of an unsigned number counts as one variable
+cast : (x : ℤ) (n : ℕ) → IsAtMost 1000000000 x → n ≤ 1000000 → to_z w64 (of_z w64 (pos 2 *ℤ to_z w64 n)) *ℤ to_z w64 (of_z w64 x) ≡ x *ℤ (pos 2 *ℤ to_z w64 n)
 cast x n hx hn =
-    let h = cast_in w64 n 100000 hn in
+    let h = cast_in w64 n 1000000 hn in
     identity (x ∷ to_z w64 n ∷ []) (search (reads, sizes) depth 40 fits 5000) refl

@@ -1,4 +1,4 @@
--- The least multiple of d that isn't below n, by the quotient that rounds toward zero.
+-- The least multiple of d that is not below n, by the quotient that rounds toward zero.
 use Rattle.std.proofs.Common.{◌≡◌, ◌<◌, ◌↔◌, [], ◌∷◌, ℤ, pos, ◌+ℤ◌, ◌-ℤ◌, ◌*ℤ◌, neg_ℤ, ◌≤ℤ◌, ◌<ℤ◌, int_div, int_rem, unsigned_abs, refl, arith}
 use Rattle.std.proofs.lemmas.Int.{ints, quot-rem, rem_below}
 use lib.IntN.{*ℤ_comm}

@@ -45,7 +45,7 @@ hit_behind : hit (twice slanted) (at (pos 2) (pos 1) (pos 1)) ≡ pos 0
 unfolding turn_of wind hit
 hit_behind = refl
 
--- a facet that is seen edge-on along x isn't crossed
+-- a facet that is seen edge-on along x is not crossed
 wind_line : wind (twice (facet_with (at (pos 0) (pos 0) (pos 0)) (at (pos 0) (pos 0) (pos 4)) (at (pos 2) (pos 0) (pos 2)))) (pos 0) (pos 0) ≡ pos 0
 unfolding turn_of wind
 wind_line = refl

@@ -1,4 +1,4 @@
--- The box of a list of points holds each of them, and each of its six coordinates is one of theirs.
+-- The bounding box of a list of points holds each of them, and each of its six coordinates is one of theirs.
 use Rattle.std.proofs.Common.{◌≡◌, zero, suc, get_or, List, [], ◌∷◌, ◌⊎◌, inl, inr, refl, sym, ◌∙◌, ap, subst, arith, map, fold}
 use Rattle.std.specs.Prelude.{All, Contains, None, Option, Some, ◌++◌, flat_map, option_map, slice_get, ℤ, ◌≤ℤ◌}
 use Rattle.std.specs.Int.{int_min, int_max}
@@ -76,7 +76,7 @@ points-tight p ps = record {
   high_z = greatest-reached z_of (λ a b. refl) p ps;
 }
 
--- what has been folded from the first point on, over all points
+-- a fold that begins at the first point, over all points
 module _ (ps : List Point) (start low high : Point) (low_is : low ≡ fold least_of start ps) (high_is : high ≡ fold greatest_of start ps) where
   pub box-holds : All (IsInBox low high) ps
   box-holds k d l =
@@ -110,7 +110,7 @@ pub first-corner : (facets : List Facet) (t : Facet) (start : Point) → Some t 
 first-corner [] t start e s = absurd (cc)
 first-corner (f ∷ facets) t start e s = let same : t ≡ f = cc in ap Some (sym (s ∙ ap (λ (u : Facet). u.a) same))
 
--- A box that grows by further facets.
+-- A bounding box that grows by further facets.
 
 abbrev box : Point → Point → Option (Point × Point)
 box low high = Some (low, high)
@@ -142,7 +142,7 @@ grown-box (t ∷ ts) more low high least greatest e least_is greatest_is =
     greatest_is ∙ ap (λ p. fold greatest_of p qs) high_is ∙ sym (fold-append greatest_of t.a ps qs) ∙ ap (fold greatest_of t.a) (sym all) in
     ap (λ p. box p greatest) lower ∙ ap (λ p. box (fold least_of t.a (t.b ∷ t.c ∷ flat_map corners (ts ++ more))) p) higher
 
--- Lists of points with the same members have one box.
+-- Lists of points with the same members have one bounding box.
 
 mapped : (pick : Point → ℤ) (P : ℤ → Type 0) (ps : List Point) → All (λ q. P (pick q)) ps → All P (map pick ps)
 mapped pick P [] all k d l = absurd (omega (arith, l))
@@ -185,7 +185,7 @@ module _ (p q : Point) (ps qs : List Point) (within : All (Contains (q ∷ qs)) 
       λ pick each. antisym _ _ (one_greatest q p qs ps covers within pick each) (one_greatest p q ps qs within covers pick each) in
       point_is _ _ (one x_of (λ a b. refl)) (one y_of (λ a b. refl)) (one z_of (λ a b. refl))
 
--- the box that was folded over points from a member on is that of each list with the same members
+-- a fold that begins at one of the points gives the bounding box of each list with the same members
 pub box-alike : (ps cs : List Point) (start low high : Point) → Contains ps start → All (Contains cs) ps → All (Contains ps) cs
     → low ≡ fold least_of start ps → high ≡ fold greatest_of start ps → box low high ≡ sides (bounds_of cs)
 box-alike ps [] start low high own within covers low_is high_is =

@@ -53,15 +53,15 @@ ray_neighbour = refl
 -- ---- slabs
 -- a grid of ten layers that begins at the limit of coordinates: all above its first layer begins beyond it
 abbrev pub tall : Grid
-tall = grid_with (at (pos 0) (pos 0) (pos 128000000)) 1 1 1 1 10
+tall = grid_with (at (pos 0) (pos 0) (pos COORDINATE_LIMIT)) 1 1 1 1 10
 
-in_limits : (n : ℕ) → n ≤ 128000000 → IsAtMost COORDINATE_LIMIT (pos n)
+in_limits : (n : ℕ) → n ≤ COORDINATE_LIMIT → IsAtMost COORDINATE_LIMIT (pos n)
 in_limits n h = record { at_most = h }
 
 tall_is_a_grid : IsGrid tall
 tall_is_a_grid =
     record {
-      origin = (in_limits 0 (lit≤ tt), in_limits 0 (lit≤ tt), in_limits 128000000 (lit≤ tt));
+      origin = (in_limits 0 (lit≤ tt), in_limits 0 (lit≤ tt), in_limits COORDINATE_LIMIT (lit≤ tt));
       pitch_low = lit≤ tt;
       pitch_high = lit≤ tt;
       layer_height_low = lit≤ tt;

@@ -1,4 +1,4 @@
--- A facet and a point that are moved together are seen from each other as before.
+-- A facet and a point that are moved together keep their winding, volume and hit.
 use Rattle.std.proofs.Common.{◌≡◌, ℕ, List, [], ◌∷◌, ℤ, pos, ◌+ℤ◌, ◌-ℤ◌, ◌*ℤ◌, ◌+◌, ◌*◌, refl, sym, ◌∙◌, ap}
 use Rattle.std.specs.Prelude.{count_by, flat_map, sum_by}
 use Rattle.exact_int.proofs.lemmas.Identity.{reads, identity}

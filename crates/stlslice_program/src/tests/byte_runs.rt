@@ -83,7 +83,7 @@ fn is_cut_by_each_room<R: Threads + Wait + Sync + AllocGlobal>(
     true
 }
 
-/// Whether a run whose reader fails behind this many calls writes nothing, by each fault.
+/// Whether a run whose reader fails after this many calls writes nothing, by each fault.
 fn is_unread_at<R: Threads + Wait + Sync + AllocGlobal>(
     rt: &R,
     line: &str,

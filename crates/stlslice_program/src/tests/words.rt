@@ -271,7 +271,7 @@ static REFUSED: [Refused; 16] = [
     ("-h", 0, ABOUT),
 ];
 
-/// Texts that begin with `-` behind a blank, which the command takes for options. The text of the refusal is left open.
+/// Texts that begin with `-` after a blank, which the command takes for options. The text of the refusal is left open.
 static DASHED: [Refused; 3] = [
     ("--grid -0,1,1,0,0,0 --box", 2, ""),
     ("--grid -1,1,1,0,0,0 --pitch 1 --layer 1", 2, ""),

@@ -1,4 +1,4 @@
--- Passes that are taken from the end of a list, and what their lists add up to.
+-- Passes are taken from the end of a list, one by one: what the lists of the passes taken so far add up to.
 use Rattle.std.proofs.Common.{◌≡◌, ℕ, zero, suc, ◌+◌, ◌<◌, ◌≤◌, true, List, [], ◌∷◌, ◌++◌, length, sum_by, All, Any, nat_le, refl, sym, ap, ◌∙◌, subst, arith, length-append, ltb-true}
 use Rattle.std.specs.Prelude.{◌==◌}
 use Rattle.std.proofs.lemmas.List.{get_or_at, get_or_append_left}

@@ -7,16 +7,16 @@ use Rattle.build_book.proofs.places.make_stripe.Goals.{After-into_layers}
 use Rattle.build_book.proofs.places.make_stripe.Goals as goal
 
 pub overflow_cast-first : goal.overflow_cast-first
-overflow_cast-first g c = below_end c.bounds-first.result.0 c.bounds-first.result.1 c.bounds-first.ensures.some c.bounds-first.ensures.few
+overflow_cast-first g c = below_end c.layer_range-first.result.0 c.layer_range-first.result.1 c.layer_range-first.ensures.some c.layer_range-first.ensures.few
 
 pub overflow_cast-end : goal.overflow_cast-end
-overflow_cast-end g c = at_end c.bounds-first.result.1 c.bounds-first.ensures.few
+overflow_cast-end g c = at_end c.layer_range-first.result.1 c.layer_range-first.ensures.few
 
 pub overflow_cast-first-2 : goal.overflow_cast-first-2
-overflow_cast-first-2 g c = below_end c.bounds-first.result.0 c.bounds-first.result.1 c.bounds-first.ensures.some c.bounds-first.ensures.few
+overflow_cast-first-2 g c = below_end c.layer_range-first.result.0 c.layer_range-first.result.1 c.layer_range-first.ensures.some c.layer_range-first.ensures.few
 
 pub is_full-requires : goal.is_full-requires
-is_full-requires g c = end_within c.args.job.now c.bounds-first.result.1 c.args.places.now c.requires.lawful c.bounds-first.ensures.within
+is_full-requires g c = end_within c.args.job.now c.layer_range-first.result.1 c.args.places.now c.requires.lawful c.layer_range-first.ensures.within
 
 own_stripe : (g : Over) (c : After-into_layers g) → IsStripe c.args.job.now c.args.s c.into_layers.result.items
 own_stripe g c =
@@ -25,26 +25,26 @@ own_stripe g c =
 
 pub fill_gaps-requires-clause-room : goal.fill_gaps-requires-clause-room
 fill_gaps-requires-clause-room g c =
-    stripe_fits c.args.job.now c.args.s c.bounds-first.result.0 c.bounds-first.result.1 c.into_layers.result.items c.args.places.now c.requires.lawful
-    c.bounds-first.ensures.first c.bounds-first.ensures.end c.bounds-first.ensures.within (own_stripe g c)
+    stripe_fits c.args.job.now c.args.s c.layer_range-first.result.0 c.layer_range-first.result.1 c.into_layers.result.items c.args.places.now c.requires.lawful
+    c.layer_range-first.ensures.first c.layer_range-first.ensures.end c.layer_range-first.ensures.within (own_stripe g c)
 
 pub fill_gaps-requires-clause-few : goal.fill_gaps-requires-clause-few
 fill_gaps-requires-clause-few g c = stripe_few c.args.job.now c.args.s c.into_layers.result.items (own_stripe g c)
 
 pub returns-then-is_full-clause-below : goal.returns-then-is_full-clause-below
 returns-then-is_full-clause-below g c =
-    stripe_taken c.args.job.now c.args.s _ _ c.args.places.now c.requires.lawful c.bounds-first.ensures.first c.bounds-first.ensures.end c.requires.below
+    stripe_taken c.args.job.now c.args.s _ _ c.args.places.now c.requires.lawful c.layer_range-first.ensures.first c.layer_range-first.ensures.end c.requires.below
     (c.if-is_full.ensures refl)
 
 pub returns-clause-lawful : goal.returns-clause-lawful
 returns-clause-lawful g c =
-    stripe_lawful c.args.job.now c.args.s _ _ c.args.places.now _ c.requires.lawful c.bounds-first.ensures.first
+    stripe_lawful c.args.job.now c.args.s _ _ c.args.places.now _ c.requires.lawful c.layer_range-first.ensures.first
     (moved_stripe _ _ _ _ _ _ (c.in_ok-piece.ensures.job ∙ c.requires.slicer) c.in_ok-piece.ensures.stripe c.into_layers.ensures c.in_ok-piece.ensures.lawful)
     c.fill_gaps.ensures.places
 
 pub returns-clause-below : goal.returns-clause-below
 returns-clause-below g c =
-    stripe_filled c.args.job.now c.args.s _ _ c.args.places.now _ c.requires.lawful c.bounds-first.ensures.first
+    stripe_filled c.args.job.now c.args.s _ _ c.args.places.now _ c.requires.lawful c.layer_range-first.ensures.first
     (moved_stripe _ _ _ _ _ _ (c.in_ok-piece.ensures.job ∙ c.requires.slicer) c.in_ok-piece.ensures.stripe c.into_layers.ensures c.in_ok-piece.ensures.lawful)
     c.fill_gaps.ensures.places c.requires.below
 
@@ -63,8 +63,8 @@ returns-in_err-piece-clause-made g c = let p = err_from_is_err_and c.from_residu
 pub returns-in_err-piece-clause-slicer : goal.returns-in_err-piece-clause-slicer
 returns-in_err-piece-clause-slicer g c = c.slice.ensures.kept
 
-pub bounds-first-requires : goal.bounds-first-requires
-bounds-first-requires g c = c.requires.stripe
+pub layer_range-first-requires : goal.layer_range-first-requires
+layer_range-first-requires g c = c.requires.stripe
 
 pub returns-clause-slicer : goal.returns-clause-slicer
 returns-clause-slicer g c = c.slice.ensures.kept

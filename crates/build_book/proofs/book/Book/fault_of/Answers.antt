@@ -6,12 +6,12 @@ use Rattle.build_book.proofs.lemmas.Places.{none_before}
 use Rattle.build_book.proofs.book.Book.fault_of.Goals as goal
 use Rattle.build_book.proofs.book.Book.fault_of.Goals.{After-first_taken}
 
-first_place : (g : _) (c : After-first_taken g) → c.bounds-first.result.0 ≡ 8 * c.args.piece.now.stripe
-first_place g c = c.bounds-first.ensures.first ∙ ap (λ n. 8 * n) c.stripe.ensures
+first_place : (g : _) (c : After-first_taken g) → c.layer_range-first.result.0 ≡ 8 * c.args.piece.now.stripe
+first_place g c = c.layer_range-first.ensures.first ∙ ap (λ n. 8 * n) c.stripe.ensures
 
-last_place : (g : _) (c : After-first_taken g) → c.bounds-first.result.1 ≡ 8 * c.args.piece.now.stripe + length c.args.piece.now.layers
+last_place : (g : _) (c : After-first_taken g) → c.layer_range-first.result.1 ≡ 8 * c.args.piece.now.stripe + length c.args.piece.now.layers
 last_place g c =
-    c.bounds-first.ensures.end
+    c.layer_range-first.ensures.end
     ∙ ap (λ n. 8 * n + stripe_length c.self.inside.job.now.grid n) c.stripe.ensures
     ∙ ap (λ (w : Job). 8 * c.args.piece.now.stripe + stripe_length w.grid c.args.piece.now.stripe)
     (ap (λ (s : Book). s.job) c.self.view_is ∙ sym c.requires)
@@ -32,10 +32,10 @@ returns-clause-fault g c =
     let d = (goal.at.returns-clause-fault g c).After-first_taken in
     let found = c.in_ok-taken.ensures.some in
     let there : IsTaken c.args.self.now.places c.in_ok-taken.taken = subst (λ l. IsTaken l c.in_ok-taken.taken) (same_places g d) found.2 in
-    let before : AreFree c.args.self.now.places c.bounds-first.result.0 c.in_ok-taken.taken =
-    subst (λ l. AreFree l c.bounds-first.result.0 c.in_ok-taken.taken) (same_places g d) found.3 in (
+    let before : AreFree c.args.self.now.places c.layer_range-first.result.0 c.in_ok-taken.taken =
+    subst (λ l. AreFree l c.layer_range-first.result.0 c.in_ok-taken.taken) (same_places g d) found.3 in (
       c.requires,
       (omega (arith, found.0, first_place g d), omega (arith, found.1, last_place g d)),
       there,
-      λ k at taken. none_before c.args.self.now.places c.bounds-first.result.0 c.in_ok-taken.taken k before (omega (arith, at.0, first_place g d)) taken,
+      λ k at taken. none_before c.args.self.now.places c.layer_range-first.result.0 c.in_ok-taken.taken k before (omega (arith, at.0, first_place g d)) taken,
     )
