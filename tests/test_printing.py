@@ -241,7 +241,10 @@ def refused_part_stops_recipes(program, folder):
             with open(os.path.join(here, "part.stl"), "w") as file:
                 file.write(bad)
             status, told, fault = run(["bash", "-c", block.body], cwd=here, env=env)
-            assert fault.startswith(f"stlslice: {line}\n".encode()), f"{block.head}: {fault!r}"
+            first = f"stlslice: {line}\n".encode()
+            # GNU parallel may name the failed job before it passes on what that job said
+            by_parallel = fault.startswith(b"parallel: This job failed:\n") and b"\n" + first in fault
+            assert fault.startswith(first) or by_parallel, f"{block.head}: {fault!r}"
             left = set(os.listdir(here))
             same(left & names, set(), f"{block.head}: files")
             if "layers" in left:

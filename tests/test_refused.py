@@ -133,7 +133,7 @@ FILES = {
                               bracket()),
     "Several solids without their ends": (
         [re.sub(rb"endsolid.*\n", rb"", bracket() + text(cube(50, 60)).encode())], bracket() + text(cube(50, 60)).encode()),
-    "No normal, or one that isn't three words": (
+    "No normal, or one that is not three words": (
         [replaced(rb"facet normal.*", b"facet"), replaced(rb"facet normal.*", b"facet normal 0 0"),
          replaced(rb"facet normal.*", b"facet normal 0 0 0 1")], bracket()),
     "outer without loop": ([replaced(rb"outer loop", b"outer")], bracket()),
@@ -141,7 +141,7 @@ FILES = {
     "Facets of two corners": ([text([]).replace("endsolid", text(cube(0, 9))[11:-14] + "facet normal 0 0 0\nouter loop\nvertex 0 0 0"
                                                 "\nvertex 0 9 0\nendloop\nendfacet\nendsolid").encode()],
                               text(cube(0, 9)).encode()),
-    "A facet that isn't closed": ([replaced(rb" *endfacet\n", b"")], bracket()),
+    "A facet that is not closed": ([replaced(rb" *endfacet\n", b"")], bracket()),
     "The file was cut": ([before(b"normal", 50), before(b"outer", 50), before(b"loop", 50), before(b"vertex", 151),
                           before(b"vertex", 151) + b"vertex 1 2", before(b"endloop", 50), before(b"endfacet", 50),
                           text(cube()).encode()[:999], bracket()[:30000]], None),
@@ -287,10 +287,10 @@ def other_faults(program, folder):
         "The voxel is outside the grid": lambda: refused(program, bracket(), REPORT[:4] + ["--probe", "320,0,0"]),
         "Status 6: out of memory": lambda: run(
             ["bash", "-c", f"ulimit -v 20000; exec {quoted} --pitch 10 --layer 10 --report < part.stl"], cwd=folder),
-        "The input can't be read": lambda: run(["bash", "-c", f"{quoted} --box < /"]),
-        "The output can't be written": lambda: run(["bash", "-c", f"{quoted} --pitch 100 --layer 100 < part.stl > /dev/full"], cwd=folder),
-        "The help can't be written": lambda: run(["bash", "-c", f"{quoted} --help > /dev/full"]),
-        "The version can't be written": lambda: run(["bash", "-c", f"{quoted} --version > /dev/full"]),
+        "The input cannot be read": lambda: run(["bash", "-c", f"{quoted} --box < /"]),
+        "The output cannot be written": lambda: run(["bash", "-c", f"{quoted} --pitch 100 --layer 100 < part.stl > /dev/full"], cwd=folder),
+        "The help cannot be written": lambda: run(["bash", "-c", f"{quoted} --help > /dev/full"]),
+        "The version cannot be written": lambda: run(["bash", "-c", f"{quoted} --version > /dev/full"]),
     }
     same({head for head, section in page.items() if section[0] in (5, 6, 7)}, set(runs), "headings")
     for head, made in runs.items():
