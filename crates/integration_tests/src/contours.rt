@@ -1,56 +1,16 @@
-//! What no clause says: worked meshes with ample memory, and allocations that fail.
+//! Loops and sweeps: worked meshes with ample memory, and allocations that fail.
 ghost use Rattle.std.specs.Prelude.{◌≡◌};
 ghost use Rattle.contour.specs.Loops.{loops as all_loops};
 ghost use Rattle.contour.specs.Segment.{segments as all_segments};
 
 use crate::allocations::{Count, first_free_turn};
 use crate::meshes::{CUBE, CUBE_AND_PAIR, OCTAHEDRON, Part, TWO_CUBES, solid_of};
-use contour::{Linker, Loops, Node, Segment, Sweep, loop_ray, loops, segments};
+use contour::{Linker, Loops, Segment, Sweep, loop_ray, loops, segments};
 use exact_cut::Centre;
 use mesh_weld::Solid;
 use short_memory::ShortMemory;
-use std::alloc::{AllocError, Allocator, Global};
+use std::alloc::{Allocator, Global};
 use std::test::Fail;
-
-/// Segments, each as `FACET: LOW HIGH to LOW HIGH` by the vertices of the edges that it lies between.
-macro_rules! cut {
-    ($($facet:literal: $a:literal $b:literal to $c:literal $d:literal);*) => {
-        [$(Segment {
-            facet: $facet,
-            from: Node { low: $a, high: $b },
-            to: Node { low: $c, high: $d },
-        }),*]
-    };
-}
-
-// The segments of the cube's sides, and those of the two facets beside it: of facet 10 once more, and of its mirror.
-static SEGMENTS: [Segment; 10] = cut![
-    4: 0 5 to 4 5;
-    5: 0 1 to 0 5;
-    6: 2 7 to 2 3;
-    7: 6 7 to 2 7;
-    8: 0 3 to 0 1;
-    9: 2 3 to 0 3;
-    10: 4 7 to 6 7;
-    11: 4 5 to 4 7;
-    12: 4 7 to 6 7;
-    13: 6 7 to 4 7
-];
-
-// Whether a mesh has just these segments at the height of half a micrometre.
-fn are_segments(alloc: Global, parts: &[Part<'_>], told: &[Segment]) -> Option<bool> {
-    let solid = solid_of(alloc, parts).ok()?;
-    let list = segments(alloc, &solid, 1).ok()?;
-    Some(list.as_slice() == told)
-}
-
-#[test]
-fn segments_from_edge_to_edge(rt: HostRuntime) -> Result<(), Fail> {
-    let all = SEGMENTS.as_slice();
-    assert_eq!(rt; are_segments(rt.alloc(), CUBE, &all[..8]), Some(true));
-    assert_eq!(rt; are_segments(rt.alloc(), CUBE_AND_PAIR, all), Some(true));
-    Ok(())
-}
 
 // The facets of a loop, and the ray through it from a centre in its plane.
 type Told<'a> = (&'a [u32], i32);
@@ -226,59 +186,5 @@ impl Count for TwoCubesLoops {
 fn each_allocation_of_loops_fails(rt: HostRuntime) -> Result<(), Fail> {
     assert!(rt; first_free_turn::<BoxLoops>(rt.alloc(), 200, 2) > Some(8));
     assert!(rt; first_free_turn::<TwoCubesLoops>(rt.alloc(), 200, 2) > Some(8));
-    Ok(())
-}
-
-// The height of a sweep, how many facets it has passed there, how many it cuts, and how many segments that makes.
-type Counts = (i64, u32, usize, usize);
-
-const LOW: Counts = (2, 10, 8, 8);
-
-const HIGH: Counts = (6, 20, 16, 16);
-
-// Where a sweep stands after a rise. Where an allocation of the rise failed, that is where it stood before.
-fn after_rise<A: Allocator + Copy + Send + Sync>(
-    alloc: A,
-    solid: &Solid<A>,
-) -> Result<Counts, AllocError> {
-    let mut sweep = Sweep::start(alloc, solid, 2)?;
-    let _refused = sweep.advance(6).is_err();
-    let list = sweep.segments()?;
-    Ok((
-        sweep.height(),
-        sweep.passed(),
-        sweep.active().len(),
-        list.len(),
-    ))
-}
-
-// The same for two cubes.
-fn rise(memory: &ShortMemory<Global>) -> Option<Counts> {
-    let solid = solid_of(memory, TWO_CUBES).ok()?;
-    after_rise(memory, &solid).ok()
-}
-
-// Fails each allocation in turn until none is left to fail, and answers at how many turns it was the rise that failed.
-// `None` where the sweep stands elsewhere than before or after the rise.
-fn refused_rises(alloc: Global) -> Option<u32> {
-    let mut alone = 0u32;
-    for turn in 1..200u64 {
-        let memory = ShortMemory::new(alloc, turn);
-        let risen = rise(&memory);
-        if !memory.has_refused() {
-            return (risen == Some(HIGH)).then_some(alone);
-        }
-        match risen {
-            Some(counts) if counts == LOW => alone = alone.saturating_add(1),
-            Some(_) => return None,
-            None => {}
-        }
-    }
-    None
-}
-
-#[test]
-fn each_allocation_of_a_sweep_fails(rt: HostRuntime) -> Result<(), Fail> {
-    assert!(rt; refused_rises(rt.alloc()) > Some(0));
     Ok(())
 }

@@ -6,6 +6,7 @@ use crate::allocations::{Count, first_free_turn};
 use crate::meshes::{
     CUBE, INWARD_CUBE, OCTAHEDRON, ONE_INWARD, Part, TOUCHING, TWO_CUBES, solid_of,
 };
+use crate::spans::spans;
 use contour::segments;
 use mesh_weld::Solid;
 use raster::{Counted, Filler, Grid, Rule, Span, fill, write_layer};
@@ -56,13 +57,6 @@ fn layer_of<A: Allocator + Copy + Send + Sync>(
         return None;
     }
     layer(alloc, &solid, &g, rule, k).ok()
-}
-
-/// Spans, each as `ROW: FROM, TO`.
-macro_rules! spans {
-    ($($row:literal: $from:literal, $to:literal);*) => {
-        [$(Span { row: $row, from: $from, to: $to }),*]
-    };
 }
 
 // What is in one of two cubes that overlap, in layer 1.

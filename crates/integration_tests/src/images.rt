@@ -1,11 +1,11 @@
-//! Worked grids and images, and a writer that fails.
+//! Worked grids, and the images of spans.
 ghost use Rattle.raster.specs.Span.{AreSpans};
 
 use crate::meshes::{BEAM, CUBE_OF_THREE, LONG_BEAM, Part, solid_of};
 use crate::published::{FARTHEST, MOST_COLUMNS, MOST_LAYERS};
-use raster::{Counted, Failures, Grid, GridFault, Span, write_layer};
+use crate::spans::spans;
+use raster::{Counted, Grid, GridFault, Span, write_layer};
 use std::alloc::Global;
-use std::io::{Error, ErrorKind, Result as Written, Write};
 use std::test::Fail;
 use stl_text::Point;
 
@@ -196,13 +196,6 @@ fn centres_of_voxels(rt: HostRuntime) -> Result<(), Fail> {
     Ok(())
 }
 
-/// Spans, each as `ROW: FROM, TO`.
-macro_rules! spans {
-    ($($row:literal: $from:literal, $to:literal);*) => {
-        [$(Span { row: $row, from: $from, to: $to }),*]
-    };
-}
-
 // Whether the image of these spans, in a grid of these counts of columns and rows, has these bytes.
 fn is_image(alloc: Global, columns: u32, rows: u32, spans: &[Span], bytes: &[u8]) -> Option<bool>
     requires { AreSpans columns rows spans.now }
@@ -233,56 +226,5 @@ fn images(rt: HostRuntime) -> Result<(), Fail> {
         is_image(alloc, 2, 2, &[], b"P4\n2 2\n\x00\x00"),
     ];
     assert_eq!(rt; found, [Some(true); 6]);
-    Ok(())
-}
-
-// Takes one byte a call, and fails at the call after the first `calls`.
-#[derive(Drop)]
-struct OneByteWriter {
-    taken: u64,
-    calls: u64,
-}
-
-impl Write for OneByteWriter {
-    fn write(&mut self, buf: &[u8]) -> Written<usize> {
-        if self.calls == 0 {
-            return Err(Error::from(ErrorKind::Other));
-        }
-        self.calls -= 1;
-        if buf.is_empty() {
-            return Ok(0);
-        }
-        self.taken = self.taken.saturating_add(1);
-        Ok(1)
-    }
-
-    fn flush(&mut self) -> Written<()> {
-        Ok(())
-    }
-}
-
-// How many bytes of the image of two columns and two rows, all black, went out to a writer that takes one byte a call
-// and fails at the call after the first `calls`; with how many it took, and the failures that were counted.
-fn written(calls: u64) -> Option<(u64, u64, u64)> {
-    let g = Grid::given(Point::new(0, 0, 0)?, 1, 1, 2, 2, 1).ok()?;
-    let mut w = Counted::new(OneByteWriter { taken: 0, calls });
-    let fault = write_layer(&g, &spans![0: 0, 2; 1: 0, 2], &mut w).err()?;
-    Some((fault.written, w.inner().taken, w.failures()))
-}
-
-// The least number of calls for which a count is wrong: each call before the failure takes one byte, and the image has 9.
-fn first_other_written() -> Option<u64> {
-    for calls in 0..10 {
-        let told = (calls < 9).then_some((calls, calls, 1));
-        if written(calls) != told {
-            return Some(calls);
-        }
-    }
-    None
-}
-
-#[test]
-fn writers_that_fail(rt: HostRuntime) -> Result<(), Fail> {
-    assert_eq!(rt; first_other_written(), None);
     Ok(())
 }

@@ -13,8 +13,6 @@ mod claims;
 #[cfg(test)]
 mod contours;
 #[cfg(test)]
-mod corner_planes;
-#[cfg(test)]
 mod cuts;
 #[cfg(test)]
 mod dense_rows;
@@ -35,6 +33,8 @@ mod outlines;
 #[cfg(test)]
 mod pieces;
 #[cfg(test)]
+mod plane_segments;
+#[cfg(test)]
 mod pool;
 #[cfg(test)]
 mod published;
@@ -48,6 +48,8 @@ mod refused_welds;
 mod session_pieces;
 #[cfg(test)]
 mod sessions;
+#[cfg(test)]
+mod spans;
 #[cfg(test)]
 mod stl_texts;
 #[cfg(test)]

@@ -18,11 +18,18 @@ const HIGH: Stand<'static> = (
     &[4, 5, 6, 7, 8, 9, 10, 11, 16, 17, 18, 19, 20, 21, 22, 23],
 );
 
+// Whether a sweep stands so, and has a segment for each facet that it cuts.
 fn stands_at<A: Allocator + Copy + Send + Sync>(
     sweep: &Sweep<'_, A>,
     (height, passed, active): Stand<'_>,
-) -> bool {
-    sweep.height() == height && sweep.passed() == passed && sweep.active() == active
+) -> Result<bool, AllocError> {
+    let segments = sweep.segments()?.len();
+    Ok(
+        sweep.height() == height
+            && sweep.passed() == passed
+            && sweep.active() == active
+            && segments == active.len(),
+    )
 }
 
 // Whether a rise failed for want of memory; and whether the sweep was as before then, and at the new height after the
@@ -32,13 +39,13 @@ fn risen<A: Allocator + Copy + Send + Sync>(
     solid: &Solid<A>,
 ) -> Result<(bool, bool), AllocError> {
     let mut sweep = Sweep::start(alloc, solid, 2)?;
-    let started = stands_at(&sweep, LOW);
+    let started = stands_at(&sweep, LOW)?;
     if sweep.advance(6).is_ok() {
-        return Ok((false, started && stands_at(&sweep, HIGH)));
+        return Ok((false, started && stands_at(&sweep, HIGH)?));
     }
-    let kept = stands_at(&sweep, LOW);
+    let kept = stands_at(&sweep, LOW)?;
     sweep.advance(6)?;
-    Ok((true, started && kept && stands_at(&sweep, HIGH)))
+    Ok((true, started && kept && stands_at(&sweep, HIGH)?))
 }
 
 // A rise of a sweep through two cubes.

@@ -7,17 +7,11 @@ use crate::meshes::{
     BEAM, CUBE_OF_THREE, INWARD_CUBE, NINE_IN_A_ROW, OCTAHEDRON, Part, SHEET, TOUCHING, solid_of,
 };
 use crate::published::MOST_COLUMNS;
+use crate::spans::spans;
 use mesh_weld::Solid;
 use raster::{Counted, Grid, Rule, Span, write_layer};
 use std::alloc::{AllocError, Global};
 use std::test::Fail;
-
-/// Spans, each as `ROW: FROM, TO`.
-macro_rules! spans {
-    ($($row:literal: $from:literal, $to:literal);*) => {
-        [$(Span { row: $row, from: $from, to: $to }),*]
-    };
-}
 
 /// The spans of a layer, and the bytes of its image.
 type Layer<'a> = (&'a [Span], &'a [u8]);

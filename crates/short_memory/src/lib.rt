@@ -3,6 +3,16 @@
 //! [`ShortMemory`] fails one allocation. A test repeats a call, and fails the first allocation, then the second, and so
 //! on, until the call has none left to fail. [`OneByteReader`] and [`SmallWriter`] move few bytes a call, and fail at a
 //! call, or after a byte, that the test chooses.
+//!
+//! ```text
+//! for number in 1..200 {
+//!     let memory = ShortMemory::new(alloc, number);
+//!     let answer = call(&memory);
+//!     if !memory.has_refused() {
+//!         return answer; // the call made fewer allocations than `number`, so none failed
+//!     }
+//! }
+//! ```
 #![tactic(auto)]
 
 mod devices;
