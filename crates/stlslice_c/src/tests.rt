@@ -77,7 +77,7 @@ fn a_mesh_is_opened_asked_and_closed(rt: HostRuntime) -> Result<(), Fail> {
     );
     assert!(rt; corners.facets == 4 && corners.high_z == 4000);
     stlslice_fault_text(8, &mut line);
-    assert!(rt; line.starts_with(b"no mesh is open\0"));
+    assert!(rt; line.starts_with(b"no mesh was opened, or it was closed\0"));
 
     let mut image = [0u8; 64];
     let mut wanted = 0;
