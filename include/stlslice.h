@@ -43,9 +43,9 @@ typedef uint32_t stlslice_status;
 #define STLSLICE_TEXT 3u         /* the text is no ASCII STL */
 #define STLSLICE_OPEN_MESH 4u    /* the mesh has an open edge */
 #define STLSLICE_GRID 5u         /* there is no such grid */
-#define STLSLICE_MEMORY 6u       /* an allocation failed */
+#define STLSLICE_MEMORY 6u       /* out of memory: an allocation failed */
 #define STLSLICE_NO_ROOM 7u      /* the buffer is too small */
-#define STLSLICE_NOT_OPEN 8u     /* no text was opened as this mesh, or it was closed */
+#define STLSLICE_NOT_OPEN 8u     /* no mesh was opened, or it was closed */
 
 /* A size that each line has room in. */
 #define STLSLICE_LINE 256
@@ -131,7 +131,8 @@ stlslice_status stlslice_probe(stlslice_mesh *mesh, uint32_t i, uint32_t j, uint
 stlslice_status stlslice_loops(stlslice_mesh *mesh, uint32_t k, stlslice_point *points, size_t points_room,
                                size_t *points_count, size_t *ends, size_t ends_room, size_t *loops_count);
 
-/* The text of a status, ended by 0 and cut where it has no room. */
+/* The text of a status, ended by 0 and cut where it has no room: what stands beside the status above, in short. A number
+ * that is no status has the text "no status". */
 void stlslice_fault_text(stlslice_status status, char *line, size_t line_room);
 
 /* Closes a mesh and frees its memory. One that is closed stays so. */

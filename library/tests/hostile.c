@@ -2,7 +2,9 @@
  * are closed, closed twice or opened twice, and each allocation refused in turn. It is linked with
  * --wrap=malloc,--wrap=realloc. The status is 0, or 100 where an answer is another than the header says.
  *
- *     hostile FILE */
+ *     hostile FILE LINE
+ *
+ * LINE is what the program writes behind "stlslice: " where it is out of memory. */
 #include "stlslice.h"
 
 #include <stdio.h>
@@ -35,6 +37,21 @@ static bool counts;
 void *__wrap_malloc(size_t size) { return counts && ++asked == refused ? NULL : __real_malloc(size); }
 void *__wrap_realloc(void *at, size_t size) { return counts && ++asked == refused ? NULL : __real_realloc(at, size); }
 
+/* the text of each status; the last is that of every number which is none */
+static const char *const texts[] = {
+    "done",
+    "a number is out of its range, or outside the grid",
+    "no status",
+    "the text is no ASCII STL",
+    "the mesh has an open edge",
+    "there is no such grid",
+    "out of memory",
+    "the buffer is too small",
+    "no mesh was opened, or it was closed",
+    "no status",
+};
+static const char *const step = "pitch and layer height take 1 to 100000 micrometres";
+
 static uint8_t *text;
 static size_t text_size;
 static stlslice_options options;
@@ -56,31 +73,39 @@ static void nulls(void) {
     stlslice_mesh mesh = STLSLICE_CLOSED;
     stlslice_shape shape;
     stlslice_corners corners;
-    stlslice_rays rays;
+    stlslice_rays rays = {5, 5};
     char line[STLSLICE_LINE];
-    uint8_t byte = 0;
+    uint8_t byte = 5;
     size_t size = 5, count = 5;
-    stlslice_point point = {0, 0};
+    stlslice_point point = {5, 5};
     uint64_t area = 5;
+    memset(&shape, 5, sizeof shape);
+    memset(&corners, 5, sizeof corners);
+    const stlslice_shape shape_was = shape;
+    const stlslice_corners corners_were = corners;
     CHECK(stlslice_box(NULL, 0, 0, &corners, line, sizeof line) == STLSLICE_TEXT);
     CHECK(strcmp(line, "input ended before solid") == 0);
     CHECK(stlslice_box(NULL, 0, 0, &corners, NULL, 0) == STLSLICE_TEXT);
     CHECK(stlslice_box(NULL, 1, 0, &corners, line, sizeof line) == STLSLICE_OUT_OF_RANGE);
+    CHECK(strcmp(line, texts[STLSLICE_OUT_OF_RANGE]) == 0);
     CHECK(stlslice_box(text, SIZE_MAX, 0, &corners, line, sizeof line) == STLSLICE_OUT_OF_RANGE);
     CHECK(stlslice_box(text, text_size, 0, NULL, line, sizeof line) == STLSLICE_OUT_OF_RANGE);
     CHECK(stlslice_box(text, text_size, 0, &corners, NULL, 1) == STLSLICE_OUT_OF_RANGE);
     CHECK(stlslice_open(NULL, 0, &options, &mesh, &shape, line, sizeof line) == STLSLICE_TEXT);
+    CHECK(strcmp(line, "input ended before solid") == 0);
     CHECK(stlslice_open(NULL, 1, &options, &mesh, &shape, line, sizeof line) == STLSLICE_OUT_OF_RANGE);
+    CHECK(strcmp(line, texts[STLSLICE_OUT_OF_RANGE]) == 0);
     CHECK(stlslice_open(text, text_size, NULL, &mesh, &shape, line, sizeof line) == STLSLICE_OUT_OF_RANGE);
     CHECK(stlslice_open(text, text_size, &options, NULL, &shape, line, sizeof line) == STLSLICE_OUT_OF_RANGE);
     CHECK(stlslice_open(text, text_size, &options, &mesh, NULL, line, sizeof line) == STLSLICE_OUT_OF_RANGE);
     CHECK(stlslice_open(text, text_size, &options, &mesh, &shape, NULL, 9) == STLSLICE_OUT_OF_RANGE);
-    CHECK(!mesh.is_open);
+    CHECK(!mesh.is_open && memcmp(&shape, &shape_was, sizeof shape) == 0);
+    CHECK(memcmp(&corners, &corners_were, sizeof corners) == 0);
     CHECK(stlslice_mask(NULL, 0, &byte, 1, &size) == STLSLICE_OUT_OF_RANGE);
     CHECK(stlslice_stripe(NULL, 0, &byte, 1, &size) == STLSLICE_OUT_OF_RANGE);
     CHECK(stlslice_area(NULL, 0, &area) == STLSLICE_OUT_OF_RANGE);
     CHECK(stlslice_probe(NULL, 0, 0, 0, &rays) == STLSLICE_OUT_OF_RANGE);
-    CHECK(stlslice_loops(NULL, 0, NULL, 0, &size, NULL, 0, &size) == STLSLICE_OUT_OF_RANGE);
+    CHECK(stlslice_loops(NULL, 0, NULL, 0, &size, NULL, 0, &count) == STLSLICE_OUT_OF_RANGE);
     CHECK(stlslice_open(text, text_size, &options, &mesh, &shape, NULL, 0) == STLSLICE_DONE);
     CHECK(stlslice_mask(&mesh, 0, NULL, 1, &size) == STLSLICE_OUT_OF_RANGE);
     CHECK(stlslice_mask(&mesh, 0, &byte, SIZE_MAX, &size) == STLSLICE_OUT_OF_RANGE);
@@ -94,8 +119,11 @@ static void nulls(void) {
     CHECK(stlslice_loops(&mesh, 0, NULL, 0, NULL, NULL, 0, &count) == STLSLICE_OUT_OF_RANGE);
     CHECK(stlslice_loops(&mesh, 0, NULL, 0, &size, NULL, 0, NULL) == STLSLICE_OUT_OF_RANGE);
     CHECK(stlslice_loops(&mesh, 0, &point, SIZE_MAX / 8, &size, NULL, 0, &count) == STLSLICE_OUT_OF_RANGE);
-    CHECK(size == 5 && area == 5);
-    CHECK(stlslice_stripe(&mesh, 0, NULL, 0, &size) == STLSLICE_NO_ROOM && size > 5);
+    CHECK(size == 5 && count == 5 && area == 5 && byte == 5 && rays.along_x == 5 && rays.along_y == 5 && point.x2 == 5);
+    /* where no room is enough to ask for the size */
+    size_t layers = shape.layers < 8 ? shape.layers : 8;
+    CHECK(stlslice_mask(&mesh, 0, NULL, 0, &count) == STLSLICE_NO_ROOM && count > shape.rows);
+    CHECK(stlslice_stripe(&mesh, 0, NULL, 0, &size) == STLSLICE_NO_ROOM && size == layers * count);
     stlslice_close(&mesh);
     stlslice_close(NULL);
     stlslice_fault_text(0, NULL, 0);
@@ -106,6 +134,7 @@ static void ranges(void) {
     stlslice_mesh mesh = STLSLICE_CLOSED;
     stlslice_shape shape;
     stlslice_corners corners = {9, {9, 9, 9}, {9, 9, 9}};
+    const stlslice_corners nines = corners;
     char line[STLSLICE_LINE];
     memset(&shape, 0x77, sizeof shape);
     const stlslice_shape was = shape;
@@ -126,14 +155,39 @@ static void ranges(void) {
         default: wrong.placing = STLSLICE_GIVEN; wrong.origin[2] = INT32_MAX; break;
         }
         CHECK(stlslice_open(text, text_size, &wrong, &mesh, &shape, line, sizeof line) == STLSLICE_OUT_OF_RANGE);
-        CHECK(strlen(line) > 10 && !mesh.is_open && memcmp(&shape, &was, sizeof was) == 0);
+        CHECK(strcmp(line, turn < 4 ? step : texts[STLSLICE_OUT_OF_RANGE]) == 0);
+        CHECK(!mesh.is_open && memcmp(&shape, &was, sizeof was) == 0);
     }
     stlslice_options far = options;
     far.placing = STLSLICE_GIVEN;
     CHECK(stlslice_open(text, text_size, &far, &mesh, &shape, line, sizeof line) == STLSLICE_GRID);
     CHECK(strcmp(line, "grid has no cells") == 0);
     CHECK(stlslice_box(text, text_size, 2, &corners, line, sizeof line) == STLSLICE_OUT_OF_RANGE);
-    CHECK(stlslice_box(text, text_size - 1, 0, &corners, line, sizeof line) == STLSLICE_DONE || corners.facets == 9);
+    CHECK(strcmp(line, texts[STLSLICE_OUT_OF_RANGE]) == 0 && memcmp(&corners, &nines, sizeof nines) == 0);
+}
+
+/* a text without its last word has no box; with it, that of the mesh that it opens, whose facets are counted here */
+static void boxes(void) {
+    stlslice_mesh mesh = STLSLICE_CLOSED;
+    stlslice_shape shape;
+    stlslice_corners corners = {9, {9, 9, 9}, {9, 9, 9}};
+    const stlslice_corners nines = corners;
+    char line[STLSLICE_LINE] = "as before";
+    size_t last = text_size - 8;
+    while (memcmp(text + last, "endsolid", 8) != 0)
+        last--;
+    uint64_t facets = 0;
+    for (size_t at = 0; at < last; at++)
+        if (memcmp(text + at, "endfacet", 8) == 0)
+            facets++;
+    CHECK(stlslice_open(text, text_size, &options, &mesh, &shape, NULL, 0) == STLSLICE_DONE);
+    CHECK(stlslice_box(text, last + 8, 0, &corners, line, sizeof line) == STLSLICE_DONE);
+    CHECK(facets > 0 && corners.facets == facets && memcmp(&corners, &shape.corners, sizeof corners) == 0);
+    CHECK(strcmp(line, "as before") == 0);
+    corners = nines;
+    CHECK(stlslice_box(text, last, 0, &corners, line, sizeof line) == STLSLICE_TEXT);
+    CHECK(strcmp(line, "input ended before facet or endsolid") == 0 && memcmp(&corners, &nines, sizeof nines) == 0);
+    stlslice_close(&mesh);
 }
 
 /* a line that is cut, or has just enough room, ends with 0, and what lies behind it is as it was */
@@ -150,10 +204,11 @@ static void lines(void) {
             CHECK(line[at] == 'x');
         free(line);
     }
-    for (stlslice_status status = 0; status < 12; status++) {
+    const stlslice_status none = sizeof texts / sizeof *texts - 1;
+    for (stlslice_status status = 0; status < 300; status++) {
         char line[STLSLICE_LINE];
-        stlslice_fault_text(status, line, sizeof line);
-        CHECK(strlen(line) >= 4);
+        stlslice_fault_text(status < 299 ? status : UINT32_MAX, line, sizeof line);
+        CHECK(strcmp(line, texts[status < none ? status : none]) == 0);
     }
 }
 
@@ -177,28 +232,30 @@ static void closed(void) {
     }
 }
 
-static stlslice_status attempt(int turn, stlslice_mesh *mesh, stlslice_shape *shape, uint8_t *images, size_t room) {
+/* what calls write to, but for images and lines */
+typedef struct {
     stlslice_corners corners;
-    char line[STLSLICE_LINE];
-    size_t size;
+    stlslice_shape shape;
+    stlslice_point points[1000];
+    size_t ends[100], size, count;
     uint64_t area;
+} Told;
+static Told told, before;
+
+static stlslice_status attempt(int turn, stlslice_mesh *mesh, uint8_t *images, size_t room, char *line) {
     switch (turn) {
-    case 0: return stlslice_box(text, text_size, 0, &corners, line, sizeof line);
-    case 1: return stlslice_open(text, text_size, &options, mesh, shape, line, sizeof line);
-    case 2: return stlslice_mask(mesh, 3, images, room, &size);
-    case 3: return stlslice_stripe(mesh, 0, images, room, &size);
-    case 4: {
-        static stlslice_point points[1000];
-        static size_t ends[100];
-        size_t count;
-        return stlslice_loops(mesh, 3, points, 1000, &size, ends, 100, &count);
-    }
-    default: return stlslice_area(mesh, 3, &area);
+    case 0: return stlslice_box(text, text_size, 0, &told.corners, line, STLSLICE_LINE);
+    case 1: return stlslice_open(text, text_size, &options, mesh, &told.shape, line, STLSLICE_LINE);
+    case 2: return stlslice_mask(mesh, 3, images, room, &told.size);
+    case 3: return stlslice_stripe(mesh, 0, images, room, &told.size);
+    case 4: return stlslice_loops(mesh, 3, told.points, 1000, &told.size, told.ends, 100, &told.count);
+    default: return stlslice_area(mesh, 3, &told.area);
     }
 }
 
-/* each allocation of each call refused in turn: the mesh stays, the buffer stays, and nothing leaks */
-static unsigned long short_memory(void) {
+/* each allocation of each call refused in turn: the mesh stays, what the call writes to stays but for the line, which is
+ * the program's, and nothing leaks */
+static unsigned long short_memory(const char *said) {
     stlslice_mesh mesh = STLSLICE_CLOSED;
     stlslice_shape shape;
     size_t one = 0, eight = 0, size;
@@ -213,10 +270,13 @@ static unsigned long short_memory(void) {
     for (int turn = 0; turn < 6; turn++) {
         CHECK(stlslice_mask(&mesh, 3, image, one, &size) == STLSLICE_DONE);
         for (refused = 1;; refused++) {
+            char line[STLSLICE_LINE] = "as before";
             memset(images, 0x3c, eight);
+            memset(&told, 0x3c, sizeof told);
+            before = told;
             asked = 0;
             counts = true;
-            stlslice_status status = attempt(turn, &mesh, &shape, images, eight);
+            stlslice_status status = attempt(turn, &mesh, images, eight, line);
             counts = false;
             if (asked < refused) {
                 CHECK(status == STLSLICE_DONE);
@@ -224,6 +284,8 @@ static unsigned long short_memory(void) {
             }
             all++;
             CHECK(status == STLSLICE_MEMORY);
+            CHECK(strcmp(line, turn < 2 ? said : "as before") == 0);
+            CHECK(memcmp(&told, &before, sizeof told) == 0);
             for (size_t at = 0; at < eight; at++)
                 CHECK(images[at] == 0x3c);
             CHECK(mesh.is_open && stlslice_area(&mesh, 3, &again) == STLSLICE_DONE && again == area);
@@ -241,7 +303,7 @@ static unsigned long short_memory(void) {
 }
 
 int main(int count, char **words) {
-    if (count != 2)
+    if (count != 3)
         return 99;
     text_size = read_file(words[1]);
     options.pitch = 200;
@@ -249,9 +311,10 @@ int main(int count, char **words) {
     CHECK(stlslice_version() >= 1000000);
     nulls();
     ranges();
+    boxes();
     lines();
     closed();
-    printf("%lu allocations refused\n", short_memory());
+    printf("%lu allocations refused\n", short_memory(words[2]));
     free(text);
     return 0;
 }

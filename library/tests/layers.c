@@ -176,6 +176,13 @@ int main(int count, char **words) {
     stlslice_status status = stlslice_open(text, text_size, &options, &first.mesh, &first.shape, line, sizeof line);
     if (status != STLSLICE_DONE) {
         CHECK(!first.mesh.is_open && first.shape.layers == 0);
+        /* a text without facets has no box either, for the same reason */
+        stlslice_corners corners = {9, {9, 9, 9}, {9, 9, 9}};
+        char again[STLSLICE_LINE];
+        if (status == STLSLICE_TEXT) {
+            CHECK(stlslice_box(text, text_size, STLSLICE_MILLIMETRE, &corners, again, sizeof again) == STLSLICE_TEXT);
+            CHECK(strcmp(again, line) == 0 && corners.facets == 9 && corners.low[0] == 9 && corners.high[2] == 9);
+        }
         fprintf(stderr, "stlslice: %s\n", line);
         free(text);
         return (int)status;

@@ -1,11 +1,9 @@
 -- What a session answers, and when it answers a fault.
 use Rattle.std.specs.Prelude.{◌≡◌, ◌⊎◌, ◌<◌, ◌≤◌, ℕ, ℤ, List, Result, Ok, Err, ◌&&◌, nat_lt, flat_map, if◌then◌else◌, Bool}
 use Rattle.std.specs.List.{range_with_len}
-use Rattle.geometry.specs.Facet.{Facet}
 use Rattle.geometry.specs.Winding.{ray, ray_y}
 use Rattle.raster.specs.Grid.{Grid, centre}
 use Rattle.raster.specs.Picture.{layer_picture}
-use Rattle.raster.specs.declared.rule.Rule.{Rule}
 use Rattle.build_book.specs.Job.{Job, stripe_count, stripe_length, stripe_start}
 use Rattle.layer_session.specs.declared.session_fault.SessionFault.{SessionFault}
 use Rattle.layer_session.specs.declared.session_fault.SessionFault.TheVariants as fault

@@ -19,7 +19,7 @@ use Rattle.stlslice_c.specs.declared.shape.Shape.{Shape}
 use Rattle.stlslice_c.specs.declared.status.TheConstants.{DONE, MEMORY, NO_ROOM, OUT_OF_RANGE}
 use Rattle.stlslice_c.specs.Options.{IsSetup, unit_numbered}
 use Rattle.stlslice_c.specs.Shape.{corners_told, shape_told}
-use Rattle.stlslice_c.specs.Statuses.{status_of, status_text}
+use Rattle.stlslice_c.specs.Status.{status_of, status_text}
 
 -- These bytes stand at the front of a buffer, and the rest is as it was; or all of it is, where it is too small. Their
 -- number is told in both cases.

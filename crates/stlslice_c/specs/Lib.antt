@@ -1,6 +1,6 @@
-pub mod Held
+pub mod Kept
 pub mod Shape
 pub mod Options
-pub mod Statuses
+pub mod Status
 pub mod Answers
 pub mod Loops

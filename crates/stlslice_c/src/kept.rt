@@ -16,7 +16,7 @@ pub struct Kept {
 }
 
 impl Model for Kept {
-    ghost use Rattle.stlslice_c.specs.Held.{holds, session_row, token};
+    ghost use Rattle.stlslice_c.specs.Kept.{holds, session_row, token};
 
     ghost also_owns = { λ m. holds token session_row m.at m.session };
 }

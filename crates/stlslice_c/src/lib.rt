@@ -16,8 +16,9 @@
 //! - [`Corners`], [`Shape`], [`Rays`], [`LoopPoint`]: what C is told.
 //!
 //! A call answers a status (`status.rt`): 0 done, 1 a number out of its range or outside the grid, 3 the text is no ASCII
-//! STL, 4 the mesh is open, 5 there is no such grid, 6 an allocation failed, 7 the buffer is too small, 8 no mesh is open. At
-//! 7 the size that is wanted is told; at any other status but 0 nothing of the caller's changes but a line of text.
+//! STL, 4 the mesh has an open edge, 5 there is no such grid, 6 an allocation failed, 7 the buffer is too small, 8 no mesh was
+//! opened, or it was closed. At 7 the size that is wanted is told; at any other status but 0 nothing of the caller's changes but
+//! a line of text.
 //!
 //! Lengths are in micrometres, and points of loops in half-micrometres. Columns, rows and layers count from 0 along x, y and
 //! z, and stripes, which are eight layers each, from the lowest up.
@@ -41,7 +42,7 @@ ghost use Rattle.std.specs.Prelude.{◌≡◌, None, Some};
 ghost use Rattle.layer_session.specs.Session.{Session};
 ghost use Rattle.stlslice_c.specs.Answers.{IsArea, IsBox, IsLine, IsMask, IsOpening, IsProbe, IsStripe};
 ghost use Rattle.stlslice_c.specs.Loops.{AreAsBefore, IsLoops};
-ghost use Rattle.stlslice_c.specs.Statuses.{status_text};
+ghost use Rattle.stlslice_c.specs.Status.{status_text};
 ghost use Rattle.stlslice_c.specs.declared.status.TheConstants.{NOT_OPEN};
 
 use asking::{put_area, put_mask, put_probe, put_stripe};

@@ -1,7 +1,7 @@
 //! Lines of text that end in 0, for C.
 ghost use Rattle.std.specs.Prelude.{◌≡◌};
 ghost use Rattle.stlslice_c.specs.Answers.{IsFaultLine, IsLine};
-ghost use Rattle.stlslice_c.specs.Statuses.{status_of, status_text};
+ghost use Rattle.stlslice_c.specs.Status.{status_of, status_text};
 
 use crate::status::{status_of, status_text};
 use layer_session::SessionFault;

@@ -1,6 +1,6 @@
 //! The statuses that calls answer, and their texts.
 ghost use Rattle.std.specs.Prelude.{◌≡◌};
-ghost use Rattle.stlslice_c.specs.Statuses.{status_of, status_text};
+ghost use Rattle.stlslice_c.specs.Status.{status_of, status_text};
 
 use layer_session::SessionFault;
 
@@ -25,7 +25,7 @@ pub(crate) const MEMORY: u32 = 6;
 /// The buffer is too small; the size that is wanted was told.
 pub(crate) const NO_ROOM: u32 = 7;
 
-/// The handle has no mesh.
+/// The handle has no mesh: none was opened, or it was closed.
 pub(crate) const NOT_OPEN: u32 = 8;
 
 /// The status of a fault: the program's, but for what is out of range or outside the grid.
@@ -49,11 +49,11 @@ pub(crate) fn status_text(status: u32) -> &'static [u8]
         DONE => b"done",
         OUT_OF_RANGE => b"a number is out of its range, or outside the grid",
         TEXT => b"the text is no ASCII STL",
-        OPEN_MESH => b"the mesh is open",
+        OPEN_MESH => b"the mesh has an open edge",
         GRID => b"there is no such grid",
         MEMORY => b"out of memory",
         NO_ROOM => b"the buffer is too small",
-        NOT_OPEN => b"no mesh is open",
+        NOT_OPEN => b"no mesh was opened, or it was closed",
         _ => b"no status",
     }
 }

@@ -77,7 +77,7 @@ fn a_mesh_is_opened_asked_and_closed(rt: HostRuntime) -> Result<(), Fail> {
     );
     assert!(rt; corners.facets == 4 && corners.high_z == 4000);
     stlslice_fault_text(8, &mut line);
-    assert!(rt; line.starts_with(b"no mesh is open\0"));
+    assert!(rt; line.starts_with(b"no mesh was opened, or it was closed\0"));
 
     let mut image = [0u8; 64];
     let mut wanted = 0;
@@ -266,11 +266,10 @@ fn each_refused_allocation_of_a_box_is_told(rt: HostRuntime) -> Result<(), Fail>
     Ok(())
 }
 
-// Whether the line of a grid with no cells begins so.
-fn is_line<A: Allocator>(alloc: A, start: &[u8]) -> bool {
+// Whether a fault has this status, and a line that begins so.
+fn is_line<A: Allocator>(alloc: A, fault: &SessionFault, status: u32, start: &[u8]) -> bool {
     let mut line = [1u8; 64];
-    put_fault(alloc, &SessionFault::Grid(GridFault::NoCells), &mut line) == 5
-        && line.starts_with(start)
+    put_fault(alloc, fault, &mut line) == status && line.starts_with(start)
 }
 
 // The sizes that buffers with a byte too little are told.
@@ -293,10 +292,59 @@ impl Call for Sizes {
 #[test]
 fn what_is_told_without_memory(rt: HostRuntime) -> Result<(), Fail> {
     let alloc = rt.alloc();
-    assert!(rt; is_line(alloc, b"grid has no cells\0"));
-    assert!(rt; is_line(&ShortMemory::new(alloc, 1), b"there is no such grid\0"));
+    let no_cells = SessionFault::Grid(GridFault::NoCells);
+    let memory = &ShortMemory::new(alloc, 1);
+    assert!(rt; is_line(alloc, &no_cells, 5, b"grid has no cells\0"));
+    assert!(rt; is_line(memory, &no_cells, 5, b"there is no such grid\0"));
+    assert!(rt; is_line(memory, &SessionFault::Memory, 6, b"out of memory\0"));
     // the size of an image is told without slicing: no allocation is left to refuse
     assert_eq!(rt; refusals::<Sizes>(alloc), Some(0));
+    Ok(())
+}
+
+// The first facet alone: none of its edges has another that runs back.
+const TRIANGLE: &[u8] = b"solid t
+facet normal 0 0 0 outer loop vertex 0 0 0 vertex 0 4 0 vertex 4 0 0 endloop endfacet
+endsolid t
+";
+
+// Whether opening a text ends with this status, and a line that begins so.
+fn is_refused(alloc: Global, text: &[u8], options: &Options, status: u32, start: &[u8]) -> bool {
+    let mut handle = Handle::empty();
+    let mut shape = Shape {
+        corners: NO_CORNERS,
+        cells: NO_CELLS,
+    };
+    let mut line = [1u8; 64];
+    stlslice_open(alloc, text, options, &mut handle, &mut shape, &mut line) == status
+        && line.starts_with(start)
+}
+
+#[test]
+fn a_text_that_opens_no_mesh_has_the_program_s_line(rt: HostRuntime) -> Result<(), Fail> {
+    let alloc = rt.alloc();
+    let no_step = Options {
+        pitch: 0,
+        ..MILLIMETRE
+    };
+    let no_cells = Options {
+        placing: 1,
+        ..MILLIMETRE
+    };
+    let step = b"pitch and layer height take 1 to 100000 micrometres\0";
+    let open_edge = b"open edge 0 0 0 to 0 4000 0 there 1 back 0\0";
+    assert!(rt; is_refused(alloc, TETRAHEDRON, &no_step, 1, step));
+    assert!(rt;
+        is_refused(
+            alloc,
+            b"facet",
+            &MILLIMETRE,
+            3,
+            b"expected solid at byte 0\0"
+        )
+    );
+    assert!(rt; is_refused(alloc, TRIANGLE, &MILLIMETRE, 4, open_edge));
+    assert!(rt; is_refused(alloc, TETRAHEDRON, &no_cells, 5, b"grid has no cells\0"));
     Ok(())
 }
 

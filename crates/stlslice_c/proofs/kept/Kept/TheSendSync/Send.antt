@@ -12,7 +12,7 @@ use Rattle.std_alloc.proofs.SendSync.{quiet, lies}
 use Rattle.std.specs.contracts.alloc.Global as Heap
 use Rattle.std.specs.contracts.impls.GlobalAllocator.TheImpl.{ghosts}
 use Rattle.layer_session.proofs.session.Session.TheSendSync.{the_send as the_session_send}
-use Rattle.stlslice_c.specs.Held.{holds, session_row, token}
+use Rattle.stlslice_c.specs.Kept.{holds, session_row, token}
 use Rattle.stlslice_c.specs.contracts.kept.Kept.{the_row, the_type}
 
 session_send : IsSend session_row
