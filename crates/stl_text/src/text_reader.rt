@@ -1,5 +1,5 @@
 //! The reader of a text that is fed in pieces.
-ghost use Rattle.std.specs.Prelude.{◌≡◌, ◌≢◌, ◌<◌, ◌≤◌, ◌+◌, ◌-◌, ℕ, [], ◌∷◌, ◌++◌, All, List, IfErr, IfOk, IfSome, IsTrue, MatchResult, None, length};
+ghost use Rattle.std.specs.Prelude.{◌≡◌, ◌≢◌, ◌↔◌, ◌<◌, ◌≤◌, ◌+◌, ◌-◌, ℕ, [], ◌∷◌, ◌++◌, All, List, IfErr, IfOk, IfSome, IsTrue, MatchResult, None, length};
 ghost use Rattle.geometry.specs.Facet.{Facet};
 ghost use Rattle.geometry.specs.declared.limits.TheConstants.{FACET_LIMIT};
 ghost use Rattle.micro_num.specs.declared.unit.Unit.{Unit as LengthUnit};
@@ -26,7 +26,7 @@ const LEAST_PART: usize = 1 << 15;
 
 /// Whether `facet` or `endsolid` is wanted.
 fn is_among_facets(place: Place) -> bool
-    ensures { IsTrue result → place ≡ at_word in_facets }
+    ensures { IsTrue result ↔ (place ≡ at_word in_facets) }
 {
     matches!(place, Place::Word(Stage::Facets))
 }
