@@ -5,3 +5,4 @@ pub mod Layout
 pub mod Written
 pub mod Stage
 pub mod Pieces
+pub mod Reading

@@ -1,8 +1,11 @@
--- A text that is fed in pieces.
+-- The pieces of a text, which a `TextReader` is fed one after another: what it knows of the text so far, whatever follows.
 --     Progress      what a reader of pieces keeps
 --     whole         it, with the facets that were taken off the reader
 --     IsReading     it has read a text up to a part that it has at hand
+--     ReadsOn       it goes on from one part of a text to the next
 --     IsAfter       it was fed these bytes
+--     StandsAt      where the reading of a text stands behind a word
+--     EndsAt        where it stands at the end of the text
 use Rattle.std.specs.Prelude.{◌≡◌, ◌≢◌, ℕ, ◌+◌, ◌≤◌, Bool, true, false, not, List, [], ◌++◌, length}
 use Rattle.std.specs.List.{list_all}
 use Rattle.micro_num.specs.declared.unit.Unit.{Unit as LengthUnit}
@@ -61,6 +64,11 @@ IsReadingAt limit unit p (place.Stopped f) text part = f ≢ fault.Memory → (m
 -- stopped at a fault, the fault is that of the text, whatever follows it.
 abbrev pub IsReading : ℕ → LengthUnit → List Facet → Progress → List ℕ → List ℕ → Type 0
 IsReading limit unit taken p text part = IsReadingAt limit unit (whole taken p) p.place text part
+
+-- the reader goes on from a part of a text to a part behind it: what it had read up to the one, it has read up to the other
+abbrev pub ReadsOn : Progress → List ℕ → Progress → List ℕ → Type 0
+ReadsOn old part new rest = (limit : ℕ) (unit : LengthUnit) (taken : List Facet) (text : List ℕ)
+    → IsReading limit unit taken old text part → IsReading limit unit taken new text rest
 
 -- the reader was fed these bytes, and these facets were taken off it
 abbrev pub IsAfter : ℕ → LengthUnit → List Facet → Progress → List ℕ → Type 0

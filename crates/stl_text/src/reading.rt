@@ -1,8 +1,6 @@
 //! The facets of a text that is at hand as a whole: a [`TextReader`] that is fed once.
-ghost use Rattle.std.specs.Prelude.{◌≡◌, ◌≢◌, ◌≤◌, IfErr, IfOk, List, MatchResult};
-ghost use Rattle.stl_text.specs.declared.stl_fault.StlFault.TheVariants.{Memory};
-ghost use Rattle.stl_text.specs.Text.{IsFaultOf, Reads};
-ghost use Rattle.geometry.specs.Facet.{Facet};
+ghost use Rattle.std.specs.Prelude.{◌≤◌};
+ghost use Rattle.stl_text.specs.Reading.{IsAnswerTo};
 ghost use Rattle.geometry.specs.declared.limits.TheConstants.{FACET_LIMIT};
 
 use crate::stl_fault::StlFault;
@@ -34,10 +32,7 @@ pub fn read_stl_at_most<A: Allocator + Copy + Send + Sync>(
     unit: Unit,
 ) -> Result<Vec<Facet, A>, StlFault>
     requires { limit ≤ FACET_LIMIT }
-    ensures found { IfOk result (λ facets. Reads limit unit bytes.now facets.items) }
-    ensures only { (facets : List Facet) → Reads limit unit bytes.now facets
-        → MatchResult result (λ found. found.items ≡ facets) (λ fault. fault ≡ Memory) }
-    ensures fault { IfErr result (λ fault. fault ≢ Memory → IsFaultOf limit unit bytes.now fault) }
+    ensures { IsAnswerTo limit unit bytes.now result }
 {
     let mut reader = TextReader::new(alloc, limit, unit);
     reader.feed(bytes);
@@ -51,10 +46,7 @@ pub fn read_stl<A: Allocator + Copy + Send + Sync>(
     bytes: &[u8],
     unit: Unit,
 ) -> Result<Vec<Facet, A>, StlFault>
-    ensures found { IfOk result (λ facets. Reads FACET_LIMIT unit bytes.now facets.items) }
-    ensures only { (facets : List Facet) → Reads FACET_LIMIT unit bytes.now facets
-        → MatchResult result (λ found. found.items ≡ facets) (λ fault. fault ≡ Memory) }
-    ensures fault { IfErr result (λ fault. fault ≢ Memory → IsFaultOf FACET_LIMIT unit bytes.now fault) }
+    ensures { IsAnswerTo FACET_LIMIT unit bytes.now result }
 {
     read_stl_at_most(alloc, bytes, FACET_LIMIT, unit)
 }
@@ -70,10 +62,7 @@ pub fn read_stl_by<R: Threads + Sync, A: Allocator + Copy + Send + Sync>(
     workers: u32,
 ) -> Result<Vec<Facet, A>, StlFault>
     requires { limit ≤ FACET_LIMIT }
-    ensures found { IfOk result (λ facets. Reads limit unit bytes.now facets.items) }
-    ensures only { (facets : List Facet) → Reads limit unit bytes.now facets
-        → MatchResult result (λ found. found.items ≡ facets) (λ fault. fault ≡ Memory) }
-    ensures fault { IfErr result (λ fault. fault ≢ Memory → IsFaultOf limit unit bytes.now fault) }
+    ensures { IsAnswerTo limit unit bytes.now result }
 {
     let mut reader = TextReader::new(alloc, limit, unit);
     reader.feed_by(rt, bytes, workers);

@@ -1,6 +1,6 @@
 //! Scanning the front of a text: white space, words, keywords, coordinates and lines.
 
-ghost use Rattle.std.specs.Prelude.{◌≡◌, ◌+◌, ◌≤◌, IfSome, Ok, length, not, true};
+ghost use Rattle.std.specs.Prelude.{◌≡◌, ◌↔◌, ◌+◌, ◌≤◌, IfSome, IsTrue, Ok, length, not, true};
 ghost use Rattle.std.specs.Str.{str_to_ascii_lowercase};
 ghost use Rattle.std.specs.List.{list_all, position_or_len, prefix_len};
 ghost use Rattle.micro_num.specs.Micrometres.{coordinate_of};
@@ -90,7 +90,7 @@ pub(crate) fn is_keyword(word: &[u8], text: &[u8]) -> bool
 /// Whether a word that is followed by this text ends there: the text is empty, or begins with white space.
 #[inline(always)]
 fn ends_word(bytes: &[u8]) -> bool
-    ensures { result ≡ true → IsApart bytes.now }
+    ensures { IsTrue result ↔ IsApart bytes.now }
 {
     match bytes.first() {
         Some(byte) => is_white(*byte),

@@ -1,5 +1,5 @@
 //! The reader of a text that is fed in pieces.
-ghost use Rattle.std.specs.Prelude.{◌≡◌, ◌≢◌, ◌<◌, ◌≤◌, ◌+◌, ◌-◌, ℕ, [], ◌∷◌, ◌++◌, All, List, IfErr, IfOk, IfSome, IsTrue, MatchResult, None, length};
+ghost use Rattle.std.specs.Prelude.{◌≡◌, ◌≢◌, ◌↔◌, ◌<◌, ◌≤◌, ◌+◌, ◌-◌, ℕ, [], ◌∷◌, ◌++◌, All, List, IfErr, IfOk, IfSome, IsTrue, MatchResult, None, length};
 ghost use Rattle.geometry.specs.Facet.{Facet};
 ghost use Rattle.geometry.specs.declared.limits.TheConstants.{FACET_LIMIT};
 ghost use Rattle.micro_num.specs.declared.unit.Unit.{Unit as LengthUnit};
@@ -7,7 +7,7 @@ ghost use Rattle.stl_text.specs.declared.stl_fault.StlFault.TheVariants.{Memory}
 ghost use Rattle.stl_text.specs.Text.{IsFaultOf, Reads};
 ghost use Rattle.stl_text.specs.Run.{IsFacetRun};
 ghost use Rattle.stl_text.specs.Stage.{AtWord, in_facets};
-ghost use Rattle.stl_text.specs.Pieces.{EndsAt, IsAfter, IsReading, StandsAt, at_line, at_word};
+ghost use Rattle.stl_text.specs.Pieces.{EndsAt, IsAfter, IsReading, ReadsOn, StandsAt, at_line, at_word};
 
 use crate::layout::{Layout, front_facet};
 use crate::run::{Run, layout_within};
@@ -26,7 +26,7 @@ const LEAST_PART: usize = 1 << 15;
 
 /// Whether `facet` or `endsolid` is wanted.
 fn is_among_facets(place: Place) -> bool
-    ensures { IsTrue result → place ≡ at_word in_facets }
+    ensures { IsTrue result ↔ (place ≡ at_word in_facets) }
 {
     matches!(place, Place::Word(Stage::Facets))
 }
@@ -192,8 +192,7 @@ impl<A: Allocator> TextReader<A> {
     /// Reads a part of a text until at most `left` bytes of it are left: answers these.
     fn read_to<'p>(&mut self, part: &'p [u8], layout: &Option<Layout<'_>>, left: usize) -> &'p [u8]
         requires free { 0 < length part.now → self.old.held ≡ [] }
-        ensures read { (limit : ℕ) (unit : LengthUnit) (taken : List Facet) (text : List ℕ)
-            → IsReading limit unit taken self.old text part.now → IsReading limit unit taken self.new text result.now }
+        ensures read { ReadsOn self.old part.now self.new result.now }
         ensures free { 0 < length result.now → self.new.held ≡ [] }
         ensures left { length result.now ≤ left }
     {
@@ -257,8 +256,7 @@ impl<A: Allocator> TextReader<A> {
 
     /// Goes on with a word that the last piece cut: answers the text behind it.
     fn resume<'p>(&mut self, piece: &'p [u8]) -> &'p [u8]
-        ensures read { (limit : ℕ) (unit : LengthUnit) (taken : List Facet) (text : List ℕ)
-            → IsReading limit unit taken self.old text piece.now → IsReading limit unit taken self.new text result.now }
+        ensures read { ReadsOn self.old piece.now self.new result.now }
         ensures free { 0 < length result.now → self.new.held ≡ [] }
     {
         if self.held.is_empty() {
@@ -284,15 +282,21 @@ impl<A: Allocator> TextReader<A> {
     fn advance<'p>(&mut self, part: &'p [u8], layout: &Option<Layout<'_>>) -> &'p [u8]
         requires free { self.old.held ≡ [] }
         requires some { 0 < length part.now }
-        ensures read { (limit : ℕ) (unit : LengthUnit) (taken : List Facet) (text : List ℕ)
-            → IsReading limit unit taken self.old text part.now → IsReading limit unit taken self.new text result.now }
+        ensures read { ReadsOn self.old part.now self.new result.now }
         ensures free { 0 < length result.now → self.new.held ≡ [] }
         ensures shorter { length result.now < length part.now }
     {
         match self.place {
             Place::Stopped(_) => part.split_at(part.len()).1,
             Place::Line(stage) => self.line(stage, part),
-            Place::Word(stage) => self.facet_or_word(stage, part, layout),
+            Place::Word(stage) => {
+                if matches!(stage, Stage::Facets) {
+                    if let Some(rest) = self.facet(part, layout) {
+                        return rest;
+                    }
+                }
+                self.word(stage, part)
+            },
         }
     }
 
@@ -301,8 +305,7 @@ impl<A: Allocator> TextReader<A> {
         requires free { self.old.held ≡ [] }
         requires some { 0 < length part.now }
         requires place { self.old.place ≡ at_line stage }
-        ensures read { (limit : ℕ) (unit : LengthUnit) (taken : List Facet) (text : List ℕ)
-            → IsReading limit unit taken self.old text part.now → IsReading limit unit taken self.new text result.now }
+        ensures read { ReadsOn self.old part.now self.new result.now }
         ensures free { 0 < length result.now → self.new.held ≡ [] }
         ensures shorter { length result.now < length part.now }
     {
@@ -315,37 +318,12 @@ impl<A: Allocator> TextReader<A> {
         behind
     }
 
-    /// Reads a whole facet, or else a word.
-    #[inline(always)]
-    fn facet_or_word<'p>(
-        &mut self,
-        stage: Stage,
-        part: &'p [u8],
-        layout: &Option<Layout<'_>>,
-    ) -> &'p [u8]
-        requires free { self.old.held ≡ [] }
-        requires some { 0 < length part.now }
-        requires place { self.old.place ≡ at_word stage }
-        ensures read { (limit : ℕ) (unit : LengthUnit) (taken : List Facet) (text : List ℕ)
-            → IsReading limit unit taken self.old text part.now → IsReading limit unit taken self.new text result.now }
-        ensures free { 0 < length result.now → self.new.held ≡ [] }
-        ensures shorter { length result.now < length part.now }
-    {
-        if matches!(stage, Stage::Facets) {
-            if let Some(rest) = self.facet(part, layout) {
-                return rest;
-            }
-        }
-        self.word(stage, part)
-    }
-
     /// Reads a whole facet at the front, if there is one and the limit has room for it: answers the text behind it.
     #[inline(always)]
     fn facet<'p>(&mut self, part: &'p [u8], layout: &Option<Layout<'_>>) -> Option<&'p [u8]>
         requires free { self.old.held ≡ [] }
         requires place { self.old.place ≡ at_word in_facets }
-        ensures read { IfSome result (λ rest. (limit : ℕ) (unit : LengthUnit) (taken : List Facet) (text : List ℕ)
-            → IsReading limit unit taken self.old text part.now → IsReading limit unit taken self.new text rest.now) }
+        ensures read { IfSome result (λ rest. ReadsOn self.old part.now self.new rest.now) }
         ensures free { IfSome result (λ rest. self.new.held ≡ []) }
         ensures shorter { IfSome result (λ rest. length rest.now < length part.now) }
         ensures none { result ≡ None → self.new ≡ self.old }
@@ -370,8 +348,7 @@ impl<A: Allocator> TextReader<A> {
         requires free { self.old.held ≡ [] }
         requires some { 0 < length part.now }
         requires place { self.old.place ≡ at_word stage }
-        ensures read { (limit : ℕ) (unit : LengthUnit) (taken : List Facet) (text : List ℕ)
-            → IsReading limit unit taken self.old text part.now → IsReading limit unit taken self.new text result.now }
+        ensures read { ReadsOn self.old part.now self.new result.now }
         ensures free { 0 < length result.now → self.new.held ≡ [] }
         ensures shorter { length result.now < length part.now }
     {

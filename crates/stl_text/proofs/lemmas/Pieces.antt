@@ -537,12 +537,6 @@ ends_stage limit unit pl s facets others fed (inl place_is) facets_is e =
 ends_stage limit unit pl s facets others fed (inr place_is) facets_is e =
     ends_with limit unit pl (place.Line s) facets others fed place_is facets_is e
 
--- A piece is read up to its last part.
-pub record IsFeeding (start : Progress) (piece : List ℕ) (now : Progress) (rest : List ℕ) : Type 0 where
-  pub reading : (limit : ℕ) (unit : LengthUnit) (taken : List Facet) (fed : List ℕ) → IsAfter limit unit taken start fed
-      → IsReading limit unit taken now (fed ++ piece) rest
-  pub free : 0 < length rest → now.held ≡ []
-
 -- a reader that didn't stop at a fault has the unit of the text
 pub unit_known : (limit : ℕ) (unit : LengthUnit) (p : Progress) (pl : Place) (text part : List ℕ) → IsReadingAt limit unit p pl text part
     → ((f : StlFault) → pl ≡ place.Stopped f → ⊥) → p.unit ≡ unit

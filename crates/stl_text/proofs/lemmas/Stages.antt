@@ -15,7 +15,7 @@ use Rattle.stl_text.specs.declared.stl_fault.StlFault.{StlFault}
 use Rattle.stl_text.specs.declared.stl_fault.StlFault.TheVariants as fault
 use Rattle.stl_text.specs.declared.stage.Stage.TheVariants as stage
 use Rattle.stl_text.specs.declared.stage.TheConstants.{LAST_WORD}
-use Rattle.stl_text.specs.Text.{Token, keyword_of, keyword_text, rest_of_line, facet_word, end_word, facet_keyword, end_keyword, facet_tokens, solid_tokens, is_keyword, is_facet_word, is_read_as, begins_with, after_token, rest_behind, first_word, after_space, after_word, after_line, facets_of, facet_count, is_white, IsFaultOf, Reads, Wants}
+use Rattle.stl_text.specs.Text.{Token, keyword_of, keyword_text, rest_of_line, facet_word, end_word, facet_keyword, end_keyword, facet_tokens, solid_tokens, is_keyword, is_facet_word, is_read_as, begins_with, after_token, rest_behind, first_word, after_space, after_word, after_line, facets_of, facet_count, is_white, IsFaultOf, Wants}
 use Rattle.stl_text.specs.Reader.{facet_tail}
 use Rattle.stl_text.specs.Stage.{Goes, IsForm, IsStop, Stands, ReadInside, front, opened}
 use Rattle.stl_text.specs.Run.{next_solid}
@@ -291,18 +291,6 @@ stuck_inside limit unit words facets t u p text behind f s goes stop no_solid =
 -- the end of a text
 pub ended_word : (behind : List ℕ) → after_space behind ≡ [] → first_word behind ≡ []
 ended_word behind e = ap (before_first is_white) e
-
-pub ended_whole : (limit : ℕ) (unit : LengthUnit) (facets : List Facet) (text behind : List ℕ)
-    → Stands limit unit (stage.Between true) facets text behind → after_space behind ≡ [] → Reads limit unit text facets
-ended_whole limit unit facets text behind s e = record {
-  solids = s.solids;
-  some = s.form.1;
-  each = s.items ∙ ap (λ a. facets_of s.solids ++ a) s.form.0 ∙ append-nil (facets_of s.solids);
-  few = s.form.2;
-  rest = behind;
-  spelled = s.spelled;
-  whole = e;
-}
 
 pub ended_first : (limit : ℕ) (unit : LengthUnit) (facets : List Facet) (text behind : List ℕ)
     → Stands limit unit (stage.Between false) facets text behind → after_space behind ≡ [] → IsFaultOf limit unit text (fault.Ended Solid)
