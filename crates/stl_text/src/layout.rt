@@ -62,23 +62,6 @@ impl<'t> Reader<'t> {
         Some(())
     }
 
-    /// Reads a facet in this layout, if one stands here. Where none does, the reader may be left anywhere.
-    #[inline(always)]
-    fn facet_in(&mut self, layout: &Layout<'_>) -> Option<Facet>
-        ensures { IfSome result (λ t. Spells (facet_tokens t) self.old self.new) }
-    {
-        self.skip(layout.opening)?;
-        self.near_normal()?;
-        self.skip(layout.first)?;
-        let a = self.near_point()?;
-        self.skip(layout.next)?;
-        let b = self.near_point()?;
-        self.skip(layout.next)?;
-        let c = self.near_point()?;
-        self.close(layout)?;
-        Some(Facet::of(a, b, c))
-    }
-
     /// Like `normal_parts`, and faster where the words stand one blank apart.
     #[inline(always)]
     fn near_normal(&mut self) -> Option<()>
@@ -283,12 +266,20 @@ fn facet_by_layout<'t>(
     ensures shorter { IfSome result (λ found. length found.1.now < length bytes.now) }
 {
     let mut reader = Reader::new(bytes, unit);
-    let facet = reader.facet_in(layout)?;
+    reader.skip(layout.opening)?;
+    reader.near_normal()?;
+    reader.skip(layout.first)?;
+    let a = reader.near_point()?;
+    reader.skip(layout.next)?;
+    let b = reader.near_point()?;
+    reader.skip(layout.next)?;
+    let c = reader.near_point()?;
+    reader.close(layout)?;
     let rest = reader.rest;
     if rest.is_empty() {
         return None;
     }
-    Some((facet, rest))
+    Some((Facet::of(a, b, c), rest))
 }
 
 /// The whole facet at the front of a text, from `facet` to `endfacet`, and the text behind it, which is not empty. It is
