@@ -1,4 +1,5 @@
 pub mod Fronts
+pub mod Lanes
 pub mod Determined
 pub mod OneReading
 pub mod OneFault

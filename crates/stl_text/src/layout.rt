@@ -1,17 +1,23 @@
 //! The layout of facets: what a file writes before, between and behind the numbers of a facet. Most files write it with the
 //! same bytes in each facet, so that these are compared as a whole, and not read word by word.
-ghost use Rattle.std.specs.Prelude.{◌≡◌, ◌<◌, IfSome, List, Some, length};
+ghost use Rattle.std.specs.Prelude.{◌≡◌, ◌≤◌, ◌<◌, [], ◌∷◌, ◌++◌, IfSome, List, Ok, Some, length, not, take, true};
+ghost use Rattle.std.specs.List.{list_all};
+ghost use Rattle.micro_num.specs.Micrometres.{coordinate_of};
 ghost use Rattle.stl_text.specs.Layout.{IsClosing, IsSeparator, Skips, separator_tokens};
 ghost use Rattle.stl_text.specs.Reader.{Spells};
-ghost use Rattle.stl_text.specs.Text.{Token, facet_tokens, rest_behind};
+ghost use Rattle.stl_text.specs.Text.{Token, after_space, after_word, coordinate, facet_tokens, first_word, is_white, normal_part, rest_behind};
 ghost use Rattle.stl_text.specs.declared.grammar.Separator.TheVariants.{Closing};
 
 use crate::grammar::{Separator, facet_by_words};
 use crate::reader::Reader;
-use crate::scanning::skip_space;
-use geometry::Facet;
-use micro_num::Unit;
+use crate::scanning::{behind_coordinate, ends_word, skip_blank, skip_space, split_word};
+use geometry::{Facet, Point};
+use micro_num::{Unit, read_front};
 use std::marker::Model;
+use std::simd::prelude::*;
+
+/// The number of bytes that are looked at together.
+const LANES: usize = 16;
 
 /// The bytes with which a file writes each separator, with white space at the end of each.
 #[derive(Drop)]
@@ -40,7 +46,7 @@ impl<'t> Reader<'t> {
     fn skip(&mut self, bytes: &[u8]) -> Option<()>
         ensures { IfSome result (λ _. (tokens : List Token) → IsSeparator tokens bytes.now → Skips tokens self.old self.new) }
     {
-        self.rest = self.rest.strip_prefix(bytes)?;
+        self.rest = behind_bytes(self.rest, bytes)?;
         Some(())
     }
 
@@ -50,27 +56,143 @@ impl<'t> Reader<'t> {
         ensures { IfSome result (λ _. Spells (separator_tokens Closing) self.old self.new) }
     {
         let start = self.rest;
-        start.strip_prefix(layout.closing)?;
+        behind_bytes(start, layout.closing)?;
         let (_, rest) = start.split_at(layout.words_len);
         self.rest = rest;
         Some(())
     }
 
-    /// Reads a facet in this layout, if one stands here. Where none does, the reader may be left anywhere.
+    /// Like `normal_parts`, and faster where the words stand one blank apart.
     #[inline(always)]
-    fn facet_in(&mut self, layout: &Layout<'_>) -> Option<Facet>
-        ensures { IfSome result (λ t. Spells (facet_tokens t) self.old self.new) }
+    fn near_normal(&mut self) -> Option<()>
+        ensures { IfSome result (λ _. Spells (normal_part ∷ normal_part ∷ normal_part ∷ []) self.old self.new) }
     {
-        self.skip(layout.opening)?;
-        self.normal_parts()?;
-        self.skip(layout.first)?;
-        let a = self.point()?;
-        self.skip(layout.next)?;
-        let b = self.point()?;
-        self.skip(layout.next)?;
-        let c = self.point()?;
-        self.close(layout)?;
-        Some(Facet::of(a, b, c))
+        self.near_part()?;
+        self.near_part()?;
+        self.near_part()
+    }
+
+    /// Like `normal_part`, and faster where the word is short and at most one blank stands before it.
+    #[inline(always)]
+    fn near_part(&mut self) -> Option<()>
+        ensures { IfSome result (λ _. Spells (normal_part ∷ []) self.old self.new) }
+    {
+        self.rest = match behind_short_word(skip_blank(self.rest)) {
+            Some(rest) => rest,
+            None => behind_any_word(self.rest)?,
+        };
+        Some(())
+    }
+
+    /// Like `point`, and faster where the coordinates stand one blank apart.
+    #[inline(always)]
+    fn near_point(&mut self) -> Option<Point>
+        ensures { IfSome result (λ p. Spells (coordinate p.x ∷ coordinate p.y ∷ coordinate p.z ∷ []) self.old self.new) }
+    {
+        let x = self.near_coordinate()?;
+        let y = self.near_coordinate()?;
+        let z = self.near_coordinate()?;
+        let Some(point) = Point::new(x, y, z) else {
+            return None;
+        };
+        Some(point)
+    }
+
+    /// Like `coordinate`, and faster where at most one blank stands before it.
+    #[inline(always)]
+    fn near_coordinate(&mut self) -> Option<i32>
+        ensures { IfSome result (λ z. Spells (coordinate z ∷ []) self.old self.new) }
+    {
+        let (z, rest) = match behind_front(skip_blank(self.rest), self.unit) {
+            Some(found) => found,
+            None => behind_any_coordinate(self.rest, self.unit)?,
+        };
+        self.rest = rest;
+        Some(z)
+    }
+}
+
+/// The text behind these bytes, if it begins with them.
+#[inline(always)]
+fn behind_bytes<'t>(text: &'t [u8], bytes: &[u8]) -> Option<&'t [u8]>
+    ensures { IfSome result (λ rest. text.now ≡ bytes.now ++ rest.now) }
+{
+    if text.len() < bytes.len() {
+        return None;
+    }
+    let (front, rest) = text.split_at(bytes.len());
+    if front == bytes { Some(rest) } else { None }
+}
+
+/// The text behind its first word, if it has one.
+#[cold]
+#[inline(never)]
+fn behind_any_word(bytes: &[u8]) -> Option<&[u8]>
+    ensures word { IfSome result (λ rest. 0 < length (first_word bytes.now)) }
+    ensures rest { IfSome result (λ rest. rest.now ≡ after_word bytes.now) }
+{
+    let (word, rest) = split_word(bytes);
+    if word.is_empty() { None } else { Some(rest) }
+}
+
+/// Like `behind_coordinate`, and called where the coordinate is rarely read so.
+#[cold]
+#[inline(never)]
+fn behind_any_coordinate(bytes: &[u8], unit: Unit) -> Option<(i32, &[u8])>
+    ensures read { IfSome result (λ found. coordinate_of unit (first_word bytes.now) ≡ Ok found.0) }
+    ensures rest { IfSome result (λ found. found.1.now ≡ after_word bytes.now) }
+{
+    behind_coordinate(bytes, unit)
+}
+
+/// The number of bytes above 32 at the front of a text, of which none is white space, or `LANES` if there are more.
+#[inline(always)]
+fn black_len(bytes: &[u8]) -> usize
+    requires { LANES ≤ length bytes.now }
+    ensures black { list_all (λ byte. not (is_white byte)) (take result bytes.now) ≡ true }
+    ensures within { result ≤ LANES }
+{
+    let low = u8x16::from_slice(bytes)
+        .simd_le(u8x16::splat(b' '))
+        .to_bitmask();
+    if low == 0 {
+        LANES
+    } else {
+        low.trailing_zeros() as usize
+    }
+}
+
+/// The text behind the word at its front, if that has fewer than `LANES` bytes. `None` says nothing about the text.
+#[inline(always)]
+fn behind_short_word(bytes: &[u8]) -> Option<&[u8]>
+    ensures word { IfSome result (λ rest. 0 < length (first_word bytes.now)) }
+    ensures rest { IfSome result (λ rest. rest.now ≡ after_word bytes.now) }
+{
+    if bytes.len() < LANES {
+        return None;
+    }
+    let count = black_len(bytes);
+    let (_, rest) = bytes.split_at(count);
+    if count > 0 && ends_word(rest) {
+        Some(rest)
+    } else {
+        None
+    }
+}
+
+/// The coordinate that the word at the front of a text stands for, and the text behind the word. `None` says nothing about
+/// the text.
+#[inline(always)]
+fn behind_front(bytes: &[u8], unit: Unit) -> Option<(i32, &[u8])>
+    ensures read { IfSome result (λ found. coordinate_of unit (first_word bytes.now) ≡ Ok found.0) }
+    ensures rest { IfSome result (λ found. found.1.now ≡ after_word bytes.now) }
+{
+    let (z, count) = read_front(bytes, unit)?;
+    let (_, rest) = bytes.split_at(count);
+    if ends_word(rest) {
+        Some((z, rest))
+    } else {
+        None
     }
 }
 
@@ -133,7 +255,7 @@ impl<'t> Layout<'t> {
 
 /// The facet in this layout at the front of a text, and the text behind it, which is not empty. `None` says nothing about
 /// the text.
-#[inline(always)]
+#[inline(never)]
 fn facet_by_layout<'t>(
     bytes: &'t [u8],
     unit: Unit,
@@ -144,12 +266,20 @@ fn facet_by_layout<'t>(
     ensures shorter { IfSome result (λ found. length found.1.now < length bytes.now) }
 {
     let mut reader = Reader::new(bytes, unit);
-    let facet = reader.facet_in(layout)?;
+    reader.skip(layout.opening)?;
+    reader.near_normal()?;
+    reader.skip(layout.first)?;
+    let a = reader.near_point()?;
+    reader.skip(layout.next)?;
+    let b = reader.near_point()?;
+    reader.skip(layout.next)?;
+    let c = reader.near_point()?;
+    reader.close(layout)?;
     let rest = reader.rest;
     if rest.is_empty() {
         return None;
     }
-    Some((facet, rest))
+    Some((Facet::of(a, b, c), rest))
 }
 
 /// The whole facet at the front of a text, from `facet` to `endfacet`, and the text behind it, which is not empty. It is

@@ -15,7 +15,7 @@ pub(crate) struct Reader<'t> {
     /// The part of the text that is not read yet.
     pub(crate) rest: &'t [u8],
     /// The unit of its numbers.
-    unit: Unit,
+    pub(crate) unit: Unit,
 }
 
 impl<'t> Model for Reader<'t> {

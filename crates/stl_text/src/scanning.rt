@@ -45,6 +45,17 @@ pub(crate) fn skip_space(bytes: &[u8]) -> &[u8]
     bytes.split_at(n).1
 }
 
+/// The text behind the white space at the front, of which one byte at most is skipped.
+#[inline(always)]
+pub(crate) fn skip_blank(bytes: &[u8]) -> &[u8]
+    ensures { after_space result.now ≡ after_space bytes.now }
+{
+    match bytes.split_first() {
+        Some((first, rest)) if is_white(*first) => rest,
+        _ => bytes,
+    }
+}
+
 /// The first word, which is empty at the end of the text, and the text behind it.
 pub(crate) fn split_word(bytes: &[u8]) -> (&[u8], &[u8])
     ensures word { result.0.now ≡ first_word bytes.now }
@@ -89,7 +100,7 @@ pub(crate) fn is_keyword(word: &[u8], text: &[u8]) -> bool
 
 /// Whether a word that is followed by this text ends there: the text is empty, or begins with white space.
 #[inline(always)]
-fn ends_word(bytes: &[u8]) -> bool
+pub(crate) fn ends_word(bytes: &[u8]) -> bool
     ensures { IsTrue result ↔ IsApart bytes.now }
 {
     match bytes.first() {

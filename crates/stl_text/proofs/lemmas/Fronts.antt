@@ -1,10 +1,10 @@
 -- The first word of a text, found by a cut before white space.
-use Rattle.std.proofs.Common.{◌≡◌, ◌⊎◌, inl, inr, ℕ, ◌<◌, ◌≤◌, Bool, true, false, not, ◌&&◌, List, [], ◌∷◌, ◌++◌, take, drop, length, refl, sym, ◌∙◌, ap, arith}
+use Rattle.std.proofs.Common.{◌≡◌, ◌⊎◌, inl, inr, ℕ, ◌<◌, ◌≤◌, Bool, true, false, not, ◌&&◌, List, [], ◌∷◌, ◌++◌, zero, suc, take, drop, length, refl, sym, ◌∙◌, ap, arith}
 use Rattle.std.specs.Prelude.{Option, Some, None, Ok, Err, ℤ, ◌==◌, nat_lt, nat_le, if◌then◌else◌}
 use Rattle.std.specs.Char.{is_ascii_digit, to_ascii_lowercase}
 use Rattle.std.specs.Str.{str_to_ascii_lowercase}
 use Rattle.std.specs.List.{list_all, before_first}
-use Rattle.std.proofs.lemmas.Bool.{and_parts, cases_lt, lt-leb, ne_eqb, eqb-true}
+use Rattle.std.proofs.lemmas.Bool.{and_parts, cases_lt, lt-leb, ne_eqb, not-true, eqb-true}
 use Rattle.std.proofs.lemmas.List.{take-append-drop}
 use Rattle.std.proofs.lemmas.List.Folds.{list_all-append}
 use Rattle.std.proofs.lemmas.Slice.Eq.{bytes_eq-Decides}
@@ -15,7 +15,7 @@ use Rattle.micro_num.specs.Numeral.{Sign, unsigned, plus, minus, Exponent, Numer
 use Rattle.micro_num.specs.Micrometres.{coordinate_of, numeral_coordinate}
 use Rattle.exact_int.proofs.lemmas.Lists.{all-weaker}
 use Rattle.micro_num.proofs.lemmas.Grammar.{Starts, before-is, from-is, bounds, numeral_of-is}
-use Rattle.stl_text.specs.Text.{is_white, is_keyword}
+use Rattle.stl_text.specs.Text.{after_space, is_white, is_keyword}
 use Rattle.stl_text.specs.Written.{IsApart}
 use Rattle.micro_num.specs.declared.limits.TheConstants.{WORD_LIMIT}
 
@@ -38,7 +38,7 @@ module _ (front : List ℕ) (n : ℕ) (clear : list_all (λ byte. not (is_white 
       ∙ from-is is_white (take n front) (drop n front) clear (starts (drop n front) apart)
 
 -- a byte above 32 is not white
-above_black : (c : ℕ) → 32 < c → is_black c ≡ true
+pub above_black : (c : ℕ) → 32 < c → is_black c ≡ true
 above_black c h = rw (ne_eqb c 32 (λ e. omega (arith, h, e)), lt-leb c 13 (omega arith)) (last (nat_le 9 c))
   where
     last : (b : Bool) → not (b && false) ≡ true
@@ -117,3 +117,14 @@ coordinate_black unit word z e = by_length (nat_lt WORD_LIMIT (length word)) e
     by_length : (b : Bool) → (if b then Err TooLong else numeral_coordinate unit (numeral_of word)) ≡ Ok z → list_all is_black word ≡ true
     by_length true h = cc
     by_length false h = by_numeral (numeral_of word) refl h
+
+-- A text that begins with a word has no white space at its front.
+
+pub black_front : (n : ℕ) (bytes : List ℕ) → 0 < n → list_all is_black (take n bytes) ≡ true → after_space bytes ≡ bytes
+black_front zero bytes some clear = absurd (omega (arith, some))
+black_front (suc n) [] some clear = refl
+black_front (suc n) (byte ∷ bytes) some clear = rw (not-true (is_white byte) (and_parts (not (is_white byte)) (list_all is_black (take n bytes)) clear).0) refl
+
+pub coordinate_front : (unit : LengthUnit) (n : ℕ) (bytes : List ℕ) (z : ℤ) → coordinate_of unit (take n bytes) ≡ Ok z → after_space bytes ≡ bytes
+coordinate_front unit zero bytes z is = cc
+coordinate_front unit (suc n) bytes z is = black_front (suc n) bytes (omega arith) (coordinate_black unit (take (suc n) bytes) z is)
