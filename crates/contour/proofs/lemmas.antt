@@ -4,6 +4,7 @@ pub mod Parts
 pub mod Counts
 pub mod Swept
 pub mod Pushes
+pub mod Ended
 pub mod Sweeps
 pub mod Links
 pub mod Within

@@ -3,11 +3,10 @@
 --     active_facets facets z   the numbers of the facets that are cut at the height z, in ascending order
 --     passed_count facets z    the number of facets that the plane has reached
 use Rattle.std.specs.Prelude.{ℕ, Bool, ◌&&◌, List, [], ◌∷◌, ◌++◌, map, filter, take, drop, count_by, ℤ, pos, ◌*ℤ◌, nat_lt}
-use Rattle.std.specs.Int.{int_max}
 use Rattle.std.specs.List.{enumerate_from, list_any, prefix_len}
 use Rattle.geometry.specs.TieRule.{is_below, is_above}
 use Rattle.geometry.specs.Facet.{Facet, corners}
-use Rattle.mesh_weld.specs.Solid.{facet_at, least_z}
+use Rattle.mesh_weld.specs.Solid.{facet_at, greatest_z, least_z}
 use Rattle.contour.specs.Segment.{height}
 
 -- some corner is at most at the height z
@@ -24,11 +23,7 @@ active_facets facets z = map (λ e. e.0) (filter (λ e. is_cut z e.1) (enumerate
 abbrev pub passed_count : List Facet → ℤ → ℕ
 passed_count facets z = count_by (is_reached z) facets
 
--- the greatest height of a facet's corners, in micrometres
-abbrev pub greatest_z : Facet → ℤ
-greatest_z t = int_max (int_max t.a.z t.b.z) t.c.z
-
--- the same of the facet with a number
+-- the greatest height of the corners of the facet with a number, in micrometres
 abbrev pub top_of : List Facet → ℕ → ℤ
 top_of facets n = greatest_z (facet_at facets n)
 

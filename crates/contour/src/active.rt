@@ -1,14 +1,16 @@
 //! The active list of a sweep: the facets that its plane cuts, in ascending order of their numbers, each with the height
 //! of its top. A facet starts at its lowest corner and ends at its top, its highest corner. At each step the facets that
 //! have started and not ended are merged into those that stay.
-ghost use Rattle.std.specs.Prelude.{◌≡◌, ◌<◌, ◌≤◌, ◌++◌, ◌∷◌, ◌*ℤ◌, [], All, IfOk, List, OnOk, drop, filter, if◌then◌else◌, length, map, nat_lt, pos, take, ℕ};
-ghost use Rattle.std.specs.List.{prefix_len};
+ghost use Rattle.std.specs.Prelude.{◌≡◌, ◌<◌, ◌≤◌, ◌++◌, ◌∷◌, ◌*ℤ◌, [], All, IfOk, List, OnOk, drop, false, filter, if◌then◌else◌, length, map, nat_lt, pos, take, true, ℕ};
+ghost use Rattle.std.specs.List.{AllPairs, prefix_len};
+ghost use Rattle.exact_int.specs.Bounds.{IsAtMost};
 ghost use Rattle.geometry.specs.TieRule as TieRule;
-ghost use Rattle.mesh_weld.specs.Solid.{least_z};
-ghost use Rattle.contour.specs.Active.{ends_above, greatest_z, merge, starts_by, top_of};
+ghost use Rattle.mesh_weld.specs.Solid.{is_lower, least_z};
+ghost use Rattle.contour.specs.Active.{ends_above, merge, starts_by, top_of};
+ghost use Rattle.geometry.specs.declared.limits.TheConstants.{CENTRE_LIMIT};
 
 use geometry::{Facet, is_below};
-use mesh_weld::{Solid, lowest};
+use mesh_weld::{Solid, highest, lowest};
 use std::alloc::{AllocError, Allocator};
 
 /// The numbers of the facets that a plane cuts, each with the height of its top in micrometres.
@@ -152,13 +154,31 @@ pub(crate) struct Arrivals<A: Allocator> {
 }
 
 impl<A: Allocator + Copy + Send + Sync> Arrivals<A> {
-    /// Looks at facets up to the first that starts above `z2`, in half-micrometres.
+    /// What the plane reaches up to the height `z2`, in half-micrometres. Facets that have ended in any case, since they
+    /// start so far below, aren't looked at one by one.
     pub(crate) fn find(
         alloc: A,
         s: &Solid<A>,
         order: &[u32],
         z2: i64,
     ) -> Result<Arrivals<A>, AllocError>
+        requires numbers { All (λ n. n < length s.now.facets) order.now }
+        requires ascending { AllPairs (λ m n. is_lower s.now.facets m n ≡ true) order.now }
+        requires height { IsAtMost CENTRE_LIMIT z2 }
+        ensures count { IfOk result (λ a. a.count ≡ prefix_len (starts_by s.now.facets z2) order.now) }
+        ensures active { IfOk result (λ a. a.active.items ≡ filter (ends_above s.now.facets z2) (take a.count order.now)) }
+    {
+        let ended = count_ended(s, order, z2);
+        let (_, rest) = order.split_at(ended);
+        let Arrivals { count, active } = Arrivals::scan(alloc, s, rest, z2)?;
+        Ok(Arrivals {
+            count: ended + count,
+            active,
+        })
+    }
+
+    /// Looks at facets up to the first that starts above `z2`, in half-micrometres.
+    fn scan(alloc: A, s: &Solid<A>, order: &[u32], z2: i64) -> Result<Arrivals<A>, AllocError>
         requires { All (λ n. n < length s.now.facets) order.now }
         ensures count { IfOk result (λ a. a.count ≡ prefix_len (starts_by s.now.facets z2) order.now) }
         ensures active { IfOk result (λ a. a.active.items ≡ filter (ends_above s.now.facets z2) (take a.count order.now)) }
@@ -180,19 +200,52 @@ impl<A: Allocator + Copy + Send + Sync> Arrivals<A> {
     }
 }
 
+/// Of facets in the order of their least heights, a number of first ones that have started and ended at the height `z2`, in
+/// half-micrometres: those that the greatest rise wouldn't bring above it. Where the plane rises by little there are none,
+/// which the first facet tells.
+fn count_ended<A: Allocator + Copy + Send + Sync>(s: &Solid<A>, order: &[u32], z2: i64) -> usize
+    requires numbers { All (λ n. n < length s.now.facets) order.now }
+    requires ascending { AllPairs (λ m n. is_lower s.now.facets m n ≡ true) order.now }
+    requires height { IsAtMost CENTRE_LIMIT z2 }
+    ensures started { result ≤ prefix_len (starts_by s.now.facets z2) order.now }
+    ensures ended { All (λ n. ends_above s.now.facets z2 n ≡ false) (take result order.now) }
+{
+    let low = z2 - 2 * i64::from(s.greatest_rise());
+    let Some(first) = order.first() else {
+        return 0;
+    };
+    if !starts_by(&s.facet(*first), low) {
+        return 0;
+    }
+    count_started(s, order, low)
+}
+
+/// Of facets in the order of their least heights, the number of those that start at most at the height `z2`, in
+/// half-micrometres.
+fn count_started<A: Allocator + Copy + Send + Sync>(s: &Solid<A>, order: &[u32], z2: i64) -> usize
+    requires numbers { All (λ n. n < length s.now.facets) order.now }
+    requires ascending { AllPairs (λ m n. is_lower s.now.facets m n ≡ true) order.now }
+    ensures { result ≡ prefix_len (starts_by s.now.facets z2) order.now }
+{
+    let mut low = 0;
+    let mut high = order.len();
+    while low < high {
+        let middle = low + (high - low) / 2;
+        if starts_by(&s.facet(order[middle]), z2) {
+            low = middle + 1;
+        } else {
+            high = middle;
+        }
+    }
+    low
+}
+
 /// The number of a list's first elements that are below `number`.
 fn count_before(list: &[u32], number: u32) -> usize
     ensures value { result ≡ prefix_len (λ m. nat_lt m number) list.now }
     ensures within { result ≤ length list.now }
 {
     list.iter().take_while(|m| **m < number).count()
-}
-
-/// The greatest height of a facet's corners, in micrometres.
-fn highest(f: &Facet) -> i32
-    ensures { result ≡ greatest_z f.now }
-{
-    f.corner(0).z().max(f.corner(1).z()).max(f.corner(2).z())
 }
 
 /// Whether a facet starts at most at the height `z2`: it has a corner that counts as below, by the tie rule.

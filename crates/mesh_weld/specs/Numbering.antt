@@ -1,10 +1,11 @@
--- The numbering of a solid: its vertices, the numbers of its facets' corners and edges, and the order of the facets.
+-- The numbering of a solid: its vertices, the numbers of its facets' corners and edges, the order of the facets and
+-- the greatest rise.
 use Rattle.std.specs.Prelude.{◌≡◌, ℕ, List, [], ◌∷◌}
 use Rattle.geometry.specs.Point.{Point}
 use Rattle.geometry.specs.Facet.{Facet}
 use Rattle.mesh_weld.specs.Balance.{IsBalanced}
 use Rattle.mesh_weld.specs.EdgeNumbers.{AreEdgeNumbers}
-use Rattle.mesh_weld.specs.Solid.{IsByHeight, triples, vertices}
+use Rattle.mesh_weld.specs.Solid.{IsByHeight, IsGreatestRise, triples, vertices}
 
 -- a list in groups of three
 abbrev pub threes : List ℕ → List (List ℕ)
@@ -14,9 +15,10 @@ threes (a ∷ b ∷ []) = []
 threes (a ∷ b ∷ c ∷ rest) = (a ∷ b ∷ c ∷ []) ∷ threes rest
 
 -- what a solid holds besides its facets; the facets are closed
-pub record IsNumberingOf (facets : List Facet) (points : List Point) (numbers : List (List ℕ)) (edges : List ℕ) (edge_count : ℕ) (order : List ℕ) : Type 0 where
+pub record IsNumberingOf (facets : List Facet) (points : List Point) (numbers : List (List ℕ)) (edges : List ℕ) (edge_count : ℕ) (order : List ℕ) (greatest_rise : ℕ) : Type 0 where
   pub closed : IsBalanced facets
   pub points_are : points ≡ vertices facets
   pub numbers_are : numbers ≡ triples facets
   pub edges_are : AreEdgeNumbers facets (threes edges) edge_count
   pub order_is : IsByHeight facets order
+  pub rise_is : IsGreatestRise facets greatest_rise

@@ -1,7 +1,7 @@
 -- A closed mesh as its kept facets and the number of dropped ones; its vertices and their numbers follow from these.
-use Rattle.std.specs.Prelude.{◌≡◌, ℕ, Bool, true, not, ◌&&◌, ◌||◌, List, [], ◌∷◌, length, map, filter, flat_map, count_by, IsPermutation, ℤ, if◌then◌else◌, slice_index, slice_index_or, nat_lt, int_lt}
+use Rattle.std.specs.Prelude.{◌≡◌, ℕ, Bool, true, not, ◌&&◌, ◌||◌, List, [], ◌∷◌, length, map, filter, flat_map, count_by, IsPermutation, ℤ, pos, ◌-ℤ◌, ◌≤ℤ◌, ◌≤◌, if◌then◌else◌, slice_index, slice_index_or, nat_lt, int_lt}
 use Rattle.std.specs.Ordering.{int_eq}
-use Rattle.std.specs.Int.{int_min}
+use Rattle.std.specs.Int.{int_min, int_max}
 use Rattle.std.specs.List.{All, position_or_len, range_with_len, AllPairs}
 use Rattle.geometry.specs.Point.{Point, origin, same, is_before}
 use Rattle.geometry.specs.Facet.{Facet, facet_with, corners}
@@ -61,6 +61,19 @@ facets_by points numbers = map (facet_by points) numbers
 -- the least height of a facet's corners
 abbrev pub least_z : Facet → ℤ
 least_z t = int_min (int_min t.a.z t.b.z) t.c.z
+
+-- the greatest height of a facet's corners
+abbrev pub greatest_z : Facet → ℤ
+greatest_z t = int_max (int_max t.a.z t.b.z) t.c.z
+
+-- how far a facet reaches, from its lowest corner up to its highest
+abbrev pub rise : Facet → ℤ
+rise t = greatest_z t -ℤ least_z t
+
+-- the least number that no facet's rise is above
+pub record IsGreatestRise (facets : List Facet) (n : ℕ) : Type 0 where
+  pub within : All (λ t. rise t ≤ℤ pos n) facets
+  pub least : (m : ℕ) → All (λ t. rise t ≤ℤ pos m) facets → n ≤ m
 
 abbrev pub facet_at : List Facet → ℕ → Facet
 facet_at facets n = slice_index_or facets n (facet_with origin origin origin)

@@ -1,10 +1,11 @@
-//! Facets in the order in which a sweep from below meets them.
+//! Facets in the order in which a sweep from below meets them, and their greatest rise, by which the sweep finds those that
+//! haven't ended yet.
 ghost use Rattle.std.specs.Prelude.{◌≡◌, ◌≤◌, ◌^◌, ◌%◌, ◌/◌, ◌+ℤ◌, pos, IfOk, length, map};
 ghost use Rattle.std.specs.List.{range_with_len};
 ghost use Rattle.std.specs.List.Sorted.{IsPermutation, IsNonDecreasing};
 ghost use Rattle.mesh_weld.specs.HeightOrder.{AreHeightKeys};
 ghost use Rattle.mesh_weld.specs.Naming.{AreBelow};
-ghost use Rattle.mesh_weld.specs.Solid.{IsByHeight, facets_by, least_z};
+ghost use Rattle.mesh_weld.specs.Solid.{IsByHeight, IsGreatestRise, facets_by, greatest_z, least_z, rise};
 ghost use Rattle.geometry.specs.declared.limits.TheConstants.{FACET_LIMIT};
 
 use crate::facets::facet_by;
@@ -12,20 +13,35 @@ use crate::packing::{HALF_WORD, packed};
 use geometry::{Facet, Point};
 use std::alloc::{AllocError, Allocator};
 
-/// The numbers of the facets, whose corners have the numbers among the points, by ascending least height, and by number
-/// where least heights are equal.
+/// The numbers of facets by ascending least height, and by number where least heights are equal; and the facets' greatest
+/// rise.
+#[derive(Drop)]
+pub(crate) struct HeightOrder<A: Allocator> {
+    pub order: Vec<u32, A>,
+    pub greatest_rise: u32,
+}
+
+/// The order by height of the facets whose corners have the numbers among the points.
 pub(crate) fn order_by_height<A: Allocator + Copy>(
     alloc: A,
     points: &[Point],
     numbers: &[[u32; 3]],
-) -> Result<Vec<u32, A>, AllocError>
+) -> Result<HeightOrder<A>, AllocError>
     requires below { AreBelow points.now numbers.now }
     requires few { length numbers.now ≤ FACET_LIMIT }
-    ensures { IfOk result (λ order. IsByHeight (facets_by points.now numbers.now) order.items) }
+    ensures order { IfOk result (λ heights. IsByHeight (facets_by points.now numbers.now) heights.order.items) }
+    ensures rise { IfOk result (λ heights. IsGreatestRise (facets_by points.now numbers.now) heights.greatest_rise) }
 {
-    let mut keys = list_heights(alloc, points, numbers)?;
+    let Heights {
+        mut keys,
+        greatest_rise,
+    } = list_heights(alloc, points, numbers)?;
     sort_heights(&mut keys);
-    numbers_of(alloc, keys.as_slice())
+    let order = numbers_of(alloc, keys.as_slice())?;
+    Ok(HeightOrder {
+        order,
+        greatest_rise,
+    })
 }
 
 /// A facet's least height, made no less than 0, in the upper half of a word, and its number in the lower half.
@@ -34,23 +50,36 @@ type HeightKey = u64;
 /// Added to a height so that it is no less than 0.
 const HEIGHT_OFFSET: i64 = 1 << 31;
 
-/// The keys of the facets, in their order.
+/// The keys of facets, in their order, and the facets' greatest rise.
+#[derive(Drop)]
+struct Heights<A: Allocator> {
+    keys: Vec<HeightKey, A>,
+    greatest_rise: u32,
+}
+
 fn list_heights<A: Allocator + Copy>(
     alloc: A,
     points: &[Point],
     numbers: &[[u32; 3]],
-) -> Result<Vec<HeightKey, A>, AllocError>
+) -> Result<Heights<A>, AllocError>
     requires below { AreBelow points.now numbers.now }
     requires few { length numbers.now ≤ FACET_LIMIT }
-    ensures numbers { IfOk result (λ keys. map (λ key. key % 2 ^ 32) keys.items ≡ range_with_len 0 (length numbers.now)) }
-    ensures heights { IfOk result (λ keys. AreHeightKeys (facets_by points.now numbers.now) keys.items) }
+    ensures numbers { IfOk result (λ heights. map (λ key. key % 2 ^ 32) heights.keys.items ≡ range_with_len 0 (length numbers.now)) }
+    ensures heights { IfOk result (λ heights. AreHeightKeys (facets_by points.now numbers.now) heights.keys.items) }
+    ensures rise { IfOk result (λ heights. IsGreatestRise (facets_by points.now numbers.now) heights.greatest_rise) }
 {
     let mut keys = Vec::with_capacity(alloc, numbers.len())?;
+    let mut greatest_rise = 0;
     for own in numbers {
+        let facet = facet_by(points, own);
         let number = keys.len() as u32;
-        keys.push(height_key(&facet_by(points, own), number))?;
+        greatest_rise = rise(&facet).max(greatest_rise);
+        keys.push(height_key(&facet, number))?;
     }
-    Ok(keys)
+    Ok(Heights {
+        keys,
+        greatest_rise,
+    })
 }
 
 /// A key that ascends with a facet's least height, and then with its number.
@@ -68,6 +97,21 @@ pub fn lowest(facet: &Facet) -> i32
 {
     let (first, second, third) = (facet.corner(0), facet.corner(1), facet.corner(2));
     first.z().min(second.z()).min(third.z())
+}
+
+/// The greatest height of a facet's corners, in micrometres.
+pub fn highest(facet: &Facet) -> i32
+    ensures { result ≡ greatest_z facet.now }
+{
+    let (first, second, third) = (facet.corner(0), facet.corner(1), facet.corner(2));
+    first.z().max(second.z()).max(third.z())
+}
+
+/// How far a facet reaches, from its lowest corner up to its highest, in micrometres.
+fn rise(facet: &Facet) -> u32
+    ensures { pos result ≡ rise facet.now }
+{
+    highest(facet).abs_diff(lowest(facet))
 }
 
 fn sort_heights<A: Allocator>(keys: &mut Vec<HeightKey, A>)

@@ -34,7 +34,7 @@ mod weld_fault;
 mod welder;
 mod welding;
 
-pub use height_order::lowest;
+pub use height_order::{highest, lowest};
 pub use laws::{closed_or_open, hold_mesh_laws};
 pub use probing::{probe, step};
 pub use solid::Solid;

@@ -6,7 +6,7 @@ ghost use Rattle.geometry.specs.Facet.{corners};
 ghost use Rattle.geometry.specs.Point.{Point, is_before};
 ghost use Rattle.mesh_weld.specs.Balance.{IsBalanced};
 ghost use Rattle.mesh_weld.specs.EdgeNumbers.{AreEdgeNumbers};
-ghost use Rattle.mesh_weld.specs.Solid.{HaveDistinctCorners, IsByHeight, triples, vertices};
+ghost use Rattle.mesh_weld.specs.Solid.{HaveDistinctCorners, IsByHeight, IsGreatestRise, triples, vertices};
 ghost use Rattle.geometry.specs.declared.limits.TheConstants.{FACET_LIMIT};
 
 use crate::facets::facet_by;
@@ -24,11 +24,12 @@ pub struct Solid<A: Allocator> {
     pub(crate) edges: Vec<u32, A>,
     pub(crate) edge_count: u32,
     pub(crate) order: Vec<u32, A>,
+    pub(crate) greatest_rise: u32,
     pub(crate) dropped: u32,
 }
 
-/// What both ways of numbering give: a solid's vertices, the numbers of its facets' corners and edges, and the order of
-/// its facets by height.
+/// What both ways of numbering give: a solid's vertices, the numbers of its facets' corners and edges, the order of its
+/// facets by height, and their greatest rise.
 #[derive(Drop)]
 pub(crate) struct Numbering<A: Allocator> {
     pub points: Vec<Point, A>,
@@ -37,6 +38,7 @@ pub(crate) struct Numbering<A: Allocator> {
     pub edges: Vec<u32, A>,
     pub edge_count: u32,
     pub order: Vec<u32, A>,
+    pub greatest_rise: u32,
 }
 
 impl<A: Allocator> Model for Solid<A> {
@@ -49,7 +51,7 @@ impl<A: Allocator> Model for Solid<A> {
 
     ghost view = { λ s. record { facets = facets_by s.points.items s.numbers.items; dropped = s.dropped } };
 
-    ghost invariant = { λ s. IsNumberingOf (facets_by s.points.items s.numbers.items) s.points.items s.numbers.items s.edges.items s.edge_count s.order.items
+    ghost invariant = { λ s. IsNumberingOf (facets_by s.points.items s.numbers.items) s.points.items s.numbers.items s.edges.items s.edge_count s.order.items s.greatest_rise
         × (length s.numbers.items ≤ FACET_LIMIT) × HaveDistinctCorners (facets_by s.points.items s.numbers.items) };
 }
 
@@ -127,6 +129,14 @@ impl<A: Allocator> Solid<A> {
         ensures { IsByHeight self.now.facets result.now }
     {
         self.order.as_slice()
+    }
+
+    /// The greatest rise of a kept facet, in micrometres: how far it reaches from its lowest corner up to its highest.
+    /// Where no facet is kept it is 0.
+    pub fn greatest_rise(&self) -> u32
+        ensures { IsGreatestRise self.now.facets result }
+    {
+        self.greatest_rise
     }
 
     /// The number of kept facets. Each solid is closed, and none of its facets is degenerate.

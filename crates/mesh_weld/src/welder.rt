@@ -149,6 +149,7 @@ impl<A: Allocator + Copy + Send + Sync> Welder<A> {
             edges,
             edge_count,
             order,
+            greatest_rise,
         } = named_numbering(alloc, points, ids, degenerate.as_slice())?;
         let dropped = degenerate.len() as u32;
         Ok(Solid {
@@ -157,6 +158,7 @@ impl<A: Allocator + Copy + Send + Sync> Welder<A> {
             edges,
             edge_count,
             order,
+            greatest_rise,
             dropped,
         })
     }

@@ -7,10 +7,10 @@ use Rattle.std.proofs.lemmas.List.Elements.{filter_map-append, filter_more}
 use Rattle.std.proofs.lemmas.List.Sums.{prefix_len-drop_yes, prefix_len-drop_no}
 use Rattle.geometry.specs.TieRule.{is_below, is_above}
 use Rattle.geometry.specs.Facet.{Facet}
-use Rattle.mesh_weld.specs.Solid.{vertices, facet_at, least_z}
+use Rattle.mesh_weld.specs.Solid.{vertices, facet_at, greatest_z, least_z}
 use Rattle.contour.specs.declared.segment.Segment.{Segment}
 use Rattle.contour.specs.Segment.{segment_of, numbered_segment}
-use Rattle.contour.specs.Active.{greatest_z, top_of, starts_by, ends_above, merge}
+use Rattle.contour.specs.Active.{top_of, starts_by, ends_above, merge}
 use Rattle.contour.proofs.lemmas.Cutting.{facet_at-is}
 
 pub pushed_tops : (facets : List Facet) (old : List ℤ) (xs : List ℕ) (i : ℕ) (t : Facet) (top : ℤ) → i < length xs

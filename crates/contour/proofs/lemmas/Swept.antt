@@ -11,10 +11,10 @@ use Rattle.std.proofs.lemmas.Int.{ints}
 use Rattle.geometry.specs.Point.{origin}
 use Rattle.geometry.specs.TieRule.{is_below, is_above}
 use Rattle.geometry.specs.Facet.{Facet, facet_with, corners}
-use Rattle.mesh_weld.specs.Solid.{facet_at, least_z, IsByHeight, is_lower}
+use Rattle.mesh_weld.specs.Solid.{facet_at, greatest_z, least_z, IsByHeight, is_lower}
 use Rattle.mesh_weld.proofs.lemmas.Edges.{count_by-cons}
 use Rattle.contour.specs.Segment.{height}
-use Rattle.contour.specs.Active.{is_cut, active_facets, passed_count, greatest_z, top_of, starts_by, ends_above, merge}
+use Rattle.contour.specs.Active.{is_cut, active_facets, passed_count, top_of, starts_by, ends_above, merge}
 use Rattle.contour.proofs.lemmas.Counts.{times, times-filter, times-merge, count-permutation, Ascends, Ascends-filter, Ascends-range, Ascends-merge, Ascends-from_sorted, same_from_counts}
 
 -- ---- a test that fails for good
@@ -41,7 +41,7 @@ Fades-drop p zero xs h = h
 Fades-drop p (suc k) [] h = tt
 Fades-drop p (suc k) (x ∷ xs) h = Fades-drop p k xs h.1
 
-none_pass : {X : Type 0} (p : X → Bool) (xs : List X) → AllByRecursion (λ y. p y ≡ false) xs → filter p xs ≡ []
+pub none_pass : {X : Type 0} (p : X → Bool) (xs : List X) → AllByRecursion (λ y. p y ≡ false) xs → filter p xs ≡ []
 none_pass p [] h = refl
 none_pass p (x ∷ xs) h = rw h.0 (none_pass p xs h.1)
 
@@ -199,12 +199,16 @@ lower_fades : (a b z : ℤ) (m n : ℕ) → (int_lt a b || (int_eq a b && nat_lt
     → is_below (pos 2 *ℤ b) z ≡ false
 lower_fades a b z m n h e = grind (arith, ints)
 
-pub starts_by_fades : (facets : List Facet) (order : List ℕ) (z : ℤ) → IsByHeight facets order → Fades (starts_by facets z) order
-starts_by_fades facets order z by_height =
+pub order_fades : (facets : List Facet) (order : List ℕ) (z : ℤ) → AllPairs (λ m n. is_lower facets m n ≡ true) order
+    → Fades (starts_by facets z) order
+order_fades facets order z ordered =
     Fades-from_pairs (λ m n. is_lower facets m n ≡ true) (starts_by facets z)
-    (λ m n. lower_fades (least_z (facet_at facets m)) (least_z (facet_at facets n)) z m n) order by_height.ordered
+    (λ m n. lower_fades (least_z (facet_at facets m)) (least_z (facet_at facets n)) z m n) order ordered
 
-starts_by_wider : (a h z : ℤ) → h ≤ℤ z → is_below a h ≡ true → is_below a z ≡ true
+pub starts_by_fades : (facets : List Facet) (order : List ℕ) (z : ℤ) → IsByHeight facets order → Fades (starts_by facets z) order
+starts_by_fades facets order z by_height = order_fades facets order z by_height.ordered
+
+pub starts_by_wider : (a h z : ℤ) → h ≤ℤ z → is_below a h ≡ true → is_below a z ≡ true
 starts_by_wider a h z l e = grind (arith, ints)
 
 ends_above_wider : (a h z : ℤ) → h ≤ℤ z → is_above a z ≡ true → is_above a h ≡ true

@@ -27,7 +27,7 @@ use crate::by_hash::renumbering::renumber;
 use crate::by_sort::sorted_numbering;
 use crate::facets::list_facets;
 use crate::half_edge::EdgeNumbering;
-use crate::height_order::order_by_height;
+use crate::height_order::{HeightOrder, order_by_height};
 use crate::solid::Numbering;
 use crate::weld_fault::WeldFault;
 use geometry::{Facet, Point};
@@ -47,7 +47,7 @@ pub(crate) fn named_numbering<A: Allocator + Copy>(
     requires named { AreNamed points.items ids.items }
     requires kept { length ids.items ≤ FACET_LIMIT }
     requires degenerate { length degenerate.now ≤ FACET_LIMIT }
-    ensures numbering { IfOk result (λ n. IsNumberingOf (facets_by points.items ids.items) n.points.items n.numbers.items n.edges.items n.edge_count n.order.items) }
+    ensures numbering { IfOk result (λ n. IsNumberingOf (facets_by points.items ids.items) n.points.items n.numbers.items n.edges.items n.edge_count n.order.items n.greatest_rise) }
     ensures open { IfErr result (IsKeptFault (facets_by points.items ids.items) degenerate.now) }
 {
     if ids.len() < LEAST_HASHED {
@@ -75,13 +75,17 @@ pub(crate) fn named_numbering<A: Allocator + Copy>(
     else {
         return numbering_by_sorts(alloc, ordered, numbers, degenerate);
     };
-    let order = order_by_height(alloc, ordered.as_slice(), numbers.as_slice())?;
+    let HeightOrder {
+        order,
+        greatest_rise,
+    } = order_by_height(alloc, ordered.as_slice(), numbers.as_slice())?;
     Ok(Numbering {
         points: ordered,
         numbers,
         edges,
         edge_count,
         order,
+        greatest_rise,
     })
 }
 
@@ -95,7 +99,7 @@ fn numbering_by_sorts<A: Allocator + Copy>(
     requires below { AreBelow points.items numbers.items }
     requires kept { length numbers.items ≤ FACET_LIMIT }
     requires degenerate { length degenerate.now ≤ FACET_LIMIT }
-    ensures numbering { IfOk result (λ n. IsNumberingOf (facets_by points.items numbers.items) n.points.items n.numbers.items n.edges.items n.edge_count n.order.items) }
+    ensures numbering { IfOk result (λ n. IsNumberingOf (facets_by points.items numbers.items) n.points.items n.numbers.items n.edges.items n.edge_count n.order.items n.greatest_rise) }
     ensures open { IfErr result (IsKeptFault (facets_by points.items numbers.items) degenerate.now) }
 {
     let kept = list_facets(alloc, points.as_slice(), numbers.as_slice())?;

@@ -15,7 +15,7 @@ use crate::by_sort::corners::{CornerNumbers, in_threes, number_corners};
 use crate::by_sort::edges::{least_uneven, number_sorted, sorted_half_edges};
 use crate::facets::open_edge;
 use crate::half_edge::EdgeNumbering;
-use crate::height_order::order_by_height;
+use crate::height_order::{HeightOrder, order_by_height};
 use crate::solid::Numbering;
 use crate::weld_fault::WeldFault;
 use geometry::{Facet, Point};
@@ -29,7 +29,7 @@ pub(crate) fn sorted_numbering<A: Allocator + Copy>(
 ) -> Result<Numbering<A>, WeldFault>
     requires kept { length kept.now ≤ FACET_LIMIT }
     requires degenerate { length degenerate.now ≤ FACET_LIMIT }
-    ensures numbering { IfOk result (λ n. IsNumberingOf kept.now n.points.items n.numbers.items n.edges.items n.edge_count n.order.items) }
+    ensures numbering { IfOk result (λ n. IsNumberingOf kept.now n.points.items n.numbers.items n.edges.items n.edge_count n.order.items n.greatest_rise) }
     ensures open { IfErr result (IsKeptFault kept.now degenerate.now) }
 {
     let CornerNumbers {
@@ -47,13 +47,17 @@ pub(crate) fn sorted_numbering<A: Allocator + Copy>(
         points.as_slice(),
         numbers.as_slice(),
     )?;
-    let order = order_by_height(alloc, points.as_slice(), numbers.as_slice())?;
+    let HeightOrder {
+        order,
+        greatest_rise,
+    } = order_by_height(alloc, points.as_slice(), numbers.as_slice())?;
     Ok(Numbering {
         points,
         numbers,
         edges,
         edge_count,
         order,
+        greatest_rise,
     })
 }
 

@@ -4,7 +4,7 @@ use Rattle.mesh_weld.specs.HalfEdge.{half_edges_from, ArePairNumbers, IsEven}
 use Rattle.mesh_weld.specs.Naming.{AreBelow}
 use Rattle.mesh_weld.specs.Numbering.{IsNumberingOf}
 use Rattle.mesh_weld.specs.PointOrder.{AreDistinct}
-use Rattle.mesh_weld.specs.Solid.{IsByHeight, facets_by, in_order, number_of, triples, vertices}
+use Rattle.mesh_weld.specs.Solid.{IsByHeight, IsGreatestRise, facets_by, in_order, number_of, triples, vertices}
 use Rattle.mesh_weld.specs.Welding.{IsKeptFault}
 use Rattle.geometry.specs.declared.limits.TheConstants.{CORNER_LIMIT}
 use Rattle.mesh_weld.proofs.lemmas.EdgeNumbering.{edges_by_ids, closed_by_ids}
@@ -55,7 +55,7 @@ numbering_by_sorts-requires-in_default-grouped-clause-below g c = below g (goal.
 
 pub returns-in_default-grouped-clause-numbering : goal.returns-in_default-grouped-clause-numbering
 returns-in_default-grouped-clause-numbering g c =
-    subst (λ l. IfOk c.numbering_by_sorts-in_default-grouped.result (λ n. IsNumberingOf l n.points.items n.numbers.items n.edges.items n.edge_count n.order.items))
+    subst (λ l. IfOk c.numbering_by_sorts-in_default-grouped.result (λ n. IsNumberingOf l n.points.items n.numbers.items n.edges.items n.edge_count n.order.items n.greatest_rise))
     (facets_again g (goal.at.returns-in_default-grouped-clause-numbering g c).After-renumber) c.numbering_by_sorts-in_default-grouped.ensures.numbering
 
 pub returns-in_default-grouped-clause-open : goal.returns-in_default-grouped-clause-open
@@ -72,6 +72,8 @@ returns-clause-numbering g c =
     let at = goal.at.returns-clause-numbering g c in
     let kept = facets_by c.args.points.items c.args.ids.items in let edges = c.in-Some-grouped.field-0 in
     let ids : AreIds kept c.args.ids.items = are_ids g at.In-Some in
+    let own : facets_by c.as_slice-4.result.now c.as_slice-5.result.now ≡ kept =
+    (λ i. facets_by (c.as_slice-4.ensures.value i) (c.as_slice-5.ensures.value i)) ∙ facets_again g at.After-renumber in
     let even : IsEven (half_edges_from 0 c.as_slice-2.result.now) = subst (λ done. IfSome done (λ _. IsEven (half_edges_from 0 c.as_slice-2.result.now))) c.in-Some-grouped.is c.in_ok-grouped.ensures.even in
     let pairs : ArePairNumbers (half_edges_from 0 c.as_slice-2.result.now) edges.numbers.items edges.count =
     subst (λ done. IfSome done (λ numbering. ArePairNumbers (half_edges_from 0 c.as_slice-2.result.now) numbering.numbers.items numbering.count)) c.in-Some-grouped.is c.in_ok-grouped.ensures.numbers in
@@ -81,6 +83,6 @@ returns-clause-numbering g c =
       numbers_are = numbers_are g at.After-renumber;
       edges_are = edges_by_ids kept c.args.ids.items ids edges.numbers.items edges.count
           (subst (λ l. ArePairNumbers (half_edges_from 0 l) edges.numbers.items edges.count) c.as_slice-2.ensures.value pairs);
-      order_is = subst (λ l. IsByHeight l c.in_ok-order.order.items)
-          ((λ i. facets_by (c.as_slice-4.ensures.value i) (c.as_slice-5.ensures.value i)) ∙ facets_again g at.After-renumber) c.in_ok-order.ensures;
+      order_is = subst (λ l. IsByHeight l c.in_ok-order.field-0.order.items) own c.in_ok-order.ensures.order;
+      rise_is = subst (λ l. IsGreatestRise l c.in_ok-order.field-0.greatest_rise) own c.in_ok-order.ensures.rise;
     }

@@ -3,7 +3,7 @@ use Rattle.std.proofs.lemmas.List.{length-map}
 use Rattle.std.specs.List.{flat_map}
 use Rattle.geometry.specs.Facet.{corners}
 use Rattle.mesh_weld.specs.Numbering.{threes}
-use Rattle.mesh_weld.specs.Solid.{IsByHeight, facets_by, vertices, number_of, triples}
+use Rattle.mesh_weld.specs.Solid.{IsByHeight, IsGreatestRise, facets_by, vertices, number_of, triples}
 use Rattle.mesh_weld.proofs.lemmas.EdgeNumbering.{triples-by_number, edge_numbers}
 use Rattle.mesh_weld.proofs.lemmas.Numbered.{numbered_again, numbered_below}
 use Rattle.mesh_weld.proofs.lemmas.Welds.{few_vertices}
@@ -36,14 +36,15 @@ pub returns-clause-numbering : goal.returns-clause-numbering
 returns-clause-numbering g c =
     let kept = c.args.kept.now in
     let numbers = numbers_are g (goal.at.returns-clause-numbering g c).In_ok-numbers in
+    let own : facets_by c.as_slice-4.result.now c.as_slice-5.result.now ≡ kept =
+    (λ i. facets_by (c.as_slice-4.ensures.value i) (c.as_slice-5.ensures.value i))
+    ∙ numbered_again kept c.in_ok-points.field-0.points.items c.in_ok-numbers.numbers.items c.in_ok-points.ensures.points numbers in
     let few : length (vertices kept) ≤ 2 ^ 32 = omega (arith, few_vertices kept) in
     record {
       closed = c.in_ok-edges.ensures.closed;
       points_are = c.in_ok-points.ensures.points;
       numbers_are = numbers;
       edges_are = edge_numbers kept few c.in_ok-edges.field-0.numbers.items c.in_ok-edges.field-0.count c.in_ok-edges.ensures.numbers;
-      order_is = subst (λ l. IsByHeight l c.in_ok-order.order.items)
-          ((λ i. facets_by (c.as_slice-4.ensures.value i) (c.as_slice-5.ensures.value i))
-          ∙ numbered_again kept c.in_ok-points.field-0.points.items c.in_ok-numbers.numbers.items c.in_ok-points.ensures.points numbers)
-          c.in_ok-order.ensures;
+      order_is = subst (λ l. IsByHeight l c.in_ok-order.field-0.order.items) own c.in_ok-order.ensures.order;
+      rise_is = subst (λ l. IsGreatestRise l c.in_ok-order.field-0.greatest_rise) own c.in_ok-order.ensures.rise;
     }

@@ -1,38 +1,24 @@
-use Rattle.std.proofs.Common.{◌∙◌, ap, to_z, of_z, w32, w64}
+use Rattle.std.proofs.Common.{◌≡◌, ◌∙◌, ◌+◌, ap, arith, to_z, of_z, w64}
 use Rattle.std.proofs.lemmas.Int.{to_z-of_z}
-use Rattle.contour.proofs.lemmas.Pushes.{starts_by-all, starts_by-ends, starts_by-on, ends_above-all, ends_above-kept, ends_above-left}
+use Rattle.std.proofs.lemmas.List.Sums.{prefix_len-le-length}
+use Rattle.contour.specs.Active.{ends_above, starts_by}
+use Rattle.contour.proofs.lemmas.Ended.{counted_on, found_on}
 use Rattle.contour.proofs.active.Arrivals.find.Goals as goal
-use Rattle.contour.proofs.active.Arrivals.find.Goals.{then-is_above+in_ok-push, else-is_above}
 
-pub returns-then-not-starts_by-clause-count : goal.returns-then-not-starts_by-clause-count
-returns-then-not-starts_by-clause-count g c =
-    starts_by-ends c.args.s.now.facets c.args.z2 (to_z w64 (of_z w64 c.args.z2)) c.args.order.now c.loop-i.i c.facet-f.result c.starts_by.result
-    (to_z-of_z w64 c.args.z2 c.ranges.z2) c.loop-i-test.true c.facet-f.ensures.value c.starts_by.ensures c.if-not-starts_by.true c.loop-i.invariant.reached
-
-pub loop-i-preserved : goal.loop-i-preserved
-loop-i-preserved g c = record {
-  reached = starts_by-on c.args.s.now.facets (to_z w64 (of_z w64 c.args.z2)) c.args.order.now c.loop-i.i _ c.facet-f.result c.starts_by.result
-      c.loop-i-test.true c.facet-f.ensures.value c.starts_by.ensures c.if-not-starts_by.false c.loop-i.invariant.reached;
-  active = elim c.if-is_above.branch [
-    | then-is_above+in_ok-push w ↦
-        ends_above-kept c.args.s.now.facets (to_z w64 (of_z w64 c.args.z2)) c.args.order.now c.loop-i.active.items c.if-is_above.active.items c.loop-i.i c.facet-f.result
-        c.highest.result (to_z w32 (of_z w32 c.highest.result)) c.is_above.result c.loop-i-test.true c.facet-f.ensures.value
-        (to_z-of_z w32 c.highest.result (record { sfits = c.highest.type_inv })) c.highest.ensures c.is_above.ensures w.if-is_above.true
-        (ap (λ v. v.items) w.active-is ∙ w.in_ok-push.ensures.items) c.loop-i.invariant.active
-    | else-is_above w ↦
-        ends_above-left c.args.s.now.facets (to_z w64 (of_z w64 c.args.z2)) c.args.order.now c.loop-i.active.items c.if-is_above.active.items c.loop-i.i c.facet-f.result
-        c.highest.result (to_z w32 (of_z w32 c.highest.result)) c.is_above.result c.loop-i-test.true c.facet-f.ensures.value
-        (to_z-of_z w32 c.highest.result (record { sfits = c.highest.type_inv })) c.highest.ensures c.is_above.ensures w.if-is_above.false
-        (ap (λ v. v.items) w.active-is) c.loop-i.invariant.active
-  ];
-}
+pub split_at-requires : goal.split_at-requires
+split_at-requires g c =
+    let same : to_z w64 (of_z w64 c.args.z2) ≡ c.args.z2 = to_z-of_z w64 c.args.z2 c.ranges.z2 in
+    omega (arith, rw same at c.count_ended-ended.ensures.started, prefix_len-le-length (starts_by c.args.s.now.facets c.args.z2) c.args.order.now)
 
 pub returns-clause-count : goal.returns-clause-count
 returns-clause-count g c =
-    starts_by-all c.args.s.now.facets c.args.z2 (to_z w64 (of_z w64 c.args.z2)) c.args.order.now c.loop-i.i
-    (to_z-of_z w64 c.args.z2 c.ranges.z2) c.loop-i-test.false c.loop-i.auto.i-end c.loop-i.invariant.reached
+    let same : to_z w64 (of_z w64 c.args.z2) ≡ c.args.z2 = to_z-of_z w64 c.args.z2 c.ranges.z2 in
+    ap (λ n. c.count_ended-ended.result + n) (rw (same, c.split_at.ensures.back) at c.in_ok-count.ensures.count)
+    ∙ counted_on (starts_by c.args.s.now.facets c.args.z2) c.count_ended-ended.result c.args.order.now (rw same at c.count_ended-ended.ensures.started)
 
 pub returns-clause-active : goal.returns-clause-active
 returns-clause-active g c =
-    ends_above-all c.args.s.now.facets c.args.z2 (to_z w64 (of_z w64 c.args.z2)) c.args.order.now c.loop-i.active.items c.loop-i.i
-    (to_z-of_z w64 c.args.z2 c.ranges.z2) c.loop-i-test.false c.loop-i.auto.i-end c.loop-i.invariant.active
+    let same : to_z w64 (of_z w64 c.args.z2) ≡ c.args.z2 = to_z-of_z w64 c.args.z2 c.ranges.z2 in
+    (rw (same, c.split_at.ensures.back) at c.in_ok-count.ensures.active)
+    ∙ found_on (ends_above c.args.s.now.facets c.args.z2) c.count_ended-ended.result c.in_ok-count.field-0.count c.args.order.now
+    (rw same at c.count_ended-ended.ensures.ended)

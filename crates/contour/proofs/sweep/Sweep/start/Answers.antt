@@ -3,8 +3,11 @@ use Rattle.std.proofs.lemmas.Int.{to_z-of_z}
 use Rattle.contour.proofs.lemmas.Sweeps.{order_in, found_in, swept_first}
 use Rattle.contour.proofs.sweep.Sweep.start.Goals as goal
 
-pub find-requires-after_bounds : goal.find-requires-after_bounds
-find-requires-after_bounds g c κs within = order_in c.args.s.now.facets c.by_height.result.now c.by_height.ensures
+pub find-requires-clause-numbers : goal.find-requires-clause-numbers
+find-requires-clause-numbers g c κs within = order_in c.args.s.now.facets c.by_height.result.now c.by_height.ensures
+
+pub find-requires-clause-ascending : goal.find-requires-clause-ascending
+find-requires-clause-ascending g c κs within = c.by_height.ensures.ordered
 
 pub of-requires-after_bounds : goal.of-requires-after_bounds
 of-requires-after_bounds g c κs within =

@@ -2,7 +2,7 @@ use Rattle.std.proofs.Common.{◌≡◌, ◌+◌, take, drop}
 use Rattle.std.specs.Prelude.{filter}
 use Rattle.std.specs.List.{prefix_len}
 use Rattle.contour.specs.Active.{starts_by, ends_above}
-use Rattle.contour.proofs.active.Arrivals.find.Given as goal
+use Rattle.contour.proofs.active.Arrivals.scan.Given as goal
 
 abbrev pub invariant-loop-i : goal.invariant-loop-i
 invariant-loop-i g l = record {
