@@ -19,3 +19,4 @@ pub mod Marks
 pub mod Turns
 pub mod ColumnSums
 pub mod Pictures
+pub mod OddMarks

@@ -1,5 +1,6 @@
 //! The crossings of a layer's rows with the mesh: where each scanline crosses which facet, by column, and with which sign.
-ghost use Rattle.std.specs.Prelude.{◌≡◌, ◌≢◌, ◌<◌, ◌≤◌, ◌++◌, ◌∷◌, ◌+◌, ◌+ℤ◌, ◌-ℤ◌, [], All, OnErr, OnOk, drop, length, pos, take, true, ℕ};
+ghost use Rattle.std.specs.Prelude.{◌≡◌, ◌≢◌, ◌<◌, ◌≤◌, ◌++◌, ◌∷◌, ◌+◌, ◌+ℤ◌, ◌-ℤ◌, [], All, OnErr, OnOk, drop, length, nat_le, pos, take, true, ℕ};
+ghost use Rattle.std.specs.List.{list_all};
 ghost use Rattle.std.specs.Mem.{FitsInMemory};
 ghost use Rattle.std.specs.Ordering.{int_eq};
 ghost use Rattle.exact_int.specs.Bounds.{IsAtMost};
@@ -96,16 +97,18 @@ impl<A: Allocator + Copy> RowCrossings<A> {
 }
 
 impl<A: Allocator> RowCrossings<A> {
-    /// Adds the spans of a row, from the left, by its crossings, which may be sorted in place. On an error `out` may have
-    /// some of them.
+    /// Adds the spans of a row of `width` columns, from the left, by its crossings, which may be sorted in place. On an error
+    /// `out` may have some of them.
     pub(crate) fn fill_row(
         &mut self,
         rule: Rule,
         row: u32,
+        width: u16,
         columns: &mut ColumnSums<A>,
         out: &mut Vec<Span, A>,
     ) -> Result<(), AllocError>
         requires row { row < length self.old }
+        requires within { list_all (λ m. nat_le m.column width) (crossings_in self.old row) ≡ true }
         requires balanced { signs (crossings_in self.old row) ≡ pos 0 }
         requires between_rows { AreZero columns.old.sums.items }
         ensures between_rows { AreZero columns.new.sums.items }
@@ -118,7 +121,7 @@ impl<A: Allocator> RowCrossings<A> {
             return Err(AllocError);
         }
         let crossings = self.rows[row as usize].as_mut_slice();
-        fill_row(rule, row, crossings, columns, out)
+        fill_row(rule, row, width, crossings, columns, out)
     }
 }
 

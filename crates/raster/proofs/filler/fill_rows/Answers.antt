@@ -1,4 +1,7 @@
-use Rattle.std.proofs.Common.{◌≡◌, ℕ, ap, subst, ◌∙◌, arith}
+use Rattle.std.proofs.Common.{◌≡◌, ℕ, List, ap, subst, ◌∙◌, arith}
+use Rattle.std.specs.Prelude.{nat_le}
+use Rattle.std.specs.List.{list_all}
+use Rattle.raster.specs.declared.row_crossing.RowCrossing.{RowCrossing}
 use Rattle.raster.specs.RowCrossing.{signs}
 use Rattle.raster.specs.Filler.{AreSpansBelow}
 use Rattle.raster.proofs.lemmas.Layers.{spans-more}
@@ -7,6 +10,10 @@ use Rattle.raster.proofs.filler.fill_rows.Goals as goal
 pub fill_row-requires-clause-balanced : goal.fill_row-requires-clause-balanced
 fill_row-requires-clause-balanced g c =
     ap signs (c.loop-row.invariant.left c.loop-row.row (omega arith)) ∙ c.requires.balanced c.loop-row.row c.loop-row-test.true
+
+pub fill_row-requires-clause-within : goal.fill_row-requires-clause-within
+fill_row-requires-clause-within g c =
+    ap (λ (l : List RowCrossing). list_all (λ m. nat_le m.column c.args.width) l) (c.loop-row.invariant.left c.loop-row.row (omega arith)) ∙ c.requires.within c.loop-row.row
 
 pub loop-row-preserved : goal.loop-row-preserved
 loop-row-preserved g c =
