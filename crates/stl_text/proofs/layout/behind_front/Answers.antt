@@ -17,7 +17,7 @@ returns-then-ends_word-clause-read c =
     let fits : FitsSigned w32 z = search rules in
     let is : coordinate_of c.args.unit (take n front) ≡ Ok z = c.in_ok-z.ensures.exact in
     let clear : list_all (λ byte. not (is_white byte)) (take n front) ≡ true = coordinate_black c.args.unit (take n front) z is in
-    let apart : IsApart (drop n front) = subst IsApart c.split_at.ensures.back (c.ends_word.ensures c.if-ends_word.true) in
+    let apart : IsApart (drop n front) = subst IsApart c.split_at.ensures.back (c.ends_word.ensures.0 c.if-ends_word.true) in
     ap (λ t. coordinate_of c.args.unit (before_first is_white t)) (coordinate_front c.args.unit n front z is)
     ∙ ap (coordinate_of c.args.unit) (word_is front n clear apart) ∙ is ∙ ap Ok (sym (to_z-of_z w32 z fits))
 
@@ -28,5 +28,5 @@ returns-then-ends_word-clause-rest c =
     let z : ℤ = c.in_ok-z.z in
     let is : coordinate_of c.args.unit (take n front) ≡ Ok z = c.in_ok-z.ensures.exact in
     let clear : list_all (λ byte. not (is_white byte)) (take n front) ≡ true = coordinate_black c.args.unit (take n front) z is in
-    let apart : IsApart (drop n front) = subst IsApart c.split_at.ensures.back (c.ends_word.ensures c.if-ends_word.true) in
+    let apart : IsApart (drop n front) = subst IsApart c.split_at.ensures.back (c.ends_word.ensures.0 c.if-ends_word.true) in
     c.split_at.ensures.back ∙ sym (rest_is front n clear apart) ∙ ap (from_first is_white) (sym (coordinate_front c.args.unit n front z is))

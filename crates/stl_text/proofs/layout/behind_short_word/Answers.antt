@@ -11,7 +11,7 @@ returns-then-ends_word-clause-word c =
     let front : List ℕ = c.args.bytes.now in
     let n : ℕ = c.black_len-count.result in
     let clear = c.black_len-count.ensures.black in
-    let apart : IsApart (drop n front) = subst IsApart c.split_at.ensures.back (c.ends_word.ensures c.if-ends_word.true) in
+    let apart : IsApart (drop n front) = subst IsApart c.split_at.ensures.back (c.ends_word.ensures.0 c.if-ends_word.true) in
     let at : after_space front ≡ front = black_front n front c.if-count-gt0.true clear in
     subst (λ word. 0 < length word) (sym (ap (before_first is_white) at ∙ word_is front n clear apart))
     (omega (arith, c.split_at.ensures.front_len, ap length c.split_at.ensures.front, c.if-count-gt0.true))
@@ -21,6 +21,6 @@ returns-then-ends_word-clause-rest c =
     let front : List ℕ = c.args.bytes.now in
     let n : ℕ = c.black_len-count.result in
     let clear = c.black_len-count.ensures.black in
-    let apart : IsApart (drop n front) = subst IsApart c.split_at.ensures.back (c.ends_word.ensures c.if-ends_word.true) in
+    let apart : IsApart (drop n front) = subst IsApart c.split_at.ensures.back (c.ends_word.ensures.0 c.if-ends_word.true) in
     let at : after_space front ≡ front = black_front n front c.if-count-gt0.true clear in
     c.split_at.ensures.back ∙ sym (rest_is front n clear apart) ∙ ap (from_first is_white) (sym at)
