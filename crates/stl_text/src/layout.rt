@@ -265,6 +265,7 @@ fn facet_by_layout<'t>(
     ensures some { IfSome result (λ found. 0 < length found.1.now) }
     ensures shorter { IfSome result (λ found. length found.1.now < length bytes.now) }
 {
+    // No call takes this reader by reference, unless it is inlined, so that its place in the text stays in registers.
     let mut reader = Reader::new(bytes, unit);
     reader.skip(layout.opening)?;
     reader.near_normal()?;
