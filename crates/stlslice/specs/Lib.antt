@@ -2,5 +2,6 @@ pub mod RunFault
 pub mod SlicedText
 pub mod Outcome
 pub mod Extent
-pub mod Ending
+pub mod Transcript
+pub mod Loading
 pub mod Run

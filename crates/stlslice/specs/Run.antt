@@ -6,7 +6,17 @@ use Rattle.task_words.specs.declared.task.Task.{Task}
 use Rattle.stlslice.specs.declared.run_fault.RunFault.{RunFault}
 use Rattle.stlslice.specs.declared.run_fault.RunFault.TheVariants as cause
 use Rattle.stlslice.specs.Outcome.{IsOutcome}
-use Rattle.stlslice.specs.Ending.{IsRunFault, Transcript}
+use Rattle.stlslice.specs.Transcript.{Transcript}
+
+-- a fault of the input is its outcome; the others are of a device or of memory
+abbrev pub IsRunFault : Task → List ℕ → RunFault → Type 0
+IsRunFault t input cause.Read = Unit {0}
+IsRunFault t input (cause.Stl of_text) = IsOutcome t input (Err (cause.Stl of_text))
+IsRunFault t input (cause.Open from to there back) = IsOutcome t input (Err (cause.Open from to there back))
+IsRunFault t input (cause.Grid of_grid) = IsOutcome t input (Err (cause.Grid of_grid))
+IsRunFault t input cause.Memory = Unit {0}
+IsRunFault t input (cause.Write written) = Unit {0}
+IsRunFault t input (cause.Outside columns rows layers) = IsOutcome t input (Err (cause.Outside columns rows layers))
 
 pub record IsRun {T : Type 0} (t : Task) (result : Result T RunFault) (source sink : Transcript) (is_settled : Bool) : Type 0 where
   -- it succeeds only where all was read, and just the text of the outcome was written and flushed

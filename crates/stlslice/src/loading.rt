@@ -1,18 +1,18 @@
 //! What a run reads: the facets that its input spells, and the closed mesh that they make.
-ghost use Rattle.std.specs.Prelude.{◌≡◌, ◌≢◌, ◌<◌, ◌≤◌, ◌⊎◌, ◌++◌, Err, IfErr, IfOk, List, Ok, OnErr, OnOk, Option, [], false, length, true, vec_len, ℕ};
+ghost use Rattle.std.specs.Prelude.{◌≡◌, ◌≢◌, ◌<◌, ◌≤◌, ◌⊎◌, ◌++◌, Err, IfErr, IfOk, List, Ok, OnOk, Option, [], false, length, take, true, vec_len, ℕ};
 ghost use Rattle.std.specs.Io.KnownBytes.{Consumes, IsAtEnd};
-ghost use Rattle.mesh_weld.specs.Naming.{parts_of};
-ghost use Rattle.raster.specs.Devices.{Fails};
-ghost use Rattle.stlslice.specs.declared.run_fault.RunFault.TheVariants.{Memory, Read};
-ghost use Rattle.micro_num.specs.declared.unit.Unit.{Unit as LengthUnit};
+ghost use Rattle.geometry.specs.Facet.{Facet};
+ghost use Rattle.geometry.specs.declared.limits.TheConstants.{FACET_LIMIT};
 ghost use Rattle.mesh_weld.specs.Balance.{IsBalanced};
+ghost use Rattle.mesh_weld.specs.Naming.{parts_of};
 ghost use Rattle.mesh_weld.specs.Solid.{solid_of};
+ghost use Rattle.micro_num.specs.declared.unit.Unit.{Unit as LengthUnit};
+ghost use Rattle.raster.specs.Devices.{Fails};
 ghost use Rattle.stl_text.specs.Pieces.{IsAfter};
 ghost use Rattle.stl_text.specs.Text.{Reads};
-ghost use Rattle.geometry.specs.Facet.{Facet};
-ghost use Rattle.stlslice.specs.Extent.{IsExtentOf, extent_of};
-ghost use Rattle.stlslice.specs.Ending.{AreWelded, IsFed, IsInput, IsInputFault, IsLoadFault, IsMisread, IsSolidOf};
-ghost use Rattle.geometry.specs.declared.limits.TheConstants.{FACET_LIMIT};
+ghost use Rattle.stlslice.specs.Loading.{AreWelded, IsFed, IsLoadFault, IsMisread, IsReadAs, IsSolidOf, IsTextExtent};
+ghost use Rattle.stlslice.specs.Transcript.{transcript};
+ghost use Rattle.stlslice.specs.declared.run_fault.RunFault.TheVariants.{Memory, Read};
 
 use crate::extent::Extent;
 use crate::run_fault::RunFault;
@@ -60,17 +60,21 @@ pub(crate) fn read_solid<A: Allocator + Copy + Send + Sync, I: Source>(
     source: &mut I,
     unit: Unit,
 ) -> Result<Solid<A>, RunFault>
-    ensures ok { IfOk result (λ solid. (input : List ℕ) × IsInput (I.remaining source.old) input × IsSolidOf unit input solid) }
-    ensures err { IfErr result (IsInputFault (IsLoadFault unit) (I.remaining source.old)) }
-    ensures whole { result ≢ Err Read → result ≢ Err Memory → IsAtEnd (I.remaining source.new) }
-    ensures unread { result ≡ Err Read
-        → Fails (I.Failures.failure_count source.old) (I.Failures.failure_count source.new) }
-    ensures sound { result ≢ Err Read → I.Failures.failure_count source.new ≡ I.Failures.failure_count source.old }
+    ensures { IsReadAs (IsSolidOf unit) (IsLoadFault unit) result
+        (transcript (I.remaining source.old) (I.remaining source.new) (I.Failures.failure_count source.old) (I.Failures.failure_count source.new)) }
 {
     let mut reader = TextReader::new(alloc, FACET_LIMIT, unit);
     let mut welder = Welder::new(alloc);
-    weld_all(alloc, source, &mut reader, &mut welder)?;
-    weld_end(reader, welder)
+    let mut fresh = Vec::new(alloc);
+    let mut window = [0; WINDOW_LEN];
+    for _ in 0..u64::MAX {
+        let is_more = next_facets(source, &mut window, &mut reader, &mut fresh)?;
+        weld_next(&mut welder, fresh.as_slice())?;
+        if !is_more {
+            return weld_end(reader, welder);
+        }
+    }
+    Err(RunFault::Memory)
 }
 
 /// The same as [`read_solid`], read by up to `workers` workers at the same time. Where they are several, a round stands in
@@ -82,20 +86,37 @@ pub(crate) fn read_solid_by<R: Threads + Sync, A: Allocator + Copy + Send + Sync
     unit: Unit,
     workers: u32,
 ) -> Result<Solid<A>, RunFault>
-    ensures ok { IfOk result (λ solid. (input : List ℕ) × IsInput (I.remaining source.old) input × IsSolidOf unit input solid) }
-    ensures err { IfErr result (IsInputFault (IsLoadFault unit) (I.remaining source.old)) }
-    ensures whole { result ≢ Err Read → result ≢ Err Memory → IsAtEnd (I.remaining source.new) }
-    ensures unread { result ≡ Err Read
-        → Fails (I.Failures.failure_count source.old) (I.Failures.failure_count source.new) }
-    ensures sound { result ≢ Err Read → I.Failures.failure_count source.new ≡ I.Failures.failure_count source.old }
+    ensures { IsReadAs (IsSolidOf unit) (IsLoadFault unit) result
+        (transcript (I.remaining source.old) (I.remaining source.new) (I.Failures.failure_count source.old) (I.Failures.failure_count source.new)) }
 {
     if workers < 2 {
         return read_solid(alloc, source, unit);
     }
     let mut reader = TextReader::new(alloc, FACET_LIMIT, unit);
     let mut welder = Welder::new(alloc);
-    weld_all_by(rt, alloc, source, workers, &mut reader, &mut welder)?;
-    weld_end(reader, welder)
+    let len = round_len(workers);
+    // the last window of a round may reach beyond `len`
+    let mut round = Vec::with_capacity(alloc, len.saturating_add(WINDOW_LEN))?;
+    let mut facets = Vec::new(alloc);
+    let mut window = [0; WINDOW_LEN];
+    for _ in 0..u64::MAX {
+        let is_more = fill_round(source, &mut window, &mut round, len)?;
+        weld_and_feed(
+            rt,
+            workers,
+            &mut welder,
+            facets.as_slice(),
+            &mut reader,
+            round.as_slice(),
+        )?;
+        reader.take_facets(&mut facets);
+        round.clear();
+        if !is_more {
+            weld_next(&mut welder, facets.as_slice())?;
+            return weld_end(reader, welder);
+        }
+    }
+    Err(RunFault::Memory)
 }
 
 /// The closed mesh of the facets that a welder has, and of those after them that a reader still has at the end of its
@@ -116,80 +137,6 @@ fn weld_end<A: Allocator + Copy + Send + Sync>(
     weld_next(&mut welder, last.as_slice())?;
     drop(last);
     Ok(welder.finish()?)
-}
-
-/// Feeds a reader with all bytes of a source, takes the facets off it and adds them to a welder. After 2^64 - 1 windows it
-/// answers `Memory`.
-fn weld_all<A: Allocator + Copy + Send + Sync, I: Source>(
-    alloc: A,
-    source: &mut I,
-    reader: &mut TextReader<A>,
-    welder: &mut Welder<A>,
-) -> Result<(), RunFault>
-    requires { welder.old ≡ parts_of [] }
-    ensures fed { OnOk result ((taken : List Facet) × AreWelded taken welder.new
-        × ((unit : LengthUnit) (start : Option (List ℕ)) → IsFed unit [] reader.old start (I.remaining source.old)
-        → IsFed unit taken reader.new start (I.remaining source.new))) }
-    ensures whole { OnOk result (IsAtEnd (I.remaining source.new)) }
-    ensures unread { result ≡ Err Read
-        → Fails (I.Failures.failure_count source.old) (I.Failures.failure_count source.new) }
-    ensures sound { result ≢ Err Read → I.Failures.failure_count source.new ≡ I.Failures.failure_count source.old }
-    ensures only { IfErr result (λ fault. (fault ≡ Read) ⊎ (fault ≡ Memory)) }
-{
-    let mut facets = Vec::new(alloc);
-    let mut window = [0; WINDOW_LEN];
-    for _ in 0..u64::MAX {
-        let more = feed_next(source, &mut window, reader)?;
-        reader.take_facets(&mut facets);
-        weld_next(welder, facets.as_slice())?;
-        if !more {
-            return Ok(());
-        }
-    }
-    Err(RunFault::Memory)
-}
-
-/// The same as [`weld_all`], by rounds that several workers read: the facets of a round are welded while the next one is
-/// read. After 2^64 - 1 rounds it answers `Memory`.
-fn weld_all_by<R: Threads + Sync, A: Allocator + Copy + Send + Sync, I: Source>(
-    rt: &R,
-    alloc: A,
-    source: &mut I,
-    workers: u32,
-    reader: &mut TextReader<A>,
-    welder: &mut Welder<A>,
-) -> Result<(), RunFault>
-    requires { welder.old ≡ parts_of [] }
-    ensures fed { OnOk result ((taken : List Facet) × AreWelded taken welder.new
-        × ((unit : LengthUnit) (start : Option (List ℕ)) → IsFed unit [] reader.old start (I.remaining source.old)
-        → IsFed unit taken reader.new start (I.remaining source.new))) }
-    ensures whole { OnOk result (IsAtEnd (I.remaining source.new)) }
-    ensures unread { result ≡ Err Read
-        → Fails (I.Failures.failure_count source.old) (I.Failures.failure_count source.new) }
-    ensures sound { result ≢ Err Read → I.Failures.failure_count source.new ≡ I.Failures.failure_count source.old }
-    ensures only { IfErr result (λ fault. (fault ≡ Read) ⊎ (fault ≡ Memory)) }
-{
-    let len = round_len(workers);
-    let mut round = Vec::with_capacity(alloc, len)?;
-    let mut facets = Vec::new(alloc);
-    let mut window = [0; WINDOW_LEN];
-    for _ in 0..u64::MAX {
-        let is_more = fill_round(source, &mut window, &mut round, len)?;
-        weld_and_feed(
-            rt,
-            workers,
-            welder,
-            facets.as_slice(),
-            reader,
-            round.as_slice(),
-        )?;
-        reader.take_facets(&mut facets);
-        round.clear();
-        if !is_more {
-            return weld_next(welder, facets.as_slice());
-        }
-    }
-    Err(RunFault::Memory)
 }
 
 /// Adds the facets of the last round to a welder, while a reader is fed with the next round: of up to `workers` workers one
@@ -244,9 +191,7 @@ fn fill_round<A: Allocator, I: Source>(
     ensures only { IfErr result (λ fault. (fault ≡ Read) ⊎ (fault ≡ Memory)) }
 {
     'round: while round.len() < len {
-        let Ok(count) = source.pull(window) else {
-            return Err(RunFault::Read);
-        };
+        let count = fill(source, window)?;
         if count == 0 {
             return Ok(false);
         }
@@ -276,69 +221,59 @@ pub(crate) fn read_extent<A: Allocator + Copy + Send + Sync, I: Source>(
     source: &mut I,
     unit: Unit,
 ) -> Result<Extent, RunFault>
-    ensures ok { IfOk result (λ extent. (input : List ℕ) × IsInput (I.remaining source.old) input
-        × (facets : List Facet) × Reads FACET_LIMIT unit input facets × (extent ≡ extent_of facets)) }
-    ensures err { IfErr result (IsInputFault (IsMisread unit) (I.remaining source.old)) }
-    ensures whole { result ≢ Err Read → result ≢ Err Memory → IsAtEnd (I.remaining source.new) }
-    ensures unread { result ≡ Err Read
-        → Fails (I.Failures.failure_count source.old) (I.Failures.failure_count source.new) }
-    ensures sound { result ≢ Err Read → I.Failures.failure_count source.new ≡ I.Failures.failure_count source.old }
+    ensures { IsReadAs (IsTextExtent unit) (IsMisread unit) result
+        (transcript (I.remaining source.old) (I.remaining source.new) (I.Failures.failure_count source.old) (I.Failures.failure_count source.new)) }
 {
     let mut reader = TextReader::new(alloc, FACET_LIMIT, unit);
-    let extent = measure_all(alloc, source, &mut reader)?;
-    let last = reader.finish()?;
-    Ok(extent.with(&last))
-}
-
-/// Feeds a reader with all bytes of a source, and takes the facets off it: answers their extent. After 2^64 - 1 windows
-/// it answers `Memory`.
-fn measure_all<A: Allocator + Copy, I: Source>(
-    alloc: A,
-    source: &mut I,
-    reader: &mut TextReader<A>,
-) -> Result<Extent, RunFault>
-    ensures fed { IfOk result (λ extent. (taken : List Facet) × IsExtentOf taken extent
-        × ((unit : LengthUnit) (start : Option (List ℕ)) → IsFed unit [] reader.old start (I.remaining source.old)
-        → IsFed unit taken reader.new start (I.remaining source.new))) }
-    ensures whole { OnOk result (IsAtEnd (I.remaining source.new)) }
-    ensures unread { result ≡ Err Read
-        → Fails (I.Failures.failure_count source.old) (I.Failures.failure_count source.new) }
-    ensures sound { result ≢ Err Read → I.Failures.failure_count source.new ≡ I.Failures.failure_count source.old }
-    ensures only { IfErr result (λ fault. (fault ≡ Read) ⊎ (fault ≡ Memory)) }
-{
     let mut extent = Extent::none();
     let mut facets = Vec::new(alloc);
     let mut window = [0; WINDOW_LEN];
     for _ in 0..u64::MAX {
-        let is_more = feed_next(source, &mut window, reader)?;
-        reader.take_facets(&mut facets);
+        let is_more = next_facets(source, &mut window, &mut reader, &mut facets)?;
         extent = extent.with(facets.as_slice());
         if !is_more {
-            return Ok(extent);
+            let last = reader.finish()?;
+            return Ok(extent.with(&last));
         }
     }
     Err(RunFault::Memory)
 }
 
-/// Fills a window from a source and feeds a reader with it: `false` at the end of the source.
-fn feed_next<A: Allocator, I: Source>(
+/// Feeds a reader with a window that is filled from a source, and takes the facets off it that are whole then: `false` at
+/// the end of the source.
+fn next_facets<A: Allocator, I: Source>(
     source: &mut I,
     window: &mut [u8],
     reader: &mut TextReader<A>,
+    facets: &mut Vec<Facet, A>,
 ) -> Result<bool, RunFault>
     requires { 0 < length window.old }
     ensures len { length window.new ≡ length window.old }
     ensures fed { OnOk result ((unit : LengthUnit) (taken : List Facet) (start : Option (List ℕ))
-        → IsFed unit taken reader.old start (I.remaining source.old) → IsFed unit taken reader.new start (I.remaining source.new)) }
+        → IsFed unit taken reader.old start (I.remaining source.old)
+        → IsFed unit (taken ++ facets.new.items) reader.new start (I.remaining source.new)) }
     ensures whole { result ≡ Ok false → IsAtEnd (I.remaining source.new) }
-    ensures unread { OnErr result (Fails (I.Failures.failure_count source.old) (I.Failures.failure_count source.new)) }
+    ensures err { IfErr result (λ fault. (fault ≡ Read) × Fails (I.Failures.failure_count source.old) (I.Failures.failure_count source.new)) }
     ensures sound { OnOk result (I.Failures.failure_count source.new ≡ I.Failures.failure_count source.old) }
-    ensures only { IfErr result (λ fault. fault ≡ Read) }
 {
-    let count = match source.pull(window) {
-        Ok(count) => count,
-        Err(_) => return Err(RunFault::Read),
-    };
+    let count = fill(source, window)?;
     reader.feed(&window[..count]);
+    reader.take_facets(facets);
     Ok(count > 0)
+}
+
+/// Fills the front of a window from a source: answers how many bytes came, which is 0 only at its end.
+fn fill<I: Source>(source: &mut I, window: &mut [u8]) -> Result<usize, RunFault>
+    requires { 0 < length window.old }
+    ensures len { length window.new ≡ length window.old }
+    ensures within { IfOk result (λ count. count ≤ length window.old) }
+    ensures taken { IfOk result (λ count. Consumes (I.remaining source.old) (I.remaining source.new) (take count window.new)) }
+    ensures end { result ≡ Ok 0 → IsAtEnd (I.remaining source.new) }
+    ensures err { IfErr result (λ fault. (fault ≡ Read) × Fails (I.Failures.failure_count source.old) (I.Failures.failure_count source.new)) }
+    ensures sound { OnOk result (I.Failures.failure_count source.new ≡ I.Failures.failure_count source.old) }
+{
+    match source.pull(window) {
+        Ok(count) => Ok(count),
+        Err(_) => Err(RunFault::Read),
+    }
 }

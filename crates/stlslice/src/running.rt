@@ -2,7 +2,7 @@
 ghost use Rattle.std.specs.Prelude.{◌≡◌, ◌≤◌, Err, IfErr, IfOk, List, Ok, OnOk, true, ℕ};
 ghost use Rattle.std.specs.Io.KnownBytes.{Appends};
 ghost use Rattle.stlslice.specs.Outcome.{IsOutcome, grid_for, placing_of};
-ghost use Rattle.stlslice.specs.Ending.{IsEnd, transcript};
+ghost use Rattle.stlslice.specs.Transcript.{transcript};
 ghost use Rattle.stlslice.specs.Run.{IsRun};
 ghost use Rattle.stlslice.specs.declared.run_fault.RunFault.TheVariants as run_fault;
 ghost use Rattle.raster.specs.declared.grid.GridFault.{GridFault};

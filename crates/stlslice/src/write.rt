@@ -4,7 +4,7 @@ ghost use Rattle.std.specs.Prelude.{◌≡◌, ◌≤◌, IfErr, OnOk, length, t
 ghost use Rattle.std.specs.Io.KnownBytes.{Appends, Keeps};
 ghost use Rattle.raster.specs.Devices.{AppendsFirst, Fails};
 ghost use Rattle.stlslice.specs.declared.run_fault.RunFault.TheVariants.{Write, Memory};
-ghost use Rattle.stlslice.specs.Ending.{IsUntouched, IsUnwritten, transcript};
+ghost use Rattle.stlslice.specs.Transcript.{IsUntouched, IsUnwritten, transcript};
 ghost use Rattle.stlslice.specs.SlicedText.{output_of, sliced_text};
 
 pub(crate) mod box_line;

@@ -14,13 +14,19 @@ use Rattle.task_words.specs.declared.task.Task.TheVariants as task
 use Rattle.stlslice.specs.declared.run_fault.RunFault.{RunFault}
 use Rattle.stlslice.specs.declared.run_fault.RunFault.TheVariants as fault
 use Rattle.stlslice.specs.Outcome.{IsOutcome, grid_for}
-use Rattle.stlslice.specs.Ending.{IsEnd, IsInput, IsInputFault, IsRunFault, IsSolidOf, IsUntouched, IsUnwritten, IsWorkFault, Transcript}
+use Rattle.stlslice.specs.Loading.{IsInput, IsInputFault, IsSolidOf}
+use Rattle.stlslice.specs.Run.{IsRun, IsRunFault}
+use Rattle.stlslice.specs.Transcript.{IsUntouched, IsUnwritten, Transcript}
+use Rattle.stlslice.proofs.lemmas.Faults.{IsWorkFault, made_there}
 use Rattle.stlslice.specs.SlicedText.{output_of, sliced_text}
 use Rattle.std.proofs.lemmas.Result.{IfErr-at_err, on_ok_weaker}
-use Rattle.stlslice.specs.Run.{IsRun}
 use Rattle.stlslice.proofs.lemmas.Bytes.{each, of_input}
 use Rattle.stlslice.proofs.lemmas.OneAnswer.{one_outcome}
-use Rattle.stlslice.proofs.lemmas.Faults.{made_there}
+
+-- nothing was written, or a part of the outcome was
+abbrev pub IsEnd : Task → List ℕ → Transcript → RunFault → Type 0
+IsEnd t input transcript f =
+    (IsWorkFault t input f × IsUntouched transcript) ⊎ ((text : List ℕ) × IsOutcome t input (Ok text) × IsUnwritten transcript text f)
 
 pub keeps_self : (a : Option (List ℕ)) → Keeps a a
 keeps_self None = tt

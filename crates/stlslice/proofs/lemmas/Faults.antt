@@ -19,8 +19,19 @@ use Rattle.stlslice.specs.declared.run_fault.RunFault.{RunFault}
 use Rattle.stlslice.specs.declared.run_fault.RunFault.TheVariants as fault
 use Rattle.stlslice.specs.Outcome.{IsMade, IsOutcome, closed, grid_for, is_box, misread, open_mesh, outside, probed_text, unit_of}
 use Rattle.stlslice.specs.RunFault.{of_weld}
-use Rattle.stlslice.specs.Ending.{IsInput, IsInputFault, IsLoadFault, IsMeshOrGridFault, IsMisread, IsSolidOf, IsWorkFault}
+use Rattle.stlslice.specs.Loading.{IsInput, IsInputFault, IsLoadFault, IsMisread, IsSolidOf}
+use Rattle.stlslice.specs.Run.{IsRunFault}
 use Rattle.geometry.specs.declared.limits.TheConstants.{FACET_LIMIT}
+
+-- a fault of a run that read its input and has written nothing
+abbrev pub IsWorkFault : Task → List ℕ → RunFault → Type 0
+IsWorkFault t input f = IsRunFault t input f × (f ≢ fault.Read) × ((written : ℕ) → f ≢ fault.Write written)
+
+-- a text that is no closed mesh, or a closed mesh that has no grid
+abbrev pub IsMeshOrGridFault : LengthUnit → Option Given → ℕ → ℕ → List ℕ → RunFault → Type 0
+IsMeshOrGridFault unit given pitch layer bytes f =
+    IsLoadFault unit bytes f ⊎ ((solid : Solid) × IsSolidOf unit bytes solid
+    × (cause : GridFault) × (f ≡ fault.Grid cause) × (grid_for given pitch layer solid.facets ≡ Err cause))
 
 abbrev pub IsTextFault : LengthUnit → List ℕ → RunFault → Type 0
 IsTextFault unit input f = (f ≡ fault.Memory) ⊎ IsMisread unit input f

@@ -1,29 +1,61 @@
-use Rattle.std.proofs.Common.{◌≡◌, ◌≤◌, ◌++◌, ℕ, List, [], length, refl}
-use Rattle.std.proofs.KnownBytes.{Consumes-nil, Consumes-whole}
-use Rattle.stlslice.specs.Ending.{IsFed, IsInput}
-use Rattle.stlslice.proofs.lemmas.Faults.{of_text, passed_on, told}
+use Rattle.std.proofs.Common.{◌≡◌, ◌∙◌, ◌≤◌, ◌⊎◌, ◌++◌, List, [], length, refl, rules, subst}
+use Rattle.std.specs.Prelude.{IfErr}
+use Rattle.std.specs.Io.KnownBytes.{IsAtEnd}
+use Rattle.geometry.specs.Facet.{Facet}
 use Rattle.geometry.specs.declared.limits.TheConstants.{FACET_LIMIT}
+use Rattle.stlslice.specs.Extent.{IsExtentOf}
+use Rattle.stlslice.specs.Loading.{IsMisread, IsTextExtent}
+use Rattle.stlslice.specs.declared.run_fault.RunFault.TheVariants as fault
+use Rattle.stlslice.proofs.lemmas.Faults.{passed_on, told}
+use Rattle.stlslice.proofs.lemmas.Reading.{at_end, at_start, none_made, read_as}
 use Rattle.stlslice.proofs.loading.read_extent.Goals as goal
 
-pub returns-in_err-last-clause-err : goal.returns-in_err-last-clause-err
-returns-in_err-last-clause-err g c =
-    let start = g.I.Source.remaining c.args.source.now in
-    let found = c.in_ok-extent.ensures.fed in
-    let fed : IsFed c.args.unit found.0 c.measure_all.new.reader start (g.I.Source.remaining c.measure_all.new.source) =
-    found.2 c.args.unit start ([], Consumes-nil start, c.new-reader.ensures) in
-    let all : IsInput start fed.0 = Consumes-whole start _ fed.0 (λ (input : List ℕ). fed.0 ≡ input) fed.1 c.in_ok-extent.ensures.whole refl in
-    passed_on c.from_residual-in_err-last.result _ _
-    (λ f gives. of_text c.args.unit start fed.0 f all
-    (told c.args.unit fed.0 c.in_err-last.field-0.0 f gives (c.in_err-last.ensures.fault FACET_LIMIT c.args.unit found.0 fed.0 fed.2)))
-    c.from_residual-in_err-last.ensures.1
+pub loop-init : goal.loop-init
+loop-init g c = record {
+  fed = ([], (λ few. c.none-extent.ensures), at_start c.args.unit _ (g.I.Source.remaining c.args.source.now) c.new-reader.ensures);
+  counted = refl;
+  room = refl;
+}
 
-pub returns-clause-ok : goal.returns-clause-ok
-returns-clause-ok g c =
-    let start = g.I.Source.remaining c.args.source.now in
-    let found = c.in_ok-extent.ensures.fed in
-    let fed : IsFed c.args.unit found.0 c.measure_all.new.reader start (g.I.Source.remaining c.measure_all.new.source) =
-    found.2 c.args.unit start ([], Consumes-nil start, c.new-reader.ensures) in
-    let all : IsInput start fed.0 = Consumes-whole start _ fed.0 (λ (input : List ℕ). fed.0 ≡ input) fed.1 c.in_ok-extent.ensures.whole refl in
-    let reads = c.in_ok-last.ensures.found FACET_LIMIT c.args.unit found.0 fed.0 fed.2 in
-    let few : length (found.0 ++ c.deref.result.now) ≤ FACET_LIMIT = rw c.deref.ensures.value reads.few in
-    (fed.0, all, found.0 ++ c.in_ok-last.last.items, reads, rw (← c.deref.ensures.value) (c.with.ensures found.0 found.1 few))
+pub loop-preserved : goal.loop-preserved
+loop-preserved g c =
+    let so_far = c.loop.invariant.fed in
+    record {
+      fed = (
+        so_far.0 ++ c.next_facets.new.facets.items,
+        subst (λ fs. IsExtentOf (so_far.0 ++ fs) c.with-extent.result) c.as_slice.ensures.value (c.with-extent.ensures so_far.0 so_far.1),
+        c.in_ok-is_more.ensures.fed c.args.unit so_far.0 _ so_far.2,
+      );
+      counted = c.in_ok-is_more.ensures.sound ∙ c.loop.invariant.counted;
+      room = c.in_ok-is_more.ensures.len ∙ c.loop.invariant.room;
+    }
+
+pub returns-in_err-last : goal.returns-in_err-last
+returns-in_err-last g c =
+    let unit = c.args.unit in
+    let so_far = c.loop.invariant.fed in
+    let taken : List Facet = so_far.0 ++ c.next_facets.new.facets.items in
+    let end : IsAtEnd (g.I.Source.remaining c.next_facets.new.source) = search rules in
+    let all = at_end unit taken _ _ _ (c.in_ok-is_more.ensures.fed unit so_far.0 _ so_far.2) end in
+    let r = c.from_residual-in_err-last.result in
+    let err : IfErr r (λ f. (f ≡ fault.Memory) ⊎ IsMisread unit all.0 f) =
+    passed_on r _ _
+    (λ f gives. told unit all.0 c.in_err-last.field-0.0 f gives (c.in_err-last.ensures.fault FACET_LIMIT unit taken all.0 all.2))
+    c.from_residual-in_err-last.ensures.1 in
+    read_as r (IsTextExtent unit) (IsMisread unit) _ all.0 all.1 end (c.in_ok-is_more.ensures.sound ∙ c.loop.invariant.counted)
+    (λ h. let no : fault.Read ≡ fault.Stl h.0 = h.1 in cc) (none_made r _ _ c.from_residual-in_err-last.ensures.1) err
+
+pub returns-then-not-is_more : goal.returns-then-not-is_more
+returns-then-not-is_more g c =
+    let unit = c.args.unit in
+    let so_far = c.loop.invariant.fed in
+    let taken : List Facet = so_far.0 ++ c.next_facets.new.facets.items in
+    let before : IsExtentOf taken c.with-extent.result =
+    subst (λ fs. IsExtentOf (so_far.0 ++ fs) c.with-extent.result) c.as_slice.ensures.value (c.with-extent.ensures so_far.0 so_far.1) in
+    let end : IsAtEnd (g.I.Source.remaining c.next_facets.new.source) = search rules in
+    let all = at_end unit taken _ _ _ (c.in_ok-is_more.ensures.fed unit so_far.0 _ so_far.2) end in
+    let reads = c.in_ok-last.ensures.found FACET_LIMIT unit taken all.0 all.2 in
+    let few : length (taken ++ c.deref.result.now) ≤ FACET_LIMIT = rw c.deref.ensures.value reads.few in
+    read_as _ (IsTextExtent unit) (IsMisread unit) _ all.0 all.1 end (c.in_ok-is_more.ensures.sound ∙ c.loop.invariant.counted)
+    (λ h. let no : fault.Read ≡ fault.Stl h.0 = h.1 in cc)
+    (taken ++ c.in_ok-last.last.items, reads, rw (← c.deref.ensures.value) (c.with.ensures taken before few)) tt

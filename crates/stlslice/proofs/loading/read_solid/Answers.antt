@@ -1,30 +1,42 @@
-use Rattle.std.proofs.Common.{inr, refl}
-use Rattle.std.proofs.lemmas.Result.{IfErr-at_err, IfErr-weaker, IfOk-weaker}
+use Rattle.std.proofs.Common.{◌∙◌, ◌++◌, List, [], inr, refl, rules, subst}
+use Rattle.std.specs.Io.KnownBytes.{IsAtEnd}
+use Rattle.std.proofs.lemmas.Result.{IfErr-weaker}
+use Rattle.geometry.specs.Facet.{Facet}
+use Rattle.stlslice.specs.Loading.{AreWelded, IsLoadFault, IsSolidOf}
 use Rattle.stlslice.specs.declared.run_fault.RunFault.TheVariants.{Read}
 use Rattle.stlslice.proofs.lemmas.Faults.{not_read}
-use Rattle.stlslice.proofs.lemmas.Reading.{at_end, at_start}
+use Rattle.stlslice.proofs.lemmas.Reading.{at_end, at_start, read_as}
 use Rattle.stlslice.proofs.loading.read_solid.Goals as goal
 
-pub returns-clause-ok : goal.returns-clause-ok
-returns-clause-ok g c =
-    let unit = c.args.unit in
-    let start = g.I.Source.remaining c.args.source.now in
-    let found = c.in_ok-weld_all.ensures.fed in
-    let all = at_end unit found.0 _ start _ (found.2 unit start (at_start unit _ start c.new-reader.ensures)) c.in_ok-weld_all.ensures.whole in
-    IfOk-weaker c.weld_end.result _ _ (λ solid h. (all.0, all.1, h)) (c.weld_end.ensures.ok unit found.0 all.0 found.1 all.2)
+pub loop-init : goal.loop-init
+loop-init g c = record {
+  fed = ([], (λ few. c.new-welder.ensures), at_start c.args.unit _ (g.I.Source.remaining c.args.source.now) c.new-reader.ensures);
+  counted = refl;
+  room = refl;
+}
 
-pub returns-clause-err : goal.returns-clause-err
-returns-clause-err g c =
-    let unit = c.args.unit in
-    let start = g.I.Source.remaining c.args.source.now in
-    let found = c.in_ok-weld_all.ensures.fed in
-    let all = at_end unit found.0 _ start _ (found.2 unit start (at_start unit _ start c.new-reader.ensures)) c.in_ok-weld_all.ensures.whole in
-    IfErr-weaker c.weld_end.result _ _ (λ f h. inr (inr (all.0, all.1, h))) (c.weld_end.ensures.err unit found.0 all.0 found.1 all.2)
+pub loop-preserved : goal.loop-preserved
+loop-preserved g c =
+    let so_far = c.loop.invariant.fed in
+    record {
+      fed = (
+        so_far.0 ++ c.next_facets.new.facets.items,
+        subst (λ fs. AreWelded (so_far.0 ++ fs) c.weld_next.new.welder) c.as_slice.ensures.value (c.in_ok-weld_next.ensures.welded so_far.0 so_far.1),
+        c.in_ok-is_more.ensures.fed c.args.unit so_far.0 _ so_far.2,
+      );
+      counted = c.in_ok-is_more.ensures.sound ∙ c.loop.invariant.counted;
+      room = c.in_ok-is_more.ensures.len ∙ c.loop.invariant.room;
+    }
 
-pub returns-clause-unread : goal.returns-clause-unread
-returns-clause-unread g c = λ e.
+pub returns-then-not-is_more : goal.returns-then-not-is_more
+returns-then-not-is_more g c =
     let unit = c.args.unit in
-    let start = g.I.Source.remaining c.args.source.now in
-    let found = c.in_ok-weld_all.ensures.fed in
-    let all = at_end unit found.0 _ start _ (found.2 unit start (at_start unit _ start c.new-reader.ensures)) c.in_ok-weld_all.ensures.whole in
-    absurd (not_read unit all.0 Read (IfErr-at_err _ e (c.weld_end.ensures.err unit found.0 all.0 found.1 all.2)) refl)
+    let so_far = c.loop.invariant.fed in
+    let taken : List Facet = so_far.0 ++ c.next_facets.new.facets.items in
+    let welded : AreWelded taken c.weld_next.new.welder =
+    subst (λ fs. AreWelded (so_far.0 ++ fs) c.weld_next.new.welder) c.as_slice.ensures.value (c.in_ok-weld_next.ensures.welded so_far.0 so_far.1) in
+    let end : IsAtEnd (g.I.Source.remaining c.next_facets.new.source) = search rules in
+    let all = at_end unit taken _ _ _ (c.in_ok-is_more.ensures.fed unit so_far.0 _ so_far.2) end in
+    read_as c.weld_end.result (IsSolidOf unit) (IsLoadFault unit) _ all.0 all.1 end (c.in_ok-is_more.ensures.sound ∙ c.loop.invariant.counted)
+    (λ h. not_read unit all.0 Read h refl) (c.weld_end.ensures.ok unit taken all.0 welded all.2)
+    (IfErr-weaker c.weld_end.result _ _ (λ f h. inr h) (c.weld_end.ensures.err unit taken all.0 welded all.2))

@@ -4,7 +4,7 @@ use Rattle.geometry.specs.Facet.{Facet}
 use Rattle.mesh_weld.specs.Balance.{IsBalanced}
 use Rattle.mesh_weld.specs.Naming.{parts_of}
 use Rattle.stl_text.specs.Pieces.{IsAfter}
-use Rattle.stlslice.specs.Ending.{AreWelded}
+use Rattle.stlslice.specs.Loading.{AreWelded}
 use Rattle.stlslice.specs.RunFault.{of_weld}
 use Rattle.stlslice.proofs.lemmas.Faults.{passed_on, told, unclosed, unread_text}
 use Rattle.geometry.specs.declared.limits.TheConstants.{FACET_LIMIT}

@@ -1,13 +1,13 @@
 use Rattle.std.proofs.Common.{◌≡◌, ◌∙◌, List, ℕ, ap, inr, refl}
 use Rattle.std.specs.Prelude.{Err, Ok, string_bytes}
 use Rattle.std.proofs.lemmas.Result.{IfErr-weaker, on_ok_weaker}
-use Rattle.stlslice.specs.Ending.{IsMisread, IsWorkFault}
+use Rattle.stlslice.specs.Loading.{IsMisread}
+use Rattle.stlslice.proofs.lemmas.Faults.{IsWorkFault, by_input, misread_box}
 use Rattle.stlslice.specs.Outcome.{IsOutcome, box_text, boxed, line_text}
 use Rattle.stlslice.specs.declared.extent.Extent.{Extent}
 use Rattle.stlslice.specs.declared.run_fault.RunFault.TheVariants as fault
 use Rattle.task_words.specs.declared.task.Task.TheVariants as task
 use Rattle.stlslice.proofs.lemmas.Ends.{ended_early, keeps_self, no_memory, ran, unready}
-use Rattle.stlslice.proofs.lemmas.Faults.{by_input, misread_box}
 use Rattle.stlslice.proofs.running.run_box.Goals as goal
 
 pub returns-in_err-extent : goal.returns-in_err-extent
@@ -32,8 +32,8 @@ returns g c =
     let from = c.in_ok-extent.ensures.ok in
     let t = task.Box c.args.unit in
     let line : List ℕ = string_bytes c.in_ok-line.line in
-    let told : line ≡ box_text from.2 = c.in_ok-line.ensures ∙ ap (λ (e : Extent). line_text e.count e.corners) from.4 in
-    let known : IsOutcome t from.0 (Ok line) = boxed from.2 from.3 refl (rw told refl) in
+    let told : line ≡ box_text from.2.0 = c.in_ok-line.ensures ∙ ap (λ (e : Extent). line_text e.count e.corners) from.2.2 in
+    let known : IsOutcome t from.0 (Ok line) = boxed from.2.0 from.2.1 refl (rw told refl) in
     ran c.write_all.result t from.0 _ _ _ from.1
     (c.in_ok-extent.ensures.whole (λ e. cc) (λ e. cc)) (c.in_ok-extent.ensures.sound (λ e. cc))
     c.write_all.ensures.flushed

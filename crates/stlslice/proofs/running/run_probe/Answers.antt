@@ -1,12 +1,12 @@
 use Rattle.std.proofs.Common.{◌≡◌, List, ℕ, ap, inr, refl}
 use Rattle.std.specs.Prelude.{Err, Ok, string_bytes}
 use Rattle.std.proofs.lemmas.Result.{IfErr-weaker, on_ok_weaker}
-use Rattle.stlslice.specs.Ending.{IsLoadFault, IsWorkFault}
+use Rattle.stlslice.specs.Loading.{IsLoadFault}
+use Rattle.stlslice.proofs.lemmas.Faults.{IsWorkFault, by_input, probed_fault, probed_there, unloaded, unplaced}
 use Rattle.stlslice.specs.Outcome.{IsOutcome}
 use Rattle.stlslice.specs.declared.run_fault.RunFault.TheVariants as fault
 use Rattle.task_words.specs.declared.task.Task.TheVariants as task
 use Rattle.stlslice.proofs.lemmas.Ends.{ended_early, keeps_self, ran, unready}
-use Rattle.stlslice.proofs.lemmas.Faults.{by_input, probed_fault, probed_there, unloaded, unplaced}
 use Rattle.stlslice.proofs.running.run_probe.Goals as goal
 
 pub returns-in_err-solid : goal.returns-in_err-solid

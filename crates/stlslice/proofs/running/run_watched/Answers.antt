@@ -2,13 +2,13 @@ use Rattle.std.proofs.Common.{◌≡◌, ◌∙◌, ap, inr, refl}
 use Rattle.std.specs.Prelude.{Err, Ok}
 use Rattle.std.proofs.lemmas.Result.{IfErr-weaker, on_ok_weaker}
 use Rattle.build_book.specs.Job.{Job}
-use Rattle.stlslice.specs.Ending.{IsLoadFault, IsWorkFault}
+use Rattle.stlslice.specs.Loading.{IsLoadFault}
+use Rattle.stlslice.proofs.lemmas.Faults.{IsWorkFault, by_input, unloaded, unplaced}
 use Rattle.stlslice.specs.Outcome.{IsOutcome}
 use Rattle.stlslice.specs.SlicedText.{sliced_text}
 use Rattle.stlslice.specs.declared.run_fault.RunFault.TheVariants as fault
 use Rattle.task_words.specs.declared.task.Task.TheVariants as task
 use Rattle.stlslice.proofs.lemmas.Ends.{ended, ended_early, keeps_self, no_memory, ran, sliced_there, unready}
-use Rattle.stlslice.proofs.lemmas.Faults.{by_input, unloaded, unplaced}
 use Rattle.stlslice.proofs.running.run_watched.Goals as goal
 
 pub returns-in-Box : goal.returns-in-Box

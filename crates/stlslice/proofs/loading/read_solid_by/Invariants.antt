@@ -1,17 +1,15 @@
 use Rattle.std.proofs.Common.{◌≡◌, ◌++◌, [], length}
-use Rattle.std.specs.Prelude.{List, Option, ℕ}
-use Rattle.micro_num.specs.declared.unit.Unit.{Unit as LengthUnit}
+use Rattle.std.specs.Prelude.{List}
 use Rattle.geometry.specs.Facet.{Facet}
-use Rattle.stlslice.specs.Ending.{AreWelded, IsFed}
+use Rattle.stlslice.specs.Loading.{AreWelded, IsFed}
 use Rattle.stlslice.specs.declared.loading.TheConstants.{WINDOW_LEN}
-use Rattle.stlslice.proofs.loading.weld_all_by.Given as goal
+use Rattle.stlslice.proofs.loading.read_solid_by.Given as goal
 
 -- the facets of the last round are taken off the reader, and not welded yet
 abbrev pub invariant-loop : goal.invariant-loop
 invariant-loop g l = record {
   fed : (welded : List Facet) × AreWelded welded l.welder
-      × ((unit : LengthUnit) (start : Option (List ℕ)) → IsFed unit [] l.initial.reader start (g.I.Source.remaining l.initial.source)
-      → IsFed unit (welded ++ l.facets.items) l.reader start (g.I.Source.remaining l.source));
+      × IsFed l.fn.unit (welded ++ l.facets.items) l.reader (g.I.Source.remaining l.initial.source) (g.I.Source.remaining l.source);
   counted : g.I.Failures.failure_count l.source ≡ g.I.Failures.failure_count l.initial.source;
   room : length l.window ≡ WINDOW_LEN;
   empty : l.round.items ≡ [];
