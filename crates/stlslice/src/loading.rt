@@ -21,13 +21,14 @@ use mesh_weld::{Solid, Welder};
 use micro_num::Unit;
 use raster::Source;
 use std::alloc::Allocator;
+use std::mem::swap;
 use std::thread::{Threads, join_mut};
 use stl_text::TextReader;
 
 /// The number of bytes for each worker, where several read at the same time.
 const WORKER_LEN: usize = 1 << 20;
 
-/// The greatest number of bytes that a round waits for. The last window may reach beyond them.
+/// The greatest number of bytes that a round waits for. Its last window may reach beyond them.
 const ROUND_LIMIT: usize = 1 << 23;
 
 /// The length of the window that is filled from the source and then handed to the reader, in bytes.
@@ -77,8 +78,9 @@ pub(crate) fn read_solid<A: Allocator + Copy + Send + Sync, I: Source>(
     Err(RunFault::Memory)
 }
 
-/// The same as [`read_solid`], read by up to `workers` workers at the same time. Where they are several, a round stands in
-/// place of a window, and the facets of two rounds are held: those that are welded, and those that are read meanwhile.
+/// The same as [`read_solid`], read by up to `workers` workers at the same time. Where they are several, rounds stand
+/// in place of windows. Two rounds are held, the one that is read and the one that is filled, and the facets of two: those that
+/// are welded, and those that are read meanwhile.
 pub(crate) fn read_solid_by<R: Threads + Sync, A: Allocator + Copy + Send + Sync, I: Source>(
     rt: &R,
     alloc: A,
@@ -94,27 +96,30 @@ pub(crate) fn read_solid_by<R: Threads + Sync, A: Allocator + Copy + Send + Sync
     }
     let mut reader = TextReader::new(alloc, FACET_LIMIT, unit);
     let mut welder = Welder::new(alloc);
-    let len = round_len(workers);
-    // the last window of a round may reach beyond `len`
-    let mut round = Vec::with_capacity(alloc, len.saturating_add(WINDOW_LEN))?;
+    let room = round_len(workers).saturating_add(WINDOW_LEN);
+    let mut round = Vec::with_capacity(alloc, room)?;
+    let mut next = Vec::with_capacity(alloc, room)?;
     let mut facets = Vec::new(alloc);
-    let mut window = [0; WINDOW_LEN];
+    let mut is_more = true;
     for _ in 0..u64::MAX {
-        let is_more = fill_round(source, &mut window, &mut round, len)?;
-        weld_and_feed(
+        let is_next = read_and_weld(
             rt,
             workers,
-            &mut welder,
-            facets.as_slice(),
             &mut reader,
             round.as_slice(),
+            &mut welder,
+            facets.as_slice(),
+            source,
+            &mut next,
+            is_more,
         )?;
         reader.take_facets(&mut facets);
-        round.clear();
         if !is_more {
             weld_next(&mut welder, facets.as_slice())?;
             return weld_end(reader, welder);
         }
+        swap(&mut round, &mut next);
+        is_more = is_next;
     }
     Err(RunFault::Memory)
 }
@@ -139,32 +144,70 @@ fn weld_end<A: Allocator + Copy + Send + Sync>(
     Ok(welder.finish()?)
 }
 
-/// Adds the facets of the last round to a welder, while a reader is fed with the next round: of up to `workers` workers one
-/// welds, on the thread that calls, and the others read. Where there are no such facets, all of them read.
-fn weld_and_feed<R: Threads + Sync, A: Allocator + Copy + Send + Sync>(
+/// Feeds a reader with a round while the facets of the last one are welded and, where there `is_more`, the next one is filled:
+/// answers whether there is more after it. Of up to `workers` workers one welds and fills, on the thread that calls, and the
+/// others read. Where there is nothing to weld or to fill, all of them read.
+fn read_and_weld<R: Threads + Sync, A: Allocator + Copy + Send + Sync, I: Source>(
     rt: &R,
     workers: u32,
-    welder: &mut Welder<A>,
-    facets: &[Facet],
     reader: &mut TextReader<A>,
     round: &[u8],
-) -> Result<(), RunFault>
-    ensures welded { (taken : List Facet) → AreWelded taken welder.old → OnOk result (AreWelded (taken ++ facets.now) welder.new) }
+    welder: &mut Welder<A>,
+    facets: &[Facet],
+    source: &mut I,
+    next: &mut Vec<u8, A>,
+    is_more: bool,
+) -> Result<bool, RunFault>
     ensures fed { (unit : LengthUnit) (taken : List Facet) (fed : List ℕ) → IsAfter FACET_LIMIT unit taken reader.old fed
         → IsAfter FACET_LIMIT unit taken reader.new (fed ++ round.now) }
-    ensures only { IfErr result (λ fault. fault ≡ Memory) }
+    ensures welded { (taken : List Facet) → AreWelded taken welder.old → OnOk result (AreWelded (taken ++ facets.now) welder.new) }
+    ensures taken { OnOk result (Consumes (I.remaining source.old) (I.remaining source.new) next.new.items) }
+    ensures kept { is_more ≡ false → source.new ≡ source.old }
+    ensures whole { result ≡ Ok false → is_more ≡ true → IsAtEnd (I.remaining source.new) }
+    ensures unread { result ≡ Err Read
+        → Fails (I.Failures.failure_count source.old) (I.Failures.failure_count source.new) }
+    ensures sound { result ≢ Err Read → I.Failures.failure_count source.new ≡ I.Failures.failure_count source.old }
+    ensures only { IfErr result (λ fault. (fault ≡ Read) ⊎ (fault ≡ Memory)) }
 {
-    if facets.is_empty() {
-        reader.feed_by(rt, round, workers);
-        return Ok(());
-    }
-    let readers = workers.saturating_sub(1);
-    let ((), welded) = join_mut(
+    let readers = if is_more || !facets.is_empty() {
+        workers.saturating_sub(1)
+    } else {
+        workers
+    };
+    let ((), filled) = join_mut(
         rt,
         &mut || reader.feed_by(rt, round, readers),
-        &mut || weld_next(welder, facets),
+        &mut || weld_and_fill(welder, facets, source, next, round_len(workers), is_more),
     );
-    welded
+    filled
+}
+
+/// Adds facets to a welder, and fills a round from a source where there `is_more`, else leaves the round empty: answers whether
+/// there is more after it.
+fn weld_and_fill<A: Allocator + Copy + Send + Sync, I: Source>(
+    welder: &mut Welder<A>,
+    facets: &[Facet],
+    source: &mut I,
+    round: &mut Vec<u8, A>,
+    len: usize,
+    is_more: bool,
+) -> Result<bool, RunFault>
+    ensures welded { (taken : List Facet) → AreWelded taken welder.old → OnOk result (AreWelded (taken ++ facets.now) welder.new) }
+    ensures taken { OnOk result (Consumes (I.remaining source.old) (I.remaining source.new) round.new.items) }
+    ensures kept { is_more ≡ false → source.new ≡ source.old }
+    ensures whole { result ≡ Ok false → is_more ≡ true → IsAtEnd (I.remaining source.new) }
+    ensures unread { result ≡ Err Read
+        → Fails (I.Failures.failure_count source.old) (I.Failures.failure_count source.new) }
+    ensures sound { result ≢ Err Read → I.Failures.failure_count source.new ≡ I.Failures.failure_count source.old }
+    ensures only { IfErr result (λ fault. (fault ≡ Read) ⊎ (fault ≡ Memory)) }
+{
+    round.clear();
+    weld_next(welder, facets)?;
+    if is_more {
+        fill_round(source, round, len)
+    } else {
+        Ok(false)
+    }
 }
 
 /// The number of bytes that a round of these workers waits for.
@@ -175,13 +218,10 @@ fn round_len(workers: u32) -> usize {
 /// Adds what a source has next to a round, which is empty before, until it has `len` bytes: `false` at the end of the source.
 fn fill_round<A: Allocator, I: Source>(
     source: &mut I,
-    window: &mut [u8],
     round: &mut Vec<u8, A>,
     len: usize,
 ) -> Result<bool, RunFault>
-    requires some { 0 < length window.old }
-    requires empty { round.old.items ≡ [] }
-    ensures len { length window.new ≡ length window.old }
+    requires { round.old.items ≡ [] }
     ensures taken { OnOk result (Consumes (I.remaining source.old) (I.remaining source.new) round.new.items) }
     ensures more { result ≡ Ok true → len ≤ vec_len round.new }
     ensures whole { result ≡ Ok false → IsAtEnd (I.remaining source.new) }
@@ -190,8 +230,9 @@ fn fill_round<A: Allocator, I: Source>(
     ensures sound { result ≢ Err Read → I.Failures.failure_count source.new ≡ I.Failures.failure_count source.old }
     ensures only { IfErr result (λ fault. (fault ≡ Read) ⊎ (fault ≡ Memory)) }
 {
+    let mut window = [0; WINDOW_LEN];
     'round: while round.len() < len {
-        let count = fill(source, window)?;
+        let count = fill(source, &mut window)?;
         if count == 0 {
             return Ok(false);
         }

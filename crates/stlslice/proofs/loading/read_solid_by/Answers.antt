@@ -1,7 +1,7 @@
 use Rattle.std.proofs.Common.{◌≡◌, ◌∙◌, ◌++◌, List, [], ap, inr, refl, rules, subst, sym}
 use Rattle.std.specs.Prelude.{Err}
-use Rattle.std.specs.Io.KnownBytes.{IsAtEnd}
-use Rattle.std.proofs.KnownBytes.{Consumes-trans}
+use Rattle.std.specs.Io.KnownBytes.{Consumes, IsAtEnd}
+use Rattle.std.proofs.KnownBytes.{Consumes-nil, Consumes-trans}
 use Rattle.std.proofs.lemmas.Result.{IfErr-weaker}
 use Rattle.geometry.specs.Facet.{Facet}
 use Rattle.geometry.specs.declared.limits.TheConstants.{FACET_LIMIT}
@@ -10,7 +10,7 @@ use Rattle.stl_text.specs.Pieces.{IsAfter}
 use Rattle.stlslice.specs.Loading.{AreWelded, IsFed, IsLoadFault, IsSolidOf}
 use Rattle.stlslice.specs.declared.run_fault.RunFault.TheVariants.{Memory, Read}
 use Rattle.stlslice.proofs.lemmas.Faults.{not_read}
-use Rattle.stlslice.proofs.lemmas.Reading.{at_end, at_start, read_as, stopped_as}
+use Rattle.stlslice.proofs.lemmas.Reading.{at_end, read_as, stopped_as}
 use Rattle.stlslice.proofs.loading.read_solid_by.Goals as goal
 
 pub loop-init : goal.loop-init
@@ -18,11 +18,14 @@ loop-init g c = record {
   fed = (
     [],
     (λ few. c.new-welder.ensures),
-    rw c.new-facets.ensures.items (at_start c.args.unit _ (g.I.Source.remaining c.args.source.now) c.new-reader.ensures),
+    (
+      [],
+      rw c.in_ok-round.ensures.items (Consumes-nil (g.I.Source.remaining c.args.source.now)),
+      rw c.new-facets.ensures.items c.new-reader.ensures,
+    ),
   );
   counted = refl;
-  room = refl;
-  empty = search rules;
+  end = search rules;
 }
 
 pub loop-preserved : goal.loop-preserved
@@ -30,23 +33,23 @@ loop-preserved g c =
     let so_far = c.loop.invariant.fed in
     let taken = so_far.0 ++ c.loop.facets.items in
     let fed = so_far.2 in
-    let more = c.fill_round.new.round.items in
-    let after = subst (λ p. IsAfter FACET_LIMIT c.args.unit taken c.weld_and_feed.new.reader (fed.0 ++ p)) c.as_slice-in-loop.ensures.value
-    (c.in_ok-weld_and_feed.ensures.fed c.args.unit taken fed.0 fed.2) in
+    let read = fed.0 ++ c.loop.round.items in
+    let after = subst (λ p. IsAfter FACET_LIMIT c.args.unit taken c.read_and_weld.new.reader (fed.0 ++ p)) c.as_slice.ensures.value
+    (c.in_ok-is_next.ensures.fed c.args.unit taken fed.0 fed.2) in
     record {
       fed = (
         taken,
-        subst (λ fs. AreWelded (so_far.0 ++ fs) c.weld_and_feed.new.welder) c.as_slice.ensures.value
-            (c.in_ok-weld_and_feed.ensures.welded so_far.0 so_far.1),
+        subst (λ fs. AreWelded (so_far.0 ++ fs) c.read_and_weld.new.welder) c.as_slice-in-loop.ensures.value
+            (c.in_ok-is_next.ensures.welded so_far.0 so_far.1),
         (
-          fed.0 ++ more,
-          Consumes-trans (g.I.Source.remaining c.args.source.now) _ _ fed.0 more fed.1 c.in_ok-is_more.ensures.taken,
-          rw c.take_facets.ensures.given (c.take_facets.ensures.after FACET_LIMIT c.args.unit taken (fed.0 ++ more) after),
+          read,
+          rw c.swap.ensures.x_after (Consumes-trans (g.I.Source.remaining c.args.source.now) _ _ read c.read_and_weld.new.next.items fed.1
+              c.in_ok-is_next.ensures.taken),
+          rw c.take_facets.ensures.given (c.take_facets.ensures.after FACET_LIMIT c.args.unit taken read after),
         ),
       );
-      counted = c.in_ok-is_more.ensures.sound (λ e. cc) ∙ c.loop.invariant.counted;
-      room = c.in_ok-is_more.ensures.len ∙ c.loop.invariant.room;
-      empty = c.clear.ensures.items;
+      counted = c.in_ok-is_next.ensures.sound (λ e. cc) ∙ c.loop.invariant.counted;
+      end = λ is. c.in_ok-is_next.ensures.whole (cc) c.if-not-is_more.false;
     }
 
 pub returns-then-not-is_more : goal.returns-then-not-is_more
@@ -56,37 +59,40 @@ returns-then-not-is_more g c =
     let so_far = c.loop.invariant.fed in
     let taken : List Facet = so_far.0 ++ c.loop.facets.items in
     let fed = so_far.2 in
-    let more = c.fill_round.new.round.items in
+    let input = fed.0 ++ c.loop.round.items in
     let last : List Facet = c.take_facets.new.list.items in
-    let after = subst (λ p. IsAfter FACET_LIMIT unit taken c.weld_and_feed.new.reader (fed.0 ++ p)) c.as_slice-in-loop.ensures.value
-    (c.in_ok-weld_and_feed.ensures.fed unit taken fed.0 fed.2) in
-    let before = subst (λ fs. AreWelded (so_far.0 ++ fs) c.weld_and_feed.new.welder) c.as_slice.ensures.value
-    (c.in_ok-weld_and_feed.ensures.welded so_far.0 so_far.1) in
+    let kept = c.in_ok-is_next.ensures.kept c.if-not-is_more.true in
+    let after = subst (λ p. IsAfter FACET_LIMIT unit taken c.read_and_weld.new.reader (fed.0 ++ p)) c.as_slice.ensures.value
+    (c.in_ok-is_next.ensures.fed unit taken fed.0 fed.2) in
+    let before = subst (λ fs. AreWelded (so_far.0 ++ fs) c.read_and_weld.new.welder) c.as_slice-in-loop.ensures.value
+    (c.in_ok-is_next.ensures.welded so_far.0 so_far.1) in
     let welded = subst (λ fs. AreWelded (taken ++ fs) c.weld_next.new.welder) c.as_slice-then-not-is_more.ensures.value
     (c.in_ok-weld_next.ensures.welded taken before) in
-    let read : IsFed unit (taken ++ last) c.take_facets.new.self start (g.I.Source.remaining c.fill_round.new.source) = (
-      fed.0 ++ more,
-      Consumes-trans start _ _ fed.0 more fed.1 c.in_ok-is_more.ensures.taken,
-      rw c.take_facets.ensures.given (c.take_facets.ensures.after FACET_LIMIT unit taken (fed.0 ++ more) after),
+    let read : IsFed unit (taken ++ last) c.take_facets.new.self start (g.I.Source.remaining c.read_and_weld.new.source) = (
+      input,
+      subst (λ s. Consumes start (g.I.Source.remaining s) input) (sym kept) fed.1,
+      rw c.take_facets.ensures.given (c.take_facets.ensures.after FACET_LIMIT unit taken input after),
     ) in
-    let end : IsAtEnd (g.I.Source.remaining c.fill_round.new.source) = search rules in
+    let end : IsAtEnd (g.I.Source.remaining c.read_and_weld.new.source) =
+    subst (λ s. IsAtEnd (g.I.Source.remaining s)) (sym kept) (c.loop.invariant.end c.if-not-is_more.true) in
     let all = at_end unit (taken ++ last) _ _ _ read end in
     read_as c.weld_end.result (IsSolidOf unit) (IsLoadFault unit) _ all.0 all.1 end
-    (c.in_ok-is_more.ensures.sound (λ e. cc) ∙ c.loop.invariant.counted)
+    (c.in_ok-is_next.ensures.sound (λ e. cc) ∙ c.loop.invariant.counted)
     (λ h. not_read unit all.0 Read h refl) (c.weld_end.ensures.ok unit (taken ++ last) all.0 welded all.2)
     (IfErr-weaker c.weld_end.result _ _ (λ f h. inr h) (c.weld_end.ensures.err unit (taken ++ last) all.0 welded all.2))
 
-pub returns-in_err-is_more : goal.returns-in_err-is_more
-returns-in_err-is_more g c =
-    let f = c.in_err-is_more.field-0.0 in
-    stopped_as c.from_residual-in_err-is_more.result (IsSolidOf c.args.unit) (IsLoadFault c.args.unit) _ f c.from_residual-in_err-is_more.ensures.1
-    c.in_err-is_more.ensures.only
-    (λ e. subst (λ n. Fails n (g.I.Failures.failure_count c.fill_round.new.source)) c.loop.invariant.counted (c.in_err-is_more.ensures.unread (ap Err e)))
-    (λ other. c.in_err-is_more.ensures.sound (λ e. other (let same : f ≡ Read = cc in same)) ∙ c.loop.invariant.counted)
+pub returns-in_err-is_next : goal.returns-in_err-is_next
+returns-in_err-is_next g c =
+    let f = c.in_err-is_next.field-0.0 in
+    stopped_as c.from_residual-in_err-is_next.result (IsSolidOf c.args.unit) (IsLoadFault c.args.unit) _ f c.from_residual-in_err-is_next.ensures.1
+    c.in_err-is_next.ensures.only
+    (λ e. subst (λ n. Fails n (g.I.Failures.failure_count c.read_and_weld.new.source)) c.loop.invariant.counted
+    (c.in_err-is_next.ensures.unread (ap Err e)))
+    (λ other. c.in_err-is_next.ensures.sound (λ e. other (let same : f ≡ Read = cc in same)) ∙ c.loop.invariant.counted)
 
 pub returns-in_err-weld_next : goal.returns-in_err-weld_next
 returns-in_err-weld_next g c =
     stopped_as c.from_residual-in_err-weld_next.result (IsSolidOf c.args.unit) (IsLoadFault c.args.unit) _ c.in_err-weld_next.field-0.0
     c.from_residual-in_err-weld_next.ensures.1 (inr c.in_err-weld_next.ensures.only)
     (λ e. let no : Memory ≡ Read = sym c.in_err-weld_next.ensures.only ∙ e in cc)
-    (λ other. c.in_ok-is_more.ensures.sound (λ e. cc) ∙ c.loop.invariant.counted)
+    (λ other. c.in_ok-is_next.ensures.sound (λ e. cc) ∙ c.loop.invariant.counted)

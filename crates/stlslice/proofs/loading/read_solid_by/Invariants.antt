@@ -1,16 +1,18 @@
-use Rattle.std.proofs.Common.{◌≡◌, ◌++◌, [], length}
-use Rattle.std.specs.Prelude.{List}
+use Rattle.std.proofs.Common.{◌≡◌, ◌++◌, [], false}
+use Rattle.std.specs.Prelude.{List, ℕ}
+use Rattle.std.specs.Io.KnownBytes.{Consumes, IsAtEnd}
 use Rattle.geometry.specs.Facet.{Facet}
-use Rattle.stlslice.specs.Loading.{AreWelded, IsFed}
-use Rattle.stlslice.specs.declared.loading.TheConstants.{WINDOW_LEN}
+use Rattle.geometry.specs.declared.limits.TheConstants.{FACET_LIMIT}
+use Rattle.stl_text.specs.Pieces.{IsAfter}
+use Rattle.stlslice.specs.Loading.{AreWelded}
 use Rattle.stlslice.proofs.loading.read_solid_by.Given as goal
 
--- the facets of the last round are taken off the reader, and not welded yet
+-- the round at hand isn't read yet, and the facets of the last one are taken off the reader, and not welded yet
 abbrev pub invariant-loop : goal.invariant-loop
 invariant-loop g l = record {
   fed : (welded : List Facet) × AreWelded welded l.welder
-      × IsFed l.fn.unit (welded ++ l.facets.items) l.reader (g.I.Source.remaining l.initial.source) (g.I.Source.remaining l.source);
+      × ((fed : List ℕ) × Consumes (g.I.Source.remaining l.initial.source) (g.I.Source.remaining l.source) (fed ++ l.round.items)
+      × IsAfter FACET_LIMIT l.fn.unit (welded ++ l.facets.items) l.reader fed);
   counted : g.I.Failures.failure_count l.source ≡ g.I.Failures.failure_count l.initial.source;
-  room : length l.window ≡ WINDOW_LEN;
-  empty : l.round.items ≡ [];
+  end : l.is_more ≡ false → IsAtEnd (g.I.Source.remaining l.source);
 }
