@@ -1,7 +1,7 @@
 //! Meshes as text: a keyword or a vertex a line, and coordinates in millimetres with three decimals.
 use crate::meshes::{
-    CUBE, CUBE_AND_FLAT, CUBE_AND_PAIR, CUBE_OF_THREE, INWARD_CUBE, LONG_BEAM, OCTAHEDRON,
-    ONE_INWARD, Part, SHEET, TOUCHING, TWO_CUBES, facets_of,
+    BEAM, COLUMN, CUBE, CUBE_AND_FLAT, CUBE_AND_PAIR, CUBE_OF_THREE, INWARD_CUBE, LONG_BEAM,
+    NINE_IN_A_ROW, OCTAHEDRON, ONE_INWARD, Part, SHEET, TOUCHING, TWO_CUBES, facets_of,
 };
 use crate::published::FARTHEST;
 use micro_num::Unit;
@@ -69,6 +69,9 @@ fn meshes_are_read_from_their_texts(rt: HostRuntime) -> Result<(), Fail> {
         (TWO_CUBES, 2947),
         (ONE_INWARD, 2947),
         (SHEET, 263),
+        (NINE_IN_A_ROW, 1483),
+        (COLUMN, 1483),
+        (BEAM, 1501),
         (LONG_BEAM, 1501),
         (OCTAHEDRON, 1007),
     ] {

@@ -176,7 +176,7 @@ impl<T: Write> Sink for Counted<T> {
 /// Writes a whole chunk of bytes out, in as many calls of the sink as it takes.
 ///
 /// A call of the sink that fails isn't tried again, so an error is one failed call: the first `written` bytes of the chunk
-/// went out, and no more; they are fewer than all. The sink isn't flushed, and no memory is allocated.
+/// went out, and no more; they are fewer than all. No memory is allocated.
 pub fn put_all<W: Sink>(w: &mut W, chunk: &[u8]) -> Result<(), WriteFault>
     ensures ok { OnOk result (Appends (W.contents w.old) (W.contents w.new) chunk.now) }
     ensures same { OnOk result (W.Failures.failure_count w.new ≡ W.Failures.failure_count w.old) }

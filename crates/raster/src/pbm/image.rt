@@ -18,8 +18,8 @@ use crate::span::Span;
 /// number stands at the top. The spans are those of one layer of the grid: in it, by ascending row, then column, not empty
 /// and not touching.
 ///
-/// A call of the sink that fails isn't tried again: the first `written` bytes of the image went out, and no more. The sink
-/// isn't flushed, and no memory is allocated.
+/// A call of the sink that fails isn't tried again: the first `written` bytes of the image went out, and no more. No
+/// memory is allocated.
 pub fn write_layer<W: Sink>(g: &Grid, spans: &[Span], w: &mut W) -> Result<(), WriteFault>
     requires { AreSpans g.now.columns g.now.rows spans.now }
     ensures ok { OnOk result (Appends (W.contents w.old) (W.contents w.new) (picture g.now.columns g.now.rows (covers spans.now))) }
