@@ -9,6 +9,7 @@ pub mod CornerIds
 pub mod Naming
 pub mod HeightOrder
 pub mod Numbering
+pub mod Grouped
 pub mod Welding
 pub mod Probing
 pub mod Laws

@@ -18,6 +18,10 @@ degenerate_facets facets = filter (λ t. not (is_kept t)) facets
 abbrev pub parts_of : List Facet → Parts
 parts_of facets = record { kept = kept_facets facets; degenerate = degenerate_facets facets }
 
+-- the parts of facets that are named, and of degenerate ones
+abbrev pub named_parts : List Point → List (List ℕ) → List Facet → Parts
+named_parts points ids degenerate = record { kept = facets_by points ids; degenerate = degenerate }
+
 -- more facets behind those so far
 abbrev pub with_facets : Parts → List Facet → Parts
 with_facets parts facets =

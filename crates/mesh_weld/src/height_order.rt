@@ -1,5 +1,5 @@
 //! Facets in the order in which a sweep from below meets them, and their greatest rise, by which the sweep finds those that
-//! haven't ended yet.
+//! have not ended yet.
 ghost use Rattle.std.specs.Prelude.{◌≡◌, ◌≤◌, ◌^◌, ◌%◌, ◌/◌, ◌+ℤ◌, pos, IfOk, length, map};
 ghost use Rattle.std.specs.List.{range_with_len};
 ghost use Rattle.std.specs.List.Sorted.{IsPermutation, IsNonDecreasing};

@@ -10,6 +10,8 @@ ghost use Rattle.mesh_weld.specs.Solid.{HaveDistinctCorners, IsByHeight, IsGreat
 ghost use Rattle.geometry.specs.declared.limits.TheConstants.{FACET_LIMIT};
 
 use crate::facets::facet_by;
+use crate::half_edge::EdgeNumbering;
+use crate::height_order::HeightOrder;
 use geometry::{Facet, Point, higher, lower};
 use std::alloc::Allocator;
 use std::marker::Model;
@@ -35,10 +37,8 @@ pub(crate) struct Numbering<A: Allocator> {
     pub points: Vec<Point, A>,
     pub numbers: Vec<[u32; 3], A>,
     /// Three numbers for each facet, one facet after the other.
-    pub edges: Vec<u32, A>,
-    pub edge_count: u32,
-    pub order: Vec<u32, A>,
-    pub greatest_rise: u32,
+    pub edges: EdgeNumbering<A>,
+    pub heights: HeightOrder<A>,
 }
 
 impl<A: Allocator> Model for Solid<A> {

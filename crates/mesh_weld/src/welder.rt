@@ -1,22 +1,24 @@
 //! Welding as facets come: corners are named at once, so that no list of facets is kept.
-ghost use Rattle.std.specs.Prelude.{◌≡◌, ◌≤◌, ◌<◌, ◌+◌, ◌++◌, [], ◌∷◌, List, IfErr, IfOk, OnErr, OnOk, length, true, vec_len};
+ghost use Rattle.std.specs.Prelude.{◌≡◌, ◌≤◌, ◌<◌, ◌+◌, ◌++◌, [], ◌∷◌, List, IfSome, OnErr, OnOk, length, true, vec_len};
 ghost use Rattle.geometry.specs.Facet.{Facet};
-ghost use Rattle.geometry.specs.Point.{Point};
-ghost use Rattle.geometry.specs.Winding.{ray};
-ghost use Rattle.mesh_weld.specs.Balance.{IsBalanced};
-ghost use Rattle.mesh_weld.specs.Naming.{AreNamed, parts_of, with_facets};
-ghost use Rattle.mesh_weld.specs.Solid.{facets_by, is_kept, solid_of};
-ghost use Rattle.mesh_weld.specs.Welding.{IsWeldFault};
-ghost use Rattle.mesh_weld.specs.declared.weld_fault.WeldFault.TheVariants.{Memory};
+ghost use Rattle.mesh_weld.specs.Grouped.{AreEdgesOf, AreOrdersOf};
+ghost use Rattle.mesh_weld.specs.Naming.{AreNamed, named_parts, parts_of, with_facets};
+ghost use Rattle.mesh_weld.specs.Solid.{facets_by, is_kept};
+ghost use Rattle.mesh_weld.specs.Welding.{IsWeldOf};
 ghost use Rattle.geometry.specs.declared.limits.TheConstants.{FACET_LIMIT};
 
-use crate::by_hash::{BLOCK, CornerTable, NONE, facet_ids, named_numbering};
+use crate::by_hash::{
+    BLOCK, CornerTable, Grouped, NONE, facet_ids, group_facets, group_facets_by, named_numbering,
+};
 use crate::facets::has_distinct_corners;
+use crate::half_edge::EdgeNumbering;
+use crate::height_order::HeightOrder;
 use crate::solid::{Numbering, Solid};
 use crate::weld_fault::WeldFault;
 use geometry::{Facet, Point};
 use std::alloc::{AllocError, Allocator};
 use std::marker::Model;
+use std::thread::Threads;
 
 /// The facets that are to be welded. Those with three distinct corners are kept by the ids of their corners, 12 bytes a
 /// facet beside the points; the others are degenerate.
@@ -126,31 +128,89 @@ impl<A: Allocator + Copy + Send + Sync> Welder<A> {
     /// balance. Degenerate facets, those with two equal corners, are dropped.
     ///
     /// # Errors
-    /// `Open` with the least pair of points between which the half-edges don't balance, and the numbers of those there
+    /// `Open` with the least pair of points between which the half-edges do not balance, and the numbers of those there
     /// and back; `Memory` only where an allocation failed.
     pub fn finish(self) -> Result<Solid<A>, WeldFault>
-        ensures kept { (facets : List Facet) → self ≡ parts_of facets → IfOk result (λ solid. solid ≡ solid_of facets) }
-        ensures closed { (facets : List Facet) → self ≡ parts_of facets → IfOk result (λ solid. IsBalanced facets) }
-        ensures ray { (facets : List Facet) → self ≡ parts_of facets → IfOk result (λ solid. (c : Point) → ray solid.facets c ≡ ray facets c) }
-        ensures open { (facets : List Facet) → self ≡ parts_of facets → IfErr result (IsWeldFault facets) }
-        ensures only { (facets : List Facet) → self ≡ parts_of facets → IsBalanced facets → IfErr result (λ fault. fault ≡ Memory) }
+        ensures { IsWeldOf self result }
+    {
+        let named = self.without_table();
+        let found = group_facets(named.alloc, named.points.as_slice(), named.ids.as_slice())?;
+        named.into_solid(found)
+    }
+
+    /// The same as [`Welder::finish`], where several threads work at the same time. It takes up to 12 bytes a facet more.
+    pub fn finish_by<R: Threads + Sync>(self, rt: &R) -> Result<Solid<A>, WeldFault>
+        ensures { IsWeldOf self result }
+    {
+        let named = self.without_table();
+        let found = group_facets_by(
+            rt,
+            named.alloc,
+            named.points.as_slice(),
+            named.ids.as_slice(),
+        )?;
+        named.into_solid(found)
+    }
+
+    /// The facets without the table, which takes more room than they do.
+    fn without_table(self) -> NamedFacets<A>
+        ensures value { named_parts result.points.items result.ids.items result.degenerate.items ≡ self }
+        ensures named { AreNamed result.points.items result.ids.items }
+        ensures few { length result.ids.items + length result.degenerate.items ≤ FACET_LIMIT }
     {
         let Welder {
             alloc,
-            table,
+            table: _,
             points,
             ids,
             degenerate,
         } = self;
-        drop(table);
+        NamedFacets {
+            alloc,
+            points,
+            ids,
+            degenerate,
+        }
+    }
+}
+
+/// The facets of a welder that gets no more of them: those that are kept, by the ids of their corners, and the degenerate
+/// ones.
+#[derive(Drop)]
+struct NamedFacets<A: Allocator> {
+    alloc: A,
+    points: Vec<Point, A>,
+    ids: Vec<[u32; 3], A>,
+    degenerate: Vec<Facet, A>,
+}
+
+impl<A: Allocator + Copy> NamedFacets<A> {
+    /// The solid of the facets, from what groups told of those that are kept.
+    fn into_solid(self, found: Option<Grouped<A>>) -> Result<Solid<A>, WeldFault>
+        requires named { AreNamed self.points.items self.ids.items }
+        requires few { length self.ids.items + length self.degenerate.items ≤ FACET_LIMIT }
+        requires edges { IfSome found (λ own. AreEdgesOf self.ids.items own.edges.numbers.items own.edges.count) }
+        requires orders { IfSome found (λ own. AreOrdersOf self.points.items self.ids.items own.orders.points.points.items own.orders.points.ranks.items own.orders.heights.order.items own.orders.heights.greatest_rise) }
+        ensures { IsWeldOf (named_parts self.points.items self.ids.items self.degenerate.items) result }
+    {
+        let NamedFacets {
+            alloc,
+            points,
+            ids,
+            degenerate,
+        } = self;
         let Numbering {
             points,
             numbers,
-            edges,
-            edge_count,
-            order,
-            greatest_rise,
-        } = named_numbering(alloc, points, ids, degenerate.as_slice())?;
+            edges: EdgeNumbering {
+                numbers: edges,
+                count: edge_count,
+            },
+            heights: HeightOrder {
+                order,
+                greatest_rise,
+            },
+        } = named_numbering(alloc, points, ids, degenerate.as_slice(), found)?;
         let dropped = degenerate.len() as u32;
         Ok(Solid {
             points,

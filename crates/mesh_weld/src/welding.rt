@@ -19,7 +19,7 @@ use std::alloc::Allocator;
 /// also where welding fails.
 ///
 /// # Errors
-/// `Open` with the least pair of points between which the half-edges don't balance, and the numbers of those there and
+/// `Open` with the least pair of points between which the half-edges do not balance, and the numbers of those there and
 /// back; `Memory` only where an allocation failed.
 pub fn weld<A: Allocator + Copy + Send + Sync>(
     alloc: A,

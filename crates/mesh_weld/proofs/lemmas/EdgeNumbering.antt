@@ -163,9 +163,6 @@ module _ (fs : List Facet) (ids : List (List ℕ)) (n : AreIds fs ids) where
   id_apart : (p q : Point) → is_in p (vertices fs) ≡ true → is_in q (vertices fs) ≡ true → number_of n.found p ≡ number_of n.found q → p ≡ q
   id_apart p q k l e = sym (id_found p k).1 ∙ ap (λ i. get_or n.found i origin) e ∙ (id_found q l).1
 
-  pub ids_length : length ids ≡ length fs
-  ids_length = ap length n.are ∙ length-map fs (numbered (number_of n.found))
-
   pub edges_by_ids : (numbers : List ℕ) (count : ℕ) → ArePairNumbers (half_edges_from 0 ids) numbers count → AreEdgeNumbers fs (threes numbers) count
   edges_by_ids numbers count h =
       numbered_edge_numbers fs (number_of n.found) (λ p k. omega (arith, n.few, (id_found p k).0)) id_apart numbers count

@@ -80,7 +80,7 @@ IsBalanced-by_edges facets tested =
     (λ e h. let even : half_edge_count facets e.from e.to ≡ half_edge_count facets e.to e.from = eqb-true _ _ h in (even, sym even))
     (λ u v none none'. none ∙ sym none') tested
 
--- an edge is even, or doesn't run to a later point, or isn't before the target
+-- an edge is even, or does not run to a later point, or is not before the target
 abbrev is_past : List Facet → Edge → Edge → Bool
 is_past facets target e = is_even facets e || (not (is_before e.from e.to) || not (is_edge_before e target))
 

@@ -3,13 +3,13 @@ use Rattle.std.proofs.Common.{◌≡◌, ℕ, suc, ◌<◌, ◌≤◌, ◌+◌, 
 use Rattle.std.specs.List.{All, Contains, flat_map}
 use Rattle.std.proofs.lemmas.Grind.{flat_map-append}
 use Rattle.std.proofs.lemmas.List.{append_assoc, append-nil, get_or_default, get_or_append_left, get_or-append_right, get_or-map, length-append, length_push, map_push}
-use Rattle.std.proofs.lemmas.List.Elements.{All-append, All-cons, All-head, All-push, All-tail, All-weaker, filter-append}
+use Rattle.std.proofs.lemmas.List.Elements.{All-append, All-cons, All-head, All-push, All-tail, All-weaker}
 use Rattle.geometry.specs.Point.{Point, origin}
 use Rattle.geometry.specs.Facet.{Facet, corners, facet_with}
 use Rattle.geometry.specs.declared.limits.TheConstants.{CORNER_LIMIT}
 use Rattle.mesh_weld.specs.PointOrder.{AreDistinct, IsAppendedOrSame}
 use Rattle.mesh_weld.specs.CornerIds.{AreIds, ranks_of}
-use Rattle.mesh_weld.specs.Naming.{AreBelow, AreNamed, IsNamed, IsNamedFacet, Parts, degenerate_facets, parts_of, with_facets}
+use Rattle.mesh_weld.specs.Naming.{AreBelow, AreNamed, IsNamed, IsNamedFacet, Parts, degenerate_facets, with_facets}
 use Rattle.mesh_weld.specs.Solid.{facet_by, facets_by, in_order, is_kept, kept_facets, number_of, triples, vertices}
 use Rattle.mesh_weld.proofs.lemmas.InOrder.{in_order-alike}
 use Rattle.mesh_weld.proofs.lemmas.Ranks.{number_distinct, three_items}
@@ -107,22 +107,7 @@ module _ (old new : List Point) (ids : List (List ℕ)) (t : Facet) (own : List 
     distinct = subst (All (λ u. is_kept u ≡ true)) (sym facets_more) (All-push (λ u. is_kept u ≡ true) (facets_by old ids) t n.distinct kept);
   }
 
-pub named_none : AreNamed [] []
-named_none = record {
-  three = λ k d l. absurd (omega (arith, l));
-  below = λ k d l. absurd (omega (arith, l));
-  covered = λ k d l. absurd (omega (arith, l));
-  few = omega arith;
-  distinct = λ k d l. absurd (omega (arith, l));
-}
-
 -- ---- parts
-pub parts_more : (fs gs : List Facet) → with_facets (parts_of fs) gs ≡ parts_of (fs ++ gs)
-parts_more fs gs = λ n. record {
-  kept = sym (filter-append is_kept fs gs) n;
-  degenerate = sym (filter-append (λ t. not (is_kept t)) fs gs) n;
-}
-
 pub parts_length : (fs : List Facet) → length (kept_facets fs) + length (degenerate_facets fs) ≡ length fs
 parts_length [] = refl
 parts_length (t ∷ ts) = by_test (is_kept t) refl (parts_length ts)
@@ -139,15 +124,6 @@ parts_length (t ∷ ts) = by_test (is_kept t) refl (parts_length ts)
 pub with_length : (w : Parts) (fs : List Facet) → length (with_facets w fs).kept + length (with_facets w fs).degenerate ≡ length w.kept + length w.degenerate + length fs
 with_length w fs =
     omega (arith, length-append w.kept (kept_facets fs), length-append w.degenerate (degenerate_facets fs), parts_length fs)
-
-pub with_more : (w : Parts) (fs gs : List Facet) → with_facets (with_facets w fs) gs ≡ with_facets w (fs ++ gs)
-with_more w fs gs = λ n. record {
-  kept = (append_assoc w.kept (kept_facets fs) (kept_facets gs) ∙ ap (λ l. w.kept ++ l) (sym (filter-append is_kept fs gs))) n;
-  degenerate = (append_assoc w.degenerate (degenerate_facets fs) (degenerate_facets gs) ∙ ap (λ l. w.degenerate ++ l) (sym (filter-append (λ t. not (is_kept t)) fs gs))) n;
-}
-
-pub with_none : (w : Parts) → with_facets w [] ≡ w
-with_none w = λ n. record { kept = append-nil w.kept n; degenerate = append-nil w.degenerate n }
 
 -- ---- ids that name facets, among points that are distinct
 module _ (ps : List Point) (ids : List (List ℕ)) (n : AreNamed ps ids) where

@@ -1,4 +1,5 @@
 -- What welding ensures, from what its steps ensure.
+use Rattle.std.specs.Prelude.{Err}
 use Rattle.std.proofs.Common.{◌≡◌, ℕ, ◌≤◌, ◌+◌, ◌*◌, Bool, true, false, cond, not, List, [], ◌∷◌, length, map, count_by, refl, sym, ap, ◌∙◌, subst, arith}
 use Rattle.std.specs.List.{flat_map}
 use Rattle.std.proofs.lemmas.List.{length-map}
@@ -7,9 +8,9 @@ use Rattle.geometry.specs.Point.{Point}
 use Rattle.geometry.specs.Facet.{Facet, corners}
 use Rattle.mesh_weld.specs.Balance.{half_edge_count, IsBalanced, IsLeastOpen}
 use Rattle.mesh_weld.specs.Solid.{is_kept, kept_facets, vertices, number_of, triples}
-use Rattle.mesh_weld.specs.Naming.{degenerate_facets}
+use Rattle.mesh_weld.specs.Naming.{Parts, degenerate_facets, parts_of}
 use Rattle.mesh_weld.specs.HalfEdge.{half_edges_from}
-use Rattle.mesh_weld.specs.Welding.{IsKeptFault, IsWeldFault}
+use Rattle.mesh_weld.specs.Welding.{IsKeptFault, IsWeldFault, IsWeldOf}
 use Rattle.mesh_weld.specs.declared.weld_fault.WeldFault.{WeldFault}
 use Rattle.mesh_weld.specs.declared.weld_fault.WeldFault.TheVariants as fault
 use Rattle.mesh_weld.proofs.lemmas.Degenerate.{half_edge_count-cons, dropped, own_count}
@@ -52,9 +53,6 @@ kept_few fs = omega (arith, length-filter is_kept fs, count_by-le-length is_kept
 
 pub degenerate_count : (fs : List Facet) → length (degenerate_facets fs) ≡ count_by (λ t. not (is_kept t)) fs
 degenerate_count fs = length-filter (λ t. not (is_kept t)) fs
-
-pub degenerate_few : (fs : List Facet) → length (degenerate_facets fs) ≤ length fs
-degenerate_few fs = omega (arith, degenerate_count fs, count_by-le-length (λ t. not (is_kept t)) fs)
 
 -- the least open edge of kept facets is that of all, with the edges of dropped facets counted
 pub open_of_all : (fs : List Facet) (from to : Point) (there back : ℕ)
@@ -103,3 +101,26 @@ weld_fault fs kept degenerate fault.Memory k l h = tt
 pub only_memory : (fs : List Facet) (f : WeldFault) → IsWeldFault fs f → IsBalanced fs → f ≡ fault.Memory
 only_memory fs (fault.Open from to there back) h balanced = absurd (h.differ (h.there_is ∙ balanced from to ∙ sym h.back_is))
 only_memory fs fault.Memory h balanced = refl
+
+-- a failed allocation, whatever the facets
+pub refused_weld : (w : Parts) → IsWeldOf w (Err fault.Memory)
+refused_weld w = record {
+  kept = λ facets e. tt;
+  closed = λ facets e. tt;
+  ray = λ facets e. tt;
+  «open» = λ facets e. tt;
+  only = λ facets e balanced. refl;
+}
+
+-- the fault of kept facets, as that of all of which they are the kept ones
+pub kept_weld_fault : (kept degenerate : List Facet) (f : WeldFault) → IsKeptFault kept degenerate f → IsWeldOf (record { kept = kept; degenerate = degenerate }) (Err f)
+kept_weld_fault kept degenerate f h = record {
+  kept = λ facets e. tt;
+  closed = λ facets e. tt;
+  ray = λ facets e. tt;
+  «open» = λ facets e. own facets e;
+  only = λ facets e balanced. only_memory facets f (own facets e) balanced;
+}
+  where
+    own : (facets : List Facet) → (record { kept = kept; degenerate = degenerate }) ≡ parts_of facets → IsWeldFault facets f
+    own facets e = weld_fault facets kept degenerate f (ap (λ (p : Parts). p.kept) e) (ap (λ (p : Parts). p.degenerate) e) h

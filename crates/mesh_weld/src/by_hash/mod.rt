@@ -1,12 +1,15 @@
 //! The numbering of a solid by hashes and groups: several times as fast as the sorts of `by_sort` on large meshes.
 //!
-//! Its results are checked, so its steps needn't be trusted. A hash table gives the corners ids as the facets come, and
+//! Its results are checked, so its steps need not be trusted. A hash table gives the corners ids as the facets come, and
 //! compares each with the point of its id. A counting sort by groups of x brings the points into order, and one by lesser
-//! ends brings the half-edges into order. No contract speaks of a hash or a group: that would take long proofs, and isn't
+//! ends brings the half-edges into order. No contract speaks of a hash or a group: that would take long proofs, and is not
 //! needed. A pass after each step checks its result: that the points ascend, which no point with two ids does, that the
 //! pairs of ends ascend, and that each slot is numbered once. The contracts rest on these checks alone. Where one fails,
-//! as where chains in the table grow too long or half-edges don't balance, `by_sort` does the work again.
-ghost use Rattle.std.specs.Prelude.{◌≤◌, IfErr, IfOk, length};
+//! as where chains in the table grow too long or half-edges do not balance, `by_sort` does the work again.
+ghost use Rattle.std.specs.Prelude.{◌≡◌, ◌≤◌, ◌<◌, IfErr, IfOk, IfSome, length, map};
+ghost use Rattle.std.specs.List.{All};
+ghost use Rattle.mesh_weld.specs.CornerIds.{ranks_of};
+ghost use Rattle.mesh_weld.specs.Grouped.{AreEdgesOf, AreOrdersOf};
 ghost use Rattle.mesh_weld.specs.Naming.{AreBelow, AreNamed};
 ghost use Rattle.mesh_weld.specs.Numbering.{IsNumberingOf};
 ghost use Rattle.mesh_weld.specs.Solid.{facets_by};
@@ -17,13 +20,11 @@ mod corner_table;
 mod edges;
 mod histogram;
 mod point_order;
-mod renumbering;
 
 pub(crate) use crate::by_hash::corner_table::{BLOCK, CornerTable, facet_ids};
 use crate::by_hash::edges::grouped_numbers;
 pub(crate) use crate::by_hash::histogram::NONE;
 use crate::by_hash::point_order::{PointOrder, rank_points};
-use crate::by_hash::renumbering::renumber;
 use crate::by_sort::sorted_numbering;
 use crate::facets::list_facets;
 use crate::half_edge::EdgeNumbering;
@@ -31,62 +32,164 @@ use crate::height_order::{HeightOrder, order_by_height};
 use crate::solid::Numbering;
 use crate::weld_fault::WeldFault;
 use geometry::{Facet, Point};
-use std::alloc::Allocator;
+use std::alloc::{AllocError, Allocator};
+use std::thread::{Threads, join};
 
 /// Meshes with fewer kept facets are numbered by sorts, which are as fast there.
 const LEAST_HASHED: usize = 4096;
 
-/// The numbering of the kept facets, which the ids name, if their half-edges balance. What isn't needed any more is let
-/// go at once, so that no two lists of all facets live beside the half-edges.
+/// What groups tell of facets that ids name: the numbers of their edges, and both orders.
+#[derive(Drop)]
+pub(crate) struct Grouped<A: Allocator> {
+    pub edges: EdgeNumbering<A>,
+    pub orders: Orders<A>,
+}
+
+/// The points in their order, and the facets by height.
+#[derive(Drop)]
+pub(crate) struct Orders<A: Allocator> {
+    pub points: PointOrder<A>,
+    pub heights: HeightOrder<A>,
+}
+
+/// What groups tell of the facets that ids name among points, the edges first, since they take the most room; `None`
+/// where sorts serve better, or have to.
+pub(crate) fn group_facets<A: Allocator + Copy>(
+    alloc: A,
+    points: &[Point],
+    ids: &[[u32; 3]],
+) -> Result<Option<Grouped<A>>, AllocError>
+    requires below { AreBelow points.now ids.now }
+    requires few { length ids.now ≤ FACET_LIMIT }
+    ensures edges { IfOk result (λ found. IfSome found (λ own. AreEdgesOf ids.now own.edges.numbers.items own.edges.count)) }
+    ensures orders { IfOk result (λ found. IfSome found (λ own. AreOrdersOf points.now ids.now own.orders.points.points.items own.orders.points.ranks.items own.orders.heights.order.items own.orders.heights.greatest_rise)) }
+{
+    if ids.len() < LEAST_HASHED {
+        return Ok(None);
+    }
+    let Some(edges) = grouped_numbers(alloc, ids, points.len())? else {
+        return Ok(None);
+    };
+    let Some(orders) = orders_of(alloc, points, ids)? else {
+        return Ok(None);
+    };
+    Ok(Some(Grouped { edges, orders }))
+}
+
+/// The same as [`group_facets`], by two threads at the same time: the edges, which take the longest, on the one that calls.
+pub(crate) fn group_facets_by<R: Threads + Sync, A: Allocator + Copy + Send + Sync>(
+    rt: &R,
+    alloc: A,
+    points: &[Point],
+    ids: &[[u32; 3]],
+) -> Result<Option<Grouped<A>>, AllocError>
+    requires below { AreBelow points.now ids.now }
+    requires few { length ids.now ≤ FACET_LIMIT }
+    ensures edges { IfOk result (λ found. IfSome found (λ own. AreEdgesOf ids.now own.edges.numbers.items own.edges.count)) }
+    ensures orders { IfOk result (λ found. IfSome found (λ own. AreOrdersOf points.now ids.now own.orders.points.points.items own.orders.points.ranks.items own.orders.heights.order.items own.orders.heights.greatest_rise)) }
+{
+    if ids.len() < LEAST_HASHED {
+        return Ok(None);
+    }
+    let (orders, edges) = join(
+        rt,
+        || orders_of(alloc, points, ids),
+        || grouped_numbers(alloc, ids, points.len()),
+    );
+    let Some(edges) = edges? else {
+        return Ok(None);
+    };
+    let Some(orders) = orders? else {
+        return Ok(None);
+    };
+    Ok(Some(Grouped { edges, orders }))
+}
+
+/// The points in their order, and the facets by height; `None` where the points have none. The heights go first, since
+/// they leave less behind.
+fn orders_of<A: Allocator + Copy>(
+    alloc: A,
+    points: &[Point],
+    ids: &[[u32; 3]],
+) -> Result<Option<Orders<A>>, AllocError>
+    requires below { AreBelow points.now ids.now }
+    requires few { length ids.now ≤ FACET_LIMIT }
+    ensures { IfOk result (λ found. IfSome found (λ own. AreOrdersOf points.now ids.now own.points.points.items own.points.ranks.items own.heights.order.items own.heights.greatest_rise)) }
+{
+    let heights = order_by_height(alloc, points, ids)?;
+    let Some(points) = rank_points(alloc, points)? else {
+        return Ok(None);
+    };
+    Ok(Some(Orders { points, heights }))
+}
+
+/// The numbering of the kept facets, which the ids name, if their half-edges balance: from what groups told of them, else
+/// by sorts.
 pub(crate) fn named_numbering<A: Allocator + Copy>(
     alloc: A,
     points: Vec<Point, A>,
     ids: Vec<[u32; 3], A>,
     degenerate: &[Facet],
+    found: Option<Grouped<A>>,
 ) -> Result<Numbering<A>, WeldFault>
     requires named { AreNamed points.items ids.items }
     requires kept { length ids.items ≤ FACET_LIMIT }
     requires degenerate { length degenerate.now ≤ FACET_LIMIT }
-    ensures numbering { IfOk result (λ n. IsNumberingOf (facets_by points.items ids.items) n.points.items n.numbers.items n.edges.items n.edge_count n.order.items n.greatest_rise) }
+    requires edges { IfSome found (λ own. AreEdgesOf ids.items own.edges.numbers.items own.edges.count) }
+    requires orders { IfSome found (λ own. AreOrdersOf points.items ids.items own.orders.points.points.items own.orders.points.ranks.items own.orders.heights.order.items own.orders.heights.greatest_rise) }
+    ensures numbering { IfOk result (λ n. IsNumberingOf (facets_by points.items ids.items) n.points.items n.numbers.items n.edges.numbers.items n.edges.count n.heights.order.items n.heights.greatest_rise) }
     ensures open { IfErr result (IsKeptFault (facets_by points.items ids.items) degenerate.now) }
 {
-    if ids.len() < LEAST_HASHED {
-        return numbering_by_sorts(alloc, points, ids, degenerate);
+    match found {
+        Some(found) => Ok(numbered(points, ids, found)),
+        None => numbering_by_sorts(alloc, points, ids, degenerate),
     }
-    let Some(
-        PointOrder {
-            points: ordered,
-            ranks,
-        },
-    ) = rank_points(alloc, points.as_slice())?
-    else {
-        return numbering_by_sorts(alloc, points, ids, degenerate);
-    };
+}
+
+/// The numbering of the facets that the ids name, from what groups told of them.
+fn numbered<A: Allocator>(
+    points: Vec<Point, A>,
+    mut ids: Vec<[u32; 3], A>,
+    found: Grouped<A>,
+) -> Numbering<A>
+    requires named { AreNamed points.items ids.items }
+    requires edges { AreEdgesOf ids.items found.edges.numbers.items found.edges.count }
+    requires orders { AreOrdersOf points.items ids.items found.orders.points.points.items found.orders.points.ranks.items found.orders.heights.order.items found.orders.heights.greatest_rise }
+    ensures { IsNumberingOf (facets_by points.items ids.items) result.points.items result.numbers.items result.edges.numbers.items result.edges.count result.heights.order.items result.heights.greatest_rise }
+{
     drop(points);
-    let grouped = grouped_numbers(alloc, ids.as_slice(), ordered.len())?;
-    let mut numbers = ids;
-    renumber(&mut numbers, ranks.as_slice());
-    let Some(
-        EdgeNumbering {
-            numbers: edges,
-            count: edge_count,
-        },
-    ) = grouped
-    else {
-        return numbering_by_sorts(alloc, ordered, numbers, degenerate);
-    };
-    let HeightOrder {
-        order,
-        greatest_rise,
-    } = order_by_height(alloc, ordered.as_slice(), numbers.as_slice())?;
-    Ok(Numbering {
-        points: ordered,
-        numbers,
+    let Grouped {
         edges,
-        edge_count,
-        order,
-        greatest_rise,
-    })
+        orders: Orders {
+            points: PointOrder {
+                points: ordered,
+                ranks,
+            },
+            heights,
+        },
+    } = found;
+    renumber(&mut ids, ranks.as_slice());
+    Numbering {
+        points: ordered,
+        numbers: ids,
+        edges,
+        heights,
+    }
+}
+
+/// Puts the rank of each id in its place.
+fn renumber<A: Allocator>(ids: &mut Vec<[u32; 3], A>, ranks: &[u32])
+    requires { All (All (λ id. id < length ranks.now)) ids.old.items }
+    ensures { ids.new.items ≡ map (ranks_of ranks.now) ids.old.items }
+{
+    for at in 0..ids.len() {
+        let [first, second, third] = ids[at];
+        ids[at] = [
+            ranks[first as usize],
+            ranks[second as usize],
+            ranks[third as usize],
+        ];
+    }
 }
 
 /// The numbering of facets by sorts, from a list of them.
@@ -99,7 +202,7 @@ fn numbering_by_sorts<A: Allocator + Copy>(
     requires below { AreBelow points.items numbers.items }
     requires kept { length numbers.items ≤ FACET_LIMIT }
     requires degenerate { length degenerate.now ≤ FACET_LIMIT }
-    ensures numbering { IfOk result (λ n. IsNumberingOf (facets_by points.items numbers.items) n.points.items n.numbers.items n.edges.items n.edge_count n.order.items n.greatest_rise) }
+    ensures numbering { IfOk result (λ n. IsNumberingOf (facets_by points.items numbers.items) n.points.items n.numbers.items n.edges.numbers.items n.edges.count n.heights.order.items n.heights.greatest_rise) }
     ensures open { IfErr result (IsKeptFault (facets_by points.items numbers.items) degenerate.now) }
 {
     let kept = list_facets(alloc, points.as_slice(), numbers.as_slice())?;

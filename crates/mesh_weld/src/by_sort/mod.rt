@@ -1,5 +1,5 @@
 //! The numbering of a solid by sorts of all corners and all half-edges. It serves meshes of every size, and finds the
-//! least open edge where the half-edges don't balance.
+//! least open edge where the half-edges do not balance.
 ghost use Rattle.std.specs.Prelude.{◌≡◌, ◌≤◌, IfErr, IfOk, length};
 ghost use Rattle.mesh_weld.specs.Balance.{IsBalanced};
 ghost use Rattle.mesh_weld.specs.HalfEdge.{half_edges_from, ArePairNumbers};
@@ -15,7 +15,7 @@ use crate::by_sort::corners::{CornerNumbers, in_threes, number_corners};
 use crate::by_sort::edges::{least_uneven, number_sorted, sorted_half_edges};
 use crate::facets::open_edge;
 use crate::half_edge::EdgeNumbering;
-use crate::height_order::{HeightOrder, order_by_height};
+use crate::height_order::order_by_height;
 use crate::solid::Numbering;
 use crate::weld_fault::WeldFault;
 use geometry::{Facet, Point};
@@ -29,7 +29,7 @@ pub(crate) fn sorted_numbering<A: Allocator + Copy>(
 ) -> Result<Numbering<A>, WeldFault>
     requires kept { length kept.now ≤ FACET_LIMIT }
     requires degenerate { length degenerate.now ≤ FACET_LIMIT }
-    ensures numbering { IfOk result (λ n. IsNumberingOf kept.now n.points.items n.numbers.items n.edges.items n.edge_count n.order.items n.greatest_rise) }
+    ensures numbering { IfOk result (λ n. IsNumberingOf kept.now n.points.items n.numbers.items n.edges.numbers.items n.edges.count n.heights.order.items n.heights.greatest_rise) }
     ensures open { IfErr result (IsKeptFault kept.now degenerate.now) }
 {
     let CornerNumbers {
@@ -37,27 +37,19 @@ pub(crate) fn sorted_numbering<A: Allocator + Copy>(
         numbers: corners,
     } = number_corners(alloc, kept)?;
     let numbers = in_threes(alloc, corners.as_slice())?;
-    let EdgeNumbering {
-        numbers: edges,
-        count: edge_count,
-    } = number_edges(
+    let edges = number_edges(
         alloc,
         kept,
         degenerate,
         points.as_slice(),
         numbers.as_slice(),
     )?;
-    let HeightOrder {
-        order,
-        greatest_rise,
-    } = order_by_height(alloc, points.as_slice(), numbers.as_slice())?;
+    let heights = order_by_height(alloc, points.as_slice(), numbers.as_slice())?;
     Ok(Numbering {
         points,
         numbers,
         edges,
-        edge_count,
-        order,
-        greatest_rise,
+        heights,
     })
 }
 

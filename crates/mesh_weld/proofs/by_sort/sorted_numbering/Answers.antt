@@ -44,7 +44,7 @@ returns-clause-numbering g c =
       closed = c.in_ok-edges.ensures.closed;
       points_are = c.in_ok-points.ensures.points;
       numbers_are = numbers;
-      edges_are = edge_numbers kept few c.in_ok-edges.field-0.numbers.items c.in_ok-edges.field-0.count c.in_ok-edges.ensures.numbers;
-      order_is = subst (λ l. IsByHeight l c.in_ok-order.field-0.order.items) own c.in_ok-order.ensures.order;
-      rise_is = subst (λ l. IsGreatestRise l c.in_ok-order.field-0.greatest_rise) own c.in_ok-order.ensures.rise;
+      edges_are = edge_numbers kept few c.in_ok-edges.edges.numbers.items c.in_ok-edges.edges.count c.in_ok-edges.ensures.numbers;
+      order_is = subst (λ l. IsByHeight l c.in_ok-heights.heights.order.items) own c.in_ok-heights.ensures.order;
+      rise_is = subst (λ l. IsGreatestRise l c.in_ok-heights.heights.greatest_rise) own c.in_ok-heights.ensures.rise;
     }
