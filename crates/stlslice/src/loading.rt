@@ -48,9 +48,10 @@ pub fn load<A: Allocator + Copy + Send + Sync>(
     ensures only { (facets : List Facet) → Reads FACET_LIMIT unit bytes.now facets → IsBalanced facets
         → IfErr result (λ fault. fault ≡ Memory) }
 {
+    let welder = Welder::new(alloc);
     let mut reader = TextReader::new(alloc, FACET_LIMIT, unit);
     reader.feed(bytes);
-    weld_end(reader, Welder::new(alloc))
+    weld_end(reader, welder)
 }
 
 /// The closed mesh that a source spells, which is read to its end and welded as its facets come. Of the text no more is held
@@ -63,9 +64,9 @@ pub(crate) fn read_solid<A: Allocator + Copy + Send + Sync, I: Source>(
     ensures { IsReadAs (IsSolidOf unit) (IsLoadFault unit) result
         (transcript (I.remaining source.old) (I.remaining source.new) (I.Failures.failure_count source.old) (I.Failures.failure_count source.new)) }
 {
+    let mut fresh = Vec::new(alloc);
     let mut reader = TextReader::new(alloc, FACET_LIMIT, unit);
     let mut welder = Welder::new(alloc);
-    let mut fresh = Vec::new(alloc);
     let mut window = [0; WINDOW_LEN];
     for _ in 0..u64::MAX {
         let is_more = next_facets(source, &mut window, &mut reader, &mut fresh)?;
