@@ -1,5 +1,5 @@
 -- What comes of reading an input to its end: what its text spells, or the fault that it ends with.
-use Rattle.std.specs.Prelude.{◌≡◌, ◌≢◌, ◌≤◌, ◌⊎◌, ℕ, Err, IfErr, IfOk, IfSome, List, Option, Result, length}
+use Rattle.std.specs.Prelude.{◌≡◌, ◌≢◌, ◌≤◌, ◌⊎◌, ◌++◌, ℕ, Bool, Err, IfErr, IfOk, IfSome, List, Ok, OnOk, Option, Result, false, length, true}
 use Rattle.std.specs.Io.KnownBytes.{Consumes, IsAtEnd}
 use Rattle.geometry.specs.Facet.{Facet}
 use Rattle.geometry.specs.declared.limits.TheConstants.{FACET_LIMIT}
@@ -37,13 +37,17 @@ IsLoadFault unit bytes (fault.Outside columns rows layers) = ⊥
 abbrev pub IsTextExtent : LengthUnit → List ℕ → Extent → Type 0
 IsTextExtent unit bytes extent = (facets : List Facet) × Reads FACET_LIMIT unit bytes facets × (extent ≡ extent_of facets)
 
--- a text that doesn't read as facets
+-- a text that does not read as facets
 abbrev pub IsMisread : LengthUnit → List ℕ → RunFault → Type 0
 IsMisread unit bytes f = (cause : StlFault) × (f ≡ fault.Stl cause) × IsFaultOf FACET_LIMIT unit bytes cause
 
 -- the welder has these facets, if they are no more than a mesh may have
 abbrev pub AreWelded : List Facet → Parts → Type 0
 AreWelded taken welder = length taken ≤ FACET_LIMIT → welder ≡ parts_of taken
+
+-- one welder has the facets of another, and these after them
+abbrev pub HasWelded : List Facet → Parts → Parts → Type 0
+HasWelded facets old new = (taken : List Facet) → AreWelded taken old → AreWelded (taken ++ facets) new
 
 -- the reader was fed what a source had at the start and has no more, and these facets were taken off it
 abbrev pub IsFed : LengthUnit → List Facet → Progress → Option (List ℕ) → Option (List ℕ) → Type 0
@@ -68,3 +72,23 @@ pub record IsReadAs {T : Type 0} (is_made : List ℕ → T → Type 0) (is_own :
   -- just one call of the source failed where a failed read is the answer, else none
   pub unread : result ≡ Err fault.Read → Fails source.failed_before source.failed
   pub sound : result ≢ Err fault.Read → source.failed ≡ source.failed_before
+
+-- What a call promises of a round that it fills from a source where there is more, and leaves empty where there is none: it answers
+-- whether there is more after it.
+pub record IsFilled {S : Type 0} (remaining : S → Option (List ℕ)) (failure_count : S → ℕ) (old new : S) (is_more : Bool) (round : List ℕ)
+    (result : Result Bool RunFault) : Type 0 where
+  -- the round has what was taken off the source, just once and in its order
+  pub taken : OnOk result (Consumes (remaining old) (remaining new) round)
+  pub kept : is_more ≡ false → new ≡ old
+  pub whole : result ≡ Ok false → is_more ≡ true → IsAtEnd (remaining new)
+  -- just one call of the source failed where a failed read is the answer, else none
+  pub unread : result ≡ Err fault.Read → Fails (failure_count old) (failure_count new)
+  pub sound : result ≢ Err fault.Read → failure_count new ≡ failure_count old
+  pub only : IfErr result (λ f. (f ≡ fault.Read) ⊎ (f ≡ fault.Memory))
+
+-- What a call promises that makes a closed mesh of a whole text.
+pub record IsLoaded (unit : LengthUnit) (bytes : List ℕ) (result : Result Solid RunFault) : Type 0 where
+  pub ok : IfOk result (IsSolidOf unit bytes)
+  pub err : IfErr result (IsLoadFault unit bytes)
+  -- memory aside, a closed mesh is answered as such
+  pub only : (facets : List Facet) → Reads FACET_LIMIT unit bytes facets → IsBalanced facets → IfErr result (λ f. f ≡ fault.Memory)

@@ -32,7 +32,7 @@ abbrev pub report_text : Grid → Rule → List Facet → List ℕ
 report_text g rule facets =
     flat_map (layer_line g rule facets) (below g.layers) ++ total_line (sum_by (area_of g rule facets) (below g.layers))
 
--- what a task that asks for a report, or doesn't, writes
+-- what a task that asks for a report, or does not, writes
 abbrev pub output_of : Bool → Output
 output_of report = if report then output.Report else output.Images
 

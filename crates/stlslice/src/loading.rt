@@ -1,16 +1,15 @@
 //! What a run reads: the facets that its input spells, and the closed mesh that they make.
-ghost use Rattle.std.specs.Prelude.{◌≡◌, ◌≢◌, ◌<◌, ◌≤◌, ◌⊎◌, ◌++◌, Err, IfErr, IfOk, List, Ok, OnOk, Option, [], false, length, take, true, vec_len, ℕ};
+ghost use Rattle.std.specs.Prelude.{◌≡◌, ◌<◌, ◌≤◌, ◌++◌, IfErr, IfOk, List, Ok, OnOk, Option, [], false, length, take, true, vec_len, ℕ};
 ghost use Rattle.std.specs.Io.KnownBytes.{Consumes, IsAtEnd};
 ghost use Rattle.geometry.specs.Facet.{Facet};
 ghost use Rattle.geometry.specs.declared.limits.TheConstants.{FACET_LIMIT};
 ghost use Rattle.mesh_weld.specs.Balance.{IsBalanced};
-ghost use Rattle.mesh_weld.specs.Naming.{parts_of};
 ghost use Rattle.mesh_weld.specs.Solid.{solid_of};
 ghost use Rattle.micro_num.specs.declared.unit.Unit.{Unit as LengthUnit};
 ghost use Rattle.raster.specs.Devices.{Fails};
 ghost use Rattle.stl_text.specs.Pieces.{IsAfter};
 ghost use Rattle.stl_text.specs.Text.{Reads};
-ghost use Rattle.stlslice.specs.Loading.{AreWelded, IsFed, IsLoadFault, IsMisread, IsReadAs, IsSolidOf, IsTextExtent};
+ghost use Rattle.stlslice.specs.Loading.{AreWelded, HasWelded, IsFed, IsFilled, IsLoadFault, IsLoaded, IsMisread, IsReadAs, IsSolidOf, IsTextExtent};
 ghost use Rattle.stlslice.specs.Transcript.{transcript};
 ghost use Rattle.stlslice.specs.declared.run_fault.RunFault.TheVariants.{Memory, Read};
 
@@ -36,8 +35,8 @@ const WINDOW_LEN: usize = 65_536;
 
 /// The closed mesh of an ASCII STL text whose numbers are in `unit`. Facets with two equal corners are dropped.
 ///
-/// Memory aside, a text has one answer: `Stl` where it doesn't read as facets, else `Open` where the edges of all its
-/// facets don't balance, else the mesh. `Memory` comes only where an allocation failed. No other fault comes.
+/// Memory aside, a text has one answer: `Stl` where it does not read as facets, else `Open` where the edges of all its
+/// facets do not balance, else the mesh. `Memory` comes only where an allocation failed. No other fault comes.
 pub fn load<A: Allocator + Copy + Send + Sync>(
     alloc: A,
     bytes: &[u8],
@@ -49,13 +48,14 @@ pub fn load<A: Allocator + Copy + Send + Sync>(
     ensures only { (facets : List Facet) → Reads FACET_LIMIT unit bytes.now facets → IsBalanced facets
         → IfErr result (λ fault. fault ≡ Memory) }
 {
+    let welder = Welder::new(alloc);
     let mut reader = TextReader::new(alloc, FACET_LIMIT, unit);
     reader.feed(bytes);
-    weld_end(reader, Welder::new(alloc))
+    weld_end(reader, welder)
 }
 
 /// The closed mesh that a source spells, which is read to its end and welded as its facets come. Of the text no more is held
-/// than a window and the front of a word that it cuts; of the facets that aren't welded yet, those of a window.
+/// than a window and the front of a word that it cuts; of the facets that are not welded yet, those of a window.
 pub(crate) fn read_solid<A: Allocator + Copy + Send + Sync, I: Source>(
     alloc: A,
     source: &mut I,
@@ -64,9 +64,9 @@ pub(crate) fn read_solid<A: Allocator + Copy + Send + Sync, I: Source>(
     ensures { IsReadAs (IsSolidOf unit) (IsLoadFault unit) result
         (transcript (I.remaining source.old) (I.remaining source.new) (I.Failures.failure_count source.old) (I.Failures.failure_count source.new)) }
 {
+    let mut fresh = Vec::new(alloc);
     let mut reader = TextReader::new(alloc, FACET_LIMIT, unit);
     let mut welder = Welder::new(alloc);
-    let mut fresh = Vec::new(alloc);
     let mut window = [0; WINDOW_LEN];
     for _ in 0..u64::MAX {
         let is_more = next_facets(source, &mut window, &mut reader, &mut fresh)?;
@@ -130,13 +130,8 @@ fn weld_end<A: Allocator + Copy + Send + Sync>(
     reader: TextReader<A>,
     mut welder: Welder<A>,
 ) -> Result<Solid<A>, RunFault>
-    ensures ok { (unit : LengthUnit) (taken : List Facet) (fed : List ℕ) → AreWelded taken welder
-        → IsAfter FACET_LIMIT unit taken reader fed → IfOk result (IsSolidOf unit fed) }
-    ensures err { (unit : LengthUnit) (taken : List Facet) (fed : List ℕ) → AreWelded taken welder
-        → IsAfter FACET_LIMIT unit taken reader fed → IfErr result (IsLoadFault unit fed) }
-    ensures only { (unit : LengthUnit) (taken : List Facet) (fed : List ℕ) → AreWelded taken welder
-        → IsAfter FACET_LIMIT unit taken reader fed
-        → (facets : List Facet) → Reads FACET_LIMIT unit fed facets → IsBalanced facets → IfErr result (λ fault. fault ≡ Memory) }
+    ensures { (unit : LengthUnit) (taken : List Facet) (fed : List ℕ) → AreWelded taken welder
+        → IsAfter FACET_LIMIT unit taken reader fed → IsLoaded unit fed result }
 {
     let last = reader.finish()?;
     weld_next(&mut welder, last.as_slice())?;
@@ -160,14 +155,8 @@ fn read_and_weld<R: Threads + Sync, A: Allocator + Copy + Send + Sync, I: Source
 ) -> Result<bool, RunFault>
     ensures fed { (unit : LengthUnit) (taken : List Facet) (fed : List ℕ) → IsAfter FACET_LIMIT unit taken reader.old fed
         → IsAfter FACET_LIMIT unit taken reader.new (fed ++ round.now) }
-    ensures welded { (taken : List Facet) → AreWelded taken welder.old → OnOk result (AreWelded (taken ++ facets.now) welder.new) }
-    ensures taken { OnOk result (Consumes (I.remaining source.old) (I.remaining source.new) next.new.items) }
-    ensures kept { is_more ≡ false → source.new ≡ source.old }
-    ensures whole { result ≡ Ok false → is_more ≡ true → IsAtEnd (I.remaining source.new) }
-    ensures unread { result ≡ Err Read
-        → Fails (I.Failures.failure_count source.old) (I.Failures.failure_count source.new) }
-    ensures sound { result ≢ Err Read → I.Failures.failure_count source.new ≡ I.Failures.failure_count source.old }
-    ensures only { IfErr result (λ fault. (fault ≡ Read) ⊎ (fault ≡ Memory)) }
+    ensures welded { OnOk result (HasWelded facets.now welder.old welder.new) }
+    ensures filled { IsFilled I.remaining I.Failures.failure_count source.old source.new is_more next.new.items result }
 {
     let readers = if is_more || !facets.is_empty() {
         workers.saturating_sub(1)
@@ -192,14 +181,8 @@ fn weld_and_fill<A: Allocator + Copy + Send + Sync, I: Source>(
     len: usize,
     is_more: bool,
 ) -> Result<bool, RunFault>
-    ensures welded { (taken : List Facet) → AreWelded taken welder.old → OnOk result (AreWelded (taken ++ facets.now) welder.new) }
-    ensures taken { OnOk result (Consumes (I.remaining source.old) (I.remaining source.new) round.new.items) }
-    ensures kept { is_more ≡ false → source.new ≡ source.old }
-    ensures whole { result ≡ Ok false → is_more ≡ true → IsAtEnd (I.remaining source.new) }
-    ensures unread { result ≡ Err Read
-        → Fails (I.Failures.failure_count source.old) (I.Failures.failure_count source.new) }
-    ensures sound { result ≢ Err Read → I.Failures.failure_count source.new ≡ I.Failures.failure_count source.old }
-    ensures only { IfErr result (λ fault. (fault ≡ Read) ⊎ (fault ≡ Memory)) }
+    ensures welded { OnOk result (HasWelded facets.now welder.old welder.new) }
+    ensures filled { IsFilled I.remaining I.Failures.failure_count source.old source.new is_more round.new.items result }
 {
     round.clear();
     weld_next(welder, facets)?;
@@ -222,13 +205,8 @@ fn fill_round<A: Allocator, I: Source>(
     len: usize,
 ) -> Result<bool, RunFault>
     requires { round.old.items ≡ [] }
-    ensures taken { OnOk result (Consumes (I.remaining source.old) (I.remaining source.new) round.new.items) }
+    ensures filled { IsFilled I.remaining I.Failures.failure_count source.old source.new true round.new.items result }
     ensures more { result ≡ Ok true → len ≤ vec_len round.new }
-    ensures whole { result ≡ Ok false → IsAtEnd (I.remaining source.new) }
-    ensures unread { result ≡ Err Read
-        → Fails (I.Failures.failure_count source.old) (I.Failures.failure_count source.new) }
-    ensures sound { result ≢ Err Read → I.Failures.failure_count source.new ≡ I.Failures.failure_count source.old }
-    ensures only { IfErr result (λ fault. (fault ≡ Read) ⊎ (fault ≡ Memory)) }
 {
     let mut window = [0; WINDOW_LEN];
     'round: while round.len() < len {
@@ -241,12 +219,12 @@ fn fill_round<A: Allocator, I: Source>(
     Ok(true)
 }
 
-/// Adds facets to a welder. A text with more of them than the limit is a fault, so these needn't be welded.
+/// Adds facets to a welder. A text with more of them than the limit is a fault, so these need not be welded.
 fn weld_next<A: Allocator + Copy + Send + Sync>(
     welder: &mut Welder<A>,
     facets: &[Facet],
 ) -> Result<(), RunFault>
-    ensures welded { (taken : List Facet) → AreWelded taken welder.old → OnOk result (AreWelded (taken ++ facets.now) welder.new) }
+    ensures welded { OnOk result (HasWelded facets.now welder.old welder.new) }
     ensures only { IfErr result (λ fault. fault ≡ Memory) }
 {
     if facets.len() <= (FACET_LIMIT as usize).saturating_sub(welder.count()) {

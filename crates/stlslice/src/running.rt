@@ -1,7 +1,6 @@
 //! A run: reads the whole input, does the task, writes its outcome.
-ghost use Rattle.std.specs.Prelude.{◌≡◌, ◌≤◌, Err, IfErr, IfOk, List, Ok, OnOk, true, ℕ};
-ghost use Rattle.std.specs.Io.KnownBytes.{Appends};
-ghost use Rattle.stlslice.specs.Outcome.{IsOutcome, grid_for, placing_of};
+ghost use Rattle.std.specs.Prelude.{◌≡◌, ◌≤◌, Err, IfErr, IfOk, Ok};
+ghost use Rattle.stlslice.specs.Outcome.{grid_for, placing_of};
 ghost use Rattle.stlslice.specs.Transcript.{transcript};
 ghost use Rattle.stlslice.specs.Run.{IsRun};
 ghost use Rattle.stlslice.specs.declared.run_fault.RunFault.TheVariants as run_fault;
@@ -13,8 +12,9 @@ ghost use Rattle.geometry.specs.declared.limits.TheConstants.{STEP_LIMIT};
 use crate::loading::{read_extent, read_solid, read_solid_by};
 use crate::run_fault::RunFault;
 use crate::write::box_line::box_line;
+use crate::write::flush::write_all;
 use crate::write::probe_line::probe_voxel;
-use crate::write::{Output, write_all, write_build};
+use crate::write::{Output, write_build};
 use build_book::Job;
 use layer_pool::{Gate, OpenGate, build};
 use mesh_weld::Solid;

@@ -1,22 +1,23 @@
-//! What a run writes: each output has a module of its own. Here stand the choice among the outputs of slicing, and how
-//! a whole text is written and flushed.
-ghost use Rattle.std.specs.Prelude.{◌≡◌, ◌≤◌, IfErr, OnOk, length, true, ℕ, ◌⊎◌};
-ghost use Rattle.std.specs.Io.KnownBytes.{Appends, Keeps};
-ghost use Rattle.raster.specs.Devices.{AppendsFirst, Fails};
-ghost use Rattle.stlslice.specs.declared.run_fault.RunFault.TheVariants.{Write, Memory};
+//! What a run writes: each output has a module of its own, and all are flushed by [`flush`]. Here stands the choice among
+//! the outputs of slicing.
+ghost use Rattle.std.specs.Prelude.{◌≡◌, ◌⊎◌, IfErr, OnOk, true};
+ghost use Rattle.std.specs.Io.KnownBytes.{Appends};
+ghost use Rattle.stlslice.specs.declared.run_fault.RunFault.TheVariants.{Memory};
 ghost use Rattle.stlslice.specs.Transcript.{IsUntouched, IsUnwritten, transcript};
 ghost use Rattle.stlslice.specs.SlicedText.{output_of, sliced_text};
 
 pub(crate) mod box_line;
+pub(crate) mod flush;
 pub(crate) mod images;
 pub(crate) mod probe_line;
 pub(crate) mod report;
 
 use crate::run_fault::RunFault;
+use crate::write::flush::write_all;
 use crate::write::images::write_images;
 use crate::write::report::report;
 use build_book::Build;
-use raster::{Sink, put_all};
+use raster::Sink;
 use std::alloc::Allocator;
 
 /// What slicing writes.
@@ -29,7 +30,7 @@ pub(crate) enum Output {
 }
 
 impl Output {
-    /// The output of a task that asks for a report, or doesn't.
+    /// The output of a task that asks for a report, or does not.
     pub(crate) fn of(report: bool) -> Output
         ensures { result ≡ output_of report }
     {
@@ -65,37 +66,5 @@ pub(crate) fn write_build<A: Allocator + Copy + Send + Sync, O: Sink>(
             let text = report(alloc, build)?;
             write_all(sink, text.as_bytes())
         }
-    }
-}
-
-/// Writes a whole text, and flushes it. On a fault its first `written` bytes went out; all of them where it was the
-/// flush that failed.
-pub(crate) fn write_all<O: Sink>(sink: &mut O, text: &[u8]) -> Result<(), RunFault>
-    ensures flushed { OnOk result (O.is_settled sink.new ≡ true) }
-    ensures ok { OnOk result (Appends (O.contents sink.old) (O.contents sink.new) text.now) }
-    ensures same { OnOk result (O.Failures.failure_count sink.new ≡ O.Failures.failure_count sink.old) }
-    ensures err { IfErr result (λ fault. (written : ℕ) × (fault ≡ Write written) × (written ≤ length text.now)
-        × AppendsFirst (O.contents sink.old) (O.contents sink.new) written text.now
-        × Fails (O.Failures.failure_count sink.old) (O.Failures.failure_count sink.new)) }
-{
-    match put_all(sink, text) {
-        Ok(()) => settle(sink, text.len() as u64),
-        Err(fault) => Err(RunFault::Write {
-            written: fault.written,
-        }),
-    }
-}
-
-/// Flushes a sink, after `written` bytes of a run's output.
-pub(crate) fn settle<O: Sink>(sink: &mut O, written: u64) -> Result<(), RunFault>
-    ensures flushed { OnOk result (O.is_settled sink.new ≡ true) }
-    ensures kept { Keeps (O.contents sink.old) (O.contents sink.new) }
-    ensures same { OnOk result (O.Failures.failure_count sink.new ≡ O.Failures.failure_count sink.old) }
-    ensures err { IfErr result (λ fault. (fault ≡ Write written)
-        × Fails (O.Failures.failure_count sink.old) (O.Failures.failure_count sink.new)) }
-{
-    match sink.settle() {
-        Ok(()) => Ok(()),
-        Err(_) => Err(RunFault::Write { written }),
     }
 }

@@ -46,7 +46,7 @@ told unit input (stl.Number cause at) f gives known = inr (stl.Number cause at, 
 told unit input (stl.Ended word) f gives known = inr (stl.Ended word, gives.1 (λ e. cc), known (λ e. cc))
 told unit input (stl.TooMany at) f gives known = inr (stl.TooMany at, gives.1 (λ e. cc), known (λ e. cc))
 
--- where a text doesn't read as facets, there is no closed mesh
+-- where a text does not read as facets, there is no closed mesh
 pub unread_mesh : (unit : LengthUnit) (input : List ℕ) (f : RunFault) → IsMisread unit input f → IsLoadFault unit input f
 unread_mesh unit input f h = rw h.1 h.2
 
@@ -60,7 +60,7 @@ pub unclosed : (unit : LengthUnit) (input : List ℕ) (facets : List Facet) (cau
 unclosed unit input facets (weld.Open from to there back) f gives reads known = rw gives (facets, reads, known)
 unclosed unit input facets weld.Memory f gives reads known = rw gives tt
 
--- where a text doesn't read as facets, its fault is the outcome of a box
+-- where a text does not read as facets, its fault is the outcome of a box
 pub misread_box : (unit : LengthUnit) (input : List ℕ) (f : RunFault) → IsMisread unit input f → IsWorkFault (task.Box unit) input f
 misread_box unit input f h = rw h.1 (misread h.0 h.2 refl, (λ e. cc), (λ w e. cc))
 

@@ -100,7 +100,7 @@ an_outcome t bytes = by_text (outcome FACET_LIMIT (unit_of t) bytes)
     by_text (inl h) = by_task h.0 h.1 (is_box t) refl
     by_text (inr h) = (Err (fault.Stl h.0), misread h.0 h.1 refl)
 
--- the number of workers doesn't count
+-- the number of workers does not count
 pub other_workers : (unit : LengthUnit) (pitch layer : ℕ) (rule : Rule) (workers others : ℕ) (report : Bool) (grid : Option Given)
     (bytes : List ℕ) (answer : Result (List ℕ) RunFault) → IsOutcome (task.Slice unit pitch layer rule workers report grid) bytes answer
     → IsOutcome (task.Slice unit pitch layer rule others report grid) bytes answer

@@ -8,7 +8,7 @@ ghost use Rattle.stlslice.specs.SlicedText.{image};
 ghost use Rattle.stlslice.specs.declared.run_fault.RunFault.TheVariants.{Write};
 
 use crate::run_fault::RunFault;
-use crate::write::settle;
+use crate::write::flush::settle;
 use build_book::Build;
 use raster::{Grid, Sink, Span, image_len, write_layer};
 use std::alloc::Allocator;

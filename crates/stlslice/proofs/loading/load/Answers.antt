@@ -4,12 +4,12 @@ use Rattle.stlslice.proofs.loading.load.Goals as goal
 
 pub returns-clause-ok : goal.returns-clause-ok
 returns-clause-ok g c =
-    c.weld_end.ensures.ok c.args.unit [] c.args.bytes.now (λ few. c.new.ensures) (c.feed.ensures FACET_LIMIT c.args.unit [] [] c.new-reader.ensures)
+    (c.weld_end.ensures c.args.unit [] c.args.bytes.now (λ few. c.new-welder.ensures) (c.feed.ensures FACET_LIMIT c.args.unit [] [] c.new-reader.ensures)).ok
 
 pub returns-clause-fault : goal.returns-clause-fault
 returns-clause-fault g c =
-    c.weld_end.ensures.err c.args.unit [] c.args.bytes.now (λ few. c.new.ensures) (c.feed.ensures FACET_LIMIT c.args.unit [] [] c.new-reader.ensures)
+    (c.weld_end.ensures c.args.unit [] c.args.bytes.now (λ few. c.new-welder.ensures) (c.feed.ensures FACET_LIMIT c.args.unit [] [] c.new-reader.ensures)).err
 
 pub returns-clause-only : goal.returns-clause-only
 returns-clause-only g c =
-    c.weld_end.ensures.only c.args.unit [] c.args.bytes.now (λ few. c.new.ensures) (c.feed.ensures FACET_LIMIT c.args.unit [] [] c.new-reader.ensures)
+    (c.weld_end.ensures c.args.unit [] c.args.bytes.now (λ few. c.new-welder.ensures) (c.feed.ensures FACET_LIMIT c.args.unit [] [] c.new-reader.ensures)).only

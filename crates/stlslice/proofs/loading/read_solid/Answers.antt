@@ -37,6 +37,7 @@ returns-then-not-is_more g c =
     subst (λ fs. AreWelded (so_far.0 ++ fs) c.weld_next.new.welder) c.as_slice.ensures.value (c.in_ok-weld_next.ensures.welded so_far.0 so_far.1) in
     let end : IsAtEnd (g.I.Source.remaining c.next_facets.new.source) = search rules in
     let all = at_end unit taken _ _ _ (c.in_ok-is_more.ensures.fed unit so_far.0 _ so_far.2) end in
+    let loaded = c.weld_end.ensures unit taken all.0 welded all.2 in
     read_as c.weld_end.result (IsSolidOf unit) (IsLoadFault unit) _ all.0 all.1 end (c.in_ok-is_more.ensures.sound ∙ c.loop.invariant.counted)
-    (λ h. not_read unit all.0 Read h refl) (c.weld_end.ensures.ok unit taken all.0 welded all.2)
-    (IfErr-weaker c.weld_end.result _ _ (λ f h. inr h) (c.weld_end.ensures.err unit taken all.0 welded all.2))
+    (λ h. not_read unit all.0 Read h refl) loaded.ok
+    (IfErr-weaker c.weld_end.result _ _ (λ f h. inr h) loaded.err)

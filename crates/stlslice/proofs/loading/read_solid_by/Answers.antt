@@ -44,12 +44,12 @@ loop-preserved g c =
         (
           read,
           rw c.swap.ensures.x_after (Consumes-trans (g.I.Source.remaining c.args.source.now) _ _ read c.read_and_weld.new.next.items fed.1
-              c.in_ok-is_next.ensures.taken),
+              c.in_ok-is_next.ensures.filled.taken),
           rw c.take_facets.ensures.given (c.take_facets.ensures.after FACET_LIMIT c.args.unit taken read after),
         ),
       );
-      counted = c.in_ok-is_next.ensures.sound (λ e. cc) ∙ c.loop.invariant.counted;
-      end = λ is. c.in_ok-is_next.ensures.whole (cc) c.if-not-is_more.false;
+      counted = c.in_ok-is_next.ensures.filled.sound (λ e. cc) ∙ c.loop.invariant.counted;
+      end = λ is. c.in_ok-is_next.ensures.filled.whole (cc) c.if-not-is_more.false;
     }
 
 pub returns-then-not-is_more : goal.returns-then-not-is_more
@@ -61,7 +61,7 @@ returns-then-not-is_more g c =
     let fed = so_far.2 in
     let input = fed.0 ++ c.loop.round.items in
     let last : List Facet = c.take_facets.new.list.items in
-    let kept = c.in_ok-is_next.ensures.kept c.if-not-is_more.true in
+    let kept = c.in_ok-is_next.ensures.filled.kept c.if-not-is_more.true in
     let after = subst (λ p. IsAfter FACET_LIMIT unit taken c.read_and_weld.new.reader (fed.0 ++ p)) c.as_slice.ensures.value
     (c.in_ok-is_next.ensures.fed unit taken fed.0 fed.2) in
     let before = subst (λ fs. AreWelded (so_far.0 ++ fs) c.read_and_weld.new.welder) c.as_slice-in-loop.ensures.value
@@ -76,23 +76,24 @@ returns-then-not-is_more g c =
     let end : IsAtEnd (g.I.Source.remaining c.read_and_weld.new.source) =
     subst (λ s. IsAtEnd (g.I.Source.remaining s)) (sym kept) (c.loop.invariant.end c.if-not-is_more.true) in
     let all = at_end unit (taken ++ last) _ _ _ read end in
+    let loaded = c.weld_end.ensures unit (taken ++ last) all.0 welded all.2 in
     read_as c.weld_end.result (IsSolidOf unit) (IsLoadFault unit) _ all.0 all.1 end
-    (c.in_ok-is_next.ensures.sound (λ e. cc) ∙ c.loop.invariant.counted)
-    (λ h. not_read unit all.0 Read h refl) (c.weld_end.ensures.ok unit (taken ++ last) all.0 welded all.2)
-    (IfErr-weaker c.weld_end.result _ _ (λ f h. inr h) (c.weld_end.ensures.err unit (taken ++ last) all.0 welded all.2))
+    (c.in_ok-is_next.ensures.filled.sound (λ e. cc) ∙ c.loop.invariant.counted)
+    (λ h. not_read unit all.0 Read h refl) loaded.ok
+    (IfErr-weaker c.weld_end.result _ _ (λ f h. inr h) loaded.err)
 
 pub returns-in_err-is_next : goal.returns-in_err-is_next
 returns-in_err-is_next g c =
     let f = c.in_err-is_next.field-0.0 in
     stopped_as c.from_residual-in_err-is_next.result (IsSolidOf c.args.unit) (IsLoadFault c.args.unit) _ f c.from_residual-in_err-is_next.ensures.1
-    c.in_err-is_next.ensures.only
+    c.in_err-is_next.ensures.filled.only
     (λ e. subst (λ n. Fails n (g.I.Failures.failure_count c.read_and_weld.new.source)) c.loop.invariant.counted
-    (c.in_err-is_next.ensures.unread (ap Err e)))
-    (λ other. c.in_err-is_next.ensures.sound (λ e. other (let same : f ≡ Read = cc in same)) ∙ c.loop.invariant.counted)
+    (c.in_err-is_next.ensures.filled.unread (ap Err e)))
+    (λ other. c.in_err-is_next.ensures.filled.sound (λ e. other (let same : f ≡ Read = cc in same)) ∙ c.loop.invariant.counted)
 
 pub returns-in_err-weld_next : goal.returns-in_err-weld_next
 returns-in_err-weld_next g c =
     stopped_as c.from_residual-in_err-weld_next.result (IsSolidOf c.args.unit) (IsLoadFault c.args.unit) _ c.in_err-weld_next.field-0.0
     c.from_residual-in_err-weld_next.ensures.1 (inr c.in_err-weld_next.ensures.only)
     (λ e. let no : Memory ≡ Read = sym c.in_err-weld_next.ensures.only ∙ e in cc)
-    (λ other. c.in_ok-is_next.ensures.sound (λ e. cc) ∙ c.loop.invariant.counted)
+    (λ other. c.in_ok-is_next.ensures.filled.sound (λ e. cc) ∙ c.loop.invariant.counted)

@@ -1,4 +1,4 @@
-use Rattle.std.proofs.Common.{◌≡◌, ◌++◌, [], false}
+use Rattle.std.proofs.Common.{◌≡◌, ◌++◌, false}
 use Rattle.std.specs.Prelude.{List, ℕ}
 use Rattle.std.specs.Io.KnownBytes.{Consumes, IsAtEnd}
 use Rattle.geometry.specs.Facet.{Facet}
@@ -7,7 +7,7 @@ use Rattle.stl_text.specs.Pieces.{IsAfter}
 use Rattle.stlslice.specs.Loading.{AreWelded}
 use Rattle.stlslice.proofs.loading.read_solid_by.Given as goal
 
--- the round at hand isn't read yet, and the facets of the last one are taken off the reader, and not welded yet
+-- the round at hand is not read yet, and the facets of the last one are taken off the reader, and not welded yet
 abbrev pub invariant-loop : goal.invariant-loop
 invariant-loop g l = record {
   fed : (welded : List Facet) × AreWelded welded l.welder
