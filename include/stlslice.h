@@ -19,7 +19,7 @@
  * they were.
  *
  * Pointers. A text or a buffer may be null where its size is 0. Any other pointer that is null makes the status
- * STLSLICE_OUT_OF_RANGE. A pointer that isn't null has to be good for what its type says. The places that one call
+ * STLSLICE_OUT_OF_RANGE. A pointer that is not null has to be valid for its type. The places that one call
  * writes to overlap neither each other nor what it reads.
  *
  * Threads. A mesh may go from thread to thread, and is used by one call at a time. Different meshes are independent of
@@ -47,7 +47,7 @@ typedef uint32_t stlslice_status;
 #define STLSLICE_NO_ROOM 7u      /* the buffer is too small */
 #define STLSLICE_NOT_OPEN 8u     /* no mesh was opened, or it was closed */
 
-/* A size that each line has room in. */
+/* A size in which each line has room. */
 #define STLSLICE_LINE 256
 
 /* Rules, units and where the grid lies. Zeros are what the program takes by default. Pitch and layer have no default. */
@@ -61,7 +61,7 @@ typedef struct {
     uint32_t layer;                 /* a voxel's length along z, 1 to 100000 */
     uint32_t rule;                  /* STLSLICE_EVENODD, .. */
     uint32_t unit;                  /* of the text's numbers: STLSLICE_MILLIMETRE, .. */
-    uint32_t placing;               /* STLSLICE_FITTED: the rest isn't read; STLSLICE_GIVEN: it is the grid */
+    uint32_t placing;               /* STLSLICE_FITTED: the rest is not read; STLSLICE_GIVEN: it is the grid */
     uint32_t columns, rows, layers; /* at most 16384, 16384 and 65535 */
     int32_t origin[3];              /* the corner of least x, y and z, each at most 128000000 from 0 */
 } stlslice_options;
@@ -89,8 +89,8 @@ typedef struct {
     int64_t x2, y2;
 } stlslice_point;
 
-/* A mesh that a text was opened as, or none: zeros, or STLSLICE_CLOSED, as which it begins. Its fields are the library's; a
- * copy may not be used beside it. */
+/* An opened mesh, or none: zeros, or STLSLICE_CLOSED, with which it begins. Its fields are the library's; a copy may not be
+ * used beside it. */
 typedef struct {
     bool is_open;
     void *at;
@@ -101,12 +101,12 @@ typedef struct {
 uint32_t stlslice_version(void);
 
 /* Reads an ASCII STL text, and tells the box of its facets. After a fault of text, mesh or grid, `line` has what the program
- * writes for it behind "stlslice: "; where a number is out of its range, or memory was refused, a text of that. It is ended
- * by 0, and cut where it has no room. At STLSLICE_DONE it is as it was. */
+ * writes for it after "stlslice: "; where a number is out of its range, or memory was refused, a text of that. It is ended
+ * by 0, and cut where there is no room for it. At STLSLICE_DONE it is as it was. */
 stlslice_status stlslice_box(const uint8_t *text, size_t text_size, uint32_t unit, stlslice_corners *corners, char *line,
                              size_t line_room);
 
-/* Opens an ASCII STL text: `mesh` has its mesh from now on, in place of one that it had. The text isn't needed any more.
+/* Opens an ASCII STL text: `mesh` has its mesh from now on, in place of one that it had. The text is no longer needed.
  * After a fault, `mesh` and `shape` are as they were, and `line` is as in stlslice_box. */
 stlslice_status stlslice_open(const uint8_t *text, size_t text_size, const stlslice_options *options, stlslice_mesh *mesh,
                               stlslice_shape *shape, char *line, size_t line_room);

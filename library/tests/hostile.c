@@ -4,7 +4,7 @@
  *
  *     hostile FILE LINE
  *
- * LINE is what the program writes behind "stlslice: " where it is out of memory. */
+ * LINE is what the program writes after "stlslice: " where it is out of memory. */
 #include "stlslice.h"
 
 #include <stdio.h>
@@ -190,7 +190,7 @@ static void boxes(void) {
     stlslice_close(&mesh);
 }
 
-/* a line that is cut, or has just enough room, ends with 0, and what lies behind it is as it was */
+/* a line that is cut, or has just enough room, ends with 0, and what lies after it is as it was */
 static void lines(void) {
     stlslice_corners corners;
     const char *whole = "input ended before solid";

@@ -1,7 +1,7 @@
 /* Opens a text, and writes all its layers to standard output as the program does: once layer by layer and once stripe by
  * stripe, which it compares. Each of four threads does so with a mesh of its own, and one mesh goes from thread to thread.
  *
- *     layers FILE PITCH LAYER RULE [COLUMNS ROWS LAYERS X0 Y0 Z0]
+ *     layers FILE PITCH LAYER RULE UNIT [COLUMNS ROWS LAYERS X0 Y0 Z0]
  *
  * The status is that of stlslice_open, and 100 where an answer is another than the header says. */
 #include "stlslice.h"
@@ -93,7 +93,7 @@ static void *slice(void *given) {
                 CHECK(small[at] == 0xa5);
             free(small);
         }
-        /* a buffer of just the size is filled, and one more byte isn't touched */
+        /* a buffer of just the size is filled, and one more byte is not touched */
         if (k + 1 < layers)
             image[one] = 0x5a;
         CHECK(stlslice_mask(&work->mesh, k, image, room - work->size, &size) == STLSLICE_DONE && size == one);
@@ -149,7 +149,7 @@ static void *probe(void *given) {
 }
 
 int main(int count, char **words) {
-    if (count != 5 && count != 11)
+    if (count != 6 && count != 12)
         return 99;
     FILE *file = fopen(words[1], "rb");
     if (file == NULL || fseek(file, 0, SEEK_END) != 0)
@@ -163,13 +163,14 @@ int main(int count, char **words) {
     options.pitch = (uint32_t)strtoul(words[2], NULL, 10);
     options.layer = (uint32_t)strtoul(words[3], NULL, 10);
     options.rule = (uint32_t)strtoul(words[4], NULL, 10);
-    if (count == 11) {
+    options.unit = (uint32_t)strtoul(words[5], NULL, 10);
+    if (count == 12) {
         options.placing = STLSLICE_GIVEN;
-        options.columns = (uint32_t)strtoul(words[5], NULL, 10);
-        options.rows = (uint32_t)strtoul(words[6], NULL, 10);
-        options.layers = (uint32_t)strtoul(words[7], NULL, 10);
+        options.columns = (uint32_t)strtoul(words[6], NULL, 10);
+        options.rows = (uint32_t)strtoul(words[7], NULL, 10);
+        options.layers = (uint32_t)strtoul(words[8], NULL, 10);
         for (int axis = 0; axis < 3; axis++)
-            options.origin[axis] = (int32_t)strtol(words[8 + axis], NULL, 10);
+            options.origin[axis] = (int32_t)strtol(words[9 + axis], NULL, 10);
     }
     Work first = {NULL, 0, STLSLICE_CLOSED, {{0, {0, 0, 0}, {0, 0, 0}}, 0, 0, 0, {0, 0, 0}}};
     char line[STLSLICE_LINE];
@@ -180,7 +181,7 @@ int main(int count, char **words) {
         stlslice_corners corners = {9, {9, 9, 9}, {9, 9, 9}};
         char again[STLSLICE_LINE];
         if (status == STLSLICE_TEXT) {
-            CHECK(stlslice_box(text, text_size, STLSLICE_MILLIMETRE, &corners, again, sizeof again) == STLSLICE_TEXT);
+            CHECK(stlslice_box(text, text_size, options.unit, &corners, again, sizeof again) == STLSLICE_TEXT);
             CHECK(strcmp(again, line) == 0 && corners.facets == 9 && corners.low[0] == 9 && corners.high[2] == 9);
         }
         fprintf(stderr, "stlslice: %s\n", line);

@@ -176,7 +176,7 @@ def version() -> str:
 
 
 def box(source: Source, unit: str = "mm") -> Box:
-    """The number and the box of the facets of an ASCII STL text. The mesh needn't be closed."""
+    """The number and the box of the facets of an ASCII STL text. The mesh need not be closed."""
     text, corners, line = _text(source), _Corners(), ctypes.create_string_buffer(LINE)
     status = _lib.stlslice_box(text, len(text), _choice("unit", unit, UNITS), corners, line, LINE)
     if status:
@@ -190,7 +190,7 @@ def open(source: Source, pitch: int = 50, layer: int = 50, rule: str = "evenodd"
 
     `pitch` is a voxel's length along x and y and `layer` along z, in micrometres. `grid`, if given, has the six numbers
     of the program's option: columns, rows and layers, then the corner of least x, y and z in micrometres. Raises a
-    `Fault` where the program would refuse the text, and `OSError` where the file can't be read.
+    `Fault` where the program would refuse the text, and `OSError` where the file cannot be read.
     """
     return Mesh(_text(source), pitch, layer, rule, grid, unit)
 
@@ -238,7 +238,7 @@ class Mesh:
             _lib.stlslice_close(self._handle)
 
     def __reduce__(self) -> Any:
-        raise TypeError("a mesh can't be copied or pickled: open its text again")
+        raise TypeError("a mesh cannot be copied or pickled: open its text again")
 
     def __repr__(self) -> str:
         layers, rows, columns = self.shape

@@ -111,7 +111,7 @@ pub(crate) fn stripe_images<A: Allocator + Copy + Send + Sync>(
     Ok(sink.into_inner())
 }
 
-/// Puts the image of the pixels in these spans behind what a sink in memory has.
+/// Puts the image of the pixels in these spans after what a sink in memory has.
 fn put_image<W: Sink>(grid: &Grid, spans: &[Span], sink: &mut W) -> Result<(), AllocError>
     requires { AreSpans grid.now.columns grid.now.rows spans.now }
     ensures { OnOk result (Appends (W.contents sink.old) (W.contents sink.new)

@@ -47,9 +47,9 @@ impl<A: Allocator + Copy + Send + Sync> Session<A> {
     /// Opens an ASCII STL text: reads it, drops the facets with two equal corners, welds the others and lays the grid.
     ///
     /// # Errors
-    /// In this order: `Step` where pitch or layer height is out of range, `Stl` where the text doesn't read as facets,
-    /// `Weld` where the edges of all its facets don't balance, `Grid` where there is no grid, else the session. `Memory`
-    /// comes only where an allocation failed, and never in place of `Step`; `Outside` doesn't come.
+    /// In this order: `Step` where pitch or layer height is out of range, `Stl` where the text does not read as facets,
+    /// `Weld` where the edges of all its facets do not balance, `Grid` where there is no grid, else the session. `Memory`
+    /// comes only where an allocation failed, and never in place of `Step`; `Outside` does not come.
     pub fn open(alloc: A, bytes: &[u8], setup: &Setup) -> Result<Session<A>, SessionFault>
         ensures found { IfOk result (IsSessionOf setup.now bytes.now) }
         ensures fault { IfErr result (IsOpenFault setup.now bytes.now) }
@@ -170,7 +170,7 @@ impl<A: Allocator + Copy + Send + Sync> Session<A> {
         Ok(layer_image(self.alloc, &self.job, k)?)
     }
 
-    /// The images of the layers of stripe s, from the lowest up, one behind the other. This takes less time than to ask
+    /// The images of the layers of stripe s, from the lowest up, one after the other. This takes less time than to ask
     /// for each of them.
     ///
     /// # Errors
@@ -254,7 +254,7 @@ impl<A: Allocator + Copy + Send + Sync> Session<A> {
         }
     }
 
-    /// The fault of what the grid doesn't have.
+    /// The fault of what the grid does not have.
     fn outside(&self) -> SessionFault
         ensures { result ≡ outside self.now.job.grid }
     {

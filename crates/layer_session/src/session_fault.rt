@@ -10,17 +10,17 @@ use std::alloc::AllocError;
 use stl_text::StlFault;
 use thiserror::Error;
 
-/// Why there is no session, or no answer of one. Its `Display` is the program's line on standard error, behind
+/// Why there is no session, or no answer of one. Its `Display` is the program's line on standard error, after
 /// `stlslice: `, but for `Step`: the program checks pitch and layer height as it reads its words, and names the option.
 #[derive(Clone, Copy, Debug, PartialEq, Eq, Error)]
 pub enum SessionFault {
     /// Pitch or layer height is out of range.
     #[error("pitch and layer height take 1 to 100000 micrometres")]
     Step,
-    /// The text is no mesh. It isn't `StlFault::Memory`.
+    /// The text is no mesh. It is not `StlFault::Memory`.
     #[error("{0}")]
     Stl(StlFault),
-    /// The mesh is not closed. It isn't `WeldFault::Memory`.
+    /// The mesh is not closed. It is not `WeldFault::Memory`.
     #[error("{0}")]
     Weld(WeldFault),
     /// There is no grid.

@@ -15,7 +15,7 @@ use std::marker::Model;
 use stl_text::TextReader;
 
 /// Opens an ASCII STL text that arrives in pieces, cut anywhere. It keeps the facets and no more of the text than the
-/// front of a word that isn't whole yet.
+/// front of a word that is not whole yet.
 #[derive(Drop)]
 pub struct SessionReader<A: Allocator> {
     alloc: A,
@@ -46,7 +46,7 @@ impl<A: Allocator + Copy + Send + Sync> SessionReader<A> {
         }
     }
 
-    /// Reads the next piece of the text. Where it is cut from the next doesn't matter.
+    /// Reads the next piece of the text. Where it is cut from the next does not matter.
     pub fn feed(&mut self, piece: &[u8])
         ensures { (setup : OpenedWith) (fed : List ℕ) → IsFed setup self.old fed → IsFed setup self.new (fed ++ piece.now) }
     {
@@ -57,7 +57,7 @@ impl<A: Allocator + Copy + Send + Sync> SessionReader<A> {
     ///
     /// # Errors
     /// Those of [`Session::open`], in the same order. `Memory` comes only where an allocation failed, at this call or
-    /// while the text was read, or behind `usize::MAX` bytes.
+    /// while the text was read, or past `usize::MAX` bytes.
     pub fn finish(self) -> Result<Session<A>, SessionFault>
         ensures found { (setup : OpenedWith) (fed : List ℕ) → IsFed setup self fed → IfOk result (IsSessionOf setup fed) }
         ensures fault { (setup : OpenedWith) (fed : List ℕ) → IsFed setup self fed → IfErr result (IsOpenFault setup fed) }

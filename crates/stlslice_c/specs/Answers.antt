@@ -56,7 +56,7 @@ IsProbe job i j k old new status =
     ((probed job i j k ≡ Ok (new.along_x, new.along_y)) × (status ≡ DONE))
     ⊎ ((probed job i j k ≡ Err (outside job.grid)) × (new ≡ old) × (status ≡ OUT_OF_RANGE))
 
--- as much of a text as there is room for, with a 0 behind it
+-- as much of a text as there is room for, with a 0 after it
 abbrev pub IsLine : List ℕ → List ℕ → List ℕ → Type 0
 IsLine text old new = (1 ≤ length old)
     → new ≡ take (min (length text) (length old - 1)) text ++ 0 ∷ drop (min (length text) (length old - 1) + 1) old
@@ -121,7 +121,7 @@ IsUnopened o text before after status =
     × IsStepFirst setup fault
     × (status ≡ status_of fault) × IsFaultLine fault before after)
 
--- a handle that wasn't opened has what it had; a line is there just where it wasn't
+-- a handle that was not opened has what it had; only then there is a line
 abbrev pub IsOpening : Options → List ℕ → Option Session → Option Session → Shape → Shape → List ℕ → List ℕ → ℕ → Type 0
 IsOpening o text held holds old new before after status =
     (IsOpened o text holds new × (after ≡ before) × (status ≡ DONE))

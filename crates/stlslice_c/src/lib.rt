@@ -167,7 +167,7 @@ pub extern "C" fn stlslice_mask(
     asked!(alloc, handle, session => put_mask(&session, k, image, wanted))
 }
 
-/// Puts the images of the layers from 8 s to 8 s + 7, as far as the grid has them, into the front of `images`, one behind the
+/// Puts the images of the layers from 8 s to 8 s + 7, as far as the grid has them, into the front of `images`, one after the
 /// other, and their size into `wanted`. Without room for them, only the size is told, and nothing is sliced.
 #[unsafe(no_mangle)]
 pub extern "C" fn stlslice_stripe(
@@ -214,8 +214,8 @@ pub extern "C" fn stlslice_probe(
     asked!(alloc, handle, session => put_probe(&session, i, j, k, rays))
 }
 
-/// Puts the loops of layer k into the fronts of two buffers: the points of all loops into `points`, one loop behind the
-/// other, and for each loop the position behind its last point into `ends`.
+/// Puts the loops of layer k into the fronts of two buffers: the points of all loops into `points`, one loop after the
+/// other, and for each loop the position after its last point into `ends`.
 #[unsafe(no_mangle)]
 pub extern "C" fn stlslice_loops(
     alloc: Global,

@@ -10,7 +10,7 @@ use std::alloc::Allocator;
 /// The text of `SessionFault::Step`.
 const STEP_TEXT: &[u8] = b"pitch and layer height take 1 to 100000 micrometres";
 
-/// Puts as much of a text into a buffer as there is room for with a 0 behind it.
+/// Puts as much of a text into a buffer as there is room for with a 0 after it.
 pub(crate) fn put_line(text: &[u8], line: &mut [u8])
     ensures { IsLine text.now line.old line.new }
 {

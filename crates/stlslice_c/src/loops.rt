@@ -14,8 +14,8 @@ pub struct LoopPoint {
     pub y2: i64,
 }
 
-/// Puts the loops of layer k into the fronts of two buffers: the points, one loop behind the other, and for each loop
-/// the position behind its last point.
+/// Puts the loops of layer k into the fronts of two buffers: the points, one loop after the other, and for each loop
+/// the position after its last point.
 pub(crate) fn put_loops<A: Allocator + Copy + Send + Sync>(
     alloc: A,
     session: &Session<A>,

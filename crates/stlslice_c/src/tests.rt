@@ -39,6 +39,11 @@ const NO_CELLS: Cells = Cells {
     origin_z: 0,
 };
 
+const NO_SHAPE: Shape = Shape {
+    corners: NO_CORNERS,
+    cells: NO_CELLS,
+};
+
 const MILLIMETRE: Options = Options {
     pitch: 1000,
     layer: 1000,
@@ -53,10 +58,7 @@ fn a_mesh_is_opened_asked_and_closed(rt: HostRuntime) -> Result<(), Fail> {
     let alloc = rt.alloc();
     assert_eq!(rt; stlslice_version(), 1_000_000);
     let mut handle = Handle::empty();
-    let mut shape = Shape {
-        corners: NO_CORNERS,
-        cells: NO_CELLS,
-    };
+    let mut shape = NO_SHAPE;
     let mut line = [1u8; 64];
     let status = stlslice_open(
         alloc,
@@ -213,7 +215,7 @@ impl Call for Points {
 }
 
 // Refuses each allocation in turn, of opening the mesh and of a call on it, until none is left to refuse; answers how many
-// of the call's were refused. `None` where a call wasn't right.
+// of the call's were refused. `None` where a call was not right.
 fn refusals<C: Call>(alloc: Global) -> Option<u32> {
     let setup = MILLIMETRE.setup()?;
     let mut refused = 0u32;
@@ -311,10 +313,7 @@ endsolid t
 // Whether opening a text ends with this status, and a line that begins so.
 fn is_refused(alloc: Global, text: &[u8], options: &Options, status: u32, start: &[u8]) -> bool {
     let mut handle = Handle::empty();
-    let mut shape = Shape {
-        corners: NO_CORNERS,
-        cells: NO_CELLS,
-    };
+    let mut shape = NO_SHAPE;
     let mut line = [1u8; 64];
     stlslice_open(alloc, text, options, &mut handle, &mut shape, &mut line) == status
         && line.starts_with(start)

@@ -15,7 +15,7 @@ use denote.Steps.{nothing}
 use denote.Triple.Walked.{Stays, walk_of}
 use Rattle.core.specs.declared.option.Option.TheVariants.{None}
 use Rattle.std.proofs.raw_atomic.Walks.{proved_at, leaves}
-use Rattle.stlslice_c.proofs.Values.{alone, kept_good, kept_in}
+use Rattle.stlslice_c.proofs.lemmas.Values.{alone, kept_good, kept_in}
 use Rattle.stlslice_c.specs.contracts.kept.Kept.empty.{ended, clauses}
 use Rattle.stlslice_c.specs.contracts.kept.Kept.empty.Key.{name as #self}
 use Rattle.stlslice_c.proofs.kept.Kept.empty.Statement.{statement}

@@ -25,7 +25,7 @@ use Rattle.std_alloc.specs.Box.Ownership.{box_owns}
 use Rattle.std.proofs.raw_atomic.Walks.{proved_at, leaves}
 use Rattle.stlslice_c.specs.Kept.{holds, token}
 use Rattle.std.specs.contracts.impls.GlobalAllocator.TheImpl.{ghosts}
-use Rattle.stlslice_c.proofs.Values.{both, alone, loose_good, loose_in, R, Z, LZ, Kept, zal, kept_good, kept_out}
+use Rattle.stlslice_c.proofs.lemmas.Values.{both, alone, loose_good, loose_in, R, Z, LZ, Kept, zal, kept_good, kept_out}
 use Rattle.stlslice_c.specs.contracts.kept.Kept.into_loose.{ended, clauses}
 use Rattle.stlslice_c.specs.contracts.kept.Kept.into_loose.Key.{name as #self}
 use Rattle.stlslice_c.proofs.kept.Kept.into_loose.Statement.{statement}

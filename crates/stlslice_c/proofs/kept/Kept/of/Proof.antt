@@ -19,7 +19,7 @@ use Rattle.core.proofs.alloc.Calls.{Goes-blank}
 use Rattle.core.specs.declared.option.Option.TheVariants.{Some}
 use Rattle.std.proofs.raw_atomic.Walks.{proved_at, leaves}
 use Rattle.std.specs.contracts.impls.GlobalAllocator.TheImpl.{ghosts}
-use Rattle.stlslice_c.proofs.Values.{both, alone, Loose, loose_good, loose_out, R, Z, LZ, kept_good, kept_in}
+use Rattle.stlslice_c.proofs.lemmas.Values.{both, alone, Loose, loose_good, loose_out, R, Z, LZ, kept_good, kept_in}
 use Rattle.stlslice_c.specs.contracts.kept.Kept.of.{ended, clauses}
 use Rattle.stlslice_c.specs.contracts.kept.Kept.of.Key.{name as #self}
 use Rattle.stlslice_c.proofs.kept.Kept.of.Statement.{statement}
