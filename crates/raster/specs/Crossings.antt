@@ -4,7 +4,7 @@
 --     row_passed rows j i      the sum of the signs of those in column i or left of it
 use Rattle.std.specs.Prelude.{◌≡◌, slice_index_or, ℕ, ◌+◌, Bool, true, List, [], ◌∷◌, ℤ, nat_le, ◌==◌, if◌then◌else◌}
 use Rattle.std.specs.List.{list_all}
-use Rattle.raster.specs.declared.row_crossing.RowCrossing.{RowCrossing}
+use Rattle.raster.specs.declared.crossings.RowCrossing.{RowCrossing}
 use Rattle.raster.specs.RowCrossing.{passed, signs}
 
 abbrev pub crossings_in : List (List RowCrossing) → ℕ → List RowCrossing

@@ -5,7 +5,7 @@
 --     AreSpansBelow    spans that are the filled pixels of a layer's first rows, by the crossings of the rows
 use Rattle.std.specs.Prelude.{◌≡◌, ◌<◌, ℕ, Bool, true, List, count_by, neg_ℤ, nat_lt, sum_by}
 use Rattle.std.specs.List.{list_all, range_with_len}
-use Rattle.raster.specs.declared.row_crossing.RowCrossing.{RowCrossing}
+use Rattle.raster.specs.declared.crossings.RowCrossing.{RowCrossing}
 use Rattle.raster.specs.declared.rule.Rule.{Rule}
 use Rattle.raster.specs.declared.span.Span.{Span}
 use Rattle.geometry.specs.Point.{Point}

@@ -4,7 +4,7 @@
 --     passed_before crossings i    the sum of the signs of those left of column i
 use Rattle.std.specs.Prelude.{◌^◌, ℕ, List, ℤ, pos, negsuc, nat_le, nat_lt, if◌then◌else◌}
 use Rattle.geometry.specs.Winding.{total}
-use Rattle.raster.specs.declared.row_crossing.RowCrossing.{RowCrossing}
+use Rattle.raster.specs.declared.crossings.RowCrossing.{RowCrossing}
 
 -- a bound for the crossings of one row: memory has no room for more, and a sum of their signs fits an `i64`
 abbrev pub row_crossing_limit : ℕ

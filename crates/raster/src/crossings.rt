@@ -10,12 +10,11 @@ ghost use Rattle.contour.specs.Segment.{segments};
 ghost use Rattle.exact_cut.specs.Lattice.{pixel, row_y};
 ghost use Rattle.raster.specs.ColumnSums.{AreZero};
 ghost use Rattle.raster.specs.Crossings.{AreCrossingsWithin, crossings_along, crossings_in, row_passed, row_signs};
-ghost use Rattle.raster.specs.RowCrossing.{signs};
+ghost use Rattle.raster.specs.RowCrossing.{row_crossing_limit, sign_of, signs};
 ghost use Rattle.raster.specs.RowSpans.{AreRowSpans};
 ghost use Rattle.geometry.specs.declared.limits.TheConstants.{CENTRE_LIMIT, COLUMN_LIMIT};
 
 use crate::column_sums::ColumnSums;
-use crate::row_crossing::RowCrossing;
 use crate::row_spans::fill_row;
 use crate::rule::Rule;
 use crate::span::Span;
@@ -34,6 +33,24 @@ const KEPT_CAPACITY: usize = 512;
 /// The crossings that a row has room for without an allocation. Most rows of a layer have two.
 const IN_PLACE: usize = 4;
 
+/// Where a scanline crosses the mesh: the column of the crossing, and its sign.
+#[derive(Clone, Copy, Debug, Default, PartialEq, Eq)]
+pub(crate) struct RowCrossing {
+    /// The least column whose centre isn't left of the crossing; at most `COLUMN_LIMIT`.
+    pub(crate) column: u16,
+    /// Whether the sign of the crossing is 1; else it is -1.
+    pub(crate) is_up: bool,
+}
+
+/// A sum of signs with the sign of one more crossing added.
+pub(crate) fn with_sign(sum: i64, crossing: RowCrossing) -> i64
+    requires { IsAtMost row_crossing_limit sum }
+    ensures value { result ≡ sum +ℤ sign_of crossing }
+    ensures small { (n : ℕ) → IsAtMost n sum → IsAtMost (n + 1) result }
+{
+    if crossing.is_up { sum + 1 } else { sum - 1 }
+}
+
 /// The crossings of a row.
 type Row<A> = SmallVec<RowCrossing, IN_PLACE, A>;
 
@@ -44,7 +61,7 @@ pub(crate) struct RowCrossings<A: Allocator> {
 
 impl<A: Allocator> Model for RowCrossings<A> {
     ghost use Rattle.std.specs.Prelude.{List, map};
-    ghost use Rattle.raster.specs.declared.row_crossing.RowCrossing.{RowCrossing};
+    ghost use Rattle.raster.specs.declared.crossings.RowCrossing.{RowCrossing};
 
     ghost Value = { List (List RowCrossing) };
 

@@ -28,7 +28,6 @@ mod filler;
 mod grid;
 mod pbm;
 mod placing;
-mod row_crossing;
 mod row_spans;
 mod rule;
 mod span;

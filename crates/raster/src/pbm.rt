@@ -3,8 +3,6 @@
 mod bits;
 mod chunk;
 mod image;
-mod length;
 mod rows;
 
-pub use image::write_layer;
-pub use length::image_len;
+pub use image::{image_len, write_layer};

@@ -8,7 +8,7 @@ use Rattle.std.proofs.lemmas.Bool.Decides.{nat_tests}
 use Rattle.exact_int.proofs.lemmas.Lists.{all-weaker}
 use Rattle.raster.specs.declared.rule.Rule.{Rule}
 use Rattle.raster.specs.declared.span.Span.{Span}
-use Rattle.raster.specs.declared.row_crossing.RowCrossing.{RowCrossing}
+use Rattle.raster.specs.declared.crossings.RowCrossing.{RowCrossing}
 use Rattle.raster.specs.Rule.{is_inside}
 use Rattle.raster.specs.Span.{are_apart, covers, is_span_before}
 use Rattle.raster.specs.RowSpans.{AreRowSpans}

@@ -11,7 +11,7 @@ use Rattle.exact_cut.specs.Lattice.{pixel, row_y}
 use Rattle.exact_cut.specs.declared.dda.lattice.Lattice.{Lattice}
 use Rattle.mesh_weld.specs.Balance.{IsBalanced}
 use Rattle.mesh_weld.proofs.lemmas.Sums.{ray_from_left}
-use Rattle.raster.specs.declared.row_crossing.RowCrossing.{RowCrossing}
+use Rattle.raster.specs.declared.crossings.RowCrossing.{RowCrossing}
 use Rattle.raster.specs.declared.rule.Rule.{Rule}
 use Rattle.raster.specs.declared.span.Span.{Span}
 use Rattle.raster.specs.Crossings.{AreCrossingsWithin, row_passed}

@@ -2,7 +2,7 @@
 use Rattle.std.proofs.Common.{◌≡◌, ◌≢◌, ℕ, zero, suc, ◌<◌, List, [], ◌∷◌, map, set, length, get_or, refl, ap, sym, subst, ◌∙◌, arith}
 use Rattle.std.specs.Prelude.{All}
 use Rattle.std.proofs.lemmas.List.{get_or-set_other, get_or-set_same, map-set}
-use Rattle.raster.specs.declared.row_crossing.RowCrossing.{RowCrossing}
+use Rattle.raster.specs.declared.crossings.RowCrossing.{RowCrossing}
 use Rattle.raster.specs.Crossings.{crossings_in}
 
 -- the row that is changed

@@ -16,7 +16,7 @@ use Rattle.contour.specs.Segment.{both_of, height, is_downward, is_upward, node_
 use Rattle.geometry.specs.TieRule.{rises_through}
 use Rattle.contour.proofs.lemmas.Cutting.{facet_at-is}
 use Rattle.contour.proofs.lemmas.Links.{segments_below}
-use Rattle.raster.specs.declared.row_crossing.RowCrossing.{RowCrossing}
+use Rattle.raster.specs.declared.crossings.RowCrossing.{RowCrossing}
 use Rattle.raster.specs.RowCrossing.{passed, signs}
 use Rattle.raster.specs.Crossings.{AreCrossingsWithin, crossings_in, row_passed, row_signs}
 use Rattle.raster.proofs.lemmas.Walks.{hit-none}

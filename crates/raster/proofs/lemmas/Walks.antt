@@ -18,7 +18,7 @@ use Rattle.mesh_weld.proofs.lemmas.Sums.{total-append}
 use Rattle.exact_cut.specs.Walk.{Walk, IsWalkOf}
 use Rattle.exact_cut.specs.Lattice.{IsUncrossed, pixel, row_y}
 use Rattle.exact_cut.specs.declared.dda.lattice.Lattice.{Lattice}
-use Rattle.raster.specs.declared.row_crossing.RowCrossing.{RowCrossing}
+use Rattle.raster.specs.declared.crossings.RowCrossing.{RowCrossing}
 use Rattle.raster.specs.RowCrossing.{passed, sign_of, signs}
 use Rattle.raster.specs.Crossings.{AreCrossingsWithin, crossings_along, crossings_in, row_passed, row_signs}
 

@@ -1,5 +1,6 @@
-//! Writes the image of a layer, row by row from the greatest row to the least, through a chunk on the stack.
-ghost use Rattle.std.specs.Prelude.{◌≡◌, ◌<◌, ◌≤◌, ◌+◌, ◌++◌, length, IfErr, OnErr, OnOk};
+//! Writes the image of a layer, row by row from the greatest row to the least, through a chunk on the stack; and how long an
+//! image is.
+ghost use Rattle.std.specs.Prelude.{◌≡◌, ◌<◌, ◌≤◌, ◌+◌, ◌^◌, ◌++◌, ℕ, Bool, decimal, length, IfErr, OnErr, OnOk};
 ghost use Rattle.std.specs.Int.{div_ceil};
 ghost use Rattle.std.specs.Io.KnownBytes.{Appends};
 ghost use Rattle.raster.specs.Devices.{AppendsFirst, Fails};
@@ -57,4 +58,21 @@ fn push_row(chunk: &mut Chunk, g: &Grid, spans: &[Span], row: u32, end: usize) -
     let start = start_of_row(g, spans, row, end);
     chunk.push_row(g.columns(), &spans[start..end]);
     start
+}
+
+/// The length in bytes of the image of a layer of this grid, which is the same for all of them.
+pub fn image_len(grid: &Grid) -> u64
+    ensures value { (pixel : ℕ → ℕ → Bool) → length (picture grid.now.columns grid.now.rows pixel) ≡ result }
+    ensures small { result ≤ 2 ^ 26 }
+{
+    let header = 5 + digit_count(grid.columns()) + digit_count(grid.rows());
+    header + u64::from(grid.rows()) * u64::from(grid.columns().div_ceil(8))
+}
+
+/// How many digits a number has in plain decimal.
+fn digit_count(n: u32) -> u64
+    ensures value { result ≡ length (decimal n) }
+    ensures few { result ≤ 10 }
+{
+    if n < 10 { 1 } else { 1 + digit_count(n / 10) }
 }

@@ -1,7 +1,7 @@
 use Rattle.std.proofs.Common.{List, ℕ, length, ap, sym, arith}
 use Rattle.std.proofs.lemmas.Fmt.{decimal_digit, length-decimal-le}
 use Rattle.raster.proofs.lemmas.Decimals.{length-step}
-use Rattle.raster.proofs.pbm.length.+digit_count.Goals as goal
+use Rattle.raster.proofs.pbm.image.+digit_count.Goals as goal
 
 pub returns-then-n-lt10-clause-value : goal.returns-then-n-lt10-clause-value
 returns-then-n-lt10-clause-value t c = sym (ap (λ (l : List ℕ). length l) (decimal_digit c.args.n (omega (arith, c.if-n-lt10.true))))
