@@ -95,7 +95,7 @@ unvisited [] list = list
 unvisited (b ∷ visited) [] = []
 unvisited (b ∷ visited) (x ∷ list) = if b then unvisited visited list else x ∷ unvisited visited list
 
--- no loop has been visited in part: where a slot is not visited, its follower isn't
+-- no loop has been visited in part: where a slot is not visited, its follower is not
 abbrev pub KeepsLoopsWhole : List Segment → List ℕ → List Bool → Type 0
 KeepsLoopsWhole list next visited =
     (j : ℕ) → j < length list → is_visited visited j ≡ false → is_visited visited (slice_index_or next j NONE) ≡ false

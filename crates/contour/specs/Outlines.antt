@@ -21,7 +21,7 @@ falling_point z e = passing_point (half_micrometres_of e.to) (half_micrometres_o
 abbrev pub rising_point : ℤ → Edge → PlanePoint
 rising_point z e = passing_point (half_micrometres_of e.from) (half_micrometres_of e.to) z
 
--- every segment has an edge, so that the other case doesn't come
+-- every segment has an edge, so that the other case does not come
 abbrev pub point_or_origin : (Edge → PlanePoint) → Option Edge → PlanePoint
 point_or_origin f None = record { x2 = pos 0; y2 = pos 0 }
 point_or_origin f (Some e) = f e

@@ -95,7 +95,7 @@ impl<A: Allocator + Copy + Send + Sync> ActiveFacets<A> {
         Ok(left)
     }
 
-    /// One step of the merge where the facet's top is above the height `z2`; where it isn't, the facet has ended and
+    /// One step of the merge where the facet's top is above the height `z2`; where it is not, the facet has ended and
     /// nothing is pushed.
     fn push_if_above<'r>(
         &mut self,
@@ -155,7 +155,7 @@ pub(crate) struct Arrivals<A: Allocator> {
 
 impl<A: Allocator + Copy + Send + Sync> Arrivals<A> {
     /// What the plane reaches up to the height `z2`, in half-micrometres. Facets that have ended in any case, since they
-    /// start so far below, aren't looked at one by one.
+    /// start so far below, are not looked at one by one.
     pub(crate) fn find(
         alloc: A,
         s: &Solid<A>,
@@ -201,8 +201,8 @@ impl<A: Allocator + Copy + Send + Sync> Arrivals<A> {
 }
 
 /// Of facets in the order of their least heights, a number of first ones that have started and ended at the height `z2`, in
-/// half-micrometres: those that the greatest rise wouldn't bring above it. Where the plane rises by little there are none,
-/// which the first facet tells.
+/// half-micrometres: those that the greatest rise would not bring above it. Where the plane rises by little there are
+/// none, which the first facet tells.
 fn count_ended<A: Allocator + Copy + Send + Sync>(s: &Solid<A>, order: &[u32], z2: i64) -> usize
     requires numbers { All (λ n. n < length s.now.facets) order.now }
     requires ascending { AllPairs (λ m n. is_lower s.now.facets m n ≡ true) order.now }

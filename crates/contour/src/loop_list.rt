@@ -88,7 +88,7 @@ fn start_in(ends: &[usize], number: usize) -> usize
 
 /// The sum of the signed crossings of a loop's facets with the ray from a centre along x; `list` is a loop of the mesh
 /// at the height of the centre. The crossings with the whole line sum to 0, so the result is also minus the sum of those
-/// that don't lie ahead of the centre.
+/// that do not lie ahead of the centre.
 pub fn loop_ray<A: Allocator>(s: &Solid<A>, list: &[Segment], c: &Centre) -> i32
     requires { (k : ℕ) × (slice_get (loops (segments s.now.facets c.now.z)) k ≡ Some list.now) }
     ensures ahead { result ≡ ray (loop_facets s.now.facets list.now) c.now }

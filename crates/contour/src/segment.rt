@@ -41,7 +41,7 @@ pub struct Segment {
 }
 
 /// The segment of the kept facet with this number, at the height `z2` in half-micrometres; `None` where the plane
-/// doesn't cut the facet: no corner is at most at `z2`, or none is above it. The number is below the solid's `count`,
+/// does not cut the facet: no corner is at most at `z2`, or none is above it. The number is below the solid's `count`,
 /// and `z2` at most `geometry::CENTRE_LIMIT` from 0. Of each node `low` is below `high`, since the corners are distinct.
 pub fn segment_at<A: Allocator>(s: &Solid<A>, facet: u32, z2: i64) -> Option<Segment>
     requires facet { facet < length s.now.facets }
@@ -72,7 +72,7 @@ fn edge_node(corners: &[u32; 3], edge: usize) -> Node
 }
 
 /// The segments at the height `z2` in half-micrometres, at most `geometry::CENTRE_LIMIT` from 0, in order of facets.
-/// It looks at every kept facet; a [`Sweep`](crate::Sweep) of many heights doesn't. `Err` comes only where an
+/// It looks at every kept facet; a [`Sweep`](crate::Sweep) of many heights does not. `Err` comes only where an
 /// allocation failed.
 pub fn segments<A: Allocator + Copy + Send + Sync>(
     alloc: A,

@@ -56,7 +56,7 @@ impl<'m, A: Allocator + Copy + Send + Sync> Sweep<'m, A> {
         })
     }
 
-    /// Raises the plane to the height `z2` in half-micrometres, which isn't below its own and is at most
+    /// Raises the plane to the height `z2` in half-micrometres, which is not below its own and is at most
     /// `geometry::CENTRE_LIMIT` from 0. `Err` comes only where an allocation failed, and the sweep is then as before.
     pub fn advance(&mut self, z2: i64) -> Result<(), AllocError>
         requires height { IsAtMost CENTRE_LIMIT z2 }
@@ -111,7 +111,7 @@ impl<'m, A: Allocator + Copy + Send + Sync> Sweep<'m, A> {
     }
 }
 
-/// The segments of the facets with these numbers at the height `z2`, without those that the plane doesn't cut.
+/// The segments of the facets with these numbers at the height `z2`, without those that the plane does not cut.
 fn segments_of<A: Allocator + Copy + Send + Sync>(
     alloc: A,
     s: &Solid<A>,

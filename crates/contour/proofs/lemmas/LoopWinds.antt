@@ -136,7 +136,7 @@ runs_from facets z n (t ∷ ts) h =
 pub segments_run : (facets : List Facet) (z : ℤ) → AllByRecursion (Runs facets z) (segments facets z)
 segments_run facets z = runs_from facets z 0 facets (λ k l. (omega (arith, l), let y : 0 + k ≡ k = omega arith in ap (facet_at facets) y))
 
--- ---- amounts that are opposite where an edge is taken back, and nothing where it isn't cut
+-- ---- amounts that are opposite where an edge is taken back, and nothing where it is not cut
 module _ (facets : List Facet) (z : ℤ) (amount : Point → Point → ℤ) (opposite : IsOpposite amount)
     (level : (u v : Point) → low_at z u ≡ low_at z v → amount u v ≡ pos 0) where
   abbrev down_of : Segment → ℤ
