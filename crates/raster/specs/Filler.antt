@@ -34,7 +34,7 @@ pub record IsFillOf (g : Grid) (rule : Rule) (facets : List Facet) (k : ℕ) (sp
   pub form : AreSpans g.columns g.rows spans
   -- a pixel lies in a span exactly where its voxel is filled
   pub filled : (i j : ℕ) → i < g.columns → j < g.rows → covers spans i j ≡ is_filled rule facets (centre g i j k)
-  -- the same, by the crossings that don't lie ahead
+  -- the same, by the crossings that do not lie ahead
   pub swept : (i j : ℕ) → i < g.columns → j < g.rows → covers spans i j ≡ is_inside rule (neg_ray_back facets (centre g i j k))
 
 -- the spans of the rows below row `row`

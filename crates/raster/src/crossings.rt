@@ -36,7 +36,7 @@ const IN_PLACE: usize = 4;
 /// Where a scanline crosses the mesh: the column of the crossing, and its sign.
 #[derive(Clone, Copy, Debug, Default, PartialEq, Eq)]
 pub(crate) struct RowCrossing {
-    /// The least column whose centre isn't left of the crossing; at most `COLUMN_LIMIT`.
+    /// The least column whose centre is not left of the crossing; at most `COLUMN_LIMIT`.
     pub(crate) column: u16,
     /// Whether the sign of the crossing is 1; else it is -1.
     pub(crate) is_up: bool,
@@ -72,7 +72,7 @@ impl<A: Allocator> Drop for RowCrossings<A> {
     fn drop(self) {
         let RowCrossings { rows } = self;
         if !fits_in_memory::<Row<A>>() {
-            // never reached: rows of such a type can't be dropped, and there are none
+            // never reached: rows of such a type cannot be dropped, and there are none
             let _rows = unsafe { ManuallyDrop::new_unchecked(rows) };
         }
     }

@@ -72,7 +72,7 @@ pub trait Sink: Failures {
 }
 
 /// A source over any reader, and a sink over any writer. It counts the calls that answered an error. A writer that takes
-/// 0 bytes of a chunk that isn't empty counts as failed.
+/// 0 bytes of a chunk that is not empty counts as failed.
 #[derive(Drop)]
 pub struct Counted<T> {
     inner: T,
@@ -175,8 +175,8 @@ impl<T: Write> Sink for Counted<T> {
 
 /// Writes a whole chunk of bytes out, in as many calls of the sink as it takes.
 ///
-/// A call of the sink that fails isn't tried again, so an error is one failed call: the first `written` bytes of the chunk
-/// went out, and no more; they are fewer than all. No memory is allocated.
+/// A call of the sink that fails is not tried again, so an error is one failed call: the first `written` bytes of the
+/// chunk went out, and no more; they are fewer than all. No memory is allocated.
 pub fn put_all<W: Sink>(w: &mut W, chunk: &[u8]) -> Result<(), WriteFault>
     ensures ok { OnOk result (Appends (W.contents w.old) (W.contents w.new) chunk.now) }
     ensures same { OnOk result (W.Failures.failure_count w.new ≡ W.Failures.failure_count w.old) }

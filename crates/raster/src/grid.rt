@@ -273,8 +273,8 @@ fn is_too_large(columns: u32, rows: u32, layers: u32) -> bool
     columns > COLUMN_LIMIT || rows > COLUMN_LIMIT || layers > LAYER_LIMIT
 }
 
-/// Whether the centre of the last column, row or layer lies beyond `CENTRE_LIMIT`. The first centres can't: a coordinate is
-/// within `COORDINATE_LIMIT` micrometres, and half a step more is within `CENTRE_LIMIT` half-micrometres.
+/// Whether the centre of the last column, row or layer lies beyond `CENTRE_LIMIT`. The first centres cannot: a
+/// coordinate is within `COORDINATE_LIMIT` micrometres, and half a step more is within `CENTRE_LIMIT` half-micrometres.
 fn reaches_too_far(
     origin: Point,
     columns: u32,

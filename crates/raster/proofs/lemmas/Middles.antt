@@ -96,7 +96,7 @@ decided false true c x y z w e f = refl
 decided false false true x y z w e f = absurd (grind (arith, f))
 decided false false false x y z w e f = refl
 
--- a grid with cells that doesn't reach too far is refused for its counts alone
+-- a grid with cells that does not reach too far is refused for its counts alone
 pub given-limits : (low : Point) (pitch height a b c : ℕ) → 1 ≤ a → 1 ≤ b → 1 ≤ c
     → middle low.x pitch (a - 1) ≤ℤ pos CENTRE_LIMIT → middle low.y pitch (b - 1) ≤ℤ pos CENTRE_LIMIT → middle low.z height (c - 1) ≤ℤ pos CENTRE_LIMIT
     → given_grid (grid_with low pitch height a b c) ≡ within_limits (grid_with low pitch height a b c)

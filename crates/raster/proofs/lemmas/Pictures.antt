@@ -31,7 +31,7 @@ length-picture width height pixel =
     length-append (header width height) (lower_rows width pixel height)
     ∙ omega (arith, length-header width height, length-rows width height pixel)
 
--- pixels outside an image don't count
+-- pixels outside an image do not count
 
 same-row : (width : ℕ) (p q : ℕ → Bool) → ((i : ℕ) → i < width → p i ≡ q i) → row_bytes width p ≡ row_bytes width q
 same-row width p q same =

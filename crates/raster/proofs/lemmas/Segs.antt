@@ -1,4 +1,4 @@
--- Sums over all facets are those over the segments of a height, where facets that aren't cut add nothing.
+-- Sums over all facets are those over the segments of a height, where facets that are not cut add nothing.
 use Rattle.std.proofs.Common.{◌≡◌, ℕ, zero, suc, ◌+◌, ◌<◌, ◌≤◌, ◌⊎◌, inl, inr, Bool, true, false, cond, List, [], ◌∷◌, Some, None, length, drop, refl, ap, sym, ◌∙◌, arith}
 use Rattle.std.specs.Prelude.{Option, ℤ, pos, ◌+ℤ◌, ◌-ℤ◌, nat_le, slice_get, slice_index_or, ◌≤ℤ◌, ◌<ℤ◌, filter_map, find}
 use Rattle.std.specs.List.{enumerate_from, cons_option, list_all}

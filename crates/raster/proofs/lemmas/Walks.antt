@@ -60,7 +60,7 @@ pick : (b : Bool) (w : ℤ) → w ≡ pos 0 → cond b w (pos 0) ≡ pos 0
 pick true w h = h
 pick false w h = refl
 
--- where a line doesn't wind round a facet, no ray along it hits the facet
+-- where a line does not wind round a facet, no ray along it hits the facet
 pub hit-none : (t : Facet) (p : Point) → wind t p.y p.z ≡ pos 0 → hit t p ≡ pos 0
 unfolding hit
 hit-none t p h = pick (int_lt (pos 0) (wind t p.y p.z *ℤ volume t p)) (wind t p.y p.z) h
@@ -218,7 +218,7 @@ columns-left n column columns rest first h =
     let all : All (λ c. c ≤ n) (column ∷ rest) = subst (λ (l : List ℕ). All (λ c. c ≤ n) l) first h in
     λ k d low. all (suc k) d (omega (arith, low))
 
--- where a line doesn't wind round a facet, nothing is added
+-- where a line does not wind round a facet, nothing is added
 pub nothing-more : (a w : ℤ) → w ≡ pos 0 → a ≡ a +ℤ w
 nothing-more a w h = omega (arith, ints)
 

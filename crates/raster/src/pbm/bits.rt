@@ -1,5 +1,5 @@
 //! Sets pixels in packed rows: eight pixels a byte, the leftmost in the highest bit, as pbm(5) has it.
-ghost use Rattle.std.specs.Prelude.{◌≡◌, ◌<◌, ◌≤◌, ◌≢◌, ◌*◌, ◌+◌, ◌-◌, ◌/◌, ◌%◌, ℕ, length, max};
+ghost use Rattle.std.specs.Prelude.{◌≡◌, ◌<◌, ◌≤◌, ◌≢◌, ◌*◌, ◌+◌, ◌-◌, ◌/◌, ◌%◌, ℕ, length, max, slice_index};
 ghost use Rattle.std.specs.Int.{bit_at};
 ghost use Rattle.raster.specs.Bits.{pixel_bit};
 
@@ -55,16 +55,23 @@ fn mask_between(from: usize, to: usize) -> u64
     (u64::MAX >> from) & (u64::MAX << (64 - to))
 }
 
-/// Sets the pixels of the eight bytes from this index on that are in the mask.
+/// Sets the pixels of the eight bytes from this index on that are in the mask, all of them at once.
 fn set_word(row: &mut [u8], first: usize, mask: u64)
     requires { first + 8 ≤ length row.old }
     ensures there { (i : ℕ) → first ≤ i / 8 → i / 8 < first + 8 → pixel_bit row.new i ≡ max (pixel_bit row.old i) (bit_at mask (63 - (i - 8 * first))) }
     ensures left { (i : ℕ) → i / 8 < first → pixel_bit row.new i ≡ pixel_bit row.old i }
     ensures right { (i : ℕ) → first + 8 ≤ i / 8 → pixel_bit row.new i ≡ pixel_bit row.old i }
 {
-    for k in 0..8 {
-        set_bits(row, first + k, (mask >> (56 - 8 * k) & 0xff) as u8);
-    }
+    let mut bytes = [0; 8];
+    bytes.copy_from_slice(&row[first..first + 8]);
+    row[first..first + 8].copy_from_slice(&with_mask(bytes, mask));
+}
+
+/// Eight bytes with the pixels set that are in the mask.
+fn with_mask(bytes: [u8; 8], mask: u64) -> [u8; 8]
+    ensures { (k b : ℕ) → k < 8 → b < 8 → bit_at (slice_index result k) (7 - b) ≡ max (bit_at (slice_index bytes k) (7 - b)) (bit_at mask (63 - (8 * k + b))) }
+{
+    (u64::from_be_bytes(bytes) | mask).to_be_bytes()
 }
 
 /// Sets the pixels of the byte at this index that are in the mask.

@@ -73,7 +73,7 @@ impl Chunk {
     }
 
     /// Appends a number in plain decimal.
-    // `write!` into a slice won't do: its contract in std doesn't say which bytes it writes.
+    // `write!` into a slice will not do: its contract in std does not say which bytes it writes.
     fn push_decimal(&mut self, n: u32)
         requires { length self.old + length (decimal n) ≤ CHUNK_LEN }
         ensures { self.new ≡ self.old ++ decimal n }

@@ -19,7 +19,7 @@ use crate::span::Span;
 /// number stands at the top. The spans are those of one layer of the grid: in it, by ascending row, then column, not empty
 /// and not touching.
 ///
-/// A call of the sink that fails isn't tried again: the first `written` bytes of the image went out, and no more. No
+/// A call of the sink that fails is not tried again: the first `written` bytes of the image went out, and no more. No
 /// memory is allocated.
 pub fn write_layer<W: Sink>(g: &Grid, spans: &[Span], w: &mut W) -> Result<(), WriteFault>
     requires { AreSpans g.now.columns g.now.rows spans.now }

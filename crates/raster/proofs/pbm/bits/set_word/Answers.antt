@@ -1,22 +1,22 @@
-use Rattle.std.proofs.Common.{◌≡◌, ◌*◌, ◌+◌, ◌-◌, ◌/◌, ◌%◌, ◌^◌, ℕ, max, inl, inr, ap, ◌∙◌, arith}
+use Rattle.std.proofs.Common.{◌≡◌, ◌<◌, ◌+◌, ◌*◌, ◌-◌, ◌/◌, ◌%◌, ℕ, List, length, max, ap, get_or, take, drop, ◌∙◌, arith}
 use Rattle.std.specs.Int.{bit_at}
-use Rattle.std.specs.Prelude.{bit_and}
-use Rattle.std.proofs.lemmas.Bool.{cases_eq}
-use Rattle.raster.specs.Bits.{pixel_bit}
-use Rattle.raster.proofs.lemmas.Masks.{bit_at-byte}
+use Rattle.raster.proofs.lemmas.Masks.{at-read, part-length, pixel_bit-part}
 use Rattle.raster.proofs.pbm.bits.set_word.Goals as goal
 
-pub loop-k-preserved : goal.loop-k-preserved
-loop-k-preserved c =
-    let inv = c.loop-k.invariant in
-    record {
-      left = λ i low. c.set_bits.ensures.elsewhere i (λ same. omega (arith, low, same)) ∙ inv.left i low;
-      done = λ i low high. elim (cases_eq (i / 8) (c.args.first + c.loop-k.k)) [
-        | inl same ↦ let place : 63 - (8 * c.loop-k.k + i % 8) ≡ 63 - (i - 8 * c.args.first) = omega (arith, same) in
-            c.set_bits.ensures.there i same
-            ∙ ap (λ (m : ℕ). max m (bit_at (bit_and (c.args.mask / 2 ^ (56 - 8 * c.loop-k.k)) 255) (7 - i % 8))) (inv.rest i (omega (arith, same)))
-            ∙ ap (λ (m : ℕ). max (pixel_bit c.args.row.now i) m) (bit_at-byte c.args.mask c.loop-k.k (i % 8) c.loop-k-test.true (omega arith) ∙ ap (λ (m : ℕ). bit_at c.args.mask m) place)
-        | inr other ↦ c.set_bits.ensures.elsewhere i other ∙ inv.done i low (omega (arith, high, other))
-      ];
-      rest = λ i low. c.set_bits.ensures.elsewhere i (λ same. omega (arith, low, same)) ∙ inv.rest i (omega (arith, low));
-    }
+pub returns-clause-there : goal.returns-clause-there
+returns-clause-there c = λ i low high.
+    let row = c.args.row.now in
+    let first = c.args.first in
+    let mask = c.args.mask in
+    let k = i / 8 - first in
+    let b = i % 8 in
+    let eight : (first + 8) - first ≡ 8 = omega arith in
+    let inside : k < 8 = omega arith in
+    let size : length c.copy_from_slice-2.new.self ≡ (first + 8) - first = c.copy_from_slice-2.ensures.len ∙ part-length row first (first + 8) (omega arith) c.requires in
+    let read : get_or (take ((first + 8) - first) (drop first row)) (i / 8 - first) 0 ≡ get_or row (i / 8) 0 = at-read row first ((first + 8) - first) (i / 8) low (omega arith) in
+    let place : 63 - (8 * k + b) ≡ 63 - (i - 8 * first) = omega arith in
+    pixel_bit-part row c.copy_from_slice-2.new.self first ((first + 8) - first) i size (omega arith) low (omega arith)
+    ∙ ap (λ (l : List ℕ). bit_at (get_or l k 0) (7 - b)) c.copy_from_slice-2.ensures.after
+    ∙ c.with_mask.ensures k b inside (omega arith)
+    ∙ ap (λ (l : List ℕ). max (bit_at (get_or l k 0) (7 - b)) (bit_at mask (63 - (8 * k + b)))) c.copy_from_slice.ensures.after
+    ∙ (λ j. max (bit_at (read j) (7 - b)) (bit_at mask (place j)))
