@@ -92,3 +92,10 @@ pub record IsLoaded (unit : LengthUnit) (bytes : List ℕ) (result : Result Soli
   pub err : IfErr result (IsLoadFault unit bytes)
   -- memory aside, a closed mesh is answered as such
   pub only : (facets : List Facet) → Reads FACET_LIMIT unit bytes facets → IsBalanced facets → IfErr result (λ f. f ≡ fault.Memory)
+
+-- What a call promises that makes a welder of all facets of a whole text.
+pub record IsAllWelded (unit : LengthUnit) (bytes : List ℕ) (result : Result Parts RunFault) : Type 0 where
+  pub ok : IfOk result (λ welder. (facets : List Facet) × Reads FACET_LIMIT unit bytes facets × (welder ≡ parts_of facets))
+  pub err : IfErr result (IsLoadFault unit bytes)
+  -- memory aside, a text that reads as facets is answered as such
+  pub only : (facets : List Facet) → Reads FACET_LIMIT unit bytes facets → IfErr result (λ f. f ≡ fault.Memory)

@@ -9,7 +9,7 @@ ghost use Rattle.micro_num.specs.declared.unit.Unit.{Unit as LengthUnit};
 ghost use Rattle.raster.specs.Devices.{Fails};
 ghost use Rattle.stl_text.specs.Pieces.{IsAfter};
 ghost use Rattle.stl_text.specs.Text.{Reads};
-ghost use Rattle.stlslice.specs.Loading.{AreWelded, HasWelded, IsFed, IsFilled, IsLoadFault, IsLoaded, IsMisread, IsReadAs, IsSolidOf, IsTextExtent};
+ghost use Rattle.stlslice.specs.Loading.{AreWelded, HasWelded, IsAllWelded, IsFed, IsFilled, IsLoadFault, IsLoaded, IsMisread, IsReadAs, IsSolidOf, IsTextExtent};
 ghost use Rattle.stlslice.specs.Transcript.{transcript};
 ghost use Rattle.stlslice.specs.declared.run_fault.RunFault.TheVariants.{Memory, Read};
 
@@ -116,7 +116,7 @@ pub(crate) fn read_solid_by<R: Threads + Sync, A: Allocator + Copy + Send + Sync
         reader.take_facets(&mut facets);
         if !is_more {
             weld_next(&mut welder, facets.as_slice())?;
-            return weld_end(reader, welder);
+            return weld_end_by(rt, reader, welder);
         }
         swap(&mut round, &mut next);
         is_more = is_next;
@@ -128,15 +128,39 @@ pub(crate) fn read_solid_by<R: Threads + Sync, A: Allocator + Copy + Send + Sync
 /// text.
 fn weld_end<A: Allocator + Copy + Send + Sync>(
     reader: TextReader<A>,
-    mut welder: Welder<A>,
+    welder: Welder<A>,
 ) -> Result<Solid<A>, RunFault>
     ensures { (unit : LengthUnit) (taken : List Facet) (fed : List ℕ) → AreWelded taken welder
         → IsAfter FACET_LIMIT unit taken reader fed → IsLoaded unit fed result }
 {
+    let all = weld_last(reader, welder)?;
+    Ok(all.finish()?)
+}
+
+/// The same as [`weld_end`], where several threads work at the same time.
+fn weld_end_by<R: Threads + Sync, A: Allocator + Copy + Send + Sync>(
+    rt: &R,
+    reader: TextReader<A>,
+    welder: Welder<A>,
+) -> Result<Solid<A>, RunFault>
+    ensures { (unit : LengthUnit) (taken : List Facet) (fed : List ℕ) → AreWelded taken welder
+        → IsAfter FACET_LIMIT unit taken reader fed → IsLoaded unit fed result }
+{
+    let all = weld_last(reader, welder)?;
+    Ok(all.finish_by(rt)?)
+}
+
+/// The welder with the facets that a reader still has at the end of its text.
+fn weld_last<A: Allocator + Copy + Send + Sync>(
+    reader: TextReader<A>,
+    mut welder: Welder<A>,
+) -> Result<Welder<A>, RunFault>
+    ensures { (unit : LengthUnit) (taken : List Facet) (fed : List ℕ) → AreWelded taken welder
+        → IsAfter FACET_LIMIT unit taken reader fed → IsAllWelded unit fed result }
+{
     let last = reader.finish()?;
     weld_next(&mut welder, last.as_slice())?;
-    drop(last);
-    Ok(welder.finish()?)
+    Ok(welder)
 }
 
 /// Feeds a reader with a round while the facets of the last one are welded and, where there `is_more`, the next one is filled:

@@ -76,11 +76,11 @@ returns-then-not-is_more g c =
     let end : IsAtEnd (g.I.Source.remaining c.read_and_weld.new.source) =
     subst (λ s. IsAtEnd (g.I.Source.remaining s)) (sym kept) (c.loop.invariant.end c.if-not-is_more.true) in
     let all = at_end unit (taken ++ last) _ _ _ read end in
-    let loaded = c.weld_end.ensures unit (taken ++ last) all.0 welded all.2 in
-    read_as c.weld_end.result (IsSolidOf unit) (IsLoadFault unit) _ all.0 all.1 end
+    let loaded = c.weld_end_by.ensures unit (taken ++ last) all.0 welded all.2 in
+    read_as c.weld_end_by.result (IsSolidOf unit) (IsLoadFault unit) _ all.0 all.1 end
     (c.in_ok-is_next.ensures.filled.sound (λ e. cc) ∙ c.loop.invariant.counted)
     (λ h. not_read unit all.0 Read h refl) loaded.ok
-    (IfErr-weaker c.weld_end.result _ _ (λ f h. inr h) loaded.err)
+    (IfErr-weaker c.weld_end_by.result _ _ (λ f h. inr h) loaded.err)
 
 pub returns-in_err-is_next : goal.returns-in_err-is_next
 returns-in_err-is_next g c =
