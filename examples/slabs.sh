@@ -103,9 +103,17 @@ bar=()
 if [[ -t 2 ]]; then
   bar=(--bar)
 fi
+# parallel prints what jobs write in their order, so it would leave out the fault of a slab that ends before one below it.
+# Here the faults have a file of their own.
 printf -v command '%q {= uq(); =} < %q' "$program" "$file"
+faults=$folder/faults
+: > "$faults"
+if [[ -z $hosts ]]; then
+  printf -v command '%s 2>> %q' "$command" "$faults"
+fi
 status=0
 slab_words | (cd "$folder" && parallel --will-cite --keep-order --jobs "$jobs" --halt now,fail=1 \
   "${bar[@]}" "${far[@]}" "$command") > "$aside" || status=$?
+cat "$faults" >&2
 ((status == 0)) || exit "$status"
 mv "$aside" "$out"
