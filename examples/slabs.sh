@@ -13,8 +13,9 @@
 #   -P PATH    the slicer, here and there (stlslice on PATH, else the one built or unpacked beside this folder)
 #
 # The progress bar is GNU parallel's, shown where standard error is a terminal. The first slab that fails halts all
-# others; its line and status are handed on. The result is written aside and moved into place when it is whole. Needs
-# GNU parallel (Debian: parallel), and for -S ssh without a password and rsync.
+# others; its line and status are handed on (with -S its line is lost where a slab below it still runs). The result is
+# written aside and moved into place when it is whole. Needs GNU parallel (Debian: parallel), and for -S ssh without a
+# password and rsync.
 set -euo pipefail
 
 fail() {

@@ -161,12 +161,12 @@ def parallel_slabs_are_the_whole(program, folder):
 
 
 def first_failure_halts(program, folder):
-    """A stand-in for the slicer answers the box and each slab but one; the last ones would take a minute."""
+    """A stand-in for the slicer answers the box; of its slabs one fails, and those below and above it would take a minute."""
     env = environment(program, folder)
     tool, out = os.path.join(folder, "slicer"), os.path.join(folder, "out.pbm")
     with open(tool, "w") as file:
         file.write("#!/bin/sh\ncase \"$*\" in\n*--box*) echo facets 12 box 0 0 0 1000 1000 900;;\n"
-                   "*0,0,300) echo stlslice: out of memory >&2; exit 6;;\n*0,0,600) sleep 60;;\nesac\n")
+                   "*0,0,300) echo stlslice: out of memory >&2; exit 6;;\n*0,0,0|*0,0,600) sleep 60;;\nesac\n")
     os.chmod(tool, 0o755)
     with open(out, "w") as file:
         file.write("what was there before")
