@@ -22,7 +22,7 @@ pub record IsCrossing (c : Crossing) : Type 0 where
   pub num_in : IsAtMost numerator_limit c.num
   pub den_in : IsAtMost denominator_limit c.den
 
--- a winding that isn't 0: it is 1 or -1, and has the sign of the normal's x part
+-- a winding that is not 0: it is 1 or -1, and has the sign of the normal's x part
 pub record Winding (t : Facet) (w : ℤ) : Type 0 where
   pub unit : IsUnit w
   pub normal : pos 0 <ℤ (w *ℤ normal_x t)

@@ -15,7 +15,7 @@ use Rattle.geometry.specs.Touch.{Touches, Between}
 pub record Meets (t : Facet) (num den y z : ℤ) : Type 0 where
   pub in_plane : normal_x t *ℤ (num -ℤ t.a.x *ℤ den) +ℤ normal_y t *ℤ ((y -ℤ t.a.y) *ℤ den) +ℤ normal_z t *ℤ ((z -ℤ t.a.z) *ℤ den) ≡ pos 0
 
--- the first number where the second isn't 0, else 0
+-- the first number where the second is not 0, else 0
 abbrev pub where_not_zero : ℤ → ℤ → ℤ
 where_not_zero a (pos zero) = pos 0
 where_not_zero a (pos (suc n)) = a
@@ -33,11 +33,11 @@ TurnsAreOpposite = (u v : Point) (y z : ℤ) → turn v u y z ≡ neg_ℤ (turn 
 abbrev pub WindsAreUnits : Type 0
 WindsAreUnits = (t : Facet) (y z : ℤ) → (wind t y z ≡ pos 0) ⊎ Winding t (wind t y z)
 
--- where the winding isn't 0, the line along x through (y, z) meets the facet's plane
+-- where the winding is not 0, the line along x through (y, z) meets the facet's plane
 abbrev pub CrossedLinesMeet : Type 0
 CrossedLinesMeet = (t : Facet) (y z : ℤ) → Winding t (wind t y z) → (num den : ℤ) × (pos 0 <ℤ den) × Meets t num den y z
 
--- where the winding isn't 0, the facet's plane meets the line along x ahead of x exactly where wind * volume is above 0
+-- where the winding is not 0, the facet's plane meets the line along x ahead of x exactly where wind * volume is above 0
 abbrev pub AheadIsAbove : Type 0
 AheadIsAbove = (t : Facet) (num den x y z : ℤ) → Winding t (wind t y z) → pos 0 <ℤ den → Meets t num den y z
     → ((x *ℤ den) <ℤ num) ↔ (pos 0 <ℤ (wind t y z *ℤ volume t (record { x = x; y = y; z = z })))

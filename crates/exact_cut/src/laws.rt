@@ -3,7 +3,7 @@
 ghost use Rattle.exact_cut.specs.Laws.{AheadIsAbove, CornerTurnsAreOpposite, CrossedLinesMeet, CrossingsSplitRows, NearestIsNear, RaysDifferByEdges, StepsAlongXKeepHits, StepsAlongYKeepHits, TurnsAreOpposite, UncrossedRowsHaveNoHits, WalksTellHits, WindsAreUnits};
 
 /// What holds of every facet's winding and of every ray. An edge and its opposite turn oppositely. A winding is 1, -1 or
-/// 0, and a line round which it isn't 0 meets the facet's plane. A crossing splits a row of centres in two. A walk tells
+/// 0, and a line round which it is not 0 meets the facet's plane. A crossing splits a row of centres in two. A walk tells
 /// the hits of all rays from a lattice's pixels. A step that passes no point of a facet keeps its hit. A fraction is rounded
 /// to the nearest whole number, halves upward.
 pub fn hold_laws()

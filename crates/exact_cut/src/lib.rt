@@ -4,7 +4,7 @@
 //! let f = Facet::of(Point::new(0, 0, 0)?, Point::new(10, 10, 0)?, Point::new(0, 0, 10)?);
 //! cuts(&f, 10)                            // at the height 5 µm: Some(Cut { down: 2, up: 1 })
 //! let c = crossing(&f, 10, 4)?;           // there, on the scanline y = 2 µm: num / den is 4, so x = 2 µm
-//! column(&c, 1, 1, 8)                     // 2: of the pixel centres 0.5, 1.5, 2.5 .. µm the first that isn't left of it
+//! column(&c, 1, 1, 8)                     // 2: of the pixel centres 0.5, 1.5, 2.5 .. µm the first that is not left of it
 //! ray_hit(&f, &Centre::new(1, 4, 10)?)    // 1: the ray from (0.5, 2, 5) µm along x crosses the facet
 //! ray_hit(&f, &Centre::new(5, 4, 10)?)    // 0: the facet lies behind
 //! ```

@@ -19,7 +19,7 @@ pub struct PlanePoint {
 }
 
 /// Where the plane at the height `z2` passes the one edge of a facet that runs downward through it, or `None` where the
-/// plane doesn't cut the facet. Each coordinate is rounded to the nearest half-micrometre, halves upward. `z2` is in
+/// plane does not cut the facet. Each coordinate is rounded to the nearest half-micrometre, halves upward. `z2` is in
 /// half-micrometres, within `CENTRE_LIMIT` of 0.
 pub fn start_point(f: &Facet, z2: i64) -> Option<PlanePoint>
     requires { IsAtMost CENTRE_LIMIT z2 }

@@ -22,7 +22,7 @@ parts_of facets = record { kept = kept_facets facets; degenerate = degenerate_fa
 abbrev pub named_parts : List Point → List (List ℕ) → List Facet → Parts
 named_parts points ids degenerate = record { kept = facets_by points ids; degenerate = degenerate }
 
--- more facets behind those so far
+-- more facets after those so far
 abbrev pub with_facets : Parts → List Facet → Parts
 with_facets parts facets =
     record { kept = parts.kept ++ kept_facets facets; degenerate = parts.degenerate ++ degenerate_facets facets }

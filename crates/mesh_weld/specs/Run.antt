@@ -18,7 +18,7 @@ counted run half_edge =
 abbrev pub started : HalfEdge → Run
 started half_edge = record { low = min half_edge.from half_edge.to; high = max half_edge.from half_edge.to; there = 0; back = 0 }
 
--- one more half-edge of the last run, or the first of a run behind it, where the last run is even
+-- one more half-edge of the last run, or the first of a run after it, where the last run is even
 abbrev pub AreRunsAfter : Runs → HalfEdge → Runs → Type 0
 AreRunsAfter old half_edge new =
     ((0 < old.count) × (old.run.low ≡ min half_edge.from half_edge.to) × (old.run.high ≡ max half_edge.from half_edge.to) × (new ≡ record { count = old.count; run = counted old.run half_edge }))

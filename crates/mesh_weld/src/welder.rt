@@ -67,7 +67,7 @@ impl<A: Allocator + Copy + Send + Sync> Welder<A> {
         self.ids.len() + self.degenerate.len()
     }
 
-    /// Adds facets behind those so far, at most `FACET_LIMIT` with these.
+    /// Adds facets after those so far, at most `FACET_LIMIT` with these.
     ///
     /// # Errors
     /// Where an allocation fails; the welder then has no facet any more.
@@ -224,7 +224,7 @@ impl<A: Allocator + Copy> NamedFacets<A> {
     }
 }
 
-/// Puts the ids of a facet's corners behind those of the others.
+/// Puts the ids of a facet's corners after those of the others.
 fn name_facet<A: Allocator + Copy>(
     alloc: A,
     table: &mut CornerTable<A>,

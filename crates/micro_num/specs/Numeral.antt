@@ -89,12 +89,12 @@ after_sign (byte ∷ rest) = if byte == 43 || byte == 45 then rest else byte ∷
 abbrev pub from_first : (ℕ → Bool) → List ℕ → List ℕ
 from_first test bytes = drop (position_or_len test bytes) bytes
 
--- the digits behind a point
+-- the digits after a point
 abbrev pub fraction_of : List ℕ → Option (List ℕ)
 fraction_of [] = None
 fraction_of (point ∷ digits) = Some digits
 
--- the exponent behind its mark
+-- the exponent after its mark
 abbrev pub exponent_of : List ℕ → Option Exponent
 exponent_of [] = None
 exponent_of (mark ∷ rest) = Some (record { mark = mark; sign = sign_of rest; digits = after_sign rest })

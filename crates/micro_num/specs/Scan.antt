@@ -1,5 +1,5 @@
 -- The state of the reader of numbers between the parts of a word: what it has read, and what this says of the number.
---     scanned                   the parts of a text behind its sign, read from the left
+--     scanned                   the parts of a text after its sign, read from the left
 --     size_of                   the coordinate that such a text stands for, or its fault
 --     IsLeading                 the value of the leading digits of a number, and how many digits were dropped
 --     IsMantissa                the digits of a number, with their leading digits
@@ -9,7 +9,7 @@
 --     IsNear                    the same exponent, or both far beyond those of coordinates, on the same side
 --     IsExponentFront           a text begins with an exponent, or with none
 --     IsNumberFront             a text begins with a number that has no sign
---     IsEnded                   a text that doesn't begin with a byte of a number
+--     IsEnded                   a text that does not begin with a byte of a number
 use Rattle.std.specs.Prelude.{◌≡◌, ℕ, ◌+◌, ◌*◌, ◌^◌, ◌-◌, ◌<◌, ◌≤◌, ◌==◌, Bool, true, false, ◌&&◌, List, [], ◌∷◌, ◌++◌, length, Option, Some, None, Result, Ok, Err, not, fold, nat_le, if◌then◌else◌, ℤ, pos, neg_ℤ, ◌≤ℤ◌, ◌⊎◌}
 use Rattle.std.specs.Char.{is_ascii_digit}
 use Rattle.std.specs.List.{before_first, list_all}
@@ -24,17 +24,17 @@ use Rattle.micro_num.specs.declared.limits.TheConstants.{LEADING_LIMIT, LEADING_
 abbrev pub is_other : ℕ → Bool
 is_other byte = not (is_ascii_digit byte)
 
--- the digits behind the point, where a point comes first
+-- the digits after the point, where a point comes first
 abbrev pub digits_behind : List ℕ → Option (List ℕ)
 digits_behind [] = None
 digits_behind (byte ∷ bytes) = if byte == 46 then Some (before_first is_other bytes) else None
 
--- the text behind the point and its digits
+-- the text after the point and its digits
 abbrev pub rest_behind : List ℕ → List ℕ
 rest_behind [] = []
 rest_behind (byte ∷ bytes) = if byte == 46 then from_first is_other bytes else byte ∷ bytes
 
--- The digits at the front are the whole part; a point behind them begins the fraction; the rest is the exponent.
+-- The digits at the front are the whole part; a point after them begins the fraction; the rest is the exponent.
 abbrev pub scanned : Sign → List ℕ → Numeral
 scanned s text = record {
   sign = s;
@@ -56,11 +56,11 @@ size_or_fault m = if nat_le m COORDINATE_LIMIT then Ok (pos m) else Err OutOfRan
 abbrev pub scanned_size : LengthUnit → Numeral → Result ℤ NumFault
 scanned_size unit n = if is_numeral n then size_or_fault (size unit n) else Err NotNumber
 
--- the coordinate that the text behind a sign stands for, or its fault
+-- the coordinate that the text after a sign stands for, or its fault
 abbrev pub size_of : LengthUnit → List ℕ → Result ℤ NumFault
 size_of unit text = scanned_size unit (scanned unsigned text)
 
--- the value of the digits of n with these digits behind them
+-- the value of the digits of n with these digits after them
 abbrev pub digits_after : ℕ → List ℕ → ℕ
 digits_after n ds = fold (λ n d. 10 * n + (d - 48)) n ds
 

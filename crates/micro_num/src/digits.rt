@@ -10,7 +10,7 @@ use crate::limits::{FEW_DIGITS, LEADING_ROOM, TEN_DIGITS_ROOM};
 /// The value of the leading digits of a number: any zeros in front, then at most 16 digits. Further digits are dropped
 /// and only counted.
 ///
-/// This is enough to round the number to whole micrometres. If one of the leading digits is behind the point of the
+/// This is enough to round the number to whole micrometres. If one of the leading digits is after the point of the
 /// value in micrometres, it decides whether the fraction reaches a half; if none is, the number is far out of range.
 #[derive(Clone, Copy)]
 pub(crate) struct LeadingDigits {
@@ -26,7 +26,7 @@ impl LeadingDigits {
         dropped: 0,
     };
 
-    /// These digits and one more behind them, which still fits.
+    /// These digits and one more after them, which still fits.
     #[inline(always)]
     fn extended(self, digit: u8) -> Self
         requires digit { is_ascii_digit digit ≡ true }
@@ -42,7 +42,7 @@ impl LeadingDigits {
         }
     }
 
-    /// These digits and one more behind them.
+    /// These digits and one more after them.
     fn followed_by(self, digit: u8) -> Self
         requires digit { is_ascii_digit digit ≡ true }
         requires few { self.dropped < WORD_LIMIT }
@@ -69,7 +69,7 @@ pub(crate) struct Digits {
     pub(crate) count: usize,
 }
 
-/// Reads the digits at the front of a text, behind those in `before`.
+/// Reads the digits at the front of a text, after those in `before`.
 #[inline(always)]
 pub(crate) fn read_digits(bytes: &[u8], before: LeadingDigits) -> Digits
     requires { before.dropped + length bytes.now ≤ WORD_LIMIT }

@@ -16,7 +16,7 @@ pub(crate) const TEN_DIGITS_ROOM: u64 = 1_000_000;
 /// Fewer digits than this are read without testing whether each one still fits.
 pub(crate) const FEW_DIGITS: usize = 10;
 
-/// A number with fewer than `FEW_DIGITS` digits before its point, behind it and in its exponent ends within a text that
+/// A number with fewer than `FEW_DIGITS` digits before its point, after it and in its exponent ends within a text that
 /// is at least this long.
 pub(crate) const SHORT_ROOM: usize = 3 * FEW_DIGITS + 2;
 

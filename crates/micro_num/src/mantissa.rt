@@ -8,7 +8,7 @@ ghost use Rattle.micro_num.specs.declared.limits.TheConstants.{LEADING_LIMIT, WO
 
 use crate::digits::{LeadingDigits, read_digits};
 
-/// Whether the sign at the front of a text is a minus, and the text behind the sign. A text may have no sign.
+/// Whether the sign at the front of a text is a minus, and the text after the sign. A text may have no sign.
 #[inline(always)]
 pub(crate) fn split_sign(bytes: &[u8]) -> (bool, &[u8])
     ensures minus { (result.0 ≡ true) ↔ (sign_of bytes.now ≡ minus) }
@@ -25,7 +25,7 @@ pub(crate) fn split_sign(bytes: &[u8]) -> (bool, &[u8])
     (negative, behind)
 }
 
-/// The digits of a number, before and behind its point, and the text behind them.
+/// The digits of a number, before and after its point, and the text after them.
 #[derive(Clone, Copy)]
 pub(crate) struct Mantissa<'a> {
     pub(crate) leading: LeadingDigits,
@@ -66,9 +66,9 @@ pub(crate) fn read_mantissa(bytes: &[u8]) -> Mantissa<'_>
     }
 }
 
-/// Reads the exponent at the front of a text, and gives it with the text behind it. The exponent is 0 where there is
+/// Reads the exponent at the front of a text, and gives it with the text after it. The exponent is 0 where there is
 /// none, and one of more than 16 digits, besides zeros in front, is read by its first 16. `None` where a mark, `e` or
-/// `E`, has no digit behind it.
+/// `E`, has no digit after it.
 #[inline(always)]
 pub(crate) fn exponent_front(bytes: &[u8]) -> Option<(i64, &[u8])>
     requires { length bytes.now ≤ WORD_LIMIT }

@@ -17,7 +17,7 @@ use geometry::COORDINATE_LIMIT;
 
 /// The coordinate that a word stands for: whole micrometres, rounded to the nearest, halves away from zero.
 ///
-/// A word is a number where it is a sign or none, then digits with at most one point before, among or behind them and
+/// A word is a number where it is a sign or none, then digits with at most one point before, among or after them and
 /// at least one digit, then nothing, or `e` or `E`, a sign or none and at least one digit: the decimal form that C's
 /// `strtod` reads. A number in inches is multiplied by 25,400, one in millimetres by 1,000, before it is rounded.
 ///
@@ -69,8 +69,8 @@ fn read_unsigned(text: &[u8], unit: Unit) -> Result<i32, NumFault>
 
 /// The coordinate of a word at the front of a text, as [`read_micro`] reads it, and the length of the word in bytes.
 ///
-/// A word in range is always found where the text ends behind it, or continues with a byte that is no digit, no point
-/// and neither `e` nor `E`. A word that is found may also be followed by another byte. `None` doesn't say why there is
+/// A word in range is always found where the text ends after it, or continues with a byte that is no digit, no point
+/// and neither `e` nor `E`. A word that is found may also be followed by another byte. `None` does not say why there is
 /// no such word.
 #[inline(always)]
 pub fn read_front(bytes: &[u8], unit: Unit) -> Option<(i32, usize)>
@@ -103,7 +103,7 @@ fn long_front(bytes: &[u8], unit: Unit) -> Option<(i32, usize)>
     Some((coordinate, text.len() - behind.len()))
 }
 
-/// The value of the number at the front of a text, which has no sign, in micrometres, and the text behind the number. A
+/// The value of the number at the front of a text, which has no sign, in micrometres, and the text after the number. A
 /// value above `COORDINATE_LIMIT` may be given as any other such value.
 #[inline(always)]
 fn size_front(text: &[u8], unit: Unit) -> Option<(u64, &[u8])>

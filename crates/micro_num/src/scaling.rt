@@ -116,7 +116,7 @@ fn scaled(value: u64, power: i64) -> u64
     }
 }
 
-/// The whole part of 254 times the decimal fraction with these digits, to which the digits behind them add `behind`.
+/// The whole part of 254 times the decimal fraction with these digits, to which the digits after them add `behind`.
 fn carried(digits: &[u8], behind: u64) -> u64
     requires { behind < CARRY_LIMIT }
     ensures carry { (count n : ℕ) → IsCarry behind count n

@@ -1,4 +1,4 @@
-//! Short numbers: those with few digits in each part, at the front of a text that goes on behind them. Almost all numbers of
+//! Short numbers: those with few digits in each part, at the front of a text that goes on after them. Almost all numbers of
 //! a mesh are short, and the end of the text is looked for once, not at each byte.
 ghost use Rattle.std.specs.Prelude.{◌≡◌, ◌≤◌, ◌<◌, ◌+◌, ◌*◌, ◌++◌, ℕ, ℤ, Ok, Option, List, length, take, true, IfSome, unsigned_abs};
 ghost use Rattle.std.specs.List.{before_first};
@@ -12,7 +12,7 @@ use crate::mantissa::{Mantissa, split_sign};
 use crate::scaling::{signed_coordinate, size_in};
 use crate::unit::Unit;
 
-/// Like `read_mantissa`, where there are fewer than `FEW_DIGITS` digits before the point and behind it. Else `None`.
+/// Like `read_mantissa`, where there are fewer than `FEW_DIGITS` digits before the point and after it. Else `None`.
 #[inline(always)]
 fn short_mantissa(bytes: &[u8]) -> Option<Mantissa<'_>>
     requires { 2 * FEW_DIGITS ≤ length bytes.now }

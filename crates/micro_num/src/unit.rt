@@ -1,4 +1,4 @@
-//! The unit of a text's numbers. STL doesn't name one, so the caller does.
+//! The unit of a text's numbers. STL does not name one, so the caller does.
 /// The unit that the numbers of a text are in.
 #[derive(Clone, Copy, Debug, PartialEq, Eq)]
 pub enum Unit {

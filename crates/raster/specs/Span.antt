@@ -14,7 +14,7 @@ covers spans i j = list_any (λ s. s.row == j && nat_le s.from i && nat_lt i s.t
 abbrev pub is_span_within : ℕ → ℕ → Span → Bool
 is_span_within columns rows s = nat_lt s.row rows && nat_lt s.from s.to && nat_le s.to columns
 
--- in an earlier row, or in the same row with a gap behind it
+-- in an earlier row, or in the same row with a gap after it
 abbrev pub is_span_before : Span → Span → Bool
 is_span_before s t = nat_lt s.row t.row || (s.row == t.row && nat_lt s.to t.from)
 

@@ -1,5 +1,5 @@
 -- The layout of facets: the keywords between their numbers, each as the bytes with which one file writes it.
---     Skips              a reader goes on over tokens and the white space behind them
+--     Skips              a reader goes on over tokens and the white space after them
 --     IsSeparator        bytes that stand for tokens whatever follows them
 --     separator_tokens   the keywords of each separator
 --     IsLayout           the bytes of each separator
@@ -11,7 +11,7 @@ use Rattle.stl_text.specs.declared.grammar.Separator.{Separator}
 use Rattle.stl_text.specs.declared.grammar.Separator.TheVariants as separator
 use Rattle.stl_text.specs.declared.word.Word.TheVariants.{EndFacet, EndLoop, Loop, Normal, Outer, Vertex}
 
--- the keywords that stand before, between and behind the numbers of a facet
+-- the keywords that stand before, between and after the numbers of a facet
 abbrev pub separator_tokens : Separator → List Token
 separator_tokens separator.Opening = facet_word ∷ keyword_of Normal ∷ []
 separator_tokens separator.First = keyword_of Outer ∷ keyword_of Loop ∷ keyword_of Vertex ∷ []
@@ -25,7 +25,7 @@ pub record Skips (tokens : List Token) (old new : Reader) : Type 0 where
   pub space : after_space behind ≡ after_space new.rest
   pub same_unit : new.unit ≡ old.unit
 
--- Bytes that stand for these tokens and white space behind them, at least one byte of it: so they stand for them whatever
+-- Bytes that stand for these tokens and white space after them, at least one byte of it: so they stand for them whatever
 -- follows.
 pub record IsSeparator (tokens : List Token) (bytes : List ℕ) : Type 0 where
   pub behind : List ℕ
@@ -33,7 +33,7 @@ pub record IsSeparator (tokens : List Token) (bytes : List ℕ) : Type 0 where
   pub some : 0 < length behind
   pub white : after_space behind ≡ []
 
--- Bytes that begin with the last keywords of a facet and have something behind them. `words_len` is the length of these
+-- Bytes that begin with the last keywords of a facet and have something after them. `words_len` is the length of these
 -- keywords with the white space before each.
 pub record IsClosing (words_len : ℕ) (bytes : List ℕ) : Type 0 where
   pub some : words_len < length bytes

@@ -4,7 +4,7 @@
 --     IsReading     it has read a text up to a part that it has at hand
 --     ReadsOn       it goes on from one part of a text to the next
 --     IsAfter       it was fed these bytes
---     StandsAt      where the reading of a text stands behind a word
+--     StandsAt      where the reading of a text stands after a word
 --     EndsAt        where it stands at the end of the text
 use Rattle.std.specs.Prelude.{◌≡◌, ◌≢◌, ℕ, ◌+◌, ◌≤◌, Bool, true, false, not, List, [], ◌++◌, length}
 use Rattle.std.specs.List.{list_all}
@@ -43,7 +43,7 @@ Sees true behind rest = behind ≡ after_line rest
 Sees false behind rest = after_space behind ≡ after_space rest
 
 -- Whatever follows the text, the reader stands at a stage of it before the part at hand, which is a rest of the text. `held`
--- is the front of a word that isn't whole yet, and `count` the length of the text.
+-- is the front of a word that is not whole yet, and `count` the length of the text.
 pub record Waits (limit : ℕ) (unit : LengthUnit) (p : Progress) (stage : Stage) (in_line : Bool) (text part : List ℕ) : Type 0 where
   pub limit_is : p.limit ≡ limit
   pub unit_is : p.unit ≡ unit
@@ -65,7 +65,7 @@ IsReadingAt limit unit p (place.Stopped f) text part = f ≢ fault.Memory → (m
 abbrev pub IsReading : ℕ → LengthUnit → List Facet → Progress → List ℕ → List ℕ → Type 0
 IsReading limit unit taken p text part = IsReadingAt limit unit (whole taken p) p.place text part
 
--- the reader goes on from a part of a text to a part behind it: what it had read up to the one, it has read up to the other
+-- the reader goes on from a part of a text to a part after it: what it had read up to the one, it has read up to the other
 abbrev pub ReadsOn : Progress → List ℕ → Progress → List ℕ → Type 0
 ReadsOn old part new rest = (limit : ℕ) (unit : LengthUnit) (taken : List Facet) (text : List ℕ)
     → IsReading limit unit taken old text part → IsReading limit unit taken new text rest
@@ -80,7 +80,7 @@ at_line stage = place.Line stage
 abbrev pub at_word : Stage → Place
 at_word stage = place.Word stage
 
--- where the reading of a text stands behind a word
+-- where the reading of a text stands after a word
 abbrev pub StandsAt : ℕ → LengthUnit → Place → List Facet → List ℕ → List ℕ → Type 0
 StandsAt limit unit (place.Word stage) facets text behind = Stands limit unit stage facets text (after_word behind)
 StandsAt limit unit (place.Line stage) facets text behind = Stands limit unit stage facets text (after_line (after_word behind))

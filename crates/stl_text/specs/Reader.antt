@@ -20,6 +20,6 @@ pub record Spells (tokens : List Token) (old new : Reader) : Type 0 where
   pub spelled : rest_behind old.unit tokens old.rest ≡ Some new.rest
   pub same_unit : new.unit ≡ old.unit
 
--- the tokens of a facet behind its word `facet`
+-- the tokens of a facet after its word `facet`
 abbrev pub facet_tail : Facet → List Token
 facet_tail t = normal_tokens ++ loop_tokens t ++ keyword_of EndFacet ∷ []

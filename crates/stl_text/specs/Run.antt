@@ -1,7 +1,7 @@
 -- A text that is read in parts: runs of facets, found anywhere in the text, over which its reader jumps.
 --     IsRestOf        the rest of a text from some byte on
 --     StandsBefore    a text is read up to this rest of it, among the facets of a solid
---     IsFacetRun      facets that stand one behind another in a text
+--     IsFacetRun      facets that stand one after another in a text
 use Rattle.std.specs.Prelude.{◌≡◌, ◌+◌, ◌≤◌, ℕ, List, [], ◌∷◌, ◌++◌, drop, length}
 use Rattle.micro_num.specs.declared.unit.Unit.{Unit as LengthUnit}
 use Rattle.geometry.specs.Facet.{Facet}
@@ -24,10 +24,10 @@ pub record StandsBefore (limit : ℕ) (unit : LengthUnit) (facets : List Facet) 
   pub stands : Stands limit unit in_facets facets text behind
   pub sees : after_space behind ≡ after_space rest
 
--- Behind some byte of the text these facets stand, one behind another, in one solid or in several. `from` is the text from
--- there on, and `to` the text behind the facets. A reading that stands before `from`, where `facet` or `endsolid` is wanted,
+-- After some byte of the text these facets stand, one after another, in one solid or in several. `from` is the text from
+-- there on, and `to` the text after the facets. A reading that stands before `from`, where `facet` or `endsolid` is wanted,
 -- stands before `to` with these facets more, whatever follows, if the limit has room for them. That it ever stands before
--- `from` isn't said.
+-- `from` is not said.
 pub record IsFacetRun (unit : LengthUnit) (text : List ℕ) (facets : List Facet) (from to : List ℕ) : Type 0 where
   pub begins : IsRestOf text from
   pub ends : IsRestOf from to

@@ -38,12 +38,12 @@ with_number corner.A axis value t = facet_with (with_axis axis value t.a) t.b t.
 with_number corner.B axis value t = facet_with t.a (with_axis axis value t.b) t.c
 with_number corner.C axis value t = facet_with t.a t.b (with_axis axis value t.c)
 
--- Behind this number of the words that follow `facet` of t, the token comes, and t becomes u.
+-- After this number of the words that follow `facet` of t, the token comes, and t becomes u.
 pub record Goes (words : ℕ) (token : Token) (t u : Facet) : Type 0 where
   pub cut : facet_tail u ≡ take words (facet_tail t) ++ token ∷ drop (words + 1) (facet_tail u)
   pub on : take (words + 1) (facet_tail u) ≡ take words (facet_tail t) ++ token ∷ []
 
--- what is wanted behind this number of the words that follow `facet`
+-- what is wanted after this number of the words that follow `facet`
 abbrev pub IsWantedAt : ℕ → Wanted → Type 0
 IsWantedAt words (wanted.Keyword kind) = (kind ≢ Solid) × ((t : Facet) → Goes words (keyword_of kind) t t)
 IsWantedAt words wanted.Part = (t : Facet) → Goes words normal_part t t
@@ -55,7 +55,7 @@ IsPlain (wanted.Keyword kind) = HasOneKeyword kind
 IsPlain wanted.Part = Unit {0}
 IsPlain (wanted.Number corner axis) = Unit {0}
 
--- the text behind t begins with the next token, and then the facet is u
+-- the text after t begins with the next token, and then the facet is u
 pub record ReadInside (unit : LengthUnit) (words : ℕ) (t : Facet) (behind : List ℕ) (u : Facet) : Type 0 where
   pub token : Token
   pub goes : Goes words token t u
@@ -77,7 +77,7 @@ IsStop room unit text token facets_before rest (faults.TooMany at) =
     × (at + length (after_space rest) ≡ length text)
 IsStop room unit text token facets_before rest faults.Memory = ⊥
 
--- the next word of the text behind t doesn't fit
+-- the next word of the text after t does not fit
 pub record StopsInside (unit : LengthUnit) (words : ℕ) (t : Facet) (behind : List ℕ) (at : ℕ) (fault : StlFault) : Type 0 where
   pub token : Token
   pub u : Facet
@@ -86,7 +86,7 @@ pub record StopsInside (unit : LengthUnit) (words : ℕ) (t : Facet) (behind : L
       → IsStop room unit text token before behind fault
   pub other : fault ≢ faults.Ended Solid
 
--- a solid that is open behind these facets
+-- a solid that is open after these facets
 abbrev pub opened : List Facet → List Token
 opened facets = keyword_of Solid ∷ rest_of_line ∷ flat_map facet_tokens facets
 
@@ -127,7 +127,7 @@ pub record AtWord (limit : ℕ) (unit : LengthUnit) (stage : Stage) (facets : Li
   pub some : 0 < length word
   pub at_is : at + length (after_space behind) ≡ length text
 
--- the stage behind a word, to which this step leads
+-- the stage after a word, to which this step leads
 abbrev pub StandsAfter : ℕ → LengthUnit → List Facet → List ℕ → List ℕ → Step → Type 0
 StandsAfter limit unit facets text behind (step.To s) = Stands limit unit s facets text (after_word behind)
 StandsAfter limit unit facets text behind (step.Line s) = Stands limit unit s facets text (after_line (after_word behind))

@@ -2,7 +2,7 @@
 -- fault it has otherwise.
 --     keywords                the table of keywords
 --     Token, solid_tokens     what a solid is written with: keywords, words of normals, coordinates, rests of lines
---     rest_behind             the rest of a text behind the tokens at its front
+--     rest_behind             the rest of a text after the tokens at its front
 --     Reads                   the text is whole solids, and these are their facets
 --     Wants                   up to a byte offset the text begins as solids do, and there it wants this token
 --     IsFaultOf               the one fault of a text
@@ -29,7 +29,7 @@ is_white byte = byte == 32 || (nat_le 9 byte && nat_le byte 13)
 abbrev pub is_line_end : ℕ → Bool
 is_line_end byte = byte == 10 || byte == 13
 
--- the text behind the white space at the front
+-- the text after the white space at the front
 abbrev pub after_space : List ℕ → List ℕ
 after_space bytes = drop (prefix_len is_white bytes) bytes
 
@@ -141,7 +141,7 @@ after_token (keyword wanted text) bytes = after_word bytes
 after_token normal_part bytes = after_word bytes
 after_token (coordinate z) bytes = after_word bytes
 
--- the rest of the text behind the tokens, if the text begins with them
+-- the rest of the text after the tokens, if the text begins with them
 abbrev pub rest_behind : LengthUnit → List Token → List ℕ → Option (List ℕ)
 rest_behind unit [] bytes = Some bytes
 rest_behind unit (token ∷ tokens) bytes =
@@ -150,7 +150,7 @@ rest_behind unit (token ∷ tokens) bytes =
 abbrev pub facets_of : List (List Facet) → List Facet
 facets_of solids = flat_map (λ facets. facets) solids
 
--- The text is one or more solids, with only white space behind the last; these are their facets, in order, at most
+-- The text is one or more solids, with only white space after the last; these are their facets, in order, at most
 -- `limit` of them.
 pub record Reads (limit : ℕ) (unit : LengthUnit) (bytes : List ℕ) (facets : List Facet) : Type 0 where
   pub solids : List (List Facet)
@@ -227,7 +227,7 @@ pub record IsTooMany (limit : ℕ) (unit : LengthUnit) (bytes : List ℕ) (at : 
   pub wants : Wants limit unit bytes at facet_word limit word
   pub facet : is_keyword facet_keyword word ≡ true
 
--- The text ends where a word is wanted. `solid` is wanted only in a text of white space: behind a whole solid, a text
+-- The text ends where a word is wanted. `solid` is wanted only in a text of white space: after a whole solid, a text
 -- may end.
 pub record IsEndedBefore (limit : ℕ) (unit : LengthUnit) (bytes : List ℕ) (kind : Word) : Type 0 where
   pub token : Token

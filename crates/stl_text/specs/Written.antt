@@ -1,12 +1,12 @@
 -- How facets may be written: in solids, with any white space between words, keywords in any case, any words for
--- normals, any names, and anything behind `endsolid` on its line.
---     Spaced            a piece of a text, and the white space behind it
---     AreWordsOf        these pieces are words that stand for these tokens, with white space behind each
+-- normals, any names, and anything after `endsolid` on its line.
+--     Spaced            a piece of a text, and the white space after it
+--     AreWordsOf        these pieces are words that stand for these tokens, with white space after each
 --     IsRemark          what may follow a word up to the end of its line: a name, or what is skipped
 --     IsLineBreak       the end of a line, and more white space
 --     IsEnd             a line break, or nothing
 --     WrittenSolid      a solid of these facets, up to the end of the line of `endsolid`
---     AreWrittenSolids  these pieces are solids of these facets, with a line break behind each
+--     AreWrittenSolids  these pieces are solids of these facets, with a line break after each
 --     Written           a text of these facets
 use Rattle.std.specs.Prelude.{◌≡◌, ℕ, Bool, true, ◌&&◌, not, List, [], ◌∷◌, ◌++◌, length, Ok, nat_lt, flat_map}
 use Rattle.std.specs.Str.{str_to_ascii_lowercase}
@@ -24,12 +24,12 @@ are_white bytes = list_all is_white bytes
 abbrev pub is_word : List ℕ → Bool
 is_word bytes = nat_lt 0 (length bytes) && list_all (λ byte. not (is_white byte)) bytes
 
--- a piece of a text, and the white space behind it
+-- a piece of a text, and the white space after it
 pub record Spaced : Type 0 where
   pub text : List ℕ
   pub space : List ℕ
 
--- one piece behind the other
+-- one piece after the other
 abbrev pub laid_out : List Spaced → List ℕ
 laid_out pieces = flat_map (λ s. s.text ++ s.space) pieces
 

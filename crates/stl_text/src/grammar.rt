@@ -13,7 +13,7 @@ use crate::word::{END_SOLID, FACET, SOLID, Word};
 use geometry::{Facet, Point};
 use micro_num::Unit;
 
-/// The keywords that stand together before, between or behind the numbers of a facet.
+/// The keywords that stand together before, between or after the numbers of a facet.
 #[derive(Clone, Copy)]
 pub(crate) enum Separator {
     /// `facet normal`
@@ -27,7 +27,7 @@ pub(crate) enum Separator {
 }
 
 impl<'t> Reader<'t> {
-    /// Reads the keywords of a separator, if they stand here. Where they don't, the reader may be left anywhere.
+    /// Reads the keywords of a separator, if they stand here. Where they do not, the reader may be left anywhere.
     #[inline(always)]
     pub(crate) fn separator(&mut self, separator: Separator) -> Option<()>
         ensures { IfSome result (λ _. Spells (separator_tokens separator) self.old self.new) }
@@ -91,7 +91,7 @@ impl<'t> Reader<'t> {
     }
 }
 
-/// The whole facet at the front of a text, read word by word, and the text behind it, which is not empty. `None` says
+/// The whole facet at the front of a text, read word by word, and the text after it, which is not empty. `None` says
 /// nothing about the text.
 pub(crate) fn facet_by_words(bytes: &[u8], unit: Unit) -> Option<(Facet, &[u8])>
     ensures read { IfSome result (λ found. rest_behind unit (facet_tokens found.0) bytes.now ≡ Some found.1.now) }
@@ -107,8 +107,8 @@ pub(crate) fn facet_by_words(bytes: &[u8], unit: Unit) -> Option<(Facet, &[u8])>
     Some((facet, rest))
 }
 
-/// The text behind the end of a solid and the beginning of the next, if these are at the front of a text and the text
-/// behind them is not empty. `None` says nothing about the text.
+/// The text after the end of a solid and the beginning of the next, if these are at the front of a text and the text
+/// after them is not empty. `None` says nothing about the text.
 pub(crate) fn behind_solid(bytes: &[u8]) -> Option<&[u8]>
     ensures read { IfSome result (λ rest. (unit : LengthUnit) → rest_behind unit next_solid bytes.now ≡ Some rest.now) }
     ensures some { IfSome result (λ rest. 0 < length rest.now) }

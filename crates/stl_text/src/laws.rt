@@ -20,7 +20,7 @@ pub fn one_outcome()
 
 /// A text reads as facets, at most `limit` of them, exactly where it is these facets written as STL: with any white
 /// space between words, any case of keywords, any words of normals and any names of solids, and with or without a line
-/// end behind the last solid.
+/// end after the last solid.
 pub fn reads_as_written()
     ensures { (limit : ℕ) (unit : LengthUnit) (bytes : List ℕ) (facets : List Facet)
         → Reads limit unit bytes facets ↔ (Written unit facets bytes × (length facets ≤ limit)) }

@@ -1,4 +1,4 @@
-//! The layout of facets: what a file writes before, between and behind the numbers of a facet. Most files write it with the
+//! The layout of facets: what a file writes before, between and after the numbers of a facet. Most files write it with the
 //! same bytes in each facet, so that these are compared as a whole, and not read word by word.
 ghost use Rattle.std.specs.Prelude.{◌≡◌, ◌≤◌, ◌<◌, [], ◌∷◌, ◌++◌, IfSome, List, Ok, Some, length, not, take, true};
 ghost use Rattle.std.specs.List.{list_all};
@@ -41,7 +41,7 @@ impl<'t> Model for Layout<'t> {
 }
 
 impl<'t> Reader<'t> {
-    /// Goes on behind these bytes, if the text goes on with them.
+    /// Goes on after these bytes, if the text goes on with them.
     #[inline(always)]
     fn skip(&mut self, bytes: &[u8]) -> Option<()>
         ensures { IfSome result (λ _. (tokens : List Token) → IsSeparator tokens bytes.now → Skips tokens self.old self.new) }
@@ -50,7 +50,7 @@ impl<'t> Reader<'t> {
         Some(())
     }
 
-    /// Goes on behind the words of a closing, if the text goes on with its bytes.
+    /// Goes on after the words of a closing, if the text goes on with its bytes.
     #[inline(always)]
     fn close(&mut self, layout: &Layout<'_>) -> Option<()>
         ensures { IfSome result (λ _. Spells (separator_tokens Closing) self.old self.new) }
@@ -112,7 +112,7 @@ impl<'t> Reader<'t> {
     }
 }
 
-/// The text behind these bytes, if it begins with them.
+/// The text after these bytes, if it begins with them.
 #[inline(always)]
 fn behind_bytes<'t>(text: &'t [u8], bytes: &[u8]) -> Option<&'t [u8]>
     ensures { IfSome result (λ rest. text.now ≡ bytes.now ++ rest.now) }
@@ -124,7 +124,7 @@ fn behind_bytes<'t>(text: &'t [u8], bytes: &[u8]) -> Option<&'t [u8]>
     if front == bytes { Some(rest) } else { None }
 }
 
-/// The text behind its first word, if it has one.
+/// The text after its first word, if it has one.
 #[cold]
 #[inline(never)]
 fn behind_any_word(bytes: &[u8]) -> Option<&[u8]>
@@ -162,7 +162,7 @@ fn black_len(bytes: &[u8]) -> usize
     }
 }
 
-/// The text behind the word at its front, if that has fewer than `LANES` bytes. `None` says nothing about the text.
+/// The text after the word at its front, if that has fewer than `LANES` bytes. `None` says nothing about the text.
 #[inline(always)]
 fn behind_short_word(bytes: &[u8]) -> Option<&[u8]>
     ensures word { IfSome result (λ rest. 0 < length (first_word bytes.now)) }
@@ -180,7 +180,7 @@ fn behind_short_word(bytes: &[u8]) -> Option<&[u8]>
     }
 }
 
-/// The coordinate that the word at the front of a text stands for, and the text behind the word. `None` says nothing about
+/// The coordinate that the word at the front of a text stands for, and the text after the word. `None` says nothing about
 /// the text.
 #[inline(always)]
 fn behind_front(bytes: &[u8], unit: Unit) -> Option<(i32, &[u8])>
@@ -196,7 +196,7 @@ fn behind_front(bytes: &[u8], unit: Unit) -> Option<(i32, &[u8])>
     }
 }
 
-/// The bytes at the front of a text that stand for a separator, with the white space behind them, of which there has to be
+/// The bytes at the front of a text that stand for a separator, with the white space after them, of which there has to be
 /// some.
 fn separator_at(text: &[u8], separator: Separator) -> Option<&[u8]>
     ensures { IfSome result (λ bytes. IsSeparator (separator_tokens separator) bytes.now) }
@@ -214,7 +214,7 @@ fn separator_at(text: &[u8], separator: Separator) -> Option<&[u8]>
 }
 
 /// The number of bytes of a closing up to the end of its last word, if its keywords stand there, and there is more
-/// behind it.
+/// after it.
 fn words_len(closing: &[u8]) -> Option<usize>
     ensures { IfSome result (λ n. IsClosing n closing.now) }
 {
@@ -227,7 +227,7 @@ fn words_len(closing: &[u8]) -> Option<usize>
 }
 
 impl<'t> Layout<'t> {
-    /// The layout of the facet at the front of a text, if one stands there. The unit of its numbers doesn't matter.
+    /// The layout of the facet at the front of a text, if one stands there. The unit of its numbers does not matter.
     pub(crate) fn of(text: &'t [u8]) -> Option<Layout<'t>> {
         let opening = separator_at(text, Separator::Opening)?;
         let mut reader = Reader::new(text, Unit::Millimetre);
@@ -253,7 +253,7 @@ impl<'t> Layout<'t> {
     }
 }
 
-/// The facet in this layout at the front of a text, and the text behind it, which is not empty. `None` says nothing about
+/// The facet in this layout at the front of a text, and the text after it, which is not empty. `None` says nothing about
 /// the text.
 #[inline(never)]
 fn facet_by_layout<'t>(
@@ -283,7 +283,7 @@ fn facet_by_layout<'t>(
     Some((Facet::of(a, b, c), rest))
 }
 
-/// The whole facet at the front of a text, from `facet` to `endfacet`, and the text behind it, which is not empty. It is
+/// The whole facet at the front of a text, from `facet` to `endfacet`, and the text after it, which is not empty. It is
 /// read by a layout, where it has it, and else word by word. `None` says nothing about the text.
 #[inline(always)]
 pub(crate) fn front_facet<'t>(

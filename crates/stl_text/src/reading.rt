@@ -18,7 +18,7 @@ use std::thread::Threads;
 ///
 /// # Errors
 /// A text that spells no mesh has exactly one fault, which is the answer unless memory runs out. It is at the first
-/// word that doesn't fit:
+/// word that does not fit:
 /// - `Expected` where a keyword is wanted there,
 /// - `Number` where a coordinate of a vertex is wanted there,
 /// - `TooMany` where the word is the `facet` of one facet more than `limit`, over all solids,

@@ -17,13 +17,13 @@ use std::thread::{Threads, map_chunks};
 /// The keyword that ends a facet, in capitals.
 const END_FACET_IN_CAPITALS: &[u8] = b"ENDFACET";
 
-/// Facets that stand one behind another in a text, in one solid or in several.
+/// Facets that stand one after another in a text, in one solid or in several.
 #[derive(Drop)]
 pub(crate) struct Run<'t, A: Allocator> {
     /// The text from where the run begins.
     pub(crate) from: &'t [u8],
     pub(crate) facets: Vec<Facet, A>,
-    /// The text behind the run.
+    /// The text after the run.
     pub(crate) to: &'t [u8],
 }
 
@@ -48,7 +48,7 @@ impl<'t, A: Allocator + Copy + Send + Sync> Run<'t, A> {
     }
 }
 
-/// The text behind the first `endfacet`, or else `ENDFACET`, that begins in a part of it, or its end if none does.
+/// The text after the first `endfacet`, or else `ENDFACET`, that begins in a part of it, or its end if none does.
 fn behind_end_facet<'t>(text: &'t [u8], start: usize, len: usize) -> &'t [u8]
     requires { start + len ≤ length text.now }
     ensures { IsRestOf text.now result.now }
@@ -66,13 +66,13 @@ fn behind_end_facet<'t>(text: &'t [u8], start: usize, len: usize) -> &'t [u8]
     }
 }
 
-/// The layout of the facet that stands behind the first `endfacet` of a text, if one does.
+/// The layout of the facet that stands after the first `endfacet` of a text, if one does.
 pub(crate) fn layout_within(text: &[u8]) -> Option<Layout<'_>> {
     Layout::of(behind_end_facet(text, 0, text.len()))
 }
 
 /// Adds the facet at the front of a text to those of a run, or passes the end of a solid and the beginning of the next:
-/// answers the text behind it. `None` where there is neither, no memory, or at most `left` bytes behind it.
+/// answers the text after it. `None` where there is neither, no memory, or at most `left` bytes after it.
 fn run_on<'t, A: Allocator>(
     facets: &mut Vec<Facet, A>,
     to: &'t [u8],
@@ -103,7 +103,7 @@ fn run_on<'t, A: Allocator>(
     Some(rest)
 }
 
-/// The run of a part of a text, from behind the first `endfacet` that begins in the part. The facet that ends after the
+/// The run of a part of a text, from after the first `endfacet` that begins in the part. The facet that ends after the
 /// part is left to the reader of the text, which then stands where the next part's run begins.
 fn run_of<'t, A: Allocator>(
     alloc: A,

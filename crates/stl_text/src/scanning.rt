@@ -36,7 +36,7 @@ pub(crate) fn word_len(bytes: &[u8]) -> usize
     bytes.iter().take_while(|b| !is_white(**b)).count()
 }
 
-/// The text behind the white space at the front.
+/// The text after the white space at the front.
 #[inline(always)]
 pub(crate) fn skip_space(bytes: &[u8]) -> &[u8]
     ensures { result.now ≡ after_space bytes.now }
@@ -45,7 +45,7 @@ pub(crate) fn skip_space(bytes: &[u8]) -> &[u8]
     bytes.split_at(n).1
 }
 
-/// The text behind the white space at the front, of which one byte at most is skipped.
+/// The text after the white space at the front, of which one byte at most is skipped.
 #[inline(always)]
 pub(crate) fn skip_blank(bytes: &[u8]) -> &[u8]
     ensures { after_space result.now ≡ after_space bytes.now }
@@ -56,7 +56,7 @@ pub(crate) fn skip_blank(bytes: &[u8]) -> &[u8]
     }
 }
 
-/// The first word, which is empty at the end of the text, and the text behind it.
+/// The first word, which is empty at the end of the text, and the text after it.
 pub(crate) fn split_word(bytes: &[u8]) -> (&[u8], &[u8])
     ensures word { result.0.now ≡ first_word bytes.now }
     ensures rest { result.1.now ≡ after_word bytes.now }
@@ -109,7 +109,7 @@ pub(crate) fn ends_word(bytes: &[u8]) -> bool
     }
 }
 
-/// The text behind the first word, if that is this keyword. `None` says nothing about the text.
+/// The text after the first word, if that is this keyword. `None` says nothing about the text.
 #[inline(always)]
 pub(crate) fn behind_keyword<'t>(bytes: &'t [u8], text: &[u8]) -> Option<&'t [u8]>
     requires lower { str_to_ascii_lowercase text.now ≡ text.now }
@@ -130,7 +130,7 @@ pub(crate) fn behind_keyword<'t>(bytes: &'t [u8], text: &[u8]) -> Option<&'t [u8
     }
 }
 
-/// The coordinate that the first word stands for, and the text behind the word. `None` says nothing about the text.
+/// The coordinate that the first word stands for, and the text after the word. `None` says nothing about the text.
 #[inline(always)]
 pub(crate) fn behind_coordinate(bytes: &[u8], unit: Unit) -> Option<(i32, &[u8])>
     ensures read { IfSome result (λ found. coordinate_of unit (first_word bytes.now) ≡ Ok found.0) }

@@ -48,7 +48,7 @@ pub(crate) enum Stage {
     Between { some: bool },
     /// `facet` or `endsolid` is wanted.
     Facets,
-    /// In a facet, behind `words` of the words that follow `facet`. The coordinates that were read are those of
+    /// In a facet, after `words` of the words that follow `facet`. The coordinates that were read are those of
     /// `facet`.
     Inside { words: usize, facet: Facet },
 }
@@ -56,9 +56,9 @@ pub(crate) enum Stage {
 /// What a word does.
 #[derive(Clone, Copy, Debug, PartialEq, Eq)]
 pub(crate) enum Step {
-    /// The reading stands there behind the word.
+    /// The reading stands there after the word.
     To(Stage),
-    /// It stands there behind the rest of the word's line.
+    /// It stands there after the rest of the word's line.
     Line(Stage),
     /// The word ends this facet.
     Whole(Facet),
@@ -69,7 +69,7 @@ pub(crate) enum Step {
 pub(crate) enum Place {
     /// Between two words, or in one.
     Word(Stage),
-    /// In the rest of a line, with this stage behind it.
+    /// In the rest of a line, with this stage after it.
     Line(Stage),
     /// At a fault.
     Stopped(StlFault),
@@ -125,7 +125,7 @@ fn unread_facet() -> Facet {
     Facet::of(origin, origin, origin)
 }
 
-/// What is wanted in a facet behind `words` of the words that follow `facet`.
+/// What is wanted in a facet after `words` of the words that follow `facet`.
 fn wanted_behind(words: usize) -> Wanted
     ensures plain { IsPlain result }
     ensures wanted { words ≤ LAST_WORD → IsWantedAt words result }
@@ -154,7 +154,7 @@ fn wanted_behind(words: usize) -> Wanted
     }
 }
 
-/// Reads a word of a facet behind `words` of the words that follow `facet`: the facet with this word's coordinate.
+/// Reads a word of a facet after `words` of the words that follow `facet`: the facet with this word's coordinate.
 fn read_inside(
     words: usize,
     facet: Facet,

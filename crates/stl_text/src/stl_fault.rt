@@ -1,4 +1,4 @@
-//! The fault of a text: what is wrong at the first word that doesn't fit, and where that is.
+//! The fault of a text: what is wrong at the first word that does not fit, and where that is.
 ghost use Rattle.std.specs.Prelude.{◌≡◌};
 ghost use Rattle.stl_text.specs.declared.stl_fault.StlFault.TheVariants.{Memory};
 

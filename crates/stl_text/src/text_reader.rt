@@ -91,7 +91,7 @@ fn read_word<A: Allocator>(
 
 /// A reader of an ASCII STL text that arrives in pieces, cut anywhere: also in a word, a number, a name or a line break.
 /// It keeps the facets until they are taken and, between two pieces, no more of the text than the front of a word that
-/// isn't whole yet. Names, rests of lines and white space take nothing, and nor does what follows a fault. A word is kept
+/// is not whole yet. Names, rests of lines and white space take nothing, and nor does what follows a fault. A word is kept
 /// whole, however long it is.
 #[derive(Drop)]
 pub struct TextReader<A: Allocator> {
@@ -103,7 +103,7 @@ pub struct TextReader<A: Allocator> {
     count: usize,
     /// Where the reading stands.
     place: Place,
-    /// The front of a word that isn't whole yet.
+    /// The front of a word that is not whole yet.
     held: Vec<u8, A>,
     /// The facets so far that were not taken.
     facets: Vec<Facet, A>,
@@ -135,7 +135,7 @@ impl<A: Allocator + Copy> TextReader<A> {
 }
 
 impl<A: Allocator> TextReader<A> {
-    /// Reads the next piece of the text. Where it is cut from the next doesn't matter.
+    /// Reads the next piece of the text. Where it is cut from the next does not matter.
     pub fn feed(&mut self, piece: &[u8])
         ensures { (limit : ℕ) (unit : LengthUnit) (taken : List Facet) (fed : List ℕ) → IsAfter limit unit taken self.old fed
             → IsAfter limit unit taken self.new (fed ++ piece.now) }
@@ -163,7 +163,7 @@ impl<A: Allocator> TextReader<A> {
     }
 
     /// Jumps over a run, if it begins where this part does, `facet` or `endsolid` is wanted here and the limit has room for
-    /// its facets: answers the text behind it. Else it answers the part.
+    /// its facets: answers the text after it. Else it answers the part.
     fn jump<'p>(&mut self, part: &'p [u8], run: &Run<'p, A>) -> &'p [u8]
         requires free { 0 < length part.now → self.old.held ≡ [] }
         ensures read { (limit : ℕ) (unit : LengthUnit) (taken : List Facet) (fed piece : List ℕ)
@@ -221,7 +221,7 @@ impl<A: Allocator> TextReader<A> {
     ///
     /// # Errors
     /// A text that spells no mesh has exactly one fault, which is the answer unless memory runs out, as of
-    /// [`read_stl_at_most`](crate::read_stl_at_most). `Memory` comes only if an allocation failed, or behind
+    /// [`read_stl_at_most`](crate::read_stl_at_most). `Memory` comes only if an allocation failed, or after
     /// `usize::MAX` bytes.
     pub fn finish(self) -> Result<Vec<Facet, A>, StlFault>
         ensures found { (limit : ℕ) (unit : LengthUnit) (taken : List Facet) (fed : List ℕ) → IsAfter limit unit taken self fed
@@ -254,7 +254,7 @@ impl<A: Allocator> TextReader<A> {
         }
     }
 
-    /// Goes on with a word that the last piece cut: answers the text behind it.
+    /// Goes on with a word that the last piece cut: answers the text after it.
     fn resume<'p>(&mut self, piece: &'p [u8]) -> &'p [u8]
         ensures read { ReadsOn self.old piece.now self.new result.now }
         ensures free { 0 < length result.now → self.new.held ≡ [] }
@@ -278,7 +278,7 @@ impl<A: Allocator> TextReader<A> {
         rest
     }
 
-    /// Reads what stands at the front of a part of a text that is not empty: answers the text behind it.
+    /// Reads what stands at the front of a part of a text that is not empty: answers the text after it.
     fn advance<'p>(&mut self, part: &'p [u8], layout: &Option<Layout<'_>>) -> &'p [u8]
         requires free { self.old.held ≡ [] }
         requires some { 0 < length part.now }
@@ -318,7 +318,7 @@ impl<A: Allocator> TextReader<A> {
         behind
     }
 
-    /// Reads a whole facet at the front, if there is one and the limit has room for it: answers the text behind it.
+    /// Reads a whole facet at the front, if there is one and the limit has room for it: answers the text after it.
     #[inline(always)]
     fn facet<'p>(&mut self, part: &'p [u8], layout: &Option<Layout<'_>>) -> Option<&'p [u8]>
         requires free { self.old.held ≡ [] }
@@ -343,7 +343,7 @@ impl<A: Allocator> TextReader<A> {
         Some(rest)
     }
 
-    /// Reads the word at the front, or keeps it where the part ends in it: answers the text behind it.
+    /// Reads the word at the front, or keeps it where the part ends in it: answers the text after it.
     fn word<'p>(&mut self, stage: Stage, part: &'p [u8]) -> &'p [u8]
         requires free { self.old.held ≡ [] }
         requires some { 0 < length part.now }
@@ -383,7 +383,7 @@ impl<A: Allocator> TextReader<A> {
         self.place
     }
 
-    /// Reads the word that is held, behind which the text so far has `left` bytes.
+    /// Reads the word that is held, after which the text so far has `left` bytes.
     fn read_held(&mut self, stage: Stage, left: usize)
         ensures read { (taken : List Facet) (text behind : List ℕ)
             → AtWord (length taken + self.old.limit) self.old.unit stage (taken ++ self.old.facets) text behind self.old.held

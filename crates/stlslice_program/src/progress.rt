@@ -59,7 +59,7 @@ impl Display for BarText {
             f.write_str("\r")?;
             self.fmt_cells(f)?;
             self.fmt_counts(f)?;
-            // clears what a longer text left behind
+            // clears what a longer text left there
             f.write_str("\x1b[K")
         } else {
             f.write_str("stlslice: ")?;

@@ -56,7 +56,7 @@ signed_sum w up down d1 d2 p1 p2 (winds_not e) = inl e
 pub span_positive : (u v : Point) (z : ℤ) → Rises u v z → pos 0 <ℤ cut_d u v
 span_positive u v z h = let a = h.low in let b = h.high in omega (arith, ints)
 
--- where the wind isn't 0, its product with the denominator is above 0
+-- where the wind is not 0, its product with the denominator is above 0
 pub wind-den : (t : Facet) (r s p q : Point) (y z : ℤ) → Passes t r s p q z → (wind t y z ≡ pos 0) ⊎ (pos 0 <ℤ (wind t y z *ℤ den_of r s p q z))
 wind-den t r s p q y z h =
     subst (λ d. (wind t y z ≡ pos 0) ⊎ (pos 0 <ℤ (wind t y z *ℤ d))) (sym (den-left r s p q y z))
@@ -65,7 +65,7 @@ wind-den t r s p q y z h =
 turned : (w h n : ℤ) → w *ℤ (h *ℤ n) ≡ h *ℤ (w *ℤ n)
 turned w h n = identity (w ∷ h ∷ n ∷ []) (search reads depth 40) refl
 
--- where the wind isn't 0, its product with the normal's x part is above 0, and the lone corner isn't at the height z
+-- where the wind is not 0, its product with the normal's x part is above 0, and the lone corner is not at the height z
 pub wind-normal : (t : Facet) (r s p q : Point) (y z : ℤ) → (h : Passes t r s p q z) → (wind t y z ≡ pos 0) ⊎ ((pos 0 <ℤ (wind t y z *ℤ normal_x t)) × (pos 0 <ℤ h.height))
 wind-normal t r s p q y z h = by (wind-den t r s p q y z h)
   where
@@ -108,7 +108,7 @@ pub wind-above : (t : Facet) (y z : ℤ) → z <ℤ t.a.z → z <ℤ t.b.z → z
 unfolding wind
 wind-above t y z a b c = no_turns (turn t.a t.b y z) (turn t.b t.c y z) (turn t.c t.a y z) (turn_of-above t.a.z t.b.z z _ a b) (turn_of-above t.b.z t.c.z z _ b c) (turn_of-above t.c.z t.a.z z _ c a)
 
--- ---- wind is -1, 0 or 1; where it isn't 0, its product with the normal's x part is above 0
+-- ---- wind is -1, 0 or 1; where it is not 0, its product with the normal's x part is above 0
 case_unit : (w up down : ℤ) → WindCase w up down → (w ≡ pos 0) ⊎ (w ≡ pos 1) ⊎ (w ≡ negsuc 0)
 case_unit w up down (winds_up e a b) = inr (inl e)
 case_unit w up down (winds_down e a b) = inr (inr e)
@@ -185,7 +185,7 @@ meets-negated t num den y z h = record {
   in_plane = negated (normal_x t) (normal_y t) (normal_z t) num den t.a.x (y -ℤ t.a.y) (z -ℤ t.a.z) ∙ ap neg_ℤ h.in_plane;
 }
 
--- where the wind isn't 0, the plane meets the line through (x, y, z) along x ahead of x exactly where wind * volume is above 0
+-- where the wind is not 0, the plane meets the line through (x, y, z) along x ahead of x exactly where wind * volume is above 0
 pub ahead : (t : Facet) (num den x y z : ℤ) → Winding t (wind t y z) → pos 0 <ℤ den → Meets t num den y z → ((x *ℤ den) <ℤ num) ↔ (pos 0 <ℤ (wind t y z *ℤ volume t (record { x = x; y = y; z = z })))
 ahead t num den x y z h p m = (λ k. together n den (num -ℤ x *ℤ den) (w *ℤ v) h.normal p e (difference_from_lt (x *ℤ den) num k), λ k. lt_from_difference (x *ℤ den) num (together den n (w *ℤ v) (num -ℤ x *ℤ den) p h.normal (sym e) k))
   where

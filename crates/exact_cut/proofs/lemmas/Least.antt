@@ -1,4 +1,4 @@
--- The first column that isn't left of a crossing, by one division that rounds up.
+-- The first column that is not left of a crossing, by one division that rounds up.
 use Rattle.std.proofs.Common.{◌≡◌, ℕ, ◌≤◌, Bool, true, false, nat_lt, if◌then◌else◌, negsuc, ◌<◌, ◌↔◌, ◌⊎◌, inl, inr, [], ◌∷◌, ℤ, pos, ◌+ℤ◌, ◌-ℤ◌, ◌*ℤ◌, ◌≤ℤ◌, ◌<ℤ◌, refl, sym, subst, arith}
 use Rattle.std.proofs.lemmas.Int.{ints}
 use Rattle.exact_int.proofs.lemmas.Identity.{reads, identity}
@@ -9,7 +9,7 @@ use Rattle.exact_cut.specs.Column.{IsLeastColumn, clamp}
 pub record IsCeiling (i num den first step : ℤ) : Type 0 where
   pub least : (q : ℤ) → (i ≤ℤ q) ↔ ((num -ℤ first *ℤ den) ≤ℤ (q *ℤ (pos 2 *ℤ step *ℤ den)))
 
--- centre k isn't left of the crossing exactly where i is at most k
+-- centre k is not left of the crossing exactly where i is at most k
 moved : (first step k den : ℤ) → (first +ℤ pos 2 *ℤ step *ℤ k) *ℤ den ≡ first *ℤ den +ℤ k *ℤ (pos 2 *ℤ step *ℤ den)
 moved first step k den = identity (first ∷ step ∷ k ∷ den ∷ []) (search reads depth 40) refl
 

@@ -142,7 +142,7 @@ module _ (xu yu xd yd tu td su sd w wy v : ℤ) (w_is : w ≡ tu +ℤ td) (wy_is
   quadrants-flat z1 z2 (up_no e1 h1) (down_no e2 h2) (up_no e3 h3) (down_yes e4 h4) = absurd (let z = sym (sum_neg wy su sd (pos 0) (negsuc 0) (pos 1) wy_is e3 e4 refl) ∙ z2 in omega (arith, ints))
   quadrants-flat z1 z2 (up_no e1 h1) (down_no e2 h2) (up_no e3 h3) (down_no e4 h4) = collect (taken w v) (taken wy v) (where_not_zero tu su) (where_not_zero td sd) (pos 0) (pos 0) (pos 0) (pos 0) (taken_none w v z1) (taken_none wy v z2) (λ i. where_not_zero (e1 i) (e3 i)) (λ i. where_not_zero (e2 i) (e4 i)) refl
 
-  -- where v has the sign of the cross product of the two cut points, and the step doesn't pass the origin
+  -- where v has the sign of the cross product of the two cut points, and the step does not pass the origin
   pub quadrants : SameSign (xd *ℤ yu -ℤ yd *ℤ xu) v
       → (xd *ℤ yu -ℤ yd *ℤ xu ≡ pos 0 → xd ≤ℤ pos 0 → yd ≤ℤ pos 0 → pos 0 <ℤ xu → pos 0 <ℤ yu → ⊥)
       → (xd *ℤ yu -ℤ yd *ℤ xu ≡ pos 0 → xu ≤ℤ pos 0 → yu ≤ℤ pos 0 → pos 0 <ℤ xd → pos 0 <ℤ yd → ⊥)

@@ -1,4 +1,4 @@
--- The rays along x and along y from one point: for a facet that doesn't touch the point, their hits differ by a sum over its edges.
+-- The rays along x and along y from one point: for a facet that does not touch the point, their hits differ by a sum over its edges.
 use Rattle.std.proofs.Common.{◌≡◌, ◌⊎◌, inl, inr, zero, suc, [], ◌∷◌, ℤ, pos, negsuc, ◌+ℤ◌, ◌-ℤ◌, ◌*ℤ◌, neg_ℤ, ◌≤ℤ◌, ◌<ℤ◌, refl, sym, ◌∙◌, ap, subst, arith}
 use Rattle.std.proofs.lemmas.Int.{ints}
 use Rattle.exact_int.proofs.lemmas.Identity.{reads, identity}
@@ -109,7 +109,7 @@ add_nothing a b h n e f = f ∙ ap (λ i. b +ℤ i *ℤ n) e ∙ identity (b ∷
 take_nothing : (a b h n : ℤ) → h ≡ pos 0 → a ≡ b +ℤ neg_ℤ (h *ℤ n) → a ≡ b
 take_nothing a b h n e f = f ∙ ap (λ i. b +ℤ neg_ℤ (i *ℤ n)) e ∙ identity (b ∷ n ∷ []) (search reads depth 40) refl
 
--- the two cut points don't lie on opposite sides of (x, y), which is what a facet that doesn't touch (x, y, z) gives
+-- the two cut points do not lie on opposite sides of (x, y), which is what a facet that does not touch (x, y, z) gives
 pub record Apart (r s p q : Point) (x y z : ℤ) : Type 0 where
   pub first : (cut_x r s z -ℤ x *ℤ cut_d r s) *ℤ (cut_y p q z -ℤ y *ℤ cut_d p q) -ℤ (cut_y r s z -ℤ y *ℤ cut_d r s) *ℤ (cut_x p q z -ℤ x *ℤ cut_d p q) ≡ pos 0
       → (cut_x r s z -ℤ x *ℤ cut_d r s) ≤ℤ pos 0 → (cut_y r s z -ℤ y *ℤ cut_d r s) ≤ℤ pos 0 → pos 0 <ℤ (cut_x p q z -ℤ x *ℤ cut_d p q) → pos 0 <ℤ (cut_y p q z -ℤ y *ℤ cut_d p q) → ⊥

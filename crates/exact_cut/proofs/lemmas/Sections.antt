@@ -98,7 +98,7 @@ module _ (t : Facet) (y z : ℤ) (s : Section) (l : IsSection t z s) where
 pub crosses_as : {t : Facet} {y z sign num den sign' num' den' : ℤ} → sign' ≡ sign → num' ≡ num → den' ≡ den → Crosses t y z sign num den → Crosses t y z sign' num' den'
 crosses_as {t} {y} {z} {sign} {num} {den} {sign'} {num'} {den'} e f g c = crosses_by t y z sign num den sign' num' den' (sym e) (sym f) (sym g) c
 
--- the winding isn't 0 there
+-- the winding is not 0 there
 pub crossed : {t : Facet} {y z sign num den : ℤ} → Crosses t y z sign num den → wind t y z ≡ pos 0 → ⊥
 crossed {t} {y} {z} c e = by_unit (wind t y z) c.winding.unit e
   where

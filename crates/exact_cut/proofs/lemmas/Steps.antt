@@ -18,7 +18,7 @@ use Rattle.exact_cut.proofs.lemmas.Quadrants.{taken, taken_none}
 use Rattle.exact_cut.proofs.lemmas.Rays.{hit-taken, hit_y-taken}
 use Rattle.exact_cut.proofs.lemmas.Touching.{on_a, on_b, on_c, not_negative_a, not_negative_b, not_negative_c, plus, below, not_below, m1, n1, m2, n2, m1_in, n1_in, m2_in, n2_in, total, corners}
 
--- by whole numbers that aren't negative
+-- by whole numbers that are not negative
 between_from : (t : Facet) (p q : Point) (l m n i j : ℤ) → pos 0 ≤ℤ l → pos 0 ≤ℤ m → pos 0 ≤ℤ n → pos 0 <ℤ (l +ℤ m +ℤ n) → pos 0 ≤ℤ i → pos 0 ≤ℤ j → pos 0 <ℤ (i +ℤ j)
     → (i +ℤ j) *ℤ (l *ℤ t.a.x +ℤ m *ℤ t.b.x +ℤ n *ℤ t.c.x) ≡ (l +ℤ m +ℤ n) *ℤ (i *ℤ p.x +ℤ j *ℤ q.x)
     → (i +ℤ j) *ℤ (l *ℤ t.a.y +ℤ m *ℤ t.b.y +ℤ n *ℤ t.c.y) ≡ (l +ℤ m +ℤ n) *ℤ (i *ℤ p.y +ℤ j *ℤ q.y)

@@ -16,7 +16,7 @@ use Rattle.exact_cut.proofs.lemmas.Quadrants.{taken_none}
 use Rattle.exact_cut.proofs.lemmas.Ahead.{Sides, all_below, all_above, between, sides, wind-below, wind-above}
 use Rattle.exact_cut.proofs.lemmas.Rays.{Apart, hits-differ, hit-taken, hit_y-taken, wind_y-is, corner-quiet, turn_x-quiet}
 
--- by whole numbers that aren't negative
+-- by whole numbers that are not negative
 touches_from : (t : Facet) (p : Point) (l m n : ℤ) → pos 0 ≤ℤ l → pos 0 ≤ℤ m → pos 0 ≤ℤ n → pos 0 <ℤ (l +ℤ m +ℤ n)
     → l *ℤ t.a.x +ℤ m *ℤ t.b.x +ℤ n *ℤ t.c.x ≡ (l +ℤ m +ℤ n) *ℤ p.x
     → l *ℤ t.a.y +ℤ m *ℤ t.b.y +ℤ n *ℤ t.c.y ≡ (l +ℤ m +ℤ n) *ℤ p.y
@@ -192,7 +192,7 @@ module _ (t : Facet) (c : Point) (d u : ℕ) (falls : Rises (finish t d) (start 
       four : (a b c d : ℤ) → pos 0 ≤ℤ a → pos 0 ≤ℤ d → pos 0 <ℤ (b +ℤ c) → pos 0 <ℤ ((a +ℤ b) +ℤ (c +ℤ d))
       four a b c d h k l = omega (arith, ints)
 
--- ---- a facet that doesn't touch the point
+-- ---- a facet that does not touch the point
 opposite-1 : (a b c d : ℤ) → c *ℤ a +ℤ neg_ℤ a *ℤ c ≡ pos 0
 opposite-1 a b c d = identity (a ∷ c ∷ []) (search reads depth 40) refl
 

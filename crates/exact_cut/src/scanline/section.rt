@@ -23,7 +23,7 @@ pub(crate) struct Section {
 }
 
 impl Section {
-    /// The segment in which the plane at the height `z2` cuts a facet, or `None` where it doesn't cut the facet.
+    /// The segment in which the plane at the height `z2` cuts a facet, or `None` where it does not cut the facet.
     pub(crate) fn at_height(f: &Facet, z2: i64) -> Option<Section>
         requires { IsAtMost CENTRE_LIMIT z2 }
         ensures { MatchOption result ((y : ℤ) → wind (twice f.now) y z2 ≡ pos 0)

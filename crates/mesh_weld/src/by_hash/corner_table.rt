@@ -150,7 +150,7 @@ fn leads_to(points: &[Point], id: u32, point: Point) -> bool
     (id as usize) < points.len() && points[id as usize] == point
 }
 
-/// The id of a point: its number among the points so far, behind which a new point is put. A right guess saves the search.
+/// The id of a point: its number among the points so far, after which a new point is put. A right guess saves the search.
 fn id_of<A: Allocator + Copy>(
     table: &mut CornerTable<A>,
     points: &mut Vec<Point, A>,

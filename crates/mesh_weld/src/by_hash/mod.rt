@@ -106,7 +106,7 @@ pub(crate) fn group_facets_by<R: Threads + Sync, A: Allocator + Copy + Send + Sy
 }
 
 /// The points in their order, and the facets by height; `None` where the points have none. The heights go first, since
-/// they leave less behind.
+/// they leave less memory in use.
 fn orders_of<A: Allocator + Copy>(
     alloc: A,
     points: &[Point],

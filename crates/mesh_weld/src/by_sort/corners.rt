@@ -34,7 +34,7 @@ fn list_corners<A: Allocator + Copy>(
     Ok(list)
 }
 
-/// Puts a corner behind the others, with the next slot.
+/// Puts a corner after the others, with the next slot.
 fn push_corner<A: Allocator>(list: &mut Vec<Corner, A>, point: Point) -> Result<(), AllocError>
     requires { vec_len list.old ≤ CORNER_LIMIT }
     ensures { OnOk result (list.new.items ≡ list.old.items ++ (record { point = point; slot = vec_len list.old }) ∷ []) }
@@ -80,7 +80,7 @@ fn number_sorted<A: Allocator + Copy>(
     Ok(CornerNumbers { points, numbers })
 }
 
-/// Puts a point behind the others, unless it is the last of them.
+/// Puts a point after the others, unless it is the last of them.
 fn add_point<A: Allocator>(points: &mut Vec<Point, A>, point: Point) -> Result<(), AllocError>
     ensures { OnOk result (IsAdded points.old.items point points.new.items) }
 {

@@ -26,7 +26,7 @@ fn list_half_edges<A: Allocator + Copy>(
     Ok(list)
 }
 
-/// Puts a half-edge behind the others, with the next slot.
+/// Puts a half-edge after the others, with the next slot.
 fn push_half_edge<A: Allocator>(
     list: &mut Vec<HalfEdge, A>,
     from: u32,

@@ -43,7 +43,7 @@ unfolding magnitude
 IsCapped-up m r a (pos k) above e is = subst (λ a. IsCapped (m * 10 ^ a) r) e is
 IsCapped-up m r a (negsuc k) above e is = absurd (omega (arith, ints))
 
--- The digits of n behind those of m are dropped; if there are any, m is long.
+-- The digits of n after those of m are dropped; if there are any, m is long.
 module _ (m n j : ℕ) (low : m * 10 ^ j ≤ n) (high : n < (m + 1) * 10 ^ j) (long : 0 < j → LEADING_ROOM ≤ m) where
   whole : j ≡ 0 → n ≡ m
   whole e =

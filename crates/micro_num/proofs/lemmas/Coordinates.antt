@@ -1,4 +1,4 @@
--- The coordinate that a word stands for, from the size of the text behind its sign.
+-- The coordinate that a word stands for, from the size of the text after its sign.
 use Rattle.std.proofs.Common.{◌≡◌, ◌≢◌, ◌↔◌, ◌⊎◌, inl, inr, ℕ, zero, suc, ◌+◌, ◌*◌, ◌-◌, ◌<◌, ◌≤◌, Bool, true, false, List, [], ◌∷◌, ◌++◌, take, length, length-append, append_assoc, append-nil, ℤ, pos, negsuc, neg_ℤ, ◌+ℤ◌, ◌-ℤ◌, arith, ap, subst, sym, ◌∙◌, refl}
 use Rattle.std.specs.Prelude.{Option, Some, None, Result, Ok, Err, unsigned_abs, ◌&&◌, nat_lt, nat_le, if◌then◌else◌}
 use Rattle.std.specs.Char.{is_ascii_digit}
@@ -80,7 +80,7 @@ unsigned_text n no_sign =
     let behind : List ℕ = n.whole ++ (fraction_text n.fraction ++ exponent_text n.exponent) in
     regrouped (sign_text n.sign) n.whole (fraction_text n.fraction) (exponent_text n.exponent) ∙ ap (λ s. sign_text s ++ behind) no_sign
 
--- a number at the front with nothing behind it is the number that a scan finds in the text
+-- a number at the front with nothing after it is the number that a scan finds in the text
 pub whole_front : (unit : LengthUnit) (text rest : List ℕ) (r : ℕ) → IsNumberFront unit text rest r → length rest ≡ 0
     → (is_numeral (scanned unsigned text) ≡ true) × IsCapped (size unit (scanned unsigned text)) r
 whole_front unit text rest r front none =
@@ -240,7 +240,7 @@ module _ (unit : LengthUnit) (word : List ℕ) where
           spelled_coordinate n is spelled short
           ∙ ap (λ b. if b then Ok (micro unit n) else Err OutOfRange) (lt-leb (unsigned_abs (micro unit n)) COORDINATE_LIMIT far)
 
--- A number at the front of a text, behind an optional sign, stands for its size with that sign.
+-- A number at the front of a text, after an optional sign, stands for its size with that sign.
 module _ (unit : LengthUnit) (text rest : List ℕ) (r : ℕ) (front : IsNumberFront unit (after_sign text) rest r) (short : length text - length rest ≤ 255) where
   front_signed : coordinate_of unit (take (length text - length rest) text) ≡ signed (sign_of text) (size_or_fault (size unit front.number))
   front_signed =
@@ -276,7 +276,7 @@ module _ (unit : LengthUnit) (text rest : List ℕ) (r : ℕ) (front : IsNumberF
       by_cases (inr within) = absurd (omega (arith, front.capped.within within))
 
 -- The bytes are a number in range, and then no byte of a number. The text is the front of the bytes, as long as a number
--- may be, so it begins in the same way. A reader that finds every unsigned number finds this one behind its sign.
+-- may be, so it begins in the same way. A reader that finds every unsigned number finds this one after its sign.
 pub reads_number : (unit : LengthUnit) (bytes word rest text digits : List ℕ) (limit : ℕ) (z : ℤ) (P : List ℕ → Type 0) → bytes ≡ word ++ rest
     → IsEnded rest → coordinate_of unit word ≡ Ok z → text ≡ take limit bytes → (length word ≤ 255 → length word ≤ limit) → digits ≡ after_sign text
     → ((n : Numeral) (left : List ℕ) → IsNumeral n → n.sign ≡ unsigned → digits ≡ numeral_text n ++ left → IsEnded left → P left)

@@ -45,7 +45,7 @@ marked_rest bytes x rest is spelled ended mark text ds begins marks behind = by_
         let some : 0 < position_or_len is_other ds = omega (arith, ltb-true 0 (length e.digits) parts.0) in
         (some, ap (from_first is_other) ds_is ∙ from-is is_other e.digits rest clear starts)
 
--- all digits behind a mark belong to the exponent
+-- all digits after a mark belong to the exponent
 pub front_exponent : (bytes : List ℕ) (mark : ℕ) (text ds : List ℕ) (n : ℕ) (e : ℤ) → bytes ≡ mark ∷ text → ds ≡ after_sign text
     → is_exponent_mark mark ≡ true → n ≡ position_or_len is_other ds → 0 < n → IsNear e (with_sign (sign_of text) (digits_value (take n ds)))
     → IsExponentFront bytes (drop n ds) e

@@ -16,7 +16,7 @@ abbrev pub Starts : (ℕ → Bool) → List ℕ → Type 0
 Starts p [] = Unit {0}
 Starts p (x ∷ xs) = p x ≡ true
 
--- the first byte that passes a test is behind those that don't
+-- the first byte that passes a test is after those that do not
 pub place : (p : ℕ → Bool) (xs ys : List ℕ) → list_all (λ x. not (p x)) xs ≡ true → Starts p ys
     → position_or_len p (xs ++ ys) ≡ length xs
 place p [] [] clear starts = refl
@@ -61,7 +61,7 @@ pub exponent-text : (bytes : List ℕ) → exponent_text (exponent_of bytes) ≡
 exponent-text [] = refl
 exponent-text (mark ∷ rest) = ap {B = List ℕ} (λ r. mark ∷ r) (sign-text rest)
 
--- the four parts of a text, from behind
+-- the four parts of a text, grouped from the right
 pub regrouped : (s w f e : List ℕ) → s ++ w ++ f ++ e ≡ s ++ (w ++ (f ++ e))
 regrouped s w f e = append_assoc (s ++ w) f e ∙ append_assoc s w (f ++ e)
 
@@ -171,7 +171,7 @@ fraction_clear : (fraction : Option (List ℕ)) → list_all is_ascii_digit (fra
 fraction_clear None h = refl
 fraction_clear (Some digits) h = all-weaker is_ascii_digit (λ x. not (is_exponent_mark x)) digit-mark digits h
 
--- the first byte behind the sign is a digit or the point
+-- the first byte after the sign is a digit or the point
 mantissa_unsigned : (whole : List ℕ) (fraction : Option (List ℕ)) (rest : List ℕ) → list_all is_ascii_digit whole ≡ true
     → nat_lt 0 (length (whole ++ fraction_digits fraction)) ≡ true → IsUnsigned (whole ++ (fraction_text fraction ++ rest))
 mantissa_unsigned (d ∷ ds) fraction rest h some = digits_unsigned (d ∷ ds) h
@@ -182,7 +182,7 @@ pub numeral_digits : (n : Numeral) → IsNumeral n → (list_all is_ascii_digit 
 numeral_digits n is =
     and_parts _ _ (sym (list_all-append is_ascii_digit n.whole (fraction_digits n.fraction)) ∙ (and_parts _ _ is.0).1)
 
--- a number has no second sign, whatever comes behind its digits
+-- a number has no second sign, whatever comes after its digits
 pub numeral_unsigned : (n : Numeral) (rest : List ℕ) → IsNumeral n → IsUnsigned (n.whole ++ (fraction_text n.fraction ++ rest))
 numeral_unsigned n rest is = mantissa_unsigned n.whole n.fraction rest (numeral_digits n is).0 (and_parts _ _ is.0).0
 
@@ -249,7 +249,7 @@ numeral_of-text n is =
     ap (λ m. if are_digits (mantissa_digits m) && is_exponent m.exponent then Some m else None) (parts_of-text n is)
     ∙ rw (is.0, is.1) refl
 
--- a text that begins with a number, from behind
+-- a text that begins with a number, grouped from the right
 pub front-text : (n : Numeral) (rest : List ℕ)
     → numeral_text n ++ rest ≡ sign_text n.sign ++ (n.whole ++ (fraction_text n.fraction ++ (exponent_text n.exponent ++ rest)))
 front-text n rest =

@@ -41,7 +41,7 @@ rounded_quotient-is m k some =
     let halves : 10 ^ k / 2 ≡ e = omega arith in
     ap (λ h. (m + h) / 10 ^ k) halves ∙ ap (λ d. (m + e) / d) even ∙ halved m e above ∙ ap (λ d. (2 * m + d) / (2 * d)) (sym even)
 
--- the digits that are dropped behind the leading ones don't change the rounded quotient
+-- the digits that are dropped after the leading ones do not change the rounded quotient
 cut : (m n p e : ℕ) → m * p ≤ n → n < (m + 1) * p → 0 < p → 0 < e
     → (2 * n + p * (2 * e)) / (2 * (p * (2 * e))) ≡ (2 * m + 2 * e) / (2 * (2 * e))
 cut m n p e low high some above =

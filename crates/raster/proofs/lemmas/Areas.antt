@@ -43,7 +43,7 @@ end-le columns rows s w =
     let k : (s.row + 1) * columns ≤ rows * columns = mul-le-mul_right columns (omega (arith, w.row)) in
     omega (arith, k, w.to)
 
--- the first of the spans, if there is one, begins at a place or behind it
+-- the first of the spans, if there is one, begins at a place or after it
 abbrev Begins : ℕ → ℕ → List Span → Type 0
 Begins columns at [] = Unit {0}
 Begins columns at (s ∷ rest) = at ≤ s.row * columns + s.from

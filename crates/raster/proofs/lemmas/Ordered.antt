@@ -28,7 +28,7 @@ rows-ascend (s ∷ rest) (suc k) (suc l) h low room =
 last-or-before : (k n : ℕ) → k < n → (k ≡ n - 1) ⊎ (k < n - 1)
 last-or-before k n h = grind arith
 
--- the spans of a row begin behind a span of a lower row
+-- the spans of a row begin after a span of a lower row
 pub split-here : (spans : List Span) (start end number : ℕ) → are_apart spans ≡ true → IsSplit spans end (number + 1) → start ≤ end → 0 < start → ((span_at spans (start - 1)).row ≡ number → ⊥) → ((k : ℕ) → start ≤ k → k < length spans → number ≤ (span_at spans k).row) → IsSplit spans start number
 split-here spans start end number apart split order some other above =
     let last : (span_at spans (start - 1)).row < number = lower (span_at spans (start - 1)).row number (split.below (start - 1) (omega arith)) other in

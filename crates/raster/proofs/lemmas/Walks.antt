@@ -69,7 +69,7 @@ unit-sign : (sign : ℤ) → (sign ≡ pos 1) ⊎ (sign ≡ negsuc 0) → unit (
 unit-sign sign (inl h) = subst (λ (z : ℤ). unit (int_eq z (pos 1)) ≡ z) (sym h) refl
 unit-sign sign (inr h) = subst (λ (z : ℤ). unit (int_eq z (pos 1)) ≡ z) (sym h) refl
 
--- a row is before the walk, behind it, or on it
+-- a row is before the walk, after it, or on it
 data Placed (row size j : ℕ) : Type 0 where
   before : j < row → Placed row size j
   behind : row + size ≤ j → Placed row size j

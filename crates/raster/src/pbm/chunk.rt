@@ -17,7 +17,7 @@ use std::marker::Model;
 const CHUNK_LEN: usize = 16_384;
 
 /// Bytes on their way to a sink. They lie on the stack, so that writing allocates no memory. All bytes of the free room
-/// behind them are 0, so that a row is drawn by setting bits.
+/// after them are 0, so that a row is drawn by setting bits.
 #[derive(Drop)]
 pub(crate) struct Chunk {
     bytes: [u8; CHUNK_LEN],

@@ -310,7 +310,7 @@ solid_in_capitals =
     words : Written.AreWordsOf Millimetre (flat_map Text.facet_tokens (small ∷ [])) body
     words = (refl, refl, (refl, refl, (refl, tt, (refl, tt, (refl, tt, (refl, refl, (refl, refl, (refl, refl, (refl, refl, (refl, refl, (refl, refl, (refl, refl, (refl, refl, (refl, refl, (refl, refl, (refl, refl, (refl, refl, (refl, refl, (refl, refl, (refl, refl, (refl, refl, tt)))))))))))))))))))))
 
--- twice, the second time with no line end behind the solid
+-- twice, the second time with no line end after the solid
 written_twice : Written.Written Millimetre (small ∷ small ∷ []) (codes "\n" ++ solid_text small (codes " endsolid") ++ codes "\r\n" ++ solid_text small (codes " endsolid"))
 written_twice =
     record {

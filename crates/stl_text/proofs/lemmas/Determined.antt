@@ -121,7 +121,7 @@ same_token unit bytes any_coordinate p q h k begins begins' =
     let same_number : a.0 ≡ b.0 = cc in
     a.1 ∙ ap coordinate same_number ∙ sym b.1
 
--- States of the grammar: the slots that must come next, and whether a solid is open behind them.
+-- States of the grammar: the slots that must come next, and whether a solid is open after them.
 
 abbrev pub solid_slot : Slot
 solid_slot = fixed Solid (keyword_text Solid)

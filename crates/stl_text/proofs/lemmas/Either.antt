@@ -141,7 +141,7 @@ one_slot unit any_coordinate bytes = by_answer (coordinate_of unit (first_word b
     by_answer (Err cause) e = inr (cause, e)
 one_slot unit any_line bytes = inl (pos 0, λ zs. refl)
 
--- the text behind a slot doesn't depend on the slot's value
+-- the text after a slot does not depend on the slot's value
 abbrev after_slot : Slot → List ℕ → List ℕ
 after_slot any_line bytes = after_line bytes
 after_slot (fixed w text) bytes = after_word bytes
@@ -195,7 +195,7 @@ scan unit (slot ∷ slots) bytes plain = by_slot (scan unit slots (after_slot sl
           plain = on.plain;
         })
 
--- The text behind a token is never longer than the text.
+-- The text after a token is never longer than the text.
 
 from_first-le : (p : ℕ → Bool) (bytes : List ℕ) → length (from_first p bytes) ≤ length bytes
 from_first-le p bytes =
@@ -278,7 +278,7 @@ no_word-space bytes e = by_front (after_space bytes) refl (front_is bytes) e
 abbrev end_tokens : List Token
 end_tokens = end_word ∷ rest_of_line ∷ []
 
--- a solid that is open behind these facets
+-- a solid that is open after these facets
 abbrev pub open_tokens : List Facet → List Token
 open_tokens facets = keyword_of Solid ∷ rest_of_line ∷ flat_map facet_tokens facets
 
@@ -456,7 +456,7 @@ module _ (limit : ℕ) (unit : LengthUnit) (bytes : List ℕ) where
             { solids = facets ∷ solids; some = omega arith; each = refl; few = few; rest = rest; spelled = spelled; whole = no_word-space rest none },
       )
 
-  -- the text continues behind a front of solids
+  -- the text continues after a front of solids
   on_behind : (front more : List Token) (rest last : List ℕ) → rest_behind unit front bytes ≡ Some rest
       → rest_behind unit more rest ≡ Some last → rest_behind unit (front ++ more) bytes ≡ Some last
   on_behind front more rest last spelled on =

@@ -25,7 +25,7 @@ is_word_token normal_part = true
 is_word_token (coordinate z) = true
 is_word_token rest_of_line = false
 
--- words are read behind the white space at the front
+-- words are read after the white space at the front
 word-space : (unit : LengthUnit) (t : Token) (tokens : List Token) (xs ys : List ℕ) → is_word_token t ≡ true → after_space xs ≡ after_space ys
     → rest_behind unit (t ∷ tokens) xs ≡ rest_behind unit (t ∷ tokens) ys
 word-space unit (keyword kind text) tokens xs ys is same =
@@ -71,7 +71,7 @@ closed n bytes rest old new is at behind unit =
       same_unit = unit;
     }
 
--- no separator has a number, so the unit doesn't matter
+-- no separator has a number, so the unit does not matter
 pub any_unit : (p : Separator) (u v : LengthUnit) (bytes : List ℕ) → rest_behind u (separator_tokens p) bytes ≡ rest_behind v (separator_tokens p) bytes
 any_unit separator.Opening u v bytes = refl
 any_unit separator.First u v bytes = refl

@@ -1,4 +1,4 @@
--- What stands at the front of a text with something behind it stands there too where the text goes on.
+-- What stands at the front of a text with something after it stands there too where the text goes on.
 use Rattle.std.proofs.Common.{◌≡◌, ℕ, ◌+◌, ◌-◌, ◌<◌, Bool, true, false, cond, not, List, [], ◌∷◌, ◌++◌, length, take, drop, refl, sym, ◌∙◌, ap, arith, length-drop}
 use Rattle.std.specs.Prelude.{Option, Some, None, nat_lt, if◌then◌else◌}
 use Rattle.std.specs.List.{list_all, before_first, position_or_len, prefix_len}
@@ -15,7 +15,7 @@ use Rattle.stl_text.specs.declared.word.Word.{Word}
 use Rattle.stl_text.proofs.lemmas.Either.{rest-le}
 
 module _ (p : ℕ → Bool) (xs ys : List ℕ) where
-  -- behind a front that passes and has an end
+  -- after a front that passes and has an end
   stays : 0 < length (drop (prefix_len p xs) xs) → prefix_len p (xs ++ ys) ≡ prefix_len p xs
   stays some =
       let left : length (drop (prefix_len p xs) xs) ≡ length xs - prefix_len p xs = length-drop (prefix_len p xs) xs in
@@ -55,7 +55,7 @@ line-on xs ys some = drop-on (λ x. not (is_line_end x)) xs ys some
 pub line-over : (xs ys : List ℕ) → after_line xs ≡ [] → after_line (xs ++ ys) ≡ after_line ys
 line-over xs ys none = drop-over (λ x. not (is_line_end x)) xs ys none
 
--- A word, with something behind it.
+-- A word, with something after it.
 
 space-some : (xs : List ℕ) → 0 < length (after_word xs) → 0 < length (after_space xs)
 space-some xs some =
@@ -71,7 +71,7 @@ pub behind-on : (xs ys : List ℕ) → 0 < length (after_word xs) → after_word
 behind-on xs ys some =
     ap (from_first is_white) (space-on xs ys (space-some xs some)) ∙ drop-on (λ x. not (is_white x)) (after_space xs) ys some
 
--- Tokens, with something behind them.
+-- Tokens, with something after them.
 
 begins-on : (unit : LengthUnit) (t : Token) (xs ys : List ℕ) → 0 < length (after_token t xs) → begins_with unit t (xs ++ ys) ≡ begins_with unit t xs
 begins-on unit (keyword kind text) xs ys some = ap (is_keyword text) (word-on xs ys some)
@@ -85,7 +85,7 @@ after-on normal_part xs ys some = behind-on xs ys some
 after-on (coordinate z) xs ys some = behind-on xs ys some
 after-on rest_of_line xs ys some = line-on xs ys some
 
--- A text that begins with tokens and goes on behind them begins with them whatever follows it.
+-- A text that begins with tokens and goes on after them begins with them whatever follows it.
 pub tokens-on : (unit : LengthUnit) (tokens : List Token) (xs ys rest : List ℕ) → rest_behind unit tokens xs ≡ Some rest → 0 < length rest
     → rest_behind unit tokens (xs ++ ys) ≡ Some (rest ++ ys)
 tokens-on unit [] xs ys rest spelled some = let same : xs ≡ rest = cc in ap {B = Option (List ℕ)} (λ r. Some (r ++ ys)) same
@@ -124,7 +124,7 @@ pub starts-on : (xs ys : List ℕ) → Starts is_white xs → 0 < length xs → 
 starts-on [] ys starts some = absurd (omega (arith, some))
 starts-on (x ∷ xs) ys starts some = starts
 
--- Tokens that begin with a keyword see a text behind its white space.
+-- Tokens that begin with a keyword see a text after its white space.
 pub seen_keyword : (unit : LengthUnit) (kind : Word) (text : List ℕ) (tokens : List Token) (xs ys rest : List ℕ) → after_space xs ≡ after_space ys
     → rest_behind unit (keyword kind text ∷ tokens) ys ≡ Some rest → rest_behind unit (keyword kind text ∷ tokens) xs ≡ Some rest
 seen_keyword unit kind text tokens xs ys rest same spelled =

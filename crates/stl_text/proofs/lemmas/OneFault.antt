@@ -301,7 +301,7 @@ module _ (limit : ℕ) (unit : LengthUnit) (bytes : List ℕ) where
   few_front : (h : Halt limit unit bytes) → facet_count h.wants.front ≤ limit
   few_front h = omega (arith, h.wants.count, h.wants.few)
 
-  -- a fault is never behind another one
+  -- a fault is never after another one
   not_behind : (h : Halt limit unit bytes) → Refuses limit unit bytes h → (k : Halt limit unit bytes) (p : Token) (more : List Token)
       → k.wants.front ≡ h.wants.front ++ p ∷ more → ⊥
   not_behind h refusing k p more is =
@@ -327,7 +327,7 @@ module _ (limit : ℕ) (unit : LengthUnit) (bytes : List ℕ) where
       by_prefix (longer (p ∷ more) is) = absurd (not_behind h refusing k p more is)
       by_prefix (shorter p more is) = absurd (not_behind k refusing' h p more is)
 
-  -- two faults behind the same front
+  -- two faults after the same front
   record Same (h k : Halt limit unit bytes) : Type 0 where
     at : h.at ≡ k.at
     word : h.word ≡ k.word
@@ -415,11 +415,11 @@ module _ (limit : ℕ) (unit : LengthUnit) (bytes : List ℕ) where
   one_fault f g x y =
       equal_faults f g x y (same_halt (halt_of f x) (halt_of g y) (same_front (halt_of f x) (halt_of g y) (refuses f x) (refuses g y)))
 
-  -- there is no word behind the last solid
+  -- there is no word after the last solid
   no_word_left : (rest : List ℕ) → after_space rest ≡ [] → first_word rest ≡ []
   no_word_left rest e = ap (before_first is_white) e
 
-  -- a text that ends behind solids has no fault there
+  -- a text that ends after solids has no fault there
   no_fault_at_end : (f : StlFault) (x : IsFaultOf limit unit bytes f) → (halt_of f x).word ≡ []
       → ((kind : Word) → wanted (halt_of f x).token ≡ Some kind → kind ≡ Solid) → (after_space bytes ≡ [] → ⊥) → ⊥
   no_fault_at_end (fault.Expected kind at) x none solid some = no_length x.word x.stands none

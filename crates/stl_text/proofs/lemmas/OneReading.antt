@@ -10,7 +10,7 @@ use Rattle.stl_text.specs.declared.word.Word.TheVariants.{Solid}
 use Rattle.stl_text.specs.Text.{Token, keyword, keyword_of, normal_part, coordinate, rest_of_line, facet_tokens, solid_tokens, is_keyword, begins_with, after_token, rest_behind, first_word, after_space, is_white, end_word, facets_of, Reads, keyword_text}
 use Rattle.stl_text.proofs.lemmas.Determined.{State, Prefixes, Prefixes.longer, Prefixes.shorter, outside, next, run, run-append, then-some, then_at, only, shape-is, solid_slot, solids-run, agree}
 
--- The rest of a text behind tokens, and behind further tokens.
+-- The rest of a text after tokens, and after further tokens.
 
 abbrev pub then_on : Option (List ℕ) → (List ℕ → Option (List ℕ)) → Option (List ℕ)
 then_on None f = None
@@ -48,7 +48,7 @@ goes_on unit bytes front p more state end rest last ran spelled ran_on spelled_o
     tested true o e = refl
     tested false o e = cc
 
--- behind the last word no solid begins
+-- after the last word no solid begins
 pub nothing_more : (unit : LengthUnit) (p : Token) (rest : List ℕ) → after_space rest ≡ [] → GoesOn unit outside p rest → ⊥
 nothing_more unit p rest ended on =
     let solid : p ≡ keyword_of Solid = shape-is solid_slot p (only _ _ on.after on.permitted).0 in

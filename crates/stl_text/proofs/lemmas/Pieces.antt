@@ -103,7 +103,7 @@ next_word limit unit p s text part word rest at w clear some starts left_some sp
     length_is : (more : List ℕ) → length (after_space (w.behind more)) ≡ length word + (length rest + length more)
     length_is more = ap length (seen more) ∙ length-append word (rest ++ more) ∙ ap (λ n. length word + n) (length-append rest more)
 
--- behind the word
+-- after the word
 pub moved : (limit : ℕ) (unit : LengthUnit) (q : Progress) (s : Stage) (pl : Place) (facets : List Facet) (text word rest : List ℕ) (at : ℕ)
     → Next limit unit s facets text word rest at
     → ((t behind : List ℕ) → AtWord limit unit s facets t behind word at → StandsAt limit unit pl q.facets t behind)
@@ -150,7 +150,7 @@ front-clear p (x ∷ xs) = at_head (front-clear p xs) (p x) refl
 
 -- The rest of a line.
 
--- the line goes on behind the part
+-- the line goes on after the part
 pub line_on : (limit : ℕ) (unit : LengthUnit) (p : Progress) (s : Stage) (text part rest : List ℕ) → IsReadingAt limit unit p (place.Line s) text part
     → rest ≡ after_line part → rest ≡ [] → IsReadingAt limit unit p (place.Line s) text rest
 line_on limit unit p s text part rest is rest_is none =
@@ -190,7 +190,7 @@ line_ended limit unit p q s text part rest is limit_is unit_is count_is held_is 
           ∙ ap (λ h. h ++ (rest ++ more)) (sym none));
     }
 
--- White space, and a word that goes on behind the part.
+-- White space, and a word that goes on after the part.
 
 -- only white space is left of the part
 pub space_passed : (limit : ℕ) (unit : LengthUnit) (p : Progress) (s : Stage) (text part rest : List ℕ) → Waits limit unit p s false text part
@@ -210,7 +210,7 @@ space_passed limit unit p s text part rest w none rest_is empty =
           ∙ ap (λ h. after_space (h ++ more)) (sym none);
     })
 
--- what is seen of the part behind its white space
+-- what is seen of the part after its white space
 pub front_seen : (p : Progress) (part front more : List ℕ) → p.held ≡ [] → front ≡ after_space part → 0 < length front
     → after_space (p.held ++ (part ++ more)) ≡ front ++ more
 front_seen p part front more none front_is some =
@@ -341,7 +341,7 @@ ended_free limit unit p s fed w none = (
   w.sees [] ∙ ap (λ h. after_space (h ++ [])) none,
 )
 
--- the text ends in a line, or behind a fault
+-- the text ends in a line, or after a fault
 pub ended_other : (limit : ℕ) (unit : LengthUnit) (p : Progress) (s : Stage) (fed : List ℕ) → IsReadingAt limit unit p (place.Line s) fed []
     → EndsAt limit unit (place.Line s) p.facets fed
 ended_other limit unit p s fed is = (
@@ -354,7 +354,7 @@ pub ended_stopped : (limit : ℕ) (unit : LengthUnit) (p : Progress) (f : StlFau
     → EndsAt limit unit (place.Stopped f) p.facets fed
 ended_stopped limit unit p f fed is = λ no. subst (λ t. IsFaultOf limit unit t f) (append-nil fed) (is no [])
 
--- A part that is cut behind its first word.
+-- A part that is cut after its first word.
 
 pub record Cut (front word rest : List ℕ) : Type 0 where
   pub clear : list_all is_black word ≡ true
@@ -368,7 +368,7 @@ cut_at front word rest n n_is word_is rest_is = record {
   starts = subst (Starts is_white) (sym (rest_is ∙ ap (λ k. drop k front) n_is)) (from_starts is_white front);
 }
 
--- behind white space there is a word
+-- after white space there is a word
 pub word_some : (part front word : List ℕ) (n : ℕ) → front ≡ after_space part → 0 < length front → n ≡ position_or_len is_white front → word ≡ take n front
     → 0 < length word
 word_some part front word n front_is some n_is word_is = by_word word refl
@@ -382,7 +382,7 @@ word_some part front word n front_is some n_is word_is = by_word word refl
 pub front_le : (part front : List ℕ) → front ≡ after_space part → length front ≤ length part
 front_le part front front_is = omega (arith, ap length front_is, after_space-le part)
 
--- behind a word, where the limit and the unit are those of the reader
+-- after a word, where the limit and the unit are those of the reader
 pub moved_by : (limit l : ℕ) (unit u : LengthUnit) (q : Progress) (s : Stage) (pl : Place) (facets : List Facet) (text word rest : List ℕ) (at : ℕ)
     → l ≡ limit → u ≡ unit → q.limit ≡ l → q.unit ≡ u → Next limit unit s facets text word rest at
     → ((t behind : List ℕ) → AtWord l u s facets t behind word at → StandsAt l u pl q.facets t behind)
@@ -537,7 +537,7 @@ ends_stage limit unit pl s facets others fed (inl place_is) facets_is e =
 ends_stage limit unit pl s facets others fed (inr place_is) facets_is e =
     ends_with limit unit pl (place.Line s) facets others fed place_is facets_is e
 
--- a reader that didn't stop at a fault has the unit of the text
+-- a reader that did not stop at a fault has the unit of the text
 pub unit_known : (limit : ℕ) (unit : LengthUnit) (p : Progress) (pl : Place) (text part : List ℕ) → IsReadingAt limit unit p pl text part
     → ((f : StlFault) → pl ≡ place.Stopped f → ⊥) → p.unit ≡ unit
 unit_known limit unit p (place.Word s) text part is going = is.unit_is

@@ -21,7 +21,7 @@ use Rattle.stl_text.proofs.lemmas.OneReading.{then_on, rest-append}
 use Rattle.stl_text.proofs.lemmas.Solids.{end_tokens}
 use Rattle.stl_text.proofs.lemmas.Written.{EndsLine, line_end_white, some-lower}
 
--- A text is its white space, its first word and what is behind the word.
+-- A text is its white space, its first word and what is after the word.
 
 abbrev space_of : List ℕ → List ℕ
 space_of bytes = take (prefix_len is_white bytes) bytes
@@ -52,11 +52,11 @@ before_clear p (b ∷ bytes) = by_test (before_clear p bytes) (p b) refl
     by_test rest true e = rw e refl
     by_test rest false e = rw e (rw one-add (rw e rest))
 
--- what is behind a word begins with white space
+-- what is after a word begins with white space
 word_ends : (bytes : List ℕ) → Starts is_white (after_word bytes)
 word_ends bytes = from_starts is_white (after_space bytes)
 
--- behind a word there is white space before the next one
+-- after a word there is white space before the next one
 gap_some : (bytes : List ℕ) → Starts is_white bytes → 0 < length (after_space bytes) → nat_lt 0 (length (space_of bytes)) ≡ true
 gap_some [] starts some = absurd (omega (arith, some))
 gap_some (b ∷ bytes) starts some = rw starts (rw one-add (lt-ltb _ _ (omega arith)))
@@ -109,7 +109,7 @@ first_begins unit p ps bytes rest e = by_test (begins_with unit p bytes) refl e
     by_test true is h = record { begins = is; on = h }
     by_test false is h = cc
 
--- the words of these tokens, and the text behind them
+-- the words of these tokens, and the text after them
 record WordsAt (unit : LengthUnit) (ps : List Token) (bytes rest : List ℕ) : Type 0 where
   words : List Spaced
   are : AreWordsOf unit ps words
@@ -222,7 +222,7 @@ line_written unit kind text bytes rest some e =
 abbrev open_line : List Token
 open_line = keyword_of Solid ∷ rest_of_line ∷ []
 
--- a solid at the front, and the text behind it
+-- a solid at the front, and the text after it
 record SolidAt (unit : LengthUnit) (facets : List Facet) (bytes rest : List ℕ) : Type 0 where
   text : List ℕ
   is : WrittenSolid unit facets text
@@ -274,7 +274,7 @@ solid_written unit facets bytes rest e =
     (line_written unit Solid (keyword_text Solid) bytes line refl opened.before)
     (words_written unit body line inner.mid (facets-words facets) closing.some inner.before) closing
 
--- solids at the front, behind which there is only white space
+-- solids at the front, after which there is only white space
 record SolidsAt (unit : LengthUnit) (facets : List Facet) (front : List ℕ) : Type 0 where
   solids : List (List Facet)
   texts : List Spaced

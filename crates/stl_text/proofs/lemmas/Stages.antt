@@ -1,4 +1,4 @@
--- The stages of a reading: how a token leads from one to the next, and the fault where a word doesn't fit.
+-- The stages of a reading: how a token leads from one to the next, and the fault where a word does not fit.
 use Rattle.std.proofs.Common.{◌≡◌, ℕ, ◌+◌, ◌<◌, ◌≤◌, Bool, true, false, cond, List, [], ◌∷◌, ◌++◌, length, take, drop, refl, sym, ◌∙◌, ap, subst, arith, append_assoc, append-nil, length-append, lit≤}
 use Rattle.std.specs.Prelude.{Option, Some, Ok, Err, ℤ, nat_lt, flat_map}
 use Rattle.std.specs.List.{before_first}
@@ -30,7 +30,7 @@ end_tokens = end_word ∷ rest_of_line ∷ []
 abbrev zero_facet : Facet
 zero_facet = facet_with origin origin origin
 
--- one token behind others
+-- one token after others
 pub one_token : (unit : LengthUnit) (tokens : List Token) (p : Token) (text behind rest : List ℕ) → rest_behind unit tokens text ≡ Some behind
     → begins_with unit p behind ≡ true → after_token p behind ≡ rest → rest_behind unit (tokens ++ p ∷ []) text ≡ Some rest
 one_token unit tokens p text behind rest spelled begins after =

@@ -34,7 +34,7 @@ not_not false h = refl
 all_black : (word : List ℕ) → is_word word ≡ true → list_all (λ b. not (is_white b)) word ≡ true
 all_black word h = (and_parts _ _ h).1
 
--- a word behind white space, and the text behind the word
+-- a word after white space, and the text after the word
 word_first : (word more : List ℕ) → is_word word ≡ true → after_space (word ++ more) ≡ word ++ more
 word_first [] more h = cc
 word_first (b ∷ word) more h =
@@ -82,7 +82,7 @@ apart_white : (space more : List ℕ) → nat_lt 0 (length space) ≡ true → a
 apart_white [] more h white = cc
 apart_white (b ∷ space) more h white = (and_parts _ _ white).0
 
--- behind the tokens there is white space, and then more text
+-- after the tokens there is white space, and then more text
 record Leaves (unit : LengthUnit) (ps : List Token) (bytes more : List ℕ) : Type 0 where
   space : List ℕ
   white : are_white space ≡ true
