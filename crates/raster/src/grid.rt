@@ -77,7 +77,10 @@ impl Grid {
         requires height_high { layer_height ≤ STEP_LIMIT }
         ensures { result ≡ fitted_grid s.now.facets pitch layer_height }
     {
-        fit_corners(s.corners(), pitch, layer_height)
+        match s.corners() {
+            None => Err(GridFault::EmptyMesh),
+            Some((low, high)) => fit_box(low, high, pitch, layer_height),
+        }
     }
 
     /// The grid with this origin (micrometres), pitch and layer height (micrometres, 1 to `STEP_LIMIT`) and these counts.
@@ -215,25 +218,6 @@ impl Grid {
         ensures within { IsAtMost CENTRE_LIMIT result }
     {
         middle(self.origin.z(), self.layer_height, k)
-    }
-}
-
-/// The grid of this pitch and layer height that fits a mesh with these least and greatest coordinates.
-fn fit_corners(
-    corners: Option<(Point, Point)>,
-    pitch: u32,
-    layer_height: u32,
-) -> Result<Grid, GridFault>
-    requires pitch { 1 ≤ pitch }
-    requires pitch_high { pitch ≤ STEP_LIMIT }
-    requires height { 1 ≤ layer_height }
-    requires height_high { layer_height ≤ STEP_LIMIT }
-    requires order { IfSome corners (λ c. IsBox c.0 c.1) }
-    ensures { result ≡ grid_of_box (option_map (λ c. record { low = c.0; high = c.1 }) corners) pitch layer_height }
-{
-    match corners {
-        None => Err(GridFault::EmptyMesh),
-        Some((low, high)) => fit_box(low, high, pitch, layer_height),
     }
 }
 

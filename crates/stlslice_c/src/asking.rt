@@ -4,7 +4,7 @@ ghost use Rattle.stlslice_c.specs.Answers.{IsArea, IsMask, IsProbe, IsStripe};
 
 use crate::buffers::{has_room, put};
 use crate::shape::Rays;
-use crate::status::{DONE, NO_ROOM, status_of};
+use crate::status::{DONE, NO_ROOM, Status, status_of};
 use layer_session::Session;
 use std::alloc::Allocator;
 
@@ -14,7 +14,7 @@ pub(crate) fn put_mask<A: Allocator + Copy + Send + Sync>(
     k: u32,
     image: &mut [u8],
     wanted: &mut usize,
-) -> u32
+) -> Status
     ensures { IsMask session.now.job k image.old image.new wanted.old wanted.new result }
 {
     if k < session.layers() && !has_room(session.image_len(), image, wanted) {
@@ -32,7 +32,7 @@ pub(crate) fn put_stripe<A: Allocator + Copy + Send + Sync>(
     s: u64,
     images: &mut [u8],
     wanted: &mut usize,
-) -> u32
+) -> Status
     ensures { IsStripe session.now.job s images.old images.new wanted.old wanted.new result }
 {
     if s < session.stripes() && !has_room(session.stripe_len(s), images, wanted) {
@@ -49,7 +49,7 @@ pub(crate) fn put_area<A: Allocator + Copy + Send + Sync>(
     session: &Session<A>,
     k: u32,
     area: &mut u64,
-) -> u32
+) -> Status
     ensures { IsArea session.now.job k area.old area.new result }
 {
     match session.area(k) {
@@ -68,7 +68,7 @@ pub(crate) fn put_probe<A: Allocator + Copy + Send + Sync>(
     j: u32,
     k: u32,
     rays: &mut Rays,
-) -> u32
+) -> Status
     ensures { IsProbe session.now.job i j k rays.old rays.new result }
 {
     match session.probe(i, j, k) {

@@ -2,7 +2,7 @@
 ghost use Rattle.std.specs.Prelude.{◌≡◌, ◌≤◌, ◌<◌, ◌++◌, ◌↔◌, IsTrue, drop, length};
 ghost use Rattle.stlslice_c.specs.declared.status.TheConstants.{DONE};
 
-use crate::status::DONE;
+use crate::status::{DONE, Status};
 
 /// Whether a buffer has room for this many bytes. Where it has none, their number is told.
 pub(crate) fn has_room(count: u64, buffer: &[u8], wanted: &mut usize) -> bool
@@ -18,7 +18,7 @@ pub(crate) fn has_room(count: u64, buffer: &[u8], wanted: &mut usize) -> bool
 }
 
 /// Puts bytes into the front of a buffer that has room for them, and tells their number.
-pub(crate) fn put(bytes: &[u8], buffer: &mut [u8], wanted: &mut usize) -> u32
+pub(crate) fn put(bytes: &[u8], buffer: &mut [u8], wanted: &mut usize) -> Status
     requires { length bytes.now ≤ length buffer.old }
     ensures put { buffer.new ≡ bytes.now ++ drop (length bytes.now) buffer.old }
     ensures told { wanted.new ≡ length bytes.now }

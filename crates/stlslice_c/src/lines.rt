@@ -3,7 +3,7 @@ ghost use Rattle.std.specs.Prelude.{◌≡◌};
 ghost use Rattle.stlslice_c.specs.Answers.{IsFaultLine, IsLine};
 ghost use Rattle.stlslice_c.specs.Status.{status_of, status_text};
 
-use crate::status::{status_of, status_text};
+use crate::status::{Status, status_of, status_text};
 use layer_session::SessionFault;
 use std::alloc::Allocator;
 
@@ -23,7 +23,7 @@ pub(crate) fn put_line(text: &[u8], line: &mut [u8])
 }
 
 /// Puts the text of a status, and answers the status.
-pub(crate) fn put_status(status: u32, line: &mut [u8]) -> u32
+pub(crate) fn put_status(status: Status, line: &mut [u8]) -> Status
     ensures line { IsLine (status_text status) line.old line.new }
     ensures status { result ≡ status }
 {
@@ -32,7 +32,7 @@ pub(crate) fn put_status(status: u32, line: &mut [u8]) -> u32
 }
 
 /// Puts the text of a fault, which is the program's where the program has such a fault, and answers its status.
-pub(crate) fn put_fault<A: Allocator>(alloc: A, fault: &SessionFault, line: &mut [u8]) -> u32
+pub(crate) fn put_fault<A: Allocator>(alloc: A, fault: &SessionFault, line: &mut [u8]) -> Status
     ensures line { IsFaultLine fault.now line.old line.new }
     ensures status { result ≡ status_of fault.now }
 {

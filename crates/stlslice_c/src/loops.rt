@@ -2,7 +2,7 @@
 ghost use Rattle.std.specs.Prelude.{◌≡◌, IfOk, map};
 ghost use Rattle.stlslice_c.specs.Loops.{IsLoops, IsPutLoops, point_told};
 
-use crate::status::{DONE, MEMORY, NO_ROOM, status_of};
+use crate::status::{DONE, MEMORY, NO_ROOM, Status, status_of};
 use layer_session::{PlanePoint, Session};
 use std::alloc::{AllocError, Allocator};
 
@@ -24,7 +24,7 @@ pub(crate) fn put_loops<A: Allocator + Copy + Send + Sync>(
     points_wanted: &mut usize,
     ends: &mut [usize],
     ends_wanted: &mut usize,
-) -> u32
+) -> Status
     ensures { IsLoops session.now.job k points.old points.new points_wanted.old points_wanted.new
         ends.old ends.new ends_wanted.old ends_wanted.new result }
 {
@@ -76,7 +76,7 @@ fn put_points(
     points_wanted: &mut usize,
     ends: &mut [usize],
     ends_wanted: &mut usize,
-) -> u32
+) -> Status
     ensures { IsPutLoops found.now found_ends.now points.old points.new points_wanted.new ends.old ends.new ends_wanted.new result }
 {
     *points_wanted = found.len();

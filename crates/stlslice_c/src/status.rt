@@ -4,32 +4,35 @@ ghost use Rattle.stlslice_c.specs.Status.{status_of, status_text};
 
 use layer_session::SessionFault;
 
+/// What a call answers: [`DONE`], or why not.
+pub(crate) type Status = u32;
+
 /// Done.
-pub(crate) const DONE: u32 = 0;
+pub(crate) const DONE: Status = 0;
 
 /// An argument is out of its range, or there is no such layer, stripe or voxel.
-pub(crate) const OUT_OF_RANGE: u32 = 1;
+pub(crate) const OUT_OF_RANGE: Status = 1;
 
 /// The text is no ASCII STL.
-pub(crate) const TEXT: u32 = 3;
+pub(crate) const TEXT: Status = 3;
 
 /// The mesh has an open edge.
-pub(crate) const OPEN_MESH: u32 = 4;
+pub(crate) const OPEN_MESH: Status = 4;
 
 /// There is no such grid.
-pub(crate) const GRID: u32 = 5;
+pub(crate) const GRID: Status = 5;
 
 /// An allocation failed.
-pub(crate) const MEMORY: u32 = 6;
+pub(crate) const MEMORY: Status = 6;
 
 /// The buffer is too small; the size that is wanted was told.
-pub(crate) const NO_ROOM: u32 = 7;
+pub(crate) const NO_ROOM: Status = 7;
 
 /// The handle has no mesh: none was opened, or it was closed.
-pub(crate) const NOT_OPEN: u32 = 8;
+pub(crate) const NOT_OPEN: Status = 8;
 
 /// The status of a fault: the program's, but for what is out of range or outside the grid.
-pub(crate) fn status_of(fault: &SessionFault) -> u32
+pub(crate) fn status_of(fault: &SessionFault) -> Status
     ensures { result ≡ status_of fault.now }
 {
     match fault {
@@ -42,7 +45,7 @@ pub(crate) fn status_of(fault: &SessionFault) -> u32
 }
 
 /// The text of a status.
-pub(crate) fn status_text(status: u32) -> &'static [u8]
+pub(crate) fn status_text(status: Status) -> &'static [u8]
     ensures { result.now ≡ status_text status }
 {
     match status {
