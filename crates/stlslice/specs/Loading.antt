@@ -49,6 +49,12 @@ AreWelded taken welder = length taken ≤ FACET_LIMIT → welder ≡ parts_of ta
 abbrev pub HasWelded : List Facet → Parts → Parts → Type 0
 HasWelded facets old new = (taken : List Facet) → AreWelded taken old → AreWelded (taken ++ facets) new
 
+-- A welder and a reader have all facets of a text between them, those that were taken off the reader in the welder: what
+-- `says` tells holds of the text.
+abbrev pub OfText : Parts → Progress → (LengthUnit → List ℕ → Type 0) → Type 0
+OfText welder reader says = (unit : LengthUnit) (taken : List Facet) (fed : List ℕ) → AreWelded taken welder
+    → IsAfter FACET_LIMIT unit taken reader fed → says unit fed
+
 -- the reader was fed what a source had at the start and has no more, and these facets were taken off it
 abbrev pub IsFed : LengthUnit → List Facet → Progress → Option (List ℕ) → Option (List ℕ) → Type 0
 IsFed unit taken reader start now = (fed : List ℕ) × Consumes start now fed × IsAfter FACET_LIMIT unit taken reader fed

@@ -9,7 +9,7 @@ ghost use Rattle.micro_num.specs.declared.unit.Unit.{Unit as LengthUnit};
 ghost use Rattle.raster.specs.Devices.{Fails};
 ghost use Rattle.stl_text.specs.Pieces.{IsAfter};
 ghost use Rattle.stl_text.specs.Text.{Reads};
-ghost use Rattle.stlslice.specs.Loading.{AreWelded, HasWelded, IsAllWelded, IsFed, IsFilled, IsLoadFault, IsLoaded, IsMisread, IsReadAs, IsSolidOf, IsTextExtent};
+ghost use Rattle.stlslice.specs.Loading.{HasWelded, IsAllWelded, IsFed, IsFilled, IsLoadFault, IsLoaded, IsMisread, IsReadAs, IsSolidOf, IsTextExtent, OfText};
 ghost use Rattle.stlslice.specs.Transcript.{transcript};
 ghost use Rattle.stlslice.specs.declared.run_fault.RunFault.TheVariants.{Memory, Read};
 
@@ -130,8 +130,7 @@ fn weld_end<A: Allocator + Copy + Send + Sync>(
     reader: TextReader<A>,
     welder: Welder<A>,
 ) -> Result<Solid<A>, RunFault>
-    ensures { (unit : LengthUnit) (taken : List Facet) (fed : List ℕ) → AreWelded taken welder
-        → IsAfter FACET_LIMIT unit taken reader fed → IsLoaded unit fed result }
+    ensures { OfText welder reader (λ unit fed. IsLoaded unit fed result) }
 {
     let all = weld_last(reader, welder)?;
     Ok(all.finish()?)
@@ -143,8 +142,7 @@ fn weld_end_by<R: Threads + Sync, A: Allocator + Copy + Send + Sync>(
     reader: TextReader<A>,
     welder: Welder<A>,
 ) -> Result<Solid<A>, RunFault>
-    ensures { (unit : LengthUnit) (taken : List Facet) (fed : List ℕ) → AreWelded taken welder
-        → IsAfter FACET_LIMIT unit taken reader fed → IsLoaded unit fed result }
+    ensures { OfText welder reader (λ unit fed. IsLoaded unit fed result) }
 {
     let all = weld_last(reader, welder)?;
     Ok(all.finish_by(rt)?)
@@ -155,8 +153,7 @@ fn weld_last<A: Allocator + Copy + Send + Sync>(
     reader: TextReader<A>,
     mut welder: Welder<A>,
 ) -> Result<Welder<A>, RunFault>
-    ensures { (unit : LengthUnit) (taken : List Facet) (fed : List ℕ) → AreWelded taken welder
-        → IsAfter FACET_LIMIT unit taken reader fed → IsAllWelded unit fed result }
+    ensures { OfText welder reader (λ unit fed. IsAllWelded unit fed result) }
 {
     let last = reader.finish()?;
     weld_next(&mut welder, last.as_slice())?;
