@@ -17,6 +17,7 @@ pub fn ceil_div(n: i128, d: i128) -> i128
 }
 
 /// What [`ceil_div`] answers, for numbers of 64 bits: the least whole number that is not below `n / d`, for a `d` above 0.
+#[inline(always)]
 pub fn ceil_div_64(n: i64, d: i64) -> i64
     requires { pos 0 <ℤ d }
     ensures { (q : ℤ) → (result ≤ℤ q) ↔ (n ≤ℤ (q *ℤ d)) }
@@ -36,6 +37,7 @@ pub fn ceil_div_64(n: i64, d: i64) -> i64
 }
 
 /// What is left of `n` after `guess` times `d`.
+#[inline(always)]
 fn rest_of(n: i64, d: i64, guess: i64) -> i128
     ensures { result ≡ n -ℤ guess *ℤ d }
 {
@@ -43,6 +45,7 @@ fn rest_of(n: i64, d: i64, guess: i64) -> i128
 }
 
 /// A whole number near `n / d`, by a division of floats.
+#[inline(always)]
 fn quotient_guess(n: i64, d: i64) -> i64
     ensures { result <ℤ GUESS_LIMIT }
 {
@@ -51,6 +54,8 @@ fn quotient_guess(n: i64, d: i64) -> i64
 }
 
 /// [`ceil_div_64`] by the division of whole numbers.
+#[cold]
+#[inline(never)]
 fn exact_ceil_div_64(n: i64, d: i64) -> i64
     requires { pos 0 <ℤ d }
     ensures { (q : ℤ) → (result ≤ℤ q) ↔ (n ≤ℤ (q *ℤ d)) }
@@ -61,6 +66,7 @@ fn exact_ceil_div_64(n: i64, d: i64) -> i64
 
 /// What [`ceil_div`] answers, in less time where both numbers fit 64 bits: a division of these takes a fraction of the time
 /// that one of 128 bits takes.
+#[inline(always)]
 pub fn quick_ceil_div(n: i128, d: i128) -> i128
     requires { pos 0 <ℤ d }
     ensures { (q : ℤ) → (result ≤ℤ q) ↔ (n ≤ℤ (q *ℤ d)) }
