@@ -32,7 +32,7 @@ pub struct Session<A: Allocator> {
     alloc: A,
     job: Job<A>,
     facet_count: usize,
-    corners: Option<(Point, Point)>,
+    bounds: Option<(Point, Point)>,
 }
 
 impl<A: Allocator> Model for Session<A> {
@@ -40,7 +40,7 @@ impl<A: Allocator> Model for Session<A> {
 
     ghost Value = { Session };
 
-    ghost view = { λ s. record { job = s.job; facet_count = s.facet_count; corners = s.corners } };
+    ghost view = { λ s. record { job = s.job; facet_count = s.facet_count; bounds = s.bounds } };
 }
 
 impl<A: Allocator + Copy + Send + Sync> Session<A> {
@@ -80,14 +80,14 @@ impl<A: Allocator + Copy + Send + Sync> Session<A> {
             → IsSessionOf setup.now bytes session → IfErr result (λ fault. fault ≡ Memory) }
     {
         let facet_count = facets.len();
-        let corners = extent(facets.as_slice());
+        let bounds = extent(facets.as_slice());
         let solid = weld(alloc, facets)?;
         let grid = setup.placing.grid(&solid, setup.pitch, setup.layer)?;
         Ok(Session {
             alloc,
             job: Job::new(solid, grid, setup.rule),
             facet_count,
-            corners,
+            bounds,
         })
     }
 
@@ -151,9 +151,9 @@ impl<A: Allocator + Copy + Send + Sync> Session<A> {
     /// The box of all facets that were read: their least and greatest x, y and z, in micrometres. `None` where the text
     /// has no facet.
     pub fn bounds(&self) -> Option<(Point, Point)>
-        ensures { result ≡ self.now.corners }
+        ensures { result ≡ self.now.bounds }
     {
-        self.corners
+        self.bounds
     }
 
     /// The image of layer k in raw PBM ("P4", pbm(5)), as the program writes it: a pixel is black where its voxel is

@@ -11,7 +11,7 @@ use Rattle.std.proofs.Math.Seq.{take-add}
 use Rattle.geometry.specs.declared.limits.TheConstants.{COLUMN_LIMIT}
 use Rattle.raster.specs.Devices.{AppendsFirst}
 use Rattle.raster.specs.Filler.{below}
-use Rattle.raster.specs.Picture.{packed_byte, row_bytes}
+use Rattle.raster.specs.Image.{packed_byte, row_bytes}
 use Rattle.raster.proofs.lemmas.Sent.{appends-after}
 
 -- the rows below n, the greatest first

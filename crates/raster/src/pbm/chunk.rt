@@ -3,7 +3,7 @@ ghost use Rattle.std.specs.Prelude.{◌≡◌, ◌<◌, ◌≤◌, ◌+◌, ◌-
 ghost use Rattle.std.specs.Int.{div_ceil};
 ghost use Rattle.std.specs.Io.KnownBytes.{Appends};
 ghost use Rattle.raster.specs.Devices.{AppendsFirst, Fails};
-ghost use Rattle.raster.specs.Picture.{header, row_bytes};
+ghost use Rattle.raster.specs.Image.{header, row_bytes};
 ghost use Rattle.raster.specs.Rows.{are_within, crosses};
 ghost use Rattle.raster.specs.declared.pbm.chunk.TheConstants.{CHUNK_LEN};
 ghost use Rattle.geometry.specs.declared.limits.TheConstants.{COLUMN_LIMIT};

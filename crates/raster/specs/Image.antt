@@ -19,14 +19,14 @@ abbrev pub header : ℕ → ℕ → List ℕ
 header width height = codes "P4\n" ++ decimal width ++ codes " " ++ decimal height ++ codes "\n"
 
 -- the image of the pixels, each by column and row
-abbrev pub picture : ℕ → ℕ → (ℕ → ℕ → Bool) → List ℕ
-picture width height pixel =
+abbrev pub image_of_pixels : ℕ → ℕ → (ℕ → ℕ → Bool) → List ℕ
+image_of_pixels width height pixel =
     header width height ++ flat_map (λ j. row_bytes width (λ i. pixel i j)) (reverse (below height))
 
 -- the image of a layer: its filled voxels
-abbrev pub layer_picture : Grid → Rule → List Facet → ℕ → List ℕ
-layer_picture g rule facets k = picture g.columns g.rows (λ i j. is_filled rule facets (centre g i j k))
+abbrev pub layer_image : Grid → Rule → List Facet → ℕ → List ℕ
+layer_image g rule facets k = image_of_pixels g.columns g.rows (λ i j. is_filled rule facets (centre g i j k))
 
 -- the images of all layers, from 0 up
-abbrev pub pictures : Grid → Rule → List Facet → List ℕ
-pictures g rule facets = flat_map (layer_picture g rule facets) (below g.layers)
+abbrev pub images : Grid → Rule → List Facet → List ℕ
+images g rule facets = flat_map (layer_image g rule facets) (below g.layers)

@@ -15,11 +15,11 @@ use denote.Steps.{nothing}
 use denote.Triple.Walked.{Stays, walk_of}
 use Rattle.core.specs.declared.option.Option.TheVariants.{None}
 use Rattle.std.proofs.raw_atomic.Walks.{proved_at, leaves}
-use Rattle.stlslice_c.proofs.lemmas.Values.{alone, kept_good, kept_in}
-use Rattle.stlslice_c.specs.contracts.kept.Kept.empty.{ended, clauses}
-use Rattle.stlslice_c.specs.contracts.kept.Kept.empty.Key.{name as #self}
-use Rattle.stlslice_c.proofs.kept.Kept.empty.Statement.{statement}
-use Rattle.stlslice_c.proofs.kept.Kept.empty.Code as code
+use Rattle.stlslice_c.proofs.lemmas.Values.{alone, pointer_good, pointer_in}
+use Rattle.stlslice_c.specs.contracts.mesh_pointer.MeshPointer.empty.{ended, clauses}
+use Rattle.stlslice_c.specs.contracts.mesh_pointer.MeshPointer.empty.Key.{name as #self}
+use Rattle.stlslice_c.proofs.mesh_pointer.MeshPointer.empty.Statement.{statement}
+use Rattle.stlslice_c.proofs.mesh_pointer.MeshPointer.empty.Code as code
 
 pub empty_spec : {M : Type 1} → statement M
 empty_spec 𝓤 𝓛 𝓜 𝓡 wired =
@@ -29,6 +29,6 @@ empty_spec 𝓤 𝓛 𝓜 𝓡 wired =
     let κs = z.0.0 in let Post : Val → SProp 𝓤 = (walk_of 𝓛 ended hs c).post z in let w : Val = alone (ptr_val null_ptr) in
     qed 𝓛 ((‵ ftrue ⊛ ‵ (owns (types_at ended.signature.params κs) z.0.3 z.0.4)) ∷ raw ((c κs z.0.3).requires z.1) ∷ []) ∵ split ! $
     enter ! 𝓣.C 𝓣.Λ fn [] Post $ alloc_all ! (λ l. pass_all ! refl tt $
-    sets ! (agg ! (and_then ! (lit ! tt) (no_more !))) refl (kept_good null_ptr) $
-    nothing ! $ kept_in ! null_ptr None $ use0 𝓛 (raw (fact 𝓤 (None ≡ None))) (fact_i 𝓤 (None ≡ None) (emp 𝓤) refl) $ nothing ! $
+    sets ! (agg ! (and_then ! (lit ! tt) (no_more !))) refl (pointer_good null_ptr) $
+    nothing ! $ pointer_in ! null_ptr None $ use0 𝓛 (raw (fact 𝓤 (None ≡ None))) (fact_i 𝓤 (None ≡ None) (emp 𝓤) refl) $ nothing ! $
     returns ! (look_at ! 0 refl) $ free_all ! refl $ keep ! (3 ∷ 0 ∷ 2 ∷ 1 ∷ []) $ by ! (leaves 𝓛 ended hs c z w (record { at = null_ptr; session = None }) tt tt)))

@@ -5,7 +5,7 @@ use Rattle.std.specs.Int.{div_ceil}
 use Rattle.std.proofs.Math.Path.{fun_ext}
 use Rattle.std.proofs.lemmas.Bool.{leb-true}
 use Rattle.raster.specs.Filler.{below}
-use Rattle.raster.specs.Picture.{header, packed_byte, picture, row_bytes}
+use Rattle.raster.specs.Image.{header, image_of_pixels, packed_byte, row_bytes}
 use Rattle.raster.proofs.lemmas.Written.{length-row, lower_rows, rows-step}
 
 pub length-rows : (width n : ℕ) (pixel : ℕ → ℕ → Bool) → length (lower_rows width pixel n) ≡ n * div_ceil width 8
@@ -25,9 +25,9 @@ length-header width height =
     let d = length-append (codes "P4\n" ++ decimal width ++ codes " " ++ decimal height) (codes "\n") in
     omega (arith, a, b, c, d)
 
-pub length-picture : (width height : ℕ) (pixel : ℕ → ℕ → Bool)
-    → length (picture width height pixel) ≡ 5 + length (decimal width) + length (decimal height) + height * div_ceil width 8
-length-picture width height pixel =
+pub length-image : (width height : ℕ) (pixel : ℕ → ℕ → Bool)
+    → length (image_of_pixels width height pixel) ≡ 5 + length (decimal width) + length (decimal height) + height * div_ceil width 8
+length-image width height pixel =
     length-append (header width height) (lower_rows width pixel height)
     ∙ omega (arith, length-header width height, length-rows width height pixel)
 
@@ -56,6 +56,6 @@ same-rows width (suc n) p q same =
     ∙ ap (λ (l : List ℕ). row_bytes width (λ i. q i n) ++ l) more
     ∙ sym (rows-step width q n)
 
-pub same-picture : (width height : ℕ) (p q : ℕ → ℕ → Bool) → ((i j : ℕ) → i < width → j < height → p i j ≡ q i j)
-    → picture width height p ≡ picture width height q
-same-picture width height p q same = ap (λ (l : List ℕ). header width height ++ l) (same-rows width height p q same)
+pub same-image : (width height : ℕ) (p q : ℕ → ℕ → Bool) → ((i j : ℕ) → i < width → j < height → p i j ≡ q i j)
+    → image_of_pixels width height p ≡ image_of_pixels width height q
+same-image width height p q same = ap (λ (l : List ℕ). header width height ++ l) (same-rows width height p q same)
