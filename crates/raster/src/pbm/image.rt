@@ -69,10 +69,11 @@ pub fn image_len(grid: &Grid) -> u64
     header + u64::from(grid.rows()) * u64::from(grid.columns().div_ceil(8))
 }
 
-/// How many digits a number has in plain decimal.
+/// How many digits a number above 0 has in plain decimal.
 fn digit_count(n: u32) -> u64
+    requires { 1 ≤ n }
     ensures value { result ≡ length (decimal n) }
     ensures few { result ≤ 10 }
 {
-    if n < 10 { 1 } else { 1 + digit_count(n / 10) }
+    u64::from(n.ilog10()) + 1
 }
