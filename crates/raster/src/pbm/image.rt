@@ -1,11 +1,11 @@
 //! Writes the image of a layer, row by row from the greatest row to the least, through a chunk on the stack; and how long an
 //! image is.
-ghost use Rattle.std.specs.Prelude.{◌≡◌, ◌<◌, ◌≤◌, ◌+◌, ◌^◌, ◌++◌, ℕ, Bool, decimal, length, IfErr, OnErr, OnOk};
+ghost use Rattle.std.specs.Prelude.{◌≡◌, ◌<◌, ◌≤◌, ◌+◌, ◌++◌, ℕ, Bool, decimal, length, IfErr, OnErr, OnOk};
 ghost use Rattle.std.specs.Int.{div_ceil};
 ghost use Rattle.std.specs.Io.KnownBytes.{Appends};
 ghost use Rattle.raster.specs.Devices.{AppendsFirst, Fails};
 ghost use Rattle.raster.specs.Span.{AreSpans, covers};
-ghost use Rattle.raster.specs.Image.{image_of_pixels, row_bytes};
+ghost use Rattle.raster.specs.Image.{image_limit, image_of_pixels, row_bytes};
 ghost use Rattle.raster.specs.Rows.{IsSplit};
 ghost use Rattle.raster.specs.declared.pbm.chunk.TheConstants.{CHUNK_LEN};
 
@@ -63,7 +63,7 @@ fn push_row(chunk: &mut Chunk, g: &Grid, spans: &[Span], row: u32, end: usize) -
 /// The length in bytes of the image of a layer of this grid, which is the same for all of them.
 pub fn image_len(grid: &Grid) -> u64
     ensures value { (pixel : ℕ → ℕ → Bool) → length (image_of_pixels grid.now.columns grid.now.rows pixel) ≡ result }
-    ensures small { result ≤ 2 ^ 26 }
+    ensures small { result ≤ image_limit }
 {
     let header = 5 + digit_count(grid.columns()) + digit_count(grid.rows());
     header + u64::from(grid.rows()) * u64::from(grid.columns().div_ceil(8))

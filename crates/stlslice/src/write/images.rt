@@ -1,9 +1,9 @@
 //! The output of slicing: the images of all layers, one after the other.
-ghost use Rattle.std.specs.Prelude.{◌≡◌, ◌≤◌, ◌+◌, ◌^◌, IfErr, IfOk, OnOk, length, true, ℕ};
+ghost use Rattle.std.specs.Prelude.{◌≡◌, ◌≤◌, ◌+◌, IfErr, IfOk, OnOk, length, true, ℕ};
 ghost use Rattle.std.specs.Io.KnownBytes.{Appends};
 ghost use Rattle.raster.specs.Devices.{AppendsFirst, Fails};
 ghost use Rattle.raster.specs.Span.{AreSpans};
-ghost use Rattle.raster.specs.Image.{images};
+ghost use Rattle.raster.specs.Image.{image_limit, images, images_limit};
 ghost use Rattle.stlslice.specs.SlicedText.{image};
 ghost use Rattle.stlslice.specs.declared.run_fault.RunFault.TheVariants.{Write};
 
@@ -47,9 +47,9 @@ pub(crate) fn write_image<O: Sink>(
     before: u64,
 ) -> Result<u64, RunFault>
     requires form { AreSpans grid.now.columns grid.now.rows spans.now }
-    requires before { before ≤ 2 ^ 62 }
+    requires before { before ≤ images_limit }
     ensures total { IfOk result (λ total. total ≡ before + length (image grid.now spans.now)) }
-    ensures small { length (image grid.now spans.now) ≤ 2 ^ 26 }
+    ensures small { length (image grid.now spans.now) ≤ image_limit }
     ensures ok { OnOk result (Appends (O.contents sink.old) (O.contents sink.new) (image grid.now spans.now)) }
     ensures same { OnOk result (O.Failures.failure_count sink.new ≡ O.Failures.failure_count sink.old) }
     ensures err { IfErr result (λ fault. (written : ℕ) × (fault ≡ Write (before + written))
