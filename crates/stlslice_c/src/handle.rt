@@ -1,8 +1,8 @@
 //! What C keeps of an open mesh.
 ghost use Rattle.std.specs.Prelude.{◌≡◌, None, Some, is_some, option_map};
 
-use crate::mesh_pointer::MeshPointer;
 use crate::box_parts::BoxParts;
+use crate::mesh_pointer::MeshPointer;
 use layer_session::Session;
 use std::alloc::Global;
 

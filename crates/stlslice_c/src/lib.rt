@@ -11,7 +11,7 @@
 //! stlslice_close(&mesh);                                                 // frees all
 //! ```
 //!
-//! - [`Handle`]: an open mesh, or none, with what C keeps of it, [`MeshPointer`]. Every call but open and close leaves it as it was.
+//! - [`Handle`]: an open mesh, or none; C keeps it as a [`MeshPointer`]. Every call but open and close leaves it as it was.
 //! - [`Options`]: what a text is opened with. [`Cells`]: the numbers of a grid, given or told.
 //! - [`Corners`], [`Shape`], [`Rays`], [`LoopPoint`]: what C is told.
 //!
@@ -25,12 +25,12 @@
 #![tactic(auto)]
 
 mod asking;
+mod box_parts;
 mod buffers;
 mod handle;
-mod mesh_pointer;
 mod lines;
 mod loops;
-mod box_parts;
+mod mesh_pointer;
 mod opening;
 mod options;
 mod shape;
@@ -47,10 +47,10 @@ ghost use Rattle.stlslice_c.specs.declared.status.TheConstants.{NOT_OPEN};
 
 use asking::{put_area, put_mask, put_probe, put_stripe};
 pub use handle::Handle;
-pub use mesh_pointer::MeshPointer;
 use lines::{put_fault, put_status};
 pub use loops::LoopPoint;
 use loops::put_loops;
+pub use mesh_pointer::MeshPointer;
 use opening::{open, read_corners};
 pub use options::Options;
 use options::unit_numbered;
