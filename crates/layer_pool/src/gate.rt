@@ -3,7 +3,8 @@ use build_book::Piece;
 use std::alloc::Allocator;
 
 /// An observer of the workers, which count from 0. A worker calls it while it does not hold the lock on the book, so a
-/// gate that waits delays only the worker that calls it.
+/// gate that waits delays only the worker that calls it. No clause says when a gate is called, or of what it is told;
+/// tests do.
 pub trait Gate<A: Allocator> {
     /// A worker has drawn a stripe and is about to slice it.
     fn arrived(&self, worker: u32, stripe: u64);

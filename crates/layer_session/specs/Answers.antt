@@ -3,14 +3,14 @@ use Rattle.std.specs.Prelude.{◌≡◌, ◌⊎◌, ◌<◌, ◌≤◌, ℕ, ℤ
 use Rattle.std.specs.List.{range_with_len}
 use Rattle.geometry.specs.Winding.{ray, ray_y}
 use Rattle.raster.specs.Grid.{Grid, centre}
-use Rattle.raster.specs.Picture.{layer_picture}
+use Rattle.raster.specs.Image.{layer_image}
 use Rattle.build_book.specs.Job.{Job, stripe_count, stripe_length, stripe_start}
 use Rattle.layer_session.specs.declared.session_fault.SessionFault.{SessionFault}
 use Rattle.layer_session.specs.declared.session_fault.SessionFault.TheVariants as fault
 
 -- the image of layer k of a job
 abbrev pub image_of : Job → ℕ → List ℕ
-image_of job k = layer_picture job.grid job.rule job.solid.facets k
+image_of job k = layer_image job.grid job.rule job.solid.facets k
 
 -- the images of the layers of stripe s, from the lowest up
 abbrev pub stripe_images : Job → ℕ → List ℕ

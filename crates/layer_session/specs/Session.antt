@@ -18,11 +18,11 @@ use Rattle.layer_session.specs.Setup.{IsInRange, grid_of}
 pub record Session : Type 0 where
   pub job : Job
   pub facet_count : ℕ
-  pub corners : Option (Point × Point)
+  pub bounds : Option (Point × Point)
 
 -- the least and the greatest x, y and z of facets
-abbrev pub corners_of : List Facet → Option (Point × Point)
-corners_of facets = option_map (λ b. (b.low, b.high)) (bounds facets)
+abbrev pub bounds_of : List Facet → Option (Point × Point)
+bounds_of facets = option_map (λ b. (b.low, b.high)) (bounds facets)
 
 -- The text reads as facets of a closed mesh, which has a grid; solid, grid, rule, number and box are theirs.
 pub record IsSessionOf (setup : Setup) (bytes : List ℕ) (session : Session) : Type 0 where
@@ -34,7 +34,7 @@ pub record IsSessionOf (setup : Setup) (bytes : List ℕ) (session : Session) : 
   pub grid : grid_of setup (solid_of facets).facets ≡ Ok session.job.grid
   pub rule : session.job.rule ≡ setup.rule
   pub count : session.facet_count ≡ length facets
-  pub corners : session.corners ≡ corners_of facets
+  pub bounds : session.bounds ≡ bounds_of facets
 
 -- a step out of range; else the fault of the text; else the least open edge of its facets; else the fault of the grid
 abbrev pub IsOpenFault : Setup → List ℕ → SessionFault → Type 0

@@ -7,7 +7,7 @@ ghost use Rattle.contour.specs.Outlines.{outlines};
 ghost use Rattle.contour.specs.Segment.{segments};
 ghost use Rattle.raster.specs.Filler.{IsFillOf, area_of};
 ghost use Rattle.raster.specs.Grid.{plane};
-ghost use Rattle.raster.specs.Picture.{picture};
+ghost use Rattle.raster.specs.Image.{image_of_pixels};
 ghost use Rattle.raster.specs.Span.{AreSpans, covers};
 ghost use Rattle.layer_session.specs.Answers.{image_of, stripe_images};
 
@@ -115,7 +115,7 @@ pub(crate) fn stripe_images<A: Allocator + Copy + Send + Sync>(
 fn put_image<W: Sink>(grid: &Grid, spans: &[Span], sink: &mut W) -> Result<(), AllocError>
     requires { AreSpans grid.now.columns grid.now.rows spans.now }
     ensures { OnOk result (Appends (W.contents sink.old) (W.contents sink.new)
-        (picture grid.now.columns grid.now.rows (covers spans.now))) }
+        (image_of_pixels grid.now.columns grid.now.rows (covers spans.now))) }
 {
     write_layer(grid, spans, sink).map_err(|_| AllocError)
 }

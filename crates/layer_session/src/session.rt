@@ -1,13 +1,14 @@
 //! Sessions: a closed mesh in its grid, with a rule, asked layer by layer.
-ghost use Rattle.std.specs.Prelude.{◌≡◌, ◌<◌, ◌≤◌, ◌^◌, Err, IfErr, IfOk, List, OnOk, length, vec_len, ℕ};
+ghost use Rattle.std.specs.Prelude.{◌≡◌, ◌<◌, ◌≤◌, ◌*◌, Err, IfErr, IfOk, List, OnOk, length, vec_len, ℕ};
 ghost use Rattle.build_book.specs.Job.{stripe_count};
-ghost use Rattle.build_book.specs.declared.limits.TheConstants.{MOST_STRIPES};
+ghost use Rattle.build_book.specs.declared.limits.TheConstants.{MOST_STRIPES, STRIPE_LAYERS};
 ghost use Rattle.contour.specs.Loops.{AreLoops, loops};
 ghost use Rattle.contour.specs.Outlines.{outlines};
 ghost use Rattle.contour.specs.Segment.{segments};
 ghost use Rattle.geometry.specs.declared.limits.TheConstants.{FACET_LIMIT, LAYER_LIMIT};
 ghost use Rattle.raster.specs.Filler.{area_of};
 ghost use Rattle.raster.specs.Grid.{plane};
+ghost use Rattle.raster.specs.Image.{image_limit};
 ghost use Rattle.stl_text.specs.Text.{Reads};
 ghost use Rattle.layer_session.specs.Answers.{IsLayerFault, IsStripeFault, image_of, outside, probed, stripe_images};
 ghost use Rattle.layer_session.specs.Session.{IsOpenFault, IsSessionOf, Session as Opened};
@@ -32,7 +33,7 @@ pub struct Session<A: Allocator> {
     alloc: A,
     job: Job<A>,
     facet_count: usize,
-    corners: Option<(Point, Point)>,
+    bounds: Option<(Point, Point)>,
 }
 
 impl<A: Allocator> Model for Session<A> {
@@ -40,7 +41,7 @@ impl<A: Allocator> Model for Session<A> {
 
     ghost Value = { Session };
 
-    ghost view = { λ s. record { job = s.job; facet_count = s.facet_count; corners = s.corners } };
+    ghost view = { λ s. record { job = s.job; facet_count = s.facet_count; bounds = s.bounds } };
 }
 
 impl<A: Allocator + Copy + Send + Sync> Session<A> {
@@ -80,14 +81,14 @@ impl<A: Allocator + Copy + Send + Sync> Session<A> {
             → IsSessionOf setup.now bytes session → IfErr result (λ fault. fault ≡ Memory) }
     {
         let facet_count = facets.len();
-        let corners = extent(facets.as_slice());
+        let bounds = extent(facets.as_slice());
         let solid = weld(alloc, facets)?;
         let grid = setup.placing.grid(&solid, setup.pitch, setup.layer)?;
         Ok(Session {
             alloc,
             job: Job::new(solid, grid, setup.rule),
             facet_count,
-            corners,
+            bounds,
         })
     }
 
@@ -125,7 +126,7 @@ impl<A: Allocator + Copy + Send + Sync> Session<A> {
     /// The length in bytes of the image of a layer, which is the same for all of them.
     pub fn image_len(&self) -> u64
         ensures value { (k : ℕ) → length (image_of self.now.job k) ≡ result }
-        ensures small { result ≤ 2 ^ 26 }
+        ensures small { result ≤ image_limit }
     {
         image_len(self.job.grid())
     }
@@ -134,7 +135,7 @@ impl<A: Allocator + Copy + Send + Sync> Session<A> {
     pub fn stripe_len(&self, s: u64) -> u64
         requires { s < stripe_count self.now.job.grid }
         ensures value { result ≡ length (stripe_images self.now.job s) }
-        ensures small { result ≤ 2 ^ 29 }
+        ensures small { result ≤ STRIPE_LAYERS * image_limit }
     {
         let most = u64::from(STRIPE_LAYERS);
         let layers = most.min(u64::from(self.layers()) - most * s);
@@ -151,9 +152,9 @@ impl<A: Allocator + Copy + Send + Sync> Session<A> {
     /// The box of all facets that were read: their least and greatest x, y and z, in micrometres. `None` where the text
     /// has no facet.
     pub fn bounds(&self) -> Option<(Point, Point)>
-        ensures { result ≡ self.now.corners }
+        ensures { result ≡ self.now.bounds }
     {
-        self.corners
+        self.bounds
     }
 
     /// The image of layer k in raw PBM ("P4", pbm(5)), as the program writes it: a pixel is black where its voxel is

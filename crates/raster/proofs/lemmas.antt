@@ -18,5 +18,5 @@ pub mod Middles
 pub mod Marks
 pub mod Turns
 pub mod ColumnSums
-pub mod Pictures
+pub mod Images
 pub mod OddMarks

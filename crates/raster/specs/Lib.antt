@@ -4,7 +4,7 @@ pub mod Placing
 pub mod Rule
 pub mod Span
 pub mod Filler
-pub mod Picture
+pub mod Image
 pub mod Bits
 pub mod Rows
 pub mod RowCrossing

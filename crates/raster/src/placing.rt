@@ -24,8 +24,8 @@ pub enum Placing {
 }
 
 impl Placing {
-    /// The grid of this pitch and layer height (micrometres, 1 to `STEP_LIMIT`) that lies so, for a mesh: as of
-    /// [`Grid::fit`], or as of [`Grid::given`], with their faults.
+    /// The grid of this placing, with this pitch and layer height (micrometres, 1 to `STEP_LIMIT`), for a mesh: what
+    /// [`Grid::fit`] answers where it is fitted, and what [`Grid::given`] answers where it is given.
     pub fn grid<A: Allocator>(
         self,
         s: &Solid<A>,

@@ -1,5 +1,5 @@
-//! The fill rules: which sums of signed crossings count as inside. A new rule is one variant and one arm of `is_inside`,
-//! here and in `specs/Rule`.
+//! The fill rules: which sums of signed crossings count as inside. To the code of this crate a new rule is one variant, and
+//! one arm of `is_inside`; `docs/ARCHITECTURE.md` lists what else it touches.
 ghost use Rattle.std.specs.Prelude.{◌≡◌};
 ghost use Rattle.raster.specs.Rule.{is_inside};
 

@@ -6,7 +6,7 @@ use Rattle.geometry.specs.Winding.{ray, ray_y}
 use Rattle.raster.specs.declared.rule.Rule.{Rule}
 use Rattle.raster.specs.Grid.{Grid}
 use Rattle.raster.specs.Filler.{area_of}
-use Rattle.raster.specs.Picture.{pictures}
+use Rattle.raster.specs.Image.{images}
 
 -- two corners exchanged
 abbrev pub turned : Facet → Facet
@@ -24,7 +24,7 @@ RaysAlongYAreNegated = (facets : List Facet) (c : Point) → ray_y (inside_out f
 
 -- by this rule both meshes have the same images and areas in every grid
 abbrev pub KeepsImages : Rule → Type 0
-KeepsImages rule = (grid : Grid) (facets : List Facet) → pictures grid rule (inside_out facets) ≡ pictures grid rule facets
+KeepsImages rule = (grid : Grid) (facets : List Facet) → images grid rule (inside_out facets) ≡ images grid rule facets
 
 abbrev pub KeepsAreas : Rule → Type 0
 KeepsAreas rule = (grid : Grid) (facets : List Facet) (k : ℕ)

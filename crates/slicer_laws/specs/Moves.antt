@@ -6,7 +6,7 @@ use Rattle.geometry.specs.Winding.{ray, ray_y}
 use Rattle.raster.specs.declared.rule.Rule.{Rule}
 use Rattle.raster.specs.Grid.{Grid, grid_with}
 use Rattle.raster.specs.Filler.{area_of}
-use Rattle.raster.specs.Picture.{pictures}
+use Rattle.raster.specs.Image.{images}
 
 abbrev pub moved : Point → Point → Point
 moved by p = record { x = p.x +ℤ by.x; y = p.y +ℤ by.y; z = p.z +ℤ by.z }
@@ -31,7 +31,7 @@ RaysAlongYMoveAlong = (by : Point) (facets : List Facet) (c : Point)
 
 abbrev pub ImagesMoveAlong : Type 0
 ImagesMoveAlong = (by : Point) (g : Grid) (rule : Rule) (facets : List Facet)
-    → pictures (moved_grid by g) rule (moved_mesh by facets) ≡ pictures g rule facets
+    → images (moved_grid by g) rule (moved_mesh by facets) ≡ images g rule facets
 
 abbrev pub AreasMoveAlong : Type 0
 AreasMoveAlong = (by : Point) (g : Grid) (rule : Rule) (facets : List Facet) (k : ℕ)

@@ -6,7 +6,7 @@ use Rattle.geometry.specs.Winding.{ray, ray_y}
 use Rattle.raster.specs.declared.rule.Rule.{Rule}
 use Rattle.raster.specs.Grid.{Grid}
 use Rattle.raster.specs.Filler.{area_of}
-use Rattle.raster.specs.Picture.{pictures}
+use Rattle.raster.specs.Image.{images}
 
 abbrev pub RaysIgnoreOrder : Type 0
 RaysIgnoreOrder = (facets others : List Facet) → IsPermutation facets others
@@ -18,7 +18,7 @@ RaysAlongYIgnoreOrder = (facets others : List Facet) → IsPermutation facets ot
 
 abbrev pub ImagesIgnoreOrder : Type 0
 ImagesIgnoreOrder = (facets others : List Facet) → IsPermutation facets others
-    → (grid : Grid) (rule : Rule) → pictures grid rule others ≡ pictures grid rule facets
+    → (grid : Grid) (rule : Rule) → images grid rule others ≡ images grid rule facets
 
 abbrev pub AreasIgnoreOrder : Type 0
 AreasIgnoreOrder = (facets others : List Facet) → IsPermutation facets others

@@ -6,7 +6,7 @@ use Rattle.geometry.specs.declared.limits.TheConstants.{COORDINATE_LIMIT}
 use Rattle.raster.specs.declared.rule.Rule.{Rule}
 use Rattle.raster.specs.Grid.{Grid, IsGrid, grid_with, plane}
 use Rattle.raster.specs.Filler.{area_of}
-use Rattle.raster.specs.Picture.{pictures}
+use Rattle.raster.specs.Image.{images}
 
 abbrev pub raised : ℕ → Point → Point
 raised height p = record { x = p.x; y = p.y; z = p.z +ℤ pos height }
@@ -22,7 +22,7 @@ layers_from m g =
 -- the images of both parts are those of the whole
 abbrev pub SlabsJoin : Type 0
 SlabsJoin = (g : Grid) (rule : Rule) (facets : List Facet) (m : ℕ) → m ≤ g.layers
-    → pictures g rule facets ≡ pictures (first_layers m g) rule facets ++ pictures (layers_from m g) rule facets
+    → images g rule facets ≡ images (first_layers m g) rule facets ++ images (layers_from m g) rule facets
 
 -- layer k of the upper part is layer m + k of the whole, so it has its plane and its area
 abbrev pub PlanesStay : Type 0

@@ -8,13 +8,13 @@ use Rattle.raster.specs.declared.span.Span.{Span}
 use Rattle.raster.specs.Filler.{area_of, below}
 use Rattle.raster.specs.Span.{covers}
 use Rattle.raster.specs.Grid.{Grid, plane}
-use Rattle.raster.specs.Picture.{picture, pictures}
+use Rattle.raster.specs.Image.{image_of_pixels, images}
 use Rattle.stlslice.specs.declared.write.Output.{Output}
 use Rattle.stlslice.specs.declared.write.Output.TheVariants as output
 
 -- the image of the pixels that lie in the spans
 abbrev pub image : Grid → List Span → List ℕ
-image g spans = picture g.columns g.rows (covers spans)
+image g spans = image_of_pixels g.columns g.rows (covers spans)
 
 abbrev pub line_of_layer : ℕ → ℕ → ℕ → List ℕ
 line_of_layer number loops area =
@@ -38,5 +38,5 @@ output_of report = if report then output.Report else output.Images
 
 -- each output of slicing
 abbrev pub sliced_text : Output → Grid → Rule → List Facet → List ℕ
-sliced_text output.Images g rule facets = pictures g rule facets
+sliced_text output.Images g rule facets = images g rule facets
 sliced_text output.Report g rule facets = report_text g rule facets

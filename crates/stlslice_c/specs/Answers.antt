@@ -7,7 +7,7 @@ use Rattle.micro_num.specs.declared.unit.Unit.{Unit as TextUnit}
 use Rattle.raster.specs.Filler.{area_of}
 use Rattle.build_book.specs.Job.{Job, stripe_count}
 use Rattle.layer_session.specs.Answers.{image_of, outside, probed, stripe_images}
-use Rattle.layer_session.specs.Session.{IsOpenFault, IsSessionOf, Session, corners_of}
+use Rattle.layer_session.specs.Session.{IsOpenFault, IsSessionOf, Session, bounds_of}
 use Rattle.layer_session.specs.Setup.{IsInRange}
 use Rattle.layer_session.specs.declared.setup.Setup.{Setup}
 use Rattle.layer_session.specs.declared.session_fault.SessionFault.{SessionFault}
@@ -86,7 +86,7 @@ pub record IsBoxed (unit : ℕ) (text : List ℕ) (told : Corners) : Type 0 wher
   pub facets : List Facet
   pub means : unit_numbered unit ≡ Some meant
   pub reads : Reads FACET_LIMIT meant text facets
-  pub box : told ≡ corners_told (length facets) (corners_of facets)
+  pub box : told ≡ corners_told (length facets) (bounds_of facets)
 
 -- a number that is no unit's, or the fault of the text, with its line
 abbrev pub IsUnboxed : ℕ → List ℕ → List ℕ → List ℕ → ℕ → Type 0

@@ -1,4 +1,4 @@
-pub mod Kept
+pub mod MeshPointer
 pub mod Shape
 pub mod Options
 pub mod Status

@@ -40,6 +40,6 @@ cells_told g = record {
 
 abbrev pub shape_told : Session → Shape
 shape_told s = record {
-  corners = corners_told s.facet_count s.corners;
+  corners = corners_told s.facet_count s.bounds;
   cells = cells_told s.job.grid;
 }

@@ -1,4 +1,4 @@
-//! What is put into buffers of C's.
+//! Writes bytes into the buffers that C hands in.
 ghost use Rattle.std.specs.Prelude.{◌≡◌, ◌≤◌, ◌<◌, ◌++◌, ◌↔◌, IsTrue, drop, length};
 ghost use Rattle.stlslice_c.specs.declared.status.TheConstants.{DONE};
 

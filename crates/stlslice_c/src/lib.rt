@@ -11,7 +11,7 @@
 //! stlslice_close(&mesh);                                                 // frees all
 //! ```
 //!
-//! - [`Handle`]: an open mesh, or none, with what C keeps of it, [`Kept`]. Every call but open and close leaves it as it was.
+//! - [`Handle`]: an open mesh, or none; C keeps it as a [`MeshPointer`]. Every call but open and close leaves it as it was.
 //! - [`Options`]: what a text is opened with. [`Cells`]: the numbers of a grid, given or told.
 //! - [`Corners`], [`Shape`], [`Rays`], [`LoopPoint`]: what C is told.
 //!
@@ -25,12 +25,12 @@
 #![tactic(auto)]
 
 mod asking;
+mod box_parts;
 mod buffers;
 mod handle;
-mod kept;
 mod lines;
 mod loops;
-mod loose;
+mod mesh_pointer;
 mod opening;
 mod options;
 mod shape;
@@ -47,10 +47,10 @@ ghost use Rattle.stlslice_c.specs.declared.status.TheConstants.{NOT_OPEN};
 
 use asking::{put_area, put_mask, put_probe, put_stripe};
 pub use handle::Handle;
-pub use kept::Kept;
 use lines::{put_fault, put_status};
 pub use loops::LoopPoint;
 use loops::put_loops;
+pub use mesh_pointer::MeshPointer;
 use opening::{open, read_corners};
 pub use options::Options;
 use options::unit_numbered;
@@ -125,7 +125,7 @@ pub extern "C" fn stlslice_open(
     shape: &mut Shape,
     line: &mut [u8],
 ) -> u32
-    ensures { IsOpening options.now text.now handle.old.kept.session handle.new.kept.session shape.old shape.new
+    ensures { IsOpening options.now text.now handle.old.mesh.session handle.new.mesh.session shape.old shape.new
         line.old line.new result }
 {
     let Some(setup) = options.setup() else {
@@ -144,7 +144,7 @@ pub extern "C" fn stlslice_open(
 /// Closes a handle, and frees its mesh. A closed handle may be closed again.
 #[unsafe(no_mangle)]
 pub extern "C" fn stlslice_close(alloc: Global, handle: &mut Handle)
-    ensures { handle.new.kept.session ≡ None }
+    ensures { handle.new.mesh.session ≡ None }
 {
     drop(handle.take(alloc));
 }
@@ -159,10 +159,10 @@ pub extern "C" fn stlslice_mask(
     image: &mut [u8],
     wanted: &mut usize,
 ) -> u32
-    ensures kept { handle.new.kept.session ≡ handle.old.kept.session }
-    ensures open { (session : Session) → handle.old.kept.session ≡ Some session
+    ensures kept { handle.new.mesh.session ≡ handle.old.mesh.session }
+    ensures open { (session : Session) → handle.old.mesh.session ≡ Some session
         → IsMask session.job k image.old image.new wanted.old wanted.new result }
-    ensures closed { handle.old.kept.session ≡ None → (result ≡ NOT_OPEN) × (image.new ≡ image.old) × (wanted.new ≡ wanted.old) }
+    ensures closed { handle.old.mesh.session ≡ None → (result ≡ NOT_OPEN) × (image.new ≡ image.old) × (wanted.new ≡ wanted.old) }
 {
     asked!(alloc, handle, session => put_mask(&session, k, image, wanted))
 }
@@ -177,10 +177,10 @@ pub extern "C" fn stlslice_stripe(
     images: &mut [u8],
     wanted: &mut usize,
 ) -> u32
-    ensures kept { handle.new.kept.session ≡ handle.old.kept.session }
-    ensures open { (session : Session) → handle.old.kept.session ≡ Some session
+    ensures kept { handle.new.mesh.session ≡ handle.old.mesh.session }
+    ensures open { (session : Session) → handle.old.mesh.session ≡ Some session
         → IsStripe session.job s images.old images.new wanted.old wanted.new result }
-    ensures closed { handle.old.kept.session ≡ None → (result ≡ NOT_OPEN) × (images.new ≡ images.old) × (wanted.new ≡ wanted.old) }
+    ensures closed { handle.old.mesh.session ≡ None → (result ≡ NOT_OPEN) × (images.new ≡ images.old) × (wanted.new ≡ wanted.old) }
 {
     asked!(alloc, handle, session => put_stripe(&session, s, images, wanted))
 }
@@ -188,10 +188,10 @@ pub extern "C" fn stlslice_stripe(
 /// Puts the number of filled pixels of layer k into `area`.
 #[unsafe(no_mangle)]
 pub extern "C" fn stlslice_area(alloc: Global, handle: &mut Handle, k: u32, area: &mut u64) -> u32
-    ensures kept { handle.new.kept.session ≡ handle.old.kept.session }
-    ensures open { (session : Session) → handle.old.kept.session ≡ Some session
+    ensures kept { handle.new.mesh.session ≡ handle.old.mesh.session }
+    ensures open { (session : Session) → handle.old.mesh.session ≡ Some session
         → IsArea session.job k area.old area.new result }
-    ensures closed { handle.old.kept.session ≡ None → (result ≡ NOT_OPEN) × (area.new ≡ area.old) }
+    ensures closed { handle.old.mesh.session ≡ None → (result ≡ NOT_OPEN) × (area.new ≡ area.old) }
 {
     asked!(alloc, handle, session => put_area(&session, k, area))
 }
@@ -206,10 +206,10 @@ pub extern "C" fn stlslice_probe(
     k: u32,
     rays: &mut Rays,
 ) -> u32
-    ensures kept { handle.new.kept.session ≡ handle.old.kept.session }
-    ensures open { (session : Session) → handle.old.kept.session ≡ Some session
+    ensures kept { handle.new.mesh.session ≡ handle.old.mesh.session }
+    ensures open { (session : Session) → handle.old.mesh.session ≡ Some session
         → IsProbe session.job i j k rays.old rays.new result }
-    ensures closed { handle.old.kept.session ≡ None → (result ≡ NOT_OPEN) × (rays.new ≡ rays.old) }
+    ensures closed { handle.old.mesh.session ≡ None → (result ≡ NOT_OPEN) × (rays.new ≡ rays.old) }
 {
     asked!(alloc, handle, session => put_probe(&session, i, j, k, rays))
 }
@@ -226,11 +226,11 @@ pub extern "C" fn stlslice_loops(
     ends: &mut [usize],
     ends_wanted: &mut usize,
 ) -> u32
-    ensures kept { handle.new.kept.session ≡ handle.old.kept.session }
-    ensures open { (session : Session) → handle.old.kept.session ≡ Some session
+    ensures kept { handle.new.mesh.session ≡ handle.old.mesh.session }
+    ensures open { (session : Session) → handle.old.mesh.session ≡ Some session
         → IsLoops session.job k points.old points.new points_wanted.old points_wanted.new
         ends.old ends.new ends_wanted.old ends_wanted.new result }
-    ensures closed { handle.old.kept.session ≡ None → (result ≡ NOT_OPEN)
+    ensures closed { handle.old.mesh.session ≡ None → (result ≡ NOT_OPEN)
         × AreAsBefore points.old points.new points_wanted.old points_wanted.new ends.old ends.new ends_wanted.old ends_wanted.new }
 {
     asked!(alloc, handle, session => put_loops(

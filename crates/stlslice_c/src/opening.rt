@@ -5,7 +5,7 @@ ghost use Rattle.geometry.specs.declared.limits.TheConstants.{FACET_LIMIT};
 ghost use Rattle.stl_text.specs.Text.{Reads};
 ghost use Rattle.layer_session.specs.Setup.{IsInRange};
 ghost use Rattle.layer_session.specs.declared.session_fault.SessionFault.TheVariants.{Step};
-ghost use Rattle.layer_session.specs.Session.{IsOpenFault, IsSessionOf, corners_of};
+ghost use Rattle.layer_session.specs.Session.{IsOpenFault, IsSessionOf, bounds_of};
 ghost use Rattle.stlslice_c.specs.Answers.{IsTextFault};
 ghost use Rattle.stlslice_c.specs.Shape.{corners_told};
 
@@ -22,7 +22,7 @@ pub(crate) fn read_corners<A: Allocator + Copy + Send + Sync>(
     unit: Unit,
 ) -> Result<Corners, SessionFault>
     ensures found { IfOk result (λ corners. (facets : List Facet) × Reads FACET_LIMIT unit text.now facets
-        × (corners ≡ corners_told (length facets) (corners_of facets))) }
+        × (corners ≡ corners_told (length facets) (bounds_of facets))) }
     ensures fault { IfErr result (IsTextFault unit text.now) }
 {
     let facets = read_stl(alloc, text, unit)?;

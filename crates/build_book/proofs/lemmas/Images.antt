@@ -7,9 +7,9 @@ use Rattle.std.proofs.lemmas.List.Folds.{flat_map-map}
 use Rattle.std.proofs.lemmas.List.FromFn.{map-range_with_len_more}
 use Rattle.raster.specs.Filler.{is_filled}
 use Rattle.raster.specs.Grid.{centre}
-use Rattle.raster.specs.Picture.{layer_picture, picture}
+use Rattle.raster.specs.Image.{image_of_pixels, layer_image}
 use Rattle.raster.specs.Span.{covers}
-use Rattle.raster.proofs.lemmas.Pictures.{same-picture}
+use Rattle.raster.proofs.lemmas.Images.{same-image}
 use Rattle.build_book.specs.Job.{Job}
 use Rattle.build_book.specs.Layer.{AreLawfulFrom, IsLawful, Layer}
 
@@ -23,10 +23,10 @@ lawful_at job k (y ∷ ys) (suc i) x lawful h is =
     subst (λ (n : ℕ). IsLawful job n x) (omega arith) (lawful_at job (k + 1) ys i x lawful.1 (omega arith) is)
 
 -- the image of a lawful layer's spans is that of its filled voxels
-pub picture_of : (job : Job) (k : ℕ) (x : Layer) → IsLawful job k x
-    → picture job.grid.columns job.grid.rows (covers x.spans) ≡ layer_picture job.grid job.rule job.solid.facets k
-picture_of job k x lawful =
-    same-picture job.grid.columns job.grid.rows (covers x.spans)
+pub image_of_layer : (job : Job) (k : ℕ) (x : Layer) → IsLawful job k x
+    → image_of_pixels job.grid.columns job.grid.rows (covers x.spans) ≡ layer_image job.grid job.rule job.solid.facets k
+image_of_layer job k x lawful =
+    same-image job.grid.columns job.grid.rows (covers x.spans)
     (λ m n. is_filled job.rule job.solid.facets (centre job.grid m n k)) lawful.filled
 
 -- the part of k comes after the parts of the numbers from `a` on

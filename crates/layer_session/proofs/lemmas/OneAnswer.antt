@@ -18,7 +18,7 @@ use Rattle.raster.specs.declared.grid.GridFault.{GridFault}
 use Rattle.layer_session.specs.declared.setup.Setup.{Setup}
 use Rattle.layer_session.specs.declared.session_fault.SessionFault.{SessionFault}
 use Rattle.layer_session.specs.declared.session_fault.SessionFault.TheVariants as fault
-use Rattle.layer_session.specs.Session.{IsAnswer, IsSessionOf, Session, corners_of}
+use Rattle.layer_session.specs.Session.{IsAnswer, IsSessionOf, Session, bounds_of}
 use Rattle.layer_session.specs.Setup.{IsInRange, grid_of}
 
 abbrev Answer : Type 0
@@ -29,7 +29,7 @@ abbrev session_with : Setup → List Facet → Grid → Session
 session_with setup facets g = record {
   job = record { solid = solid_of facets; grid = g; rule = setup.rule };
   facet_count = length facets;
-  corners = corners_of facets;
+  bounds = bounds_of facets;
 }
 
 abbrev placed : Setup → List Facet → Result Grid GridFault → Answer
@@ -58,7 +58,7 @@ of_session setup bytes session is =
     (λ i. Ok (record {
       job = record { solid = is.solid i; grid = session.job.grid; rule = is.rule i };
       facet_count = is.count i;
-      corners = is.corners i;
+      bounds = is.bounds i;
     }))
     ∙ sym (ap (placed setup is.facets) is.grid)
 
@@ -129,7 +129,7 @@ an_answer setup bytes = by_setup (in_range setup)
         grid = e;
         rule = refl;
         count = refl;
-        corners = refl;
+        bounds = refl;
       },
     )
     by_grid range facets reads closed (Err cause) e = (Err (fault.Grid cause), ((λ h. cc), (range, (facets, reads, closed, e))))

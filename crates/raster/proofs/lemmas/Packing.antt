@@ -4,7 +4,7 @@ use Rattle.std.specs.Prelude.{nat_lt}
 use Rattle.std.specs.Int.{bit_at, div_ceil}
 use Rattle.std.proofs.lemmas.List.FromFn.{fill_by_all}
 use Rattle.raster.specs.Bits.{pixel_bit}
-use Rattle.raster.specs.Picture.{packed_byte, row_bytes}
+use Rattle.raster.specs.Image.{packed_byte, row_bytes}
 
 -- bytes without pixels
 pub blank-at : (n k : ℕ) → get_or {A = ℕ} (replicate n 0) k 0 ≡ 0
@@ -33,7 +33,7 @@ bit-of row k b low =
     let place : (8 * k + b) % 8 ≡ b = omega arith in
     ap (λ (n : ℕ). bit_at (get_or row n 0) (7 - (8 * k + b) % 8)) byte ∙ ap (λ (n : ℕ). bit_at (get_or row k 0) (7 - n)) place
 
--- a row of bytes is the picture of its pixels
+-- a row of bytes is the image of its pixels
 pub row-is : (width : ℕ) (row : List ℕ) (pixel : ℕ → Bool) → length row ≡ div_ceil width 8 → ((k : ℕ) → get_or row k 0 < 256) → ((i : ℕ) → pixel_bit row i ≡ indicator (nat_lt i width && pixel i)) → row ≡ row_bytes width pixel
 row-is width row pixel size small h =
     fill_by_all (packed_byte (λ i. nat_lt i width && pixel i)) row (div_ceil width 8) 0 size

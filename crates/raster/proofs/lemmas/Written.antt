@@ -1,5 +1,5 @@
 -- How much of an image went out, and how much is left.
-use Rattle.std.proofs.Common.{◌≡◌, ℕ, zero, suc, ◌+◌, ◌-◌, ◌*◌, ◌^◌, ◌<◌, ◌≤◌, List, [], ◌∷◌, ◌++◌, Bool, length, take, drop, length-append, length-drop, append_assoc, refl, ap, sym, subst, ◌∙◌, arith}
+use Rattle.std.proofs.Common.{◌≡◌, ℕ, zero, suc, ◌+◌, ◌-◌, ◌*◌, ◌<◌, ◌≤◌, List, [], ◌∷◌, ◌++◌, Bool, length, take, drop, length-append, length-drop, append_assoc, refl, ap, sym, subst, ◌∙◌, arith}
 use Rattle.std.specs.Prelude.{Option, reverse, flat_map, nat_lt, ◌&&◌}
 use Rattle.std.specs.List.{range_with_len}
 use Rattle.std.specs.Int.{div_ceil}
@@ -11,7 +11,7 @@ use Rattle.std.proofs.Math.Seq.{take-add}
 use Rattle.geometry.specs.declared.limits.TheConstants.{COLUMN_LIMIT}
 use Rattle.raster.specs.Devices.{AppendsFirst}
 use Rattle.raster.specs.Filler.{below}
-use Rattle.raster.specs.Picture.{packed_byte, row_bytes}
+use Rattle.raster.specs.Image.{image_limit, packed_byte, row_bytes}
 use Rattle.raster.proofs.lemmas.Sent.{appends-after}
 
 -- the rows below n, the greatest first
@@ -101,7 +101,7 @@ short-step width row rows written total pixel chunk room drawn narrow some h low
     omega arith
 
 -- ---- row by row
-pub few-written : (written chunk row rows : ℕ) → written + chunk + 2048 * row ≤ 15 + 2048 * rows → rows ≤ COLUMN_LIMIT → written ≤ 2 ^ 32
+pub few-written : (written chunk row rows : ℕ) → written + chunk + 2048 * row ≤ 15 + 2048 * rows → rows ≤ COLUMN_LIMIT → written ≤ image_limit
 few-written written chunk row rows h k = omega arith
 
 pub row-under : (row rows : ℕ) → 0 < row → row ≤ rows → row - 1 < rows

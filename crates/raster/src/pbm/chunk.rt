@@ -1,9 +1,9 @@
 //! The bytes of an image on their way to a sink, gathered so that one call of the sink takes many rows.
-ghost use Rattle.std.specs.Prelude.{◌≡◌, ◌<◌, ◌≤◌, ◌+◌, ◌-◌, ◌^◌, [], ◌∷◌, ◌++◌, decimal, drop, length, OnOk, OnErr, IfErr, IfOk, true};
+ghost use Rattle.std.specs.Prelude.{◌≡◌, ◌<◌, ◌≤◌, ◌+◌, ◌-◌, [], ◌∷◌, ◌++◌, decimal, drop, length, OnOk, OnErr, IfErr, IfOk, true};
 ghost use Rattle.std.specs.Int.{div_ceil};
 ghost use Rattle.std.specs.Io.KnownBytes.{Appends};
 ghost use Rattle.raster.specs.Devices.{AppendsFirst, Fails};
-ghost use Rattle.raster.specs.Picture.{header, row_bytes};
+ghost use Rattle.raster.specs.Image.{header, image_limit, row_bytes};
 ghost use Rattle.raster.specs.Rows.{are_within, crosses};
 ghost use Rattle.raster.specs.declared.pbm.chunk.TheConstants.{CHUNK_LEN};
 ghost use Rattle.geometry.specs.declared.limits.TheConstants.{COLUMN_LIMIT};
@@ -11,10 +11,11 @@ ghost use Rattle.geometry.specs.declared.limits.TheConstants.{COLUMN_LIMIT};
 use crate::devices::{Sink, WriteFault, put_all};
 use crate::pbm::rows::draw_row;
 use crate::span::Span;
+use geometry::COLUMN_LIMIT;
 use std::marker::Model;
 
 /// The greatest number of bytes that one call of a sink is given: room for eight rows of the greatest width.
-const CHUNK_LEN: usize = 16_384;
+const CHUNK_LEN: usize = 8 * (COLUMN_LIMIT as usize / 8);
 
 /// Bytes on their way to a sink. They lie on the stack, so that writing allocates no memory. All bytes of the free room
 /// after them are 0, so that a row is drawn by setting bits.
@@ -119,7 +120,7 @@ impl Chunk {
         before: u64,
     ) -> Result<u64, WriteFault>
         requires needed { needed ≤ CHUNK_LEN }
-        requires before { before ≤ 2 ^ 32 }
+        requires before { before ≤ image_limit }
         ensures room { OnOk result (length self.new + needed ≤ CHUNK_LEN) }
         ensures kept { IfOk result (λ total. self.new ≡ drop (total - before) self.old) }
         ensures ok { IfOk result (λ total. AppendsFirst (W.contents w.old) (W.contents w.new) (total - before) self.old) }
@@ -141,7 +142,7 @@ impl Chunk {
     /// Sends the bytes to a sink, and empties the chunk. `before` is the number of the image's bytes that were sent so far;
     /// answers how many were sent then.
     pub(crate) fn send<W: Sink>(&mut self, w: &mut W, before: u64) -> Result<u64, WriteFault>
-        requires { before ≤ 2 ^ 32 }
+        requires { before ≤ image_limit }
         ensures emptied { OnOk result (self.new ≡ []) }
         ensures ok { OnOk result (Appends (W.contents w.old) (W.contents w.new) self.old) }
         ensures total { IfOk result (λ total. total ≡ before + length self.old) }

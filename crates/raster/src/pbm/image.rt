@@ -1,11 +1,11 @@
 //! Writes the image of a layer, row by row from the greatest row to the least, through a chunk on the stack; and how long an
 //! image is.
-ghost use Rattle.std.specs.Prelude.{◌≡◌, ◌<◌, ◌≤◌, ◌+◌, ◌^◌, ◌++◌, ℕ, Bool, decimal, length, IfErr, OnErr, OnOk};
+ghost use Rattle.std.specs.Prelude.{◌≡◌, ◌<◌, ◌≤◌, ◌+◌, ◌++◌, ℕ, Bool, decimal, length, IfErr, OnErr, OnOk};
 ghost use Rattle.std.specs.Int.{div_ceil};
 ghost use Rattle.std.specs.Io.KnownBytes.{Appends};
 ghost use Rattle.raster.specs.Devices.{AppendsFirst, Fails};
 ghost use Rattle.raster.specs.Span.{AreSpans, covers};
-ghost use Rattle.raster.specs.Picture.{picture, row_bytes};
+ghost use Rattle.raster.specs.Image.{image_limit, image_of_pixels, row_bytes};
 ghost use Rattle.raster.specs.Rows.{IsSplit};
 ghost use Rattle.raster.specs.declared.pbm.chunk.TheConstants.{CHUNK_LEN};
 
@@ -23,11 +23,11 @@ use crate::span::Span;
 /// memory is allocated.
 pub fn write_layer<W: Sink>(g: &Grid, spans: &[Span], w: &mut W) -> Result<(), WriteFault>
     requires { AreSpans g.now.columns g.now.rows spans.now }
-    ensures ok { OnOk result (Appends (W.contents w.old) (W.contents w.new) (picture g.now.columns g.now.rows (covers spans.now))) }
+    ensures ok { OnOk result (Appends (W.contents w.old) (W.contents w.new) (image_of_pixels g.now.columns g.now.rows (covers spans.now))) }
     ensures same { OnOk result (W.Failures.failure_count w.new ≡ W.Failures.failure_count w.old) }
     ensures written { IfErr result (λ fault. AppendsFirst (W.contents w.old) (W.contents w.new) fault.written
-        (picture g.now.columns g.now.rows (covers spans.now))) }
-    ensures within { IfErr result (λ fault. fault.written < length (picture g.now.columns g.now.rows (covers spans.now))) }
+        (image_of_pixels g.now.columns g.now.rows (covers spans.now))) }
+    ensures within { IfErr result (λ fault. fault.written < length (image_of_pixels g.now.columns g.now.rows (covers spans.now))) }
     ensures failed { OnErr result (Fails (W.Failures.failure_count w.old) (W.Failures.failure_count w.new)) }
 {
     let needed = g.columns().div_ceil(8) as usize;
@@ -62,17 +62,18 @@ fn push_row(chunk: &mut Chunk, g: &Grid, spans: &[Span], row: u32, end: usize) -
 
 /// The length in bytes of the image of a layer of this grid, which is the same for all of them.
 pub fn image_len(grid: &Grid) -> u64
-    ensures value { (pixel : ℕ → ℕ → Bool) → length (picture grid.now.columns grid.now.rows pixel) ≡ result }
-    ensures small { result ≤ 2 ^ 26 }
+    ensures value { (pixel : ℕ → ℕ → Bool) → length (image_of_pixels grid.now.columns grid.now.rows pixel) ≡ result }
+    ensures small { result ≤ image_limit }
 {
     let header = 5 + digit_count(grid.columns()) + digit_count(grid.rows());
     header + u64::from(grid.rows()) * u64::from(grid.columns().div_ceil(8))
 }
 
-/// How many digits a number has in plain decimal.
+/// How many digits a number above 0 has in plain decimal.
 fn digit_count(n: u32) -> u64
+    requires { 1 ≤ n }
     ensures value { result ≡ length (decimal n) }
     ensures few { result ≤ 10 }
 {
-    if n < 10 { 1 } else { 1 + digit_count(n / 10) }
+    u64::from(n.ilog10()) + 1
 }

@@ -2,7 +2,7 @@
 ghost use Rattle.std.specs.Prelude.{◌≡◌, ◌≤◌, ◌+◌, ℕ, length, slice_index, true};
 ghost use Rattle.std.specs.Int.{div_ceil};
 ghost use Rattle.raster.specs.Span.{AreSpans};
-ghost use Rattle.raster.specs.Picture.{row_bytes};
+ghost use Rattle.raster.specs.Image.{row_bytes};
 ghost use Rattle.raster.specs.Rows.{IsSplit, are_within, crosses};
 
 use crate::grid::Grid;

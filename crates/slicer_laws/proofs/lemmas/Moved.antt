@@ -11,7 +11,7 @@ use Rattle.mesh_weld.proofs.lemmas.Sums.{total-map}
 use Rattle.raster.specs.declared.rule.Rule.{Rule}
 use Rattle.raster.specs.Grid.{Grid, centre, middle}
 use Rattle.raster.specs.Filler.{area_of, below, is_filled}
-use Rattle.raster.specs.Picture.{picture, pictures}
+use Rattle.raster.specs.Image.{image_of_pixels, images}
 use Rattle.raster.specs.Rule.{is_inside}
 use Rattle.slicer_laws.specs.Moves.{moved, moved_facet, moved_grid, moved_mesh}
 
@@ -75,9 +75,9 @@ filled-moved by g rule facets i j k =
     (ap (ray (moved_mesh by facets)) (centre-moved by g i j k) ∙ ray-moved by facets (centre g i j k))
 
 pub images-moved : (by : Point) (g : Grid) (rule : Rule) (facets : List Facet)
-    → pictures (moved_grid by g) rule (moved_mesh by facets) ≡ pictures g rule facets
+    → images (moved_grid by g) rule (moved_mesh by facets) ≡ images g rule facets
 images-moved by g rule facets =
-    λ n. flat_map (λ k. picture g.columns g.rows (λ i j. filled-moved by g rule facets i j k n)) (below g.layers)
+    λ n. flat_map (λ k. image_of_pixels g.columns g.rows (λ i j. filled-moved by g rule facets i j k n)) (below g.layers)
 
 pub areas-moved : (by : Point) (g : Grid) (rule : Rule) (facets : List Facet) (k : ℕ)
     → area_of (moved_grid by g) rule (moved_mesh by facets) k ≡ area_of g rule facets k

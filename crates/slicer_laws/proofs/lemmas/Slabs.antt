@@ -11,7 +11,7 @@ use Rattle.geometry.specs.declared.limits.TheConstants.{CENTRE_LIMIT, COORDINATE
 use Rattle.raster.specs.declared.rule.Rule.{Rule}
 use Rattle.raster.specs.Grid.{Grid, IsGrid, centre, middle}
 use Rattle.raster.specs.Filler.{area_of, below, is_filled}
-use Rattle.raster.specs.Picture.{layer_picture, picture, pictures}
+use Rattle.raster.specs.Image.{image_of_pixels, images, layer_image}
 use Rattle.slicer_laws.specs.Slabs.{first_layers, layers_from}
 
 -- ---- centres
@@ -32,8 +32,8 @@ centre-from m g i j k =
     }
 
 pub layer-from : (m : ℕ) (g : Grid) (rule : Rule) (facets : List Facet) (k : ℕ)
-    → layer_picture (layers_from m g) rule facets k ≡ layer_picture g rule facets (m + k)
-layer-from m g rule facets k = λ n. picture g.columns g.rows (λ i j. is_filled rule facets (centre-from m g i j k n))
+    → layer_image (layers_from m g) rule facets k ≡ layer_image g rule facets (m + k)
+layer-from m g rule facets k = λ n. image_of_pixels g.columns g.rows (λ i j. is_filled rule facets (centre-from m g i j k n))
 
 pub area-from : (g : Grid) (rule : Rule) (facets : List Facet) (m k : ℕ)
     → area_of (layers_from m g) rule facets k ≡ area_of g rule facets (m + k)
@@ -68,13 +68,13 @@ flat_map-shifted f g a b (suc n) h c e =
     one_on a b c e = omega arith
 
 pub slabs : (g : Grid) (rule : Rule) (facets : List Facet) (m : ℕ) → m ≤ g.layers
-    → pictures g rule facets ≡ pictures (first_layers m g) rule facets ++ pictures (layers_from m g) rule facets
+    → images g rule facets ≡ images (first_layers m g) rule facets ++ images (layers_from m g) rule facets
 slabs g rule facets m h =
-    ap (λ n. flat_map (layer_picture g rule facets) (range_with_len 0 n)) (whole m g.layers h)
-    ∙ ap (flat_map (layer_picture g rule facets)) (range-split 0 m (g.layers - m))
-    ∙ flat_map-append (layer_picture g rule facets) (range_with_len 0 m) (range_with_len (0 + m) (g.layers - m))
-    ∙ ap (λ rest. pictures (first_layers m g) rule facets ++ rest)
-    (flat_map-shifted (layer_picture g rule facets) (layer_picture (layers_from m g) rule facets) 0 m (g.layers - m)
+    ap (λ n. flat_map (layer_image g rule facets) (range_with_len 0 n)) (whole m g.layers h)
+    ∙ ap (flat_map (layer_image g rule facets)) (range-split 0 m (g.layers - m))
+    ∙ flat_map-append (layer_image g rule facets) (range_with_len 0 m) (range_with_len (0 + m) (g.layers - m))
+    ∙ ap (λ rest. images (first_layers m g) rule facets ++ rest)
+    (flat_map-shifted (layer_image g rule facets) (layer_image (layers_from m g) rule facets) 0 m (g.layers - m)
     (λ k. sym (layer-from m g rule facets k)) (0 + m) (start m))
   where
     whole : (m n : ℕ) → m ≤ n → n ≡ m + (n - m)

@@ -13,12 +13,12 @@ use Rattle.contour.specs.declared.segment.Segment.{Segment}
 use Rattle.raster.specs.Devices.{AppendsFirst}
 use Rattle.raster.specs.Filler.{area_of, below}
 use Rattle.raster.specs.Grid.{plane}
-use Rattle.raster.specs.Picture.{layer_picture}
+use Rattle.raster.specs.Image.{layer_image}
 use Rattle.raster.proofs.lemmas.Sent.{appends-after}
 use Rattle.build_book.specs.Layer.{AreLawfulFrom, IsLawful, Layer, layers_area}
 use Rattle.build_book.specs.Build.{IsComplete}
 use Rattle.build_book.specs.Job.{Job}
-use Rattle.build_book.proofs.lemmas.Images.{lawful_at, part_more, picture_of}
+use Rattle.build_book.proofs.lemmas.Images.{image_of_layer, lawful_at, part_more}
 use Rattle.stlslice.specs.SlicedText.{image, layer_line, line_of_layer, report_text, total_line}
 
 -- the layer in a place of a complete build is the lawful one of that number
@@ -29,9 +29,9 @@ layer_at job xs i x complete h is =
     subst (λ (n : ℕ). IsLawful job n x) (omega arith) (lawful_at job 0 xs i x complete.lawful h is)
 
 -- the image of its spans is that of its filled voxels
-pub picture_at : (job : Job) (xs : List Layer) (i : ℕ) (x : Layer) → IsComplete job xs → i < length xs
-    → x ≡ slice_index_or xs i x → image job.grid x.spans ≡ layer_picture job.grid job.rule job.solid.facets i
-picture_at job xs i x complete h is = picture_of job i x (layer_at job xs i x complete h is)
+pub image_at : (job : Job) (xs : List Layer) (i : ℕ) (x : Layer) → IsComplete job xs → i < length xs
+    → x ≡ slice_index_or xs i x → image job.grid x.spans ≡ layer_image job.grid job.rule job.solid.facets i
+image_at job xs i x complete h is = image_of_layer job i x (layer_at job xs i x complete h is)
 
 pub line_at : (job : Job) (xs : List Layer) (i : ℕ) (x : Layer) → IsComplete job xs → i < length xs
     → x ≡ slice_index_or xs i x

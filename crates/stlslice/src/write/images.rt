@@ -1,9 +1,9 @@
 //! The output of slicing: the images of all layers, one after the other.
-ghost use Rattle.std.specs.Prelude.{◌≡◌, ◌≤◌, ◌+◌, ◌^◌, IfErr, IfOk, OnOk, length, true, ℕ};
+ghost use Rattle.std.specs.Prelude.{◌≡◌, ◌≤◌, ◌+◌, IfErr, IfOk, OnOk, length, true, ℕ};
 ghost use Rattle.std.specs.Io.KnownBytes.{Appends};
 ghost use Rattle.raster.specs.Devices.{AppendsFirst, Fails};
 ghost use Rattle.raster.specs.Span.{AreSpans};
-ghost use Rattle.raster.specs.Picture.{pictures};
+ghost use Rattle.raster.specs.Image.{image_limit, images, images_limit};
 ghost use Rattle.stlslice.specs.SlicedText.{image};
 ghost use Rattle.stlslice.specs.declared.run_fault.RunFault.TheVariants.{Write};
 
@@ -21,12 +21,12 @@ pub(crate) fn write_images<A: Allocator, O: Sink>(
 ) -> Result<(), RunFault>
     ensures flushed { OnOk result (O.is_settled sink.new ≡ true) }
     ensures ok { OnOk result (Appends (O.contents sink.old) (O.contents sink.new)
-        (pictures build.now.job.grid build.now.job.rule build.now.job.solid.facets)) }
+        (images build.now.job.grid build.now.job.rule build.now.job.solid.facets)) }
     ensures same { OnOk result (O.Failures.failure_count sink.new ≡ O.Failures.failure_count sink.old) }
     ensures err { IfErr result (λ fault. (written : ℕ) × (fault ≡ Write written)
-        × (written ≤ length (pictures build.now.job.grid build.now.job.rule build.now.job.solid.facets))
+        × (written ≤ length (images build.now.job.grid build.now.job.rule build.now.job.solid.facets))
         × AppendsFirst (O.contents sink.old) (O.contents sink.new) written
-        (pictures build.now.job.grid build.now.job.rule build.now.job.solid.facets)
+        (images build.now.job.grid build.now.job.rule build.now.job.solid.facets)
         × Fails (O.Failures.failure_count sink.old) (O.Failures.failure_count sink.new)) }
 {
     let grid = build.job().grid();
@@ -47,9 +47,9 @@ pub(crate) fn write_image<O: Sink>(
     before: u64,
 ) -> Result<u64, RunFault>
     requires form { AreSpans grid.now.columns grid.now.rows spans.now }
-    requires before { before ≤ 2 ^ 62 }
+    requires before { before ≤ images_limit }
     ensures total { IfOk result (λ total. total ≡ before + length (image grid.now spans.now)) }
-    ensures small { length (image grid.now spans.now) ≤ 2 ^ 26 }
+    ensures small { length (image grid.now spans.now) ≤ image_limit }
     ensures ok { OnOk result (Appends (O.contents sink.old) (O.contents sink.new) (image grid.now spans.now)) }
     ensures same { OnOk result (O.Failures.failure_count sink.new ≡ O.Failures.failure_count sink.old) }
     ensures err { IfErr result (λ fault. (written : ℕ) × (fault ≡ Write (before + written))

@@ -1,9 +1,9 @@
 use Rattle.std.proofs.Common.{◌≡◌, ◌∙◌, ◌+◌, ◌++◌, List, ℕ, ap, refl, sym}
-use Rattle.raster.specs.Picture.{picture}
+use Rattle.raster.specs.Image.{image_of_pixels}
 use Rattle.raster.specs.Span.{covers}
 use Rattle.build_book.specs.Job.{Job, stripe_start}
 use Rattle.build_book.specs.Layer.{IsLawful}
-use Rattle.build_book.proofs.lemmas.Images.{lawful_at, part_more, picture_of}
+use Rattle.build_book.proofs.lemmas.Images.{image_of_layer, lawful_at, part_more}
 use Rattle.layer_session.specs.Answers.{image_of}
 use Rattle.layer_session.proofs.layers.stripe_images.Goals as goal
 
@@ -23,8 +23,8 @@ loop-layer-preserved g c =
     (lawful_at c.in_ok-piece.piece.job (stripe_start c.in_ok-piece.piece.stripe) c.layers-layer-items.result.now
     c.loop-layer.layer-index c.layer-item.result
     (rw c.layers-layer-items.ensures.value c.layers-layer-items.ensures.lawful.lawful) c.loop-layer-test.true c.layer-item.is) in
-    let drawn : picture c.grid.result.now.columns c.grid.result.now.rows (covers c.spans.result.now) ≡ image_of job k =
-    rw (c.grid.ensures, c.spans.ensures) (picture_of job k c.layer-item.result lawful) in
+    let drawn : image_of_pixels c.grid.result.now.columns c.grid.result.now.rows (covers c.spans.result.now) ≡ image_of job k =
+    rw (c.grid.ensures, c.spans.ensures) (image_of_layer job k c.layer-item.result lawful) in
     let before : List ℕ = c.loop-layer.sink.device.items in
     c.in_ok-put_image.ensures
     ∙ ap (λ (l : List ℕ). before ++ l) drawn

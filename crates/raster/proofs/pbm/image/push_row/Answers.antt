@@ -1,7 +1,7 @@
 use Rattle.std.proofs.Common.{◌≡◌, ◌-◌, ◌++◌, ℕ, Bool, true, take, drop, ap, subst, sym, ◌∙◌}
 use Rattle.std.proofs.Math.Path.{fun_ext}
 use Rattle.raster.specs.Rows.{are_within, crosses}
-use Rattle.raster.specs.Picture.{row_bytes}
+use Rattle.raster.specs.Image.{row_bytes}
 use Rattle.raster.proofs.lemmas.Covered.{covers-part, within-part}
 use Rattle.raster.proofs.pbm.image.push_row.Goals as goal
 

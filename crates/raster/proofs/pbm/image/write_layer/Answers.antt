@@ -4,7 +4,7 @@ use Rattle.geometry.specs.declared.limits.TheConstants.{COLUMN_LIMIT}
 use Rattle.raster.specs.declared.pbm.chunk.TheConstants.{CHUNK_LEN}
 use Rattle.raster.specs.Span.{covers}
 use Rattle.raster.specs.Rows.{IsSplit}
-use Rattle.raster.specs.Picture.{picture}
+use Rattle.raster.specs.Image.{image_of_pixels}
 use Rattle.raster.proofs.lemmas.Written.{few-written, lower_rows, more-out, row-back, row-under, short-step, under-way-step, written-within}
 use Rattle.raster.proofs.pbm.image.write_layer.Goals as goal
 
@@ -13,7 +13,7 @@ returns-in_err-written-clause-written g c =
     let p = err_from_is_err_and c.from_residual.result c.from_residual.ensures.1 in
     let at = c.args.g.now in
     rw (p.1, p.2)
-    (more-out (g.W.Sink.contents c.args.w.now) (g.W.Sink.contents c.loop-row.w) (g.W.Sink.contents c.make_room.new.w) (picture at.columns at.rows (covers c.args.spans.now))
+    (more-out (g.W.Sink.contents c.args.w.now) (g.W.Sink.contents c.loop-row.w) (g.W.Sink.contents c.make_room.new.w) (image_of_pixels at.columns at.rows (covers c.args.spans.now))
     c.loop-row.written c.in_err-written.field-0.0.written c.loop-row.chunk (lower_rows at.columns (covers c.args.spans.now) c.loop-row.row)
     c.loop-row.invariant.text c.in_err-written.ensures.some (omega (arith, c.in_err-written.ensures.within)) c.in_err-written.ensures.written)
 
@@ -22,7 +22,7 @@ returns-in_err-written-clause-within g c =
     let p = err_from_is_err_and c.from_residual.result c.from_residual.ensures.1 in
     let at = c.args.g.now in
     rw (p.1, p.2)
-    (written-within (g.W.Sink.contents c.args.w.now) (g.W.Sink.contents c.loop-row.w) (picture at.columns at.rows (covers c.args.spans.now))
+    (written-within (g.W.Sink.contents c.args.w.now) (g.W.Sink.contents c.loop-row.w) (image_of_pixels at.columns at.rows (covers c.args.spans.now))
     c.loop-row.written c.in_err-written.field-0.0.written c.loop-row.chunk (lower_rows at.columns (covers c.args.spans.now) c.loop-row.row)
     c.loop-row.invariant.text c.in_err-written.ensures.within c.in_err-written.ensures.some)
 
@@ -31,7 +31,7 @@ returns-in_err-send-clause-written g c =
     let p = err_from_is_err_and c.from_residual-in_err-send.result c.from_residual-in_err-send.ensures.1 in
     let at = c.args.g.now in
     rw (p.1, p.2)
-    (more-out (g.W.Sink.contents c.args.w.now) (g.W.Sink.contents c.loop-row.w) (g.W.Sink.contents c.send.new.w) (picture at.columns at.rows (covers c.args.spans.now))
+    (more-out (g.W.Sink.contents c.args.w.now) (g.W.Sink.contents c.loop-row.w) (g.W.Sink.contents c.send.new.w) (image_of_pixels at.columns at.rows (covers c.args.spans.now))
     c.loop-row.written c.in_err-send.field-0.0.written c.loop-row.chunk (lower_rows at.columns (covers c.args.spans.now) c.loop-row.row)
     c.loop-row.invariant.text c.in_err-send.ensures.some (omega (arith, c.in_err-send.ensures.within)) c.in_err-send.ensures.written)
 
@@ -45,7 +45,7 @@ loop-row-preserved g c =
       rows = omega (arith, inv.rows);
       split = c.push_row-end.ensures.split;
       text = under-way-step (g.W.Sink.contents c.args.w.now) (g.W.Sink.contents c.loop-row.w) (g.W.Sink.contents c.make_room.new.w)
-          at.columns c.loop-row.row (c.loop-row.row - 1) (covers c.args.spans.now) (picture at.columns at.rows (covers c.args.spans.now))
+          at.columns c.loop-row.row (c.loop-row.row - 1) (covers c.args.spans.now) (image_of_pixels at.columns at.rows (covers c.args.spans.now))
           c.loop-row.written c.in_ok-written.written c.loop-row.chunk c.make_room.new.self c.push_row-end.new.chunk
           (omega arith) inv.text out.low out.high out.ok out.kept c.push_row-end.ensures.drawn;
       same = out.same ∙ inv.same;
@@ -77,6 +77,6 @@ returns-in_err-send-clause-within g c =
     let p = err_from_is_err_and c.from_residual-in_err-send.result c.from_residual-in_err-send.ensures.1 in
     let at = c.args.g.now in
     rw (p.1, p.2)
-    (written-within (g.W.Sink.contents c.args.w.now) (g.W.Sink.contents c.loop-row.w) (picture at.columns at.rows (covers c.args.spans.now))
+    (written-within (g.W.Sink.contents c.args.w.now) (g.W.Sink.contents c.loop-row.w) (image_of_pixels at.columns at.rows (covers c.args.spans.now))
     c.loop-row.written c.in_err-send.field-0.0.written c.loop-row.chunk (lower_rows at.columns (covers c.args.spans.now) c.loop-row.row)
     c.loop-row.invariant.text c.in_err-send.ensures.within c.in_err-send.ensures.some)

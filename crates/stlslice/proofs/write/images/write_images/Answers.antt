@@ -4,13 +4,13 @@ use Rattle.std.specs.Io.KnownBytes.{Appends}
 use Rattle.geometry.specs.declared.limits.TheConstants.{LAYER_LIMIT}
 use Rattle.raster.specs.Devices.{AppendsFirst}
 use Rattle.raster.specs.Filler.{below}
-use Rattle.raster.specs.Picture.{layer_picture}
+use Rattle.raster.specs.Image.{layer_image}
 use Rattle.raster.proofs.lemmas.Sent.{appends-after}
 use Rattle.build_book.specs.Layer.{Layer}
 use Rattle.build_book.specs.Job.{Job}
 use Rattle.stlslice.specs.SlicedText.{image}
 use Rattle.stlslice.proofs.lemmas.Faults.{passed_on}
-use Rattle.stlslice.proofs.lemmas.Stream.{layer_at, one_more, part_out, picture_at}
+use Rattle.stlslice.proofs.lemmas.Stream.{image_at, layer_at, one_more, part_out}
 use Rattle.stlslice.proofs.write.images.write_images.Goals as goal
 
 pub write_image-requires-clause-form : goal.write_image-requires-clause-form
@@ -27,10 +27,10 @@ write_image-requires-clause-before g c =
 pub loop-layer-preserved : goal.loop-layer-preserved
 loop-layer-preserved g c =
     let job : Job = c.args.build.now.job in
-    let part : ℕ → List ℕ = layer_picture job.grid job.rule job.solid.facets in
+    let part : ℕ → List ℕ = layer_image job.grid job.rule job.solid.facets in
     let here : image c.grid-grid.result.now c.spans.result.now ≡ part c.loop-layer.layer-index =
     rw (c.grid-grid.ensures, c.job.ensures, c.spans.ensures)
-    (picture_at job c.layers-layer-items.result.now c.loop-layer.layer-index c.layer-item.result
+    (image_at job c.layers-layer-items.result.now c.loop-layer.layer-index c.layer-item.result
     (rw c.layers-layer-items.ensures.value c.layers-layer-items.ensures.complete) c.loop-layer-test.true c.layer-item.is) in
     let front : List ℕ = flat_map part (below c.loop-layer.layer-index) in
     let more : flat_map part (below (c.loop-layer.layer-index + 1)) ≡ front ++ image c.grid-grid.result.now c.spans.result.now =
@@ -49,10 +49,10 @@ loop-layer-preserved g c =
 pub returns-in_err-written-clause-err : goal.returns-in_err-written-clause-err
 returns-in_err-written-clause-err g c =
     let job : Job = c.args.build.now.job in
-    let part : ℕ → List ℕ = layer_picture job.grid job.rule job.solid.facets in
+    let part : ℕ → List ℕ = layer_image job.grid job.rule job.solid.facets in
     let here : image c.grid-grid.result.now c.spans.result.now ≡ part c.loop-layer.layer-index =
     rw (c.grid-grid.ensures, c.job.ensures, c.spans.ensures)
-    (picture_at job c.layers-layer-items.result.now c.loop-layer.layer-index c.layer-item.result
+    (image_at job c.layers-layer-items.result.now c.loop-layer.layer-index c.layer-item.result
     (rw c.layers-layer-items.ensures.value c.layers-layer-items.ensures.complete) c.loop-layer-test.true c.layer-item.is) in
     let same : length c.layers-layer-items.result.now ≡ length c.args.build.now.layers =
     ap (λ (l : List Layer). length l) c.layers-layer-items.ensures.value in

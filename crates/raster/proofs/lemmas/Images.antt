@@ -1,0 +1,61 @@
+-- Lengths of images, and images of the same pixels.
+use Rattle.std.proofs.Common.{◌≡◌, ℕ, zero, suc, ◌+◌, ◌*◌, ◌<◌, Bool, List, ◌++◌, length, length-append, true, false, ap, ◌∙◌, arith, refl, sym}
+use Rattle.std.specs.Prelude.{codes, decimal, map, nat_lt, ◌&&◌}
+use Rattle.std.specs.Int.{div_ceil}
+use Rattle.std.proofs.Math.Path.{fun_ext}
+use Rattle.std.proofs.lemmas.Bool.{leb-true}
+use Rattle.raster.specs.Filler.{below}
+use Rattle.raster.specs.Image.{header, image_of_pixels, packed_byte, row_bytes}
+use Rattle.raster.proofs.lemmas.Written.{length-row, lower_rows, rows-step}
+
+pub length-rows : (width n : ℕ) (pixel : ℕ → ℕ → Bool) → length (lower_rows width pixel n) ≡ n * div_ceil width 8
+length-rows width zero pixel = omega arith
+length-rows width (suc n) pixel =
+    let one : length (row_bytes width (λ i. pixel i n)) ≡ div_ceil width 8 = length-row width (λ i. pixel i n) in
+    let more : length (lower_rows width pixel n) ≡ n * div_ceil width 8 = length-rows width n pixel in
+    ap (λ (l : List ℕ). length l) (rows-step width pixel n)
+    ∙ length-append (row_bytes width (λ i. pixel i n)) (lower_rows width pixel n)
+    ∙ omega (arith, one, more)
+
+length-header : (width height : ℕ) → length (header width height) ≡ 5 + length (decimal width) + length (decimal height)
+length-header width height =
+    let a = length-append (codes "P4\n") (decimal width) in
+    let b = length-append (codes "P4\n" ++ decimal width) (codes " ") in
+    let c = length-append (codes "P4\n" ++ decimal width ++ codes " ") (decimal height) in
+    let d = length-append (codes "P4\n" ++ decimal width ++ codes " " ++ decimal height) (codes "\n") in
+    omega (arith, a, b, c, d)
+
+pub length-image : (width height : ℕ) (pixel : ℕ → ℕ → Bool)
+    → length (image_of_pixels width height pixel) ≡ 5 + length (decimal width) + length (decimal height) + height * div_ceil width 8
+length-image width height pixel =
+    length-append (header width height) (lower_rows width pixel height)
+    ∙ omega (arith, length-header width height, length-rows width height pixel)
+
+-- pixels outside an image do not count
+
+same-row : (width : ℕ) (p q : ℕ → Bool) → ((i : ℕ) → i < width → p i ≡ q i) → row_bytes width p ≡ row_bytes width q
+same-row width p q same =
+    ap (λ (pixel : ℕ → Bool). map (packed_byte pixel) (below (div_ceil width 8))) (fun_ext guarded)
+  where
+    guarded : (i : ℕ) → (nat_lt i width && p i) ≡ (nat_lt i width && q i)
+    guarded i = by_test (nat_lt i width) refl
+      where
+        by_test : (b : Bool) → nat_lt i width ≡ b → (b && p i) ≡ (b && q i)
+        by_test true e = same i (leb-true _ _ e)
+        by_test false e = refl
+
+same-rows : (width n : ℕ) (p q : ℕ → ℕ → Bool) → ((i j : ℕ) → i < width → j < n → p i j ≡ q i j)
+    → lower_rows width p n ≡ lower_rows width q n
+same-rows width zero p q same = refl
+same-rows width (suc n) p q same =
+    let one : row_bytes width (λ i. p i n) ≡ row_bytes width (λ i. q i n) =
+    same-row width (λ i. p i n) (λ i. q i n) (λ i x. same i n x (omega arith)) in
+    let more : lower_rows width p n ≡ lower_rows width q n = same-rows width n p q (λ i j x y. same i j x (omega (arith, y))) in
+    rows-step width p n
+    ∙ ap (λ (l : List ℕ). l ++ lower_rows width p n) one
+    ∙ ap (λ (l : List ℕ). row_bytes width (λ i. q i n) ++ l) more
+    ∙ sym (rows-step width q n)
+
+pub same-image : (width height : ℕ) (p q : ℕ → ℕ → Bool) → ((i j : ℕ) → i < width → j < height → p i j ≡ q i j)
+    → image_of_pixels width height p ≡ image_of_pixels width height q
+same-image width height p q same = ap (λ (l : List ℕ). header width height ++ l) (same-rows width height p q same)
