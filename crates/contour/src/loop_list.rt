@@ -11,8 +11,8 @@ use mesh_weld::Solid;
 use std::alloc::Allocator;
 use std::marker::Model;
 
-/// The loops of a plane, each a closed cycle of segments: each segment ends at the node where the next one starts,
-/// and the last one ends where the first starts.
+/// Loops of a plane, each a list of segments. What the loops of a mesh are is said where they are made:
+/// [`Linker::loops`](crate::Linker::loops), [`loops`](crate::loops).
 #[derive(Drop)]
 pub struct Loops<A: Allocator> {
     flat: Vec<Segment, A>,
