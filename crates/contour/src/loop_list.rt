@@ -56,7 +56,7 @@ impl<A: Allocator> Loops<A> {
         part(self.flat.as_slice(), self.ends.as_slice(), number)
     }
 
-    /// The segments of all loops, one loop behind the other, and for each loop the position behind its last segment.
+    /// The segments of all loops, one loop after the other, and for each loop the position after its last segment.
     pub(crate) fn into_parts(self) -> (Vec<Segment, A>, Vec<usize, A>)
         ensures parts { self ≡ parts_from 0 result.1.items result.0.items }
         ensures ends { AreEnds 0 result.1.items (length result.0.items) }

@@ -185,7 +185,7 @@ struct NamedFacets<A: Allocator> {
 }
 
 impl<A: Allocator + Copy> NamedFacets<A> {
-    /// The solid of the facets, from what groups told of those that are kept.
+    /// The solid of the facets, from the grouping of the kept ones where there is one.
     fn into_solid(self, found: Option<Grouped<A>>) -> Result<Solid<A>, WeldFault>
         requires named { AreNamed self.points.items self.ids.items }
         requires few { length self.ids.items + length self.degenerate.items ≤ FACET_LIMIT }

@@ -38,7 +38,7 @@ use std::thread::{Threads, join};
 /// Meshes with fewer kept facets are numbered by sorts, which are as fast there.
 const LEAST_HASHED: usize = 4096;
 
-/// What groups tell of facets that ids name: the numbers of their edges, and both orders.
+/// The result of grouping facets that are given by ids: the numbers of their edges, and the orders of points and facets.
 #[derive(Drop)]
 pub(crate) struct Grouped<A: Allocator> {
     pub edges: EdgeNumbering<A>,
@@ -52,8 +52,9 @@ pub(crate) struct Orders<A: Allocator> {
     pub heights: HeightOrder<A>,
 }
 
-/// What groups tell of the facets that ids name among points, the edges first, since they take the most room; `None`
-/// where sorts serve better, or have to.
+/// Groups the half-edges and the points of facets that are given by ids among points, the half-edges first, since they
+/// take the most room. `None` where the facets are so few that sorts are as fast, and where the result of a step does not
+/// pass its check, so that sorts have to serve.
 pub(crate) fn group_facets<A: Allocator + Copy>(
     alloc: A,
     points: &[Point],
@@ -123,8 +124,8 @@ fn orders_of<A: Allocator + Copy>(
     Ok(Some(Orders { points, heights }))
 }
 
-/// The numbering of the kept facets, which the ids name, if their half-edges balance: from what groups told of them, else
-/// by sorts.
+/// The numbering of the kept facets, which are given by ids, if their half-edges balance: from their grouping where there
+/// is one, else by sorts.
 pub(crate) fn named_numbering<A: Allocator + Copy>(
     alloc: A,
     points: Vec<Point, A>,
@@ -146,7 +147,7 @@ pub(crate) fn named_numbering<A: Allocator + Copy>(
     }
 }
 
-/// The numbering of the facets that the ids name, from what groups told of them.
+/// The numbering of facets that are given by ids, from their grouping.
 fn numbered<A: Allocator>(
     points: Vec<Point, A>,
     mut ids: Vec<[u32; 3], A>,
