@@ -4,7 +4,7 @@ ghost use Rattle.std.specs.Prelude.{◌≡◌, ◌≤◌, ◌^◌, ◌%◌, ◌/
 ghost use Rattle.std.specs.List.{range_with_len};
 ghost use Rattle.std.specs.List.Sorted.{IsPermutation, IsNonDecreasing};
 ghost use Rattle.mesh_weld.specs.HeightOrder.{AreHeightKeys};
-ghost use Rattle.mesh_weld.specs.Naming.{AreBelow};
+ghost use Rattle.mesh_weld.specs.Welder.{AreBelow};
 ghost use Rattle.mesh_weld.specs.Solid.{IsByHeight, IsGreatestRise, facets_by, greatest_z, least_z, rise};
 ghost use Rattle.geometry.specs.declared.limits.TheConstants.{FACET_LIMIT};
 

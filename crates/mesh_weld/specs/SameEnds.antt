@@ -2,12 +2,12 @@
 use Rattle.std.specs.Prelude.{◌≡◌, ◌+◌, ◌*◌, ◌^◌, ◌<◌, ◌⊎◌, cond, nat_lt, min, max}
 use Rattle.geometry.specs.declared.limits.TheConstants.{CORNER_LIMIT}
 use Rattle.mesh_weld.specs.declared.half_edge.HalfEdge.{HalfEdge}
-use Rattle.mesh_weld.specs.declared.run.Run.{Run}
+use Rattle.mesh_weld.specs.declared.same_ends.SameEnds.{SameEnds}
 use Rattle.mesh_weld.specs.declared.by_hash.edges.Runs.{Runs}
 use Rattle.mesh_weld.specs.HalfEdge.{pair_key}
 
 -- a run with one more half-edge between its ends
-abbrev pub counted : Run → HalfEdge → Run
+abbrev pub counted : SameEnds → HalfEdge → SameEnds
 counted run half_edge =
     record run {
       there = run.there + cond (nat_lt half_edge.from half_edge.to) 1 0;
@@ -15,7 +15,7 @@ counted run half_edge =
     }
 
 -- the run of a half-edge's ends before any is counted
-abbrev pub started : HalfEdge → Run
+abbrev pub started : HalfEdge → SameEnds
 started half_edge = record { low = min half_edge.from half_edge.to; high = max half_edge.from half_edge.to; there = 0; back = 0 }
 
 -- one more half-edge of the last run, or the first of a run after it, where the last run is even

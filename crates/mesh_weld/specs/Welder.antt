@@ -8,24 +8,24 @@ use Rattle.mesh_weld.specs.PointOrder.{IsAppendedOrSame}
 use Rattle.mesh_weld.specs.Solid.{HaveDistinctCorners, facet_by, facets_by, is_kept, kept_facets}
 
 -- the facets that were added: those with three distinct corners and the degenerate ones, each in their order
-pub record Parts : Type 0 where
+pub record Welder : Type 0 where
   pub kept : List Facet
   pub degenerate : List Facet
 
 abbrev pub degenerate_facets : List Facet → List Facet
 degenerate_facets facets = filter (λ t. not (is_kept t)) facets
 
-abbrev pub parts_of : List Facet → Parts
-parts_of facets = record { kept = kept_facets facets; degenerate = degenerate_facets facets }
+abbrev pub welder_of : List Facet → Welder
+welder_of facets = record { kept = kept_facets facets; degenerate = degenerate_facets facets }
 
 -- a welder of facets that are given by ids, and of degenerate ones
-abbrev pub named_parts : List Point → List (List ℕ) → List Facet → Parts
-named_parts points ids degenerate = record { kept = facets_by points ids; degenerate = degenerate }
+abbrev pub welder_by : List Point → List (List ℕ) → List Facet → Welder
+welder_by points ids degenerate = record { kept = facets_by points ids; degenerate = degenerate }
 
 -- more facets after those so far
-abbrev pub with_facets : Parts → List Facet → Parts
-with_facets parts facets =
-    record { kept = parts.kept ++ kept_facets facets; degenerate = parts.degenerate ++ degenerate_facets facets }
+abbrev pub with_facets : Welder → List Facet → Welder
+with_facets welder facets =
+    record { kept = welder.kept ++ kept_facets facets; degenerate = welder.degenerate ++ degenerate_facets facets }
 
 -- an id that leads to a point, which is among the points already or is appended to them
 abbrev pub IsNamed : List Point → Point → List Point → ℕ → Type 0
