@@ -53,8 +53,8 @@ pub(crate) struct Orders<A: Allocator> {
 }
 
 /// Groups the half-edges and the points of facets that are given by ids among points, the half-edges first, since they
-/// take the most room. `None` where the facets are so few that sorts are as fast, and where the result of a step does not
-/// pass its check, so that sorts have to serve.
+/// take the most room. `None` for fewer than [`LEAST_HASHED`] facets, and where the result of a step does not pass its
+/// check, so that sorts have to serve.
 pub(crate) fn group_facets<A: Allocator + Copy>(
     alloc: A,
     points: &[Point],
