@@ -2,7 +2,6 @@
 -- distinct.
 use Rattle.std.proofs.Common.{◌≡◌, ◌≢◌, ℕ, zero, suc, ◌<◌, List, sym, subst, length, arith}
 use Rattle.std.specs.Prelude.{ℤ, All}
-use Rattle.std.specs.List.{AllByRecursion}
 use Rattle.std.proofs.lemmas.List.Elements.{All-from_recursion, All-weaker, recursion_from_All}
 use Rattle.geometry.specs.Point.{origin}
 use Rattle.geometry.specs.Facet.{Facet, facet_with}
