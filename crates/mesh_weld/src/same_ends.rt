@@ -1,6 +1,7 @@
 //! Runs of half-edges with the same two ends. Both ways of numbering tell by them whether the half-edges balance.
 ghost use Rattle.std.specs.Prelude.{◌≡◌, ◌↔◌, ◌<◌, ◌*◌, ◌+◌, ◌-◌, ◌^◌, IsTrue, min, max};
 ghost use Rattle.mesh_weld.specs.SameEnds.{started, counted};
+ghost use Rattle.mesh_weld.specs.declared.packing.TheConstants.{HALF_WORD};
 
 use crate::half_edge::HalfEdge;
 use crate::packing::packed;
@@ -36,14 +37,14 @@ impl SameEnds {
 
     /// The key that a half-edge with these ends has.
     pub(crate) fn pair(&self) -> u64
-        ensures { result ≡ self.now.low * 2 ^ 32 + self.now.high }
+        ensures { result ≡ self.now.low * HALF_WORD + self.now.high }
     {
         packed(self.low, self.high)
     }
 
     /// Whether a half-edge has the run's ends.
     pub(crate) fn has_ends_of(&self, half_edge: &HalfEdge) -> bool
-        ensures in_range { (self.now.high < 2 ^ 32) × (half_edge.now.from < 2 ^ 32) × (half_edge.now.to < 2 ^ 32) }
+        ensures in_range { (self.now.high < HALF_WORD) × (half_edge.now.from < HALF_WORD) × (half_edge.now.to < HALF_WORD) }
         ensures value { IsTrue result ↔ (self.now.low ≡ min half_edge.now.from half_edge.now.to) × (self.now.high ≡ max half_edge.now.from half_edge.now.to) }
     {
         let (from, to, high) = (half_edge.from, half_edge.to, self.high);

@@ -2,8 +2,8 @@
 ghost use Rattle.std.specs.Prelude.{◌≡◌, ◌≤◌, ◌<◌, ◌+◌, ◌++◌, [], ◌∷◌, List, IfSome, OnErr, OnOk, length, true, vec_len};
 ghost use Rattle.geometry.specs.Facet.{Facet};
 ghost use Rattle.mesh_weld.specs.Grouping.{AreEdgesOf, AreOrdersOf};
-ghost use Rattle.mesh_weld.specs.Welder.{AreNamed, welder_by, welder_of, with_facets};
 ghost use Rattle.mesh_weld.specs.Solid.{facets_by, is_kept};
+ghost use Rattle.mesh_weld.specs.Welder.{AreNamed, welder_by, welder_of, with_facets};
 ghost use Rattle.mesh_weld.specs.Welding.{IsWeldOf};
 ghost use Rattle.geometry.specs.declared.limits.TheConstants.{FACET_LIMIT};
 

@@ -10,9 +10,9 @@ ghost use Rattle.std.specs.Prelude.{◌≡◌, ◌≤◌, ◌<◌, IfErr, IfOk, 
 ghost use Rattle.std.specs.List.{All};
 ghost use Rattle.mesh_weld.specs.CornerIds.{ranks_of};
 ghost use Rattle.mesh_weld.specs.Grouping.{AreEdgesOf, AreOrdersOf};
-ghost use Rattle.mesh_weld.specs.Welder.{AreBelow, AreNamed};
 ghost use Rattle.mesh_weld.specs.Numbering.{IsNumberingOf};
 ghost use Rattle.mesh_weld.specs.Solid.{facets_by};
+ghost use Rattle.mesh_weld.specs.Welder.{AreBelow, AreNamed};
 ghost use Rattle.mesh_weld.specs.Welding.{IsKeptFault};
 ghost use Rattle.geometry.specs.declared.limits.TheConstants.{FACET_LIMIT};
 
