@@ -20,4 +20,5 @@ pub mod Unique
 pub mod LoopsClose
 pub mod LoopWinds
 pub mod LoopLaws
+pub mod OrderedLoops
 pub mod Outlined

@@ -1,5 +1,5 @@
 -- The facets that a plane cuts, and how those at one height follow from those at a lower one. Heights z are in
--- half-micrometres; a corner in the plane counts as below it (TieRule).
+-- half-micrometres; which corners count as below a height says TieRule.
 --     active_facets facets z   the numbers of the facets that are cut at the height z, in ascending order
 --     passed_count facets z    the number of facets that the plane has reached
 use Rattle.std.specs.Prelude.{ℕ, Bool, ◌&&◌, List, [], ◌∷◌, ◌++◌, map, filter, take, drop, count_by, ℤ, pos, ◌*ℤ◌, nat_lt}
@@ -9,11 +9,11 @@ use Rattle.geometry.specs.Facet.{Facet, corners}
 use Rattle.mesh_weld.specs.Solid.{facet_at, greatest_z, least_z}
 use Rattle.contour.specs.Segment.{height}
 
--- some corner is at most at the height z
+-- some corner counts as below the height z
 abbrev pub is_reached : ℤ → Facet → Bool
 is_reached z t = list_any (λ p. is_below (height p) z) (corners t)
 
--- some corner is at most at the height z, and some corner is above it
+-- some corner counts as below the height z, and some corner is above it
 abbrev pub is_cut : ℤ → Facet → Bool
 is_cut z t = is_reached z t && list_any (λ p. is_above (height p) z) (corners t)
 
@@ -27,7 +27,7 @@ passed_count facets z = count_by (is_reached z) facets
 abbrev pub top_of : List Facet → ℕ → ℤ
 top_of facets n = greatest_z (facet_at facets n)
 
--- the facet with a number has its least corner at most at the height z, and its greatest above
+-- the lowest corner of the facet with a number counts as below the height z, and its highest corner is above z
 abbrev pub starts_by : List Facet → ℤ → ℕ → Bool
 starts_by facets z n = is_below (pos 2 *ℤ least_z (facet_at facets n)) z
 

@@ -1,12 +1,13 @@
 -- What holds of the segments of every plane: how a line crosses the facets of a loop, that a closed mesh has loops, that
--- these are one list, and where their outlines lie.
+-- these are one list, that their nodes are ordered, and where their outlines lie.
 use Rattle.std.specs.Prelude.{◌≡◌, ℕ, All, List, Some, ℤ, pos}
 use Rattle.geometry.specs.Facet.{Facet, twice}
 use Rattle.geometry.specs.Winding.{total, wind}
 use Rattle.mesh_weld.specs.Balance.{IsBalanced}
 use Rattle.mesh_weld.specs.EdgeNumbers.{AreEdgeNumbers}
+use Rattle.mesh_weld.specs.Solid.{HaveDistinctCorners}
 use Rattle.contour.specs.declared.segment.Segment.{Segment}
-use Rattle.contour.specs.Segment.{segments}
+use Rattle.contour.specs.Segment.{HasOrderedNodes, segments}
 use Rattle.contour.specs.Loops.{AreLoops, IsCycle, follower, loop_facets, loops}
 use Rattle.contour.specs.Outlines.{IsStartOf, end_point, start_point}
 
@@ -24,6 +25,11 @@ ClosedMeshesHaveLoops = (facets : List Facet) (numbers : List (List ℕ)) (count
 -- two lists that are the loops of the segments at a height are equal
 abbrev pub LoopsAreOne : Type 0
 LoopsAreOne = (facets : List Facet) (z : ℤ) (a b : List (List Segment)) → AreLoops (segments facets z) a → AreLoops (segments facets z) b → a ≡ b
+
+-- in loops of facets with distinct corners each node is an edge between two vertices, the lower number before the higher
+abbrev pub NodesAreOrdered : Type 0
+NodesAreOrdered = (facets : List Facet) (z : ℤ) (found : List (List Segment)) → HaveDistinctCorners facets → AreLoops (segments facets z) found
+    → All (All HasOrderedNodes) found
 
 -- a segment starts where the plane cuts an edge, up to the rounding to the nearest half-micrometre
 abbrev pub StartsAreCuts : Type 0

@@ -1,5 +1,5 @@
 -- The loops that the segments of a plane make.
---     follower list s       the segment behind s: at its end node, of those that start there, the one with the rank that
+--     follower list s       the segment after s: at its end node, of those that start there, the one with the rank that
 --                           s has among those that end there
 --     loops list            the cycles, each from its least facet, in order of these
 --     AreLoops list found   the same without a word on how they are found

@@ -146,7 +146,8 @@ impl<A: Allocator + Copy + Send + Sync> ActiveFacets<A> {
 }
 
 /// What a plane reaches on its way up to a height: of facets in the order of their least heights, the number of those
-/// that start at or below the height, and which of these also end above it.
+/// that start by the height, and which of these also end above it. A facet starts by a height where its lowest corner
+/// counts as below it (the tie rule).
 #[derive(Drop)]
 pub(crate) struct Arrivals<A: Allocator> {
     pub(crate) count: usize,
@@ -200,9 +201,9 @@ impl<A: Allocator + Copy + Send + Sync> Arrivals<A> {
     }
 }
 
-/// Of facets in the order of their least heights, a number of first ones that have started and ended at the height `z2`, in
-/// half-micrometres: those that the greatest rise would not bring above it. Where the plane rises by little there are
-/// none, which the first facet tells.
+/// The number of facets at the front of a list, in the order of their least heights, that start so far below the height
+/// `z2`, in half-micrometres, that even the greatest rise does not bring them above it: they have started and ended there.
+/// After a small step of the plane there are none, and a look at the first facet shows it.
 fn count_ended<A: Allocator + Copy + Send + Sync>(s: &Solid<A>, order: &[u32], z2: i64) -> usize
     requires numbers { All (λ n. n < length s.now.facets) order.now }
     requires ascending { AllPairs (λ m n. is_lower s.now.facets m n ≡ true) order.now }
@@ -220,8 +221,7 @@ fn count_ended<A: Allocator + Copy + Send + Sync>(s: &Solid<A>, order: &[u32], z
     count_started(s, order, low)
 }
 
-/// Of facets in the order of their least heights, the number of those that start at most at the height `z2`, in
-/// half-micrometres.
+/// Of facets in the order of their least heights, the number of those that start by the height `z2`, in half-micrometres.
 fn count_started<A: Allocator + Copy + Send + Sync>(s: &Solid<A>, order: &[u32], z2: i64) -> usize
     requires numbers { All (λ n. n < length s.now.facets) order.now }
     requires ascending { AllPairs (λ m n. is_lower s.now.facets m n ≡ true) order.now }
@@ -248,7 +248,7 @@ fn count_before(list: &[u32], number: u32) -> usize
     list.iter().take_while(|m| **m < number).count()
 }
 
-/// Whether a facet starts at most at the height `z2`: it has a corner that counts as below, by the tie rule.
+/// Whether a facet starts by the height `z2`: its lowest corner counts as below it, by the tie rule.
 fn starts_by(f: &Facet, z2: i64) -> bool
     ensures { result ≡ TieRule.is_below (pos 2 *ℤ least_z f.now) z2 }
 {

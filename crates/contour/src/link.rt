@@ -7,7 +7,7 @@ ghost use Rattle.std.specs.Prelude.{◌++◌, true, false, ◌≡◌, ◌<◌, �
 ghost use Rattle.exact_int.specs.Bounds.{IsAtMost};
 ghost use Rattle.mesh_weld.specs.Balance.{IsBalanced};
 ghost use Rattle.mesh_weld.specs.EdgeNumbers.{AreEdgeNumbers};
-ghost use Rattle.contour.specs.Segment.{segments};
+ghost use Rattle.contour.specs.Segment.{HasOrderedNodes, segments};
 ghost use Rattle.contour.specs.Loops.{AreLoops, loops};
 ghost use Rattle.contour.specs.Link.{AreLinks, AreSegmentEdges, ArePopped, HasFirsts, HasLeft, HasNexts, InFacetOrder, IsClear, IsTracedLoop, KeepsLoopsWhole, edge_at_node, is_visited};
 ghost use Rattle.contour.specs.declared.link.TheConstants.{NONE};
@@ -55,13 +55,18 @@ impl<A: Allocator + Copy + Send + Sync> Linker<A> {
         })
     }
 
-    /// The loops of the segments of one plane; `list` is the mesh's segments at some height. `Err` comes only where
-    /// an allocation failed, and the linker can link the next plane in either case.
+    /// The loops of the segments of one plane; `list` is the mesh's segments at some height. Each loop is a closed cycle:
+    /// each segment ends at the node where the next one starts, and the last one ends where the first starts. Each segment
+    /// stands in exactly one loop, and of each node `low` is below `high`. `Err` comes only where an allocation failed, and
+    /// the linker can link the next plane in either case.
     pub fn loops(&mut self, s: &Solid<A>, list: &[Segment]) -> Result<Loops<A>, AllocError>
         requires { (z : ℤ) × (list.now ≡ segments s.now.facets z) }
         ensures closed { IfOk result (AreLoops list.now) }
         ensures loops { IfOk result (λ found. found ≡ loops list.now) }
+        ensures ordered { IfOk result (All (All HasOrderedNodes)) }
     {
+        // wakes the invariant: the corners of each kept facet are distinct
+        let _facets = s.count();
         make_room(self.alloc, &mut self.heads, s)?;
         self.links.fill(s, list, self.heads.as_mut_slice())?;
         let next = self.links.next.as_slice();
@@ -285,8 +290,10 @@ fn trace_loop<A: Allocator>(
 }
 
 /// The loops of a mesh at the height `z2` in half-micrometres, at most `geometry::CENTRE_LIMIT` from 0; `list` is its
-/// segments there. `Err` comes only where an allocation failed; the list is used up in either case. A [`Linker`] of
-/// many planes keeps its memory from one to the next.
+/// segments there. Each loop is a closed cycle: each segment ends at the node where the next one starts, and the last one
+/// ends where the first starts. Each segment stands in exactly one loop, and of each node `low` is below `high`. `Err` comes
+/// only where an allocation failed; the list is used up in either case. A [`Linker`] of many planes keeps its memory from
+/// one to the next.
 pub fn loops<A: Allocator + Copy + Send + Sync>(
     alloc: A,
     s: &Solid<A>,
@@ -297,6 +304,7 @@ pub fn loops<A: Allocator + Copy + Send + Sync>(
     requires list { list.items ≡ segments s.now.facets z2 }
     ensures closed { IfOk result (AreLoops list.items) }
     ensures loops { IfOk result (λ found. found ≡ loops list.items) }
+    ensures ordered { IfOk result (All (All HasOrderedNodes)) }
 {
     Linker::new(alloc, s)?.loops(s, list.as_slice())
 }

@@ -11,8 +11,8 @@ use mesh_weld::Solid;
 use std::alloc::Allocator;
 use std::marker::Model;
 
-/// The loops of a plane, each a closed cycle of segments: each segment ends at the node where the next one starts,
-/// and the last one ends where the first starts.
+/// Loops of a plane, each a list of segments. What the loops of a mesh are is said where they are made:
+/// [`Linker::loops`](crate::Linker::loops), [`loops`](crate::loops).
 #[derive(Drop)]
 pub struct Loops<A: Allocator> {
     flat: Vec<Segment, A>,
@@ -56,7 +56,7 @@ impl<A: Allocator> Loops<A> {
         part(self.flat.as_slice(), self.ends.as_slice(), number)
     }
 
-    /// The segments of all loops, one loop behind the other, and for each loop the position behind its last segment.
+    /// The segments of all loops, one loop after the other, and for each loop the position after its last segment.
     pub(crate) fn into_parts(self) -> (Vec<Segment, A>, Vec<usize, A>)
         ensures parts { self ≡ parts_from 0 result.1.items result.0.items }
         ensures ends { AreEnds 0 result.1.items (length result.0.items) }

@@ -64,14 +64,14 @@ impl<A: Allocator> Outlines<A> {
         part(self.points.as_slice(), self.ends.as_slice(), number)
     }
 
-    /// The points of all loops, one loop behind the other.
+    /// The points of all loops, one loop after the other.
     pub fn points(&self) -> &[PlanePoint]
         ensures { result.now ≡ flat_map (λ outline. outline) self.now }
     {
         self.points.as_slice()
     }
 
-    /// For each loop the position behind its last point, among those of all loops.
+    /// For each loop the position after its last point, among those of all loops.
     pub fn ends(&self) -> &[usize]
         ensures parts { parts_from 0 result.now (flat_map (λ outline. outline) self.now) ≡ self.now }
         ensures ends { AreEnds 0 result.now (length (flat_map (λ outline. outline) self.now)) }

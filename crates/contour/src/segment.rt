@@ -41,8 +41,9 @@ pub struct Segment {
 }
 
 /// The segment of the kept facet with this number, at the height `z2` in half-micrometres; `None` where the plane
-/// does not cut the facet: no corner is at most at `z2`, or none is above it. The number is below the solid's `count`,
-/// and `z2` at most `geometry::CENTRE_LIMIT` from 0. Of each node `low` is below `high`, since the corners are distinct.
+/// does not cut the facet: no corner counts as below `z2`, by the tie rule, or none is above it. The number is below the
+/// solid's `count`, and `z2` at most `geometry::CENTRE_LIMIT` from 0. Of each node `low` is below `high`, since the corners
+/// are distinct.
 pub fn segment_at<A: Allocator>(s: &Solid<A>, facet: u32, z2: i64) -> Option<Segment>
     requires facet { facet < length s.now.facets }
     requires height { IsAtMost CENTRE_LIMIT z2 }

@@ -83,7 +83,8 @@ impl<'m, A: Allocator + Copy + Send + Sync> Sweep<'m, A> {
         self.height
     }
 
-    /// The number of kept facets that the plane has reached: those with a corner at most at its height.
+    /// The number of kept facets that the plane has reached: those with a corner that counts as below its height, by the
+    /// tie rule.
     pub fn passed(&self) -> u32
         ensures { result ≡ passed_count self.now.facets self.now.height }
     {
@@ -92,8 +93,8 @@ impl<'m, A: Allocator + Copy + Send + Sync> Sweep<'m, A> {
         self.passed as u32
     }
 
-    /// The numbers of the active facets, in ascending order: the kept facets with a corner at most at the height and
-    /// a corner above it.
+    /// The numbers of the active facets, in ascending order: the kept facets with a corner that counts as below the height,
+    /// by the tie rule, and a corner above it.
     pub fn active(&self) -> &[u32]
         ensures { result.now ≡ active_facets self.now.facets self.now.height }
     {

@@ -3,6 +3,7 @@ use Rattle.std.specs.Prelude.{◌≡◌, ℕ, zero, suc, ◌≤◌, ◌+◌, ◌
 use Rattle.exact_int.specs.Bounds.{IsAtMost}
 use Rattle.exact_cut.specs.Bounds.{increment_limit, step_limit, unit_limit, whole_limit}
 use Rattle.exact_cut.specs.Column.{clamp}
+use Rattle.exact_cut.specs.Crossing.{IsUnit}
 use Rattle.exact_cut.specs.declared.dda.Division.{Division}
 use Rattle.exact_cut.specs.declared.dda.Dda.{Dda}
 use Rattle.geometry.specs.declared.limits.TheConstants.{COLUMN_LIMIT}
@@ -40,8 +41,9 @@ abbrev pub columns_along : ℕ → ℕ → Dda → List ℕ
 columns_along zero count d = []
 columns_along (suc n) count d = clamp d.whole count ∷ columns_along n count (next d)
 
--- what a walk needs that has this number of rows left: each of its positions fits its type
-pub record IsOnRows (row left : ℕ) (d : Dda) : Type 0 where
+-- what holds of a walk that has this number of rows left: its sign is 1 or -1, and each of its positions fits its type
+pub record IsOnRows (row left : ℕ) (sign : ℤ) (d : Dda) : Type 0 where
+  pub unit : IsUnit sign
   pub dda : IsDda d
   pub rows_in : row + left ≤ COLUMN_LIMIT
   pub whole_in : unsigned_abs d.whole + step_limit * left ≤ whole_limit

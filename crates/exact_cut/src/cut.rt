@@ -24,8 +24,8 @@ pub struct Cut {
 }
 
 /// The one edge that passes the height `z2` downward and the one that passes it upward, or `None` where no corner
-/// counts as below `z2` or no corner is above it. A corner at the height counts as below. `z2` is in half-micrometres,
-/// within `CENTRE_LIMIT` of 0.
+/// counts as below `z2`, by the tie rule, or no corner is above it. `z2` is in half-micrometres, within `CENTRE_LIMIT`
+/// of 0.
 pub fn cuts(f: &Facet, z2: i64) -> Option<Cut>
     requires { IsAtMost CENTRE_LIMIT z2 }
     ensures { MatchOption result (IsBetween (twice f.now) z2 → ⊥)

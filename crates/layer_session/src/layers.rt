@@ -1,10 +1,10 @@
 //! What is made of a job's layers: loops, as segments and as points, filled pixels and their number, and images.
-ghost use Rattle.std.specs.Prelude.{◌≡◌, ◌<◌, IfOk, OnOk};
+ghost use Rattle.std.specs.Prelude.{◌≡◌, ◌<◌, All, IfOk, OnOk};
 ghost use Rattle.std.specs.Io.KnownBytes.{Appends};
 ghost use Rattle.build_book.specs.Job.{stripe_count};
 ghost use Rattle.contour.specs.Loops.{AreLoops, loops};
 ghost use Rattle.contour.specs.Outlines.{outlines};
-ghost use Rattle.contour.specs.Segment.{segments};
+ghost use Rattle.contour.specs.Segment.{HasOrderedNodes, segments};
 ghost use Rattle.raster.specs.Filler.{IsFillOf, area_of};
 ghost use Rattle.raster.specs.Grid.{plane};
 ghost use Rattle.raster.specs.Image.{image_of_pixels};
@@ -25,6 +25,7 @@ pub(crate) fn layer_loops<A: Allocator + Copy + Send + Sync>(
     requires { k < job.now.grid.layers }
     ensures loops { IfOk result (λ found. found ≡ loops (segments job.now.solid.facets (plane job.now.grid k))) }
     ensures closed { IfOk result (AreLoops (segments job.now.solid.facets (plane job.now.grid k))) }
+    ensures ordered { IfOk result (All (All HasOrderedNodes)) }
 {
     let list = segments(alloc, job.solid(), job.grid().plane(k))?;
     Linker::new(alloc, job.solid())?.loops(job.solid(), list.as_slice())

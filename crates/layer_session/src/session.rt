@@ -1,10 +1,10 @@
 //! Sessions: a closed mesh in its grid, with a rule, asked layer by layer.
-ghost use Rattle.std.specs.Prelude.{◌≡◌, ◌<◌, ◌≤◌, ◌*◌, Err, IfErr, IfOk, List, OnOk, length, vec_len, ℕ};
+ghost use Rattle.std.specs.Prelude.{◌≡◌, ◌<◌, ◌≤◌, ◌*◌, All, Err, IfErr, IfOk, List, OnOk, length, vec_len, ℕ};
 ghost use Rattle.build_book.specs.Job.{stripe_count};
 ghost use Rattle.build_book.specs.declared.limits.TheConstants.{MOST_STRIPES, STRIPE_LAYERS};
 ghost use Rattle.contour.specs.Loops.{AreLoops, loops};
 ghost use Rattle.contour.specs.Outlines.{outlines};
-ghost use Rattle.contour.specs.Segment.{segments};
+ghost use Rattle.contour.specs.Segment.{HasOrderedNodes, segments};
 ghost use Rattle.geometry.specs.declared.limits.TheConstants.{FACET_LIMIT, LAYER_LIMIT};
 ghost use Rattle.raster.specs.Filler.{area_of};
 ghost use Rattle.raster.specs.Grid.{plane};
@@ -201,13 +201,14 @@ impl<A: Allocator + Copy + Send + Sync> Session<A> {
     }
 
     /// The loops of layer k: the closed cycles of the segments in which its plane cuts the mesh, each segment in exactly
-    /// one.
+    /// one. Of each node `low` is below `high`.
     ///
     /// # Errors
     /// `Outside` exactly where there is no such layer; `Memory` only where an allocation failed.
     pub fn loops(&self, k: u32) -> Result<Loops<A>, SessionFault>
         ensures loops { IfOk result (λ found. found ≡ loops (segments self.now.job.solid.facets (plane self.now.job.grid k))) }
         ensures closed { IfOk result (AreLoops (segments self.now.job.solid.facets (plane self.now.job.grid k))) }
+        ensures ordered { IfOk result (All (All HasOrderedNodes)) }
         ensures within { OnOk result (k < self.now.job.grid.layers) }
         ensures fault { IfErr result (IsLayerFault self.now.job.grid k) }
     {

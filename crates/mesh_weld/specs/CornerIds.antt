@@ -1,4 +1,4 @@
--- Ids of corners, which are places among the points found, and how the numbers of the corners come from them.
+-- Ids of corners, which are indices among the points found, and how the numbers of the corners come from them.
 use Rattle.std.specs.Prelude.{◌≡◌, ℕ, ◌≤◌, List, [], ◌∷◌, length, map, flat_map, slice_index}
 use Rattle.std.specs.List.{All, Contains}
 use Rattle.geometry.specs.Point.{Point}

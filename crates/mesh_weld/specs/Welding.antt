@@ -4,7 +4,7 @@ use Rattle.geometry.specs.Facet.{Facet}
 use Rattle.geometry.specs.Point.{Point}
 use Rattle.geometry.specs.Winding.{ray}
 use Rattle.mesh_weld.specs.Balance.{IsBalanced, IsLeastOpen, half_edge_count}
-use Rattle.mesh_weld.specs.Naming.{Parts, parts_of}
+use Rattle.mesh_weld.specs.Welder.{Welder, welder_of}
 use Rattle.mesh_weld.specs.Solid.{Solid, solid_of}
 use Rattle.mesh_weld.specs.declared.weld_fault.WeldFault.{WeldFault}
 use Rattle.mesh_weld.specs.declared.weld_fault.WeldFault.TheVariants as fault
@@ -23,14 +23,14 @@ IsKeptFault kept degenerate (fault.Open from to there back) =
 IsKeptFault kept degenerate fault.Memory = Unit {0}
 
 -- what a welder answers at its end, whichever facets were added
-pub record IsWeldOf (welder : Parts) (result : Result Solid WeldFault) : Type 0 where
+pub record IsWeldOf (welder : Welder) (result : Result Solid WeldFault) : Type 0 where
   -- the solid is that of the facets: the kept ones, and the number of those that were dropped
-  pub kept : (facets : List Facet) → welder ≡ parts_of facets → IfOk result (λ solid. solid ≡ solid_of facets)
+  pub kept : (facets : List Facet) → welder ≡ welder_of facets → IfOk result (λ solid. solid ≡ solid_of facets)
   -- only closed facets are a solid
-  pub closed : (facets : List Facet) → welder ≡ parts_of facets → IfOk result (λ solid. IsBalanced facets)
+  pub closed : (facets : List Facet) → welder ≡ welder_of facets → IfOk result (λ solid. IsBalanced facets)
   -- its rays are those of all facets
-  pub ray : (facets : List Facet) → welder ≡ parts_of facets → IfOk result (λ solid. (c : Point) → ray solid.facets c ≡ ray facets c)
+  pub ray : (facets : List Facet) → welder ≡ welder_of facets → IfOk result (λ solid. (c : Point) → ray solid.facets c ≡ ray facets c)
   -- an open edge is the least one
-  pub «open» : (facets : List Facet) → welder ≡ parts_of facets → IfErr result (IsWeldFault facets)
+  pub «open» : (facets : List Facet) → welder ≡ welder_of facets → IfErr result (IsWeldFault facets)
   -- where the facets are closed, the only fault is a failed allocation
-  pub only : (facets : List Facet) → welder ≡ parts_of facets → IsBalanced facets → IfErr result (λ f. f ≡ fault.Memory)
+  pub only : (facets : List Facet) → welder ≡ welder_of facets → IsBalanced facets → IfErr result (λ f. f ≡ fault.Memory)

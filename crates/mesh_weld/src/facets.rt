@@ -4,8 +4,8 @@ ghost use Rattle.std.specs.List.{All};
 ghost use Rattle.geometry.specs.Point.{same};
 ghost use Rattle.geometry.specs.Facet.{half_edges};
 ghost use Rattle.mesh_weld.specs.Balance.{half_edge_count};
-ghost use Rattle.mesh_weld.specs.Naming.{AreBelow};
 ghost use Rattle.mesh_weld.specs.Solid.{facet_by, facets_by, is_kept};
+ghost use Rattle.mesh_weld.specs.Welder.{AreBelow};
 ghost use Rattle.mesh_weld.specs.declared.weld_fault.WeldFault.TheVariants.{Open};
 ghost use Rattle.geometry.specs.declared.limits.TheConstants.{CORNER_LIMIT, FACET_LIMIT};
 

@@ -4,8 +4,9 @@ ghost use Rattle.std.specs.Prelude.{◌≡◌, ◌≤◌, ◌^◌, ◌%◌, ◌/
 ghost use Rattle.std.specs.List.{range_with_len};
 ghost use Rattle.std.specs.List.Sorted.{IsPermutation, IsNonDecreasing};
 ghost use Rattle.mesh_weld.specs.HeightOrder.{AreHeightKeys};
-ghost use Rattle.mesh_weld.specs.Naming.{AreBelow};
 ghost use Rattle.mesh_weld.specs.Solid.{IsByHeight, IsGreatestRise, facets_by, greatest_z, least_z, rise};
+ghost use Rattle.mesh_weld.specs.Welder.{AreBelow};
+ghost use Rattle.mesh_weld.specs.declared.packing.TheConstants.{HALF_WORD};
 ghost use Rattle.geometry.specs.declared.limits.TheConstants.{FACET_LIMIT};
 
 use crate::facets::facet_by;
@@ -64,7 +65,7 @@ fn list_heights<A: Allocator + Copy>(
 ) -> Result<Heights<A>, AllocError>
     requires below { AreBelow points.now numbers.now }
     requires few { length numbers.now ≤ FACET_LIMIT }
-    ensures numbers { IfOk result (λ heights. map (λ key. key % 2 ^ 32) heights.keys.items ≡ range_with_len 0 (length numbers.now)) }
+    ensures numbers { IfOk result (λ heights. map (λ key. key % HALF_WORD) heights.keys.items ≡ range_with_len 0 (length numbers.now)) }
     ensures heights { IfOk result (λ heights. AreHeightKeys (facets_by points.now numbers.now) heights.keys.items) }
     ensures rise { IfOk result (λ heights. IsGreatestRise (facets_by points.now numbers.now) heights.greatest_rise) }
 {
@@ -84,8 +85,8 @@ fn list_heights<A: Allocator + Copy>(
 
 /// A key that ascends with a facet's least height, and then with its number.
 fn height_key(facet: &Facet, number: u32) -> HeightKey
-    ensures number { result % 2 ^ 32 ≡ number }
-    ensures height { pos (result / 2 ^ 32) ≡ least_z facet.now +ℤ pos (2 ^ 31) }
+    ensures number { result % HALF_WORD ≡ number }
+    ensures height { pos (result / HALF_WORD) ≡ least_z facet.now +ℤ pos (2 ^ 31) }
 {
     let above = (i64::from(lowest(facet)) + HEIGHT_OFFSET) as u32;
     packed(above, number)
@@ -123,7 +124,7 @@ fn sort_heights<A: Allocator>(keys: &mut Vec<HeightKey, A>)
 
 /// The numbers of the facets that have the keys.
 fn numbers_of<A: Allocator + Copy>(alloc: A, keys: &[HeightKey]) -> Result<Vec<u32, A>, AllocError>
-    ensures { IfOk result (λ numbers. numbers.items ≡ map (λ key. key % 2 ^ 32) keys.now) }
+    ensures { IfOk result (λ numbers. numbers.items ≡ map (λ key. key % HALF_WORD) keys.now) }
 {
     let mut numbers = Vec::with_capacity(alloc, keys.len())?;
     for key in keys {

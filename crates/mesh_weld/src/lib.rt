@@ -28,7 +28,7 @@ mod height_order;
 mod laws;
 mod packing;
 mod probing;
-mod run;
+mod same_ends;
 mod solid;
 mod weld_fault;
 mod welder;

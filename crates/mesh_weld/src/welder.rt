@@ -1,14 +1,14 @@
 //! Welding as facets come: corners are named at once, so that no list of facets is kept.
 ghost use Rattle.std.specs.Prelude.{◌≡◌, ◌≤◌, ◌<◌, ◌+◌, ◌++◌, [], ◌∷◌, List, IfSome, OnErr, OnOk, length, true, vec_len};
 ghost use Rattle.geometry.specs.Facet.{Facet};
-ghost use Rattle.mesh_weld.specs.Grouped.{AreEdgesOf, AreOrdersOf};
-ghost use Rattle.mesh_weld.specs.Naming.{AreNamed, named_parts, parts_of, with_facets};
+ghost use Rattle.mesh_weld.specs.Grouping.{AreEdgesOf, AreOrdersOf};
 ghost use Rattle.mesh_weld.specs.Solid.{facets_by, is_kept};
+ghost use Rattle.mesh_weld.specs.Welder.{AreNamed, welder_by, welder_of, with_facets};
 ghost use Rattle.mesh_weld.specs.Welding.{IsWeldOf};
 ghost use Rattle.geometry.specs.declared.limits.TheConstants.{FACET_LIMIT};
 
 use crate::by_hash::{
-    BLOCK, CornerTable, Grouped, NONE, facet_ids, group_facets, group_facets_by, named_numbering,
+    BLOCK, CornerTable, Grouping, NONE, facet_ids, group_facets, group_facets_by, named_numbering,
 };
 use crate::facets::has_distinct_corners;
 use crate::half_edge::EdgeNumbering;
@@ -34,10 +34,10 @@ pub struct Welder<A: Allocator> {
 impl<A: Allocator> Model for Welder<A> {
     ghost use Rattle.std.specs.Prelude.{◌≤◌, ◌+◌, length};
     ghost use Rattle.geometry.specs.declared.limits.TheConstants.{FACET_LIMIT};
-    ghost use Rattle.mesh_weld.specs.Naming.{AreNamed, Parts};
+    ghost use Rattle.mesh_weld.specs.Welder.{AreNamed, Welder};
     ghost use Rattle.mesh_weld.specs.Solid.{facets_by};
 
-    ghost Value = { Parts };
+    ghost Value = { Welder };
 
     ghost view = { λ w. record { kept = facets_by w.points.items w.ids.items; degenerate = w.degenerate.items } };
 
@@ -47,7 +47,7 @@ impl<A: Allocator> Model for Welder<A> {
 impl<A: Allocator + Copy + Send + Sync> Welder<A> {
     /// A welder with no facet.
     pub fn new(alloc: A) -> Welder<A>
-        ensures { result ≡ parts_of [] }
+        ensures { result ≡ welder_of [] }
     {
         Welder {
             alloc,
@@ -61,7 +61,7 @@ impl<A: Allocator + Copy + Send + Sync> Welder<A> {
     /// The number of facets that were added.
     pub fn count(&self) -> usize
         ensures value { result ≡ length self.now.kept + length self.now.degenerate }
-        ensures whole { (facets : List Facet) → self.now ≡ parts_of facets → result ≡ length facets }
+        ensures whole { (facets : List Facet) → self.now ≡ welder_of facets → result ≡ length facets }
         ensures few { result ≤ FACET_LIMIT }
     {
         self.ids.len() + self.degenerate.len()
@@ -74,8 +74,8 @@ impl<A: Allocator + Copy + Send + Sync> Welder<A> {
     pub fn add(&mut self, facets: &[Facet]) -> Result<(), AllocError>
         requires { length self.old.kept + length self.old.degenerate + length facets.now ≤ FACET_LIMIT }
         ensures added { OnOk result (self.new ≡ with_facets self.old facets.now) }
-        ensures whole { (before : List Facet) → self.old ≡ parts_of before → OnOk result (self.new ≡ parts_of (before ++ facets.now)) }
-        ensures refused { OnErr result (self.new ≡ parts_of []) }
+        ensures whole { (before : List Facet) → self.old ≡ welder_of before → OnOk result (self.new ≡ welder_of (before ++ facets.now)) }
+        ensures refused { OnErr result (self.new ≡ welder_of []) }
     {
         let mut guesses = [[NONE; 3]; BLOCK];
         for at in 0..facets.len() {
@@ -117,7 +117,7 @@ impl<A: Allocator + Copy + Send + Sync> Welder<A> {
 
     /// Takes all facets away.
     fn clear(&mut self)
-        ensures { self.new ≡ parts_of [] }
+        ensures { self.new ≡ welder_of [] }
     {
         self.points.clear();
         self.ids.clear();
@@ -154,7 +154,7 @@ impl<A: Allocator + Copy + Send + Sync> Welder<A> {
 
     /// The facets without the table, which takes more room than they do.
     fn without_table(self) -> NamedFacets<A>
-        ensures value { named_parts result.points.items result.ids.items result.degenerate.items ≡ self }
+        ensures value { welder_by result.points.items result.ids.items result.degenerate.items ≡ self }
         ensures named { AreNamed result.points.items result.ids.items }
         ensures few { length result.ids.items + length result.degenerate.items ≤ FACET_LIMIT }
     {
@@ -185,13 +185,13 @@ struct NamedFacets<A: Allocator> {
 }
 
 impl<A: Allocator + Copy> NamedFacets<A> {
-    /// The solid of the facets, from what groups told of those that are kept.
-    fn into_solid(self, found: Option<Grouped<A>>) -> Result<Solid<A>, WeldFault>
+    /// The solid of the facets, from the grouping of the kept ones where there is one.
+    fn into_solid(self, found: Option<Grouping<A>>) -> Result<Solid<A>, WeldFault>
         requires named { AreNamed self.points.items self.ids.items }
         requires few { length self.ids.items + length self.degenerate.items ≤ FACET_LIMIT }
         requires edges { IfSome found (λ own. AreEdgesOf self.ids.items own.edges.numbers.items own.edges.count) }
         requires orders { IfSome found (λ own. AreOrdersOf self.points.items self.ids.items own.orders.points.points.items own.orders.points.ranks.items own.orders.heights.order.items own.orders.heights.greatest_rise) }
-        ensures { IsWeldOf (named_parts self.points.items self.ids.items self.degenerate.items) result }
+        ensures { IsWeldOf (welder_by self.points.items self.ids.items self.degenerate.items) result }
     {
         let NamedFacets {
             alloc,

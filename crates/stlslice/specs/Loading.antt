@@ -4,7 +4,7 @@ use Rattle.std.specs.Io.KnownBytes.{Consumes, IsAtEnd}
 use Rattle.geometry.specs.Facet.{Facet}
 use Rattle.geometry.specs.declared.limits.TheConstants.{FACET_LIMIT}
 use Rattle.mesh_weld.specs.Balance.{IsBalanced, IsLeastOpen}
-use Rattle.mesh_weld.specs.Naming.{Parts, parts_of}
+use Rattle.mesh_weld.specs.Welder.{Welder, welder_of}
 use Rattle.mesh_weld.specs.Solid.{Solid, solid_of}
 use Rattle.micro_num.specs.declared.unit.Unit.{Unit as LengthUnit}
 use Rattle.raster.specs.Devices.{Fails}
@@ -42,16 +42,16 @@ abbrev pub IsMisread : LengthUnit → List ℕ → RunFault → Type 0
 IsMisread unit bytes f = (cause : StlFault) × (f ≡ fault.Stl cause) × IsFaultOf FACET_LIMIT unit bytes cause
 
 -- the welder has these facets, if they are no more than a mesh may have
-abbrev pub AreWelded : List Facet → Parts → Type 0
-AreWelded taken welder = length taken ≤ FACET_LIMIT → welder ≡ parts_of taken
+abbrev pub AreWelded : List Facet → Welder → Type 0
+AreWelded taken welder = length taken ≤ FACET_LIMIT → welder ≡ welder_of taken
 
 -- one welder has the facets of another, and these after them
-abbrev pub HasWelded : List Facet → Parts → Parts → Type 0
+abbrev pub HasWelded : List Facet → Welder → Welder → Type 0
 HasWelded facets old new = (taken : List Facet) → AreWelded taken old → AreWelded (taken ++ facets) new
 
 -- A welder and a reader have all facets of a text between them, those that were taken off the reader in the welder: what
 -- `says` tells holds of the text.
-abbrev pub OfText : Parts → Progress → (LengthUnit → List ℕ → Type 0) → Type 0
+abbrev pub OfText : Welder → Progress → (LengthUnit → List ℕ → Type 0) → Type 0
 OfText welder reader says = (unit : LengthUnit) (taken : List Facet) (fed : List ℕ) → AreWelded taken welder
     → IsAfter FACET_LIMIT unit taken reader fed → says unit fed
 
@@ -100,8 +100,8 @@ pub record IsLoaded (unit : LengthUnit) (bytes : List ℕ) (result : Result Soli
   pub only : (facets : List Facet) → Reads FACET_LIMIT unit bytes facets → IsBalanced facets → IfErr result (λ f. f ≡ fault.Memory)
 
 -- What a call promises that makes a welder of all facets of a whole text.
-pub record IsAllWelded (unit : LengthUnit) (bytes : List ℕ) (result : Result Parts RunFault) : Type 0 where
-  pub ok : IfOk result (λ welder. (facets : List Facet) × Reads FACET_LIMIT unit bytes facets × (welder ≡ parts_of facets))
+pub record IsAllWelded (unit : LengthUnit) (bytes : List ℕ) (result : Result Welder RunFault) : Type 0 where
+  pub ok : IfOk result (λ welder. (facets : List Facet) × Reads FACET_LIMIT unit bytes facets × (welder ≡ welder_of facets))
   pub err : IfErr result (IsLoadFault unit bytes)
   -- memory aside, a text that reads as facets is answered as such
   pub only : (facets : List Facet) → Reads FACET_LIMIT unit bytes facets → IfErr result (λ f. f ≡ fault.Memory)

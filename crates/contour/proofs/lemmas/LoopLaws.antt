@@ -10,12 +10,12 @@ use Rattle.contour.specs.Loops.{AreLoops, IsCycle, loop_facets}
 use Rattle.contour.proofs.lemmas.LoopWinds.{Runs, cycle_winds-cancel, segments_run}
 use Rattle.contour.proofs.lemmas.Unique.{Has, cycle-has, loops-are}
 
-at_member : (P : Segment → Type 0) (list : List Segment) (s : Segment) → AllByRecursion P list → Has s list → P s
+pub at_member : (P : Segment → Type 0) (list : List Segment) (s : Segment) → AllByRecursion P list → Has s list → P s
 at_member P [] s all h = absurd h
 at_member P (x ∷ list) s all (inl e) = subst P (sym e) all.0
 at_member P (x ∷ list) s all (inr h) = at_member P list s all.1 h
 
-at_all : (P : Segment → Type 0) (list : List Segment) → ((s : Segment) → Has s list → P s) → AllByRecursion P list
+pub at_all : (P : Segment → Type 0) (list : List Segment) → ((s : Segment) → Has s list → P s) → AllByRecursion P list
 at_all P [] each = tt
 at_all P (x ∷ list) each = (each x (inl refl), at_all P list (λ s h. each s (inr h)))
 

@@ -20,9 +20,9 @@ module _ (facets : List Facet) where
   abbrev pub Within : Point → Point → Type 0
   Within p q = (is_in p (vertices facets) ≡ true) × (is_in q (vertices facets) ≡ true)
 
-  ordered : (e : Edge) → e.from ≢ e.to → Within e.from e.to
+  pub node_of-ordered : (e : Edge) → e.from ≢ e.to → Within e.from e.to
       → (node_of (vertices facets) e).low < (node_of (vertices facets) e).high
-  ordered e apart there =
+  node_of-ordered e apart there =
       between-ordered (number_of (vertices facets) e.from) (number_of (vertices facets) e.to)
       (λ h. apart (same_number facets e.from e.to there.0 there.1 h))
 
@@ -35,7 +35,7 @@ module _ (facets : List Facet) where
       let own : numbers ≡ map (number_of (vertices facets)) (corners t) =
       numbered ∙ triples_at facets n l ∙ ap (λ u. map (number_of (vertices facets)) (corners u)) same in
       subst (λ (m : Node). m.low < m.high) (sym (ap (λ ns. edge_node ns e) own ∙ edge_node-is (vertices facets) t e below))
-      (ordered (edge_at t e) (apart e below) (there e below))
+      (node_of-ordered (edge_at t e) (apart e below) (there e below))
     where
       apart : (k : ℕ) → k < 3 → (edge_at t k).from ≢ (edge_at t k).to
       apart zero m = distinct.0

@@ -171,8 +171,9 @@ whole_next s h =
     other : {m : ℕ} (w p : ℤ) → unsigned_abs p ≤ m → unsigned_abs (w +ℤ p -ℤ pos 1) ≤ unsigned_abs w + (m + 1)
     other w p h = omega (arith, ints)
 
-pub IsOnRows-next : (row left : ℕ) (s : Dda) → 0 < left → IsOnRows row left s → IsOnRows (row + 1) (left - 1) (next s)
-IsOnRows-next row left s some h = record {
+pub IsOnRows-next : (row left : ℕ) (sign : ℤ) (s : Dda) → 0 < left → IsOnRows row left sign s → IsOnRows (row + 1) (left - 1) sign (next s)
+IsOnRows-next row left sign s some h = record {
+  unit = h.unit;
   dda = IsDda-next s h.dda;
   rows_in = let k = h.rows_in in omega arith;
   whole_in = fewer left (unsigned_abs (next s).whole) (unsigned_abs s.whole) step_limit whole_limit some (whole_next s h.dda) h.whole_in;
@@ -186,8 +187,8 @@ IsOnRows-next row left s some h = record {
         let e : left ≡ suc (left - 1) = omega arith in
         one_less (left - 1) v w s m (s * left) (ap (λ n. s * n) e ∙ mul-suc s (left - 1)) b c
 
-pub whole_left : (row left : ℕ) (s : Dda) → IsOnRows row left s → IsAtMost whole_limit s.whole
-whole_left row left s h = record { at_most = at_most (unsigned_abs s.whole) (step_limit * left) whole_limit h.whole_in }
+pub whole_left : (row left : ℕ) (sign : ℤ) (s : Dda) → IsOnRows row left sign s → IsAtMost whole_limit s.whole
+whole_left row left sign s h = record { at_most = at_most (unsigned_abs s.whole) (step_limit * left) whole_limit h.whole_in }
   where
     at_most : (a b m : ℕ) → a + b ≤ m → a ≤ m
     at_most a b m h = omega arith

@@ -3,6 +3,7 @@ ghost use Rattle.std.specs.Prelude.{◌≡◌, ◌∷◌, ◌+◌, ◌-◌, ◌<
 ghost use Rattle.exact_int.specs.Bounds.{IsAtMost};
 ghost use Rattle.geometry.specs.Facet.{twice};
 ghost use Rattle.exact_cut.specs.Column.{IsLeastColumn};
+ghost use Rattle.exact_cut.specs.Crossing.{IsUnit};
 ghost use Rattle.exact_cut.specs.Lattice.{IsUncrossed, row_y};
 ghost use Rattle.exact_cut.specs.Section.{den_between, num_between};
 ghost use Rattle.exact_cut.specs.Walk.{IsWalkOf, Walk};
@@ -34,7 +35,7 @@ impl Model for Walk {
 
     ghost view = { λ w. record { row = w.row; sign = w.sign; columns = columns_along w.left w.columns w.dda } };
 
-    ghost invariant = { λ w. IsOnRows w.row w.left w.dda };
+    ghost invariant = { λ w. IsOnRows w.row w.left w.sign w.dda };
 }
 
 impl Walk {
@@ -66,6 +67,7 @@ impl Walk {
         far: &CutPoint,
         lattice: &Lattice,
     ) -> Walk
+        requires unit { IsUnit sign }
         requires some { row < end }
         requires in_rows { end ≤ lattice.now.rows }
         requires den_positive { pos 0 <ℤ den_between near.now far.now }
@@ -102,7 +104,8 @@ impl Walk {
 
     /// The facet's winding round each of the rows, 1 or -1.
     pub fn sign(&self) -> i32
-        ensures { result ≡ self.now.sign }
+        ensures value { result ≡ self.now.sign }
+        ensures unit { IsUnit result }
     {
         self.sign
     }

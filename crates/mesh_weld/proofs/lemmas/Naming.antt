@@ -9,7 +9,7 @@ use Rattle.geometry.specs.Facet.{Facet, corners, facet_with}
 use Rattle.geometry.specs.declared.limits.TheConstants.{CORNER_LIMIT}
 use Rattle.mesh_weld.specs.PointOrder.{AreDistinct, IsAppendedOrSame}
 use Rattle.mesh_weld.specs.CornerIds.{AreIds, ranks_of}
-use Rattle.mesh_weld.specs.Naming.{AreBelow, AreNamed, IsNamed, IsNamedFacet, Parts, degenerate_facets, with_facets}
+use Rattle.mesh_weld.specs.Welder.{AreBelow, AreNamed, IsNamed, IsNamedFacet, Welder, degenerate_facets, with_facets}
 use Rattle.mesh_weld.specs.Solid.{facet_by, facets_by, in_order, is_kept, kept_facets, number_of, triples, vertices}
 use Rattle.mesh_weld.proofs.lemmas.InOrder.{in_order-alike}
 use Rattle.mesh_weld.proofs.lemmas.Ranks.{number_distinct, three_items}
@@ -108,9 +108,9 @@ module _ (old new : List Point) (ids : List (List ℕ)) (t : Facet) (own : List 
   }
 
 -- ---- parts
-pub parts_length : (fs : List Facet) → length (kept_facets fs) + length (degenerate_facets fs) ≡ length fs
-parts_length [] = refl
-parts_length (t ∷ ts) = by_test (is_kept t) refl (parts_length ts)
+pub welder_length : (fs : List Facet) → length (kept_facets fs) + length (degenerate_facets fs) ≡ length fs
+welder_length [] = refl
+welder_length (t ∷ ts) = by_test (is_kept t) refl (welder_length ts)
   where
     by_test : (b : Bool) → is_kept t ≡ b → length (kept_facets ts) + length (degenerate_facets ts) ≡ length ts
         → length (cond (is_kept t) (t ∷ kept_facets ts) (kept_facets ts)) + length (cond (not (is_kept t)) (t ∷ degenerate_facets ts) (degenerate_facets ts)) ≡ suc (length ts)
@@ -121,9 +121,9 @@ parts_length (t ∷ ts) = by_test (is_kept t) refl (parts_length ts)
         ap (λ b. length (cond b (t ∷ kept_facets ts) (kept_facets ts)) + length (cond (not b) (t ∷ degenerate_facets ts) (degenerate_facets ts))) h
         ∙ (let e : length (kept_facets ts) + suc (length (degenerate_facets ts)) ≡ suc (length ts) = omega (arith, rest) in e)
 
-pub with_length : (w : Parts) (fs : List Facet) → length (with_facets w fs).kept + length (with_facets w fs).degenerate ≡ length w.kept + length w.degenerate + length fs
+pub with_length : (w : Welder) (fs : List Facet) → length (with_facets w fs).kept + length (with_facets w fs).degenerate ≡ length w.kept + length w.degenerate + length fs
 with_length w fs =
-    omega (arith, length-append w.kept (kept_facets fs), length-append w.degenerate (degenerate_facets fs), parts_length fs)
+    omega (arith, length-append w.kept (kept_facets fs), length-append w.degenerate (degenerate_facets fs), welder_length fs)
 
 -- ---- ids that name facets, among points that are distinct
 module _ (ps : List Point) (ids : List (List ℕ)) (n : AreNamed ps ids) where

@@ -5,7 +5,7 @@ use Rattle.std.proofs.lemmas.List.{get_or_default}
 use Rattle.std.proofs.lemmas.List.Elements.{All-cons, All-tail}
 use Rattle.geometry.specs.Point.{Point}
 use Rattle.geometry.specs.Facet.{Facet, corners}
-use Rattle.mesh_weld.specs.Naming.{AreBelow}
+use Rattle.mesh_weld.specs.Welder.{AreBelow}
 use Rattle.mesh_weld.specs.Solid.{facet_by, facets_by, number_of, triples, vertices}
 use Rattle.mesh_weld.proofs.lemmas.InOrder.{is_in, in_order-members, is_in-from_contains}
 use Rattle.mesh_weld.proofs.lemmas.Transfer.{number_found}

@@ -8,7 +8,7 @@ use Rattle.geometry.specs.Point.{Point}
 use Rattle.geometry.specs.Facet.{Facet, corners}
 use Rattle.mesh_weld.specs.Balance.{half_edge_count, IsBalanced, IsLeastOpen}
 use Rattle.mesh_weld.specs.Solid.{is_kept, kept_facets, vertices, number_of, triples}
-use Rattle.mesh_weld.specs.Naming.{Parts, degenerate_facets, parts_of}
+use Rattle.mesh_weld.specs.Welder.{Welder, degenerate_facets, welder_of}
 use Rattle.mesh_weld.specs.HalfEdge.{half_edges_from}
 use Rattle.mesh_weld.specs.Welding.{IsKeptFault, IsWeldFault, IsWeldOf}
 use Rattle.mesh_weld.specs.declared.weld_fault.WeldFault.{WeldFault}
@@ -103,7 +103,7 @@ only_memory fs (fault.Open from to there back) h balanced = absurd (h.differ (h.
 only_memory fs fault.Memory h balanced = refl
 
 -- a failed allocation, whatever the facets
-pub refused_weld : (w : Parts) → IsWeldOf w (Err fault.Memory)
+pub refused_weld : (w : Welder) → IsWeldOf w (Err fault.Memory)
 refused_weld w = record {
   kept = λ facets e. tt;
   closed = λ facets e. tt;
@@ -122,5 +122,5 @@ kept_weld_fault kept degenerate f h = record {
   only = λ facets e balanced. only_memory facets f (own facets e) balanced;
 }
   where
-    own : (facets : List Facet) → (record { kept = kept; degenerate = degenerate }) ≡ parts_of facets → IsWeldFault facets f
-    own facets e = weld_fault facets kept degenerate f (ap (λ (p : Parts). p.kept) e) (ap (λ (p : Parts). p.degenerate) e) h
+    own : (facets : List Facet) → (record { kept = kept; degenerate = degenerate }) ≡ welder_of facets → IsWeldFault facets f
+    own facets e = weld_fault facets kept degenerate f (ap (λ (p : Welder). p.kept) e) (ap (λ (p : Welder). p.degenerate) e) h

@@ -2,7 +2,7 @@
 //! points stand in order.
 ghost use Rattle.std.specs.Prelude.{◌≡◌, ◌≤◌, ◌<◌, ◌+◌, IfOk, IfSome, IsTrue, length, slice_index, slice_index_or, vec_len};
 ghost use Rattle.geometry.specs.Point.{origin};
-ghost use Rattle.mesh_weld.specs.Naming.{IsNamed, IsNamedFacet};
+ghost use Rattle.mesh_weld.specs.Welder.{IsNamed, IsNamedFacet};
 ghost use Rattle.geometry.specs.declared.limits.TheConstants.{CORNER_LIMIT};
 
 use crate::by_hash::histogram::NONE;

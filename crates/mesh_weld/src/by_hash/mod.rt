@@ -9,10 +9,10 @@
 ghost use Rattle.std.specs.Prelude.{◌≡◌, ◌≤◌, ◌<◌, IfErr, IfOk, IfSome, length, map};
 ghost use Rattle.std.specs.List.{All};
 ghost use Rattle.mesh_weld.specs.CornerIds.{ranks_of};
-ghost use Rattle.mesh_weld.specs.Grouped.{AreEdgesOf, AreOrdersOf};
-ghost use Rattle.mesh_weld.specs.Naming.{AreBelow, AreNamed};
+ghost use Rattle.mesh_weld.specs.Grouping.{AreEdgesOf, AreOrdersOf};
 ghost use Rattle.mesh_weld.specs.Numbering.{IsNumberingOf};
 ghost use Rattle.mesh_weld.specs.Solid.{facets_by};
+ghost use Rattle.mesh_weld.specs.Welder.{AreBelow, AreNamed};
 ghost use Rattle.mesh_weld.specs.Welding.{IsKeptFault};
 ghost use Rattle.geometry.specs.declared.limits.TheConstants.{FACET_LIMIT};
 
@@ -38,9 +38,9 @@ use std::thread::{Threads, join};
 /// Meshes with fewer kept facets are numbered by sorts, which are as fast there.
 const LEAST_HASHED: usize = 4096;
 
-/// What groups tell of facets that ids name: the numbers of their edges, and both orders.
+/// The result of grouping facets that are given by ids: the numbers of their edges, and the orders of points and facets.
 #[derive(Drop)]
-pub(crate) struct Grouped<A: Allocator> {
+pub(crate) struct Grouping<A: Allocator> {
     pub edges: EdgeNumbering<A>,
     pub orders: Orders<A>,
 }
@@ -52,13 +52,14 @@ pub(crate) struct Orders<A: Allocator> {
     pub heights: HeightOrder<A>,
 }
 
-/// What groups tell of the facets that ids name among points, the edges first, since they take the most room; `None`
-/// where sorts serve better, or have to.
+/// Groups the half-edges and the points of facets that are given by ids among points, the half-edges first, since they
+/// take the most room. `None` for fewer than [`LEAST_HASHED`] facets, and where the result of a step does not pass its
+/// check, so that sorts have to serve.
 pub(crate) fn group_facets<A: Allocator + Copy>(
     alloc: A,
     points: &[Point],
     ids: &[[u32; 3]],
-) -> Result<Option<Grouped<A>>, AllocError>
+) -> Result<Option<Grouping<A>>, AllocError>
     requires below { AreBelow points.now ids.now }
     requires few { length ids.now ≤ FACET_LIMIT }
     ensures edges { IfOk result (λ found. IfSome found (λ own. AreEdgesOf ids.now own.edges.numbers.items own.edges.count)) }
@@ -73,7 +74,7 @@ pub(crate) fn group_facets<A: Allocator + Copy>(
     let Some(orders) = orders_of(alloc, points, ids)? else {
         return Ok(None);
     };
-    Ok(Some(Grouped { edges, orders }))
+    Ok(Some(Grouping { edges, orders }))
 }
 
 /// The same as [`group_facets`], by two threads at the same time: the edges, which take the longest, on the one that calls.
@@ -82,7 +83,7 @@ pub(crate) fn group_facets_by<R: Threads + Sync, A: Allocator + Copy + Send + Sy
     alloc: A,
     points: &[Point],
     ids: &[[u32; 3]],
-) -> Result<Option<Grouped<A>>, AllocError>
+) -> Result<Option<Grouping<A>>, AllocError>
     requires below { AreBelow points.now ids.now }
     requires few { length ids.now ≤ FACET_LIMIT }
     ensures edges { IfOk result (λ found. IfSome found (λ own. AreEdgesOf ids.now own.edges.numbers.items own.edges.count)) }
@@ -102,7 +103,7 @@ pub(crate) fn group_facets_by<R: Threads + Sync, A: Allocator + Copy + Send + Sy
     let Some(orders) = orders? else {
         return Ok(None);
     };
-    Ok(Some(Grouped { edges, orders }))
+    Ok(Some(Grouping { edges, orders }))
 }
 
 /// The points in their order, and the facets by height; `None` where the points have none. The heights go first, since
@@ -123,14 +124,14 @@ fn orders_of<A: Allocator + Copy>(
     Ok(Some(Orders { points, heights }))
 }
 
-/// The numbering of the kept facets, which the ids name, if their half-edges balance: from what groups told of them, else
-/// by sorts.
+/// The numbering of the kept facets, which are given by ids, if their half-edges balance: from their grouping where there
+/// is one, else by sorts.
 pub(crate) fn named_numbering<A: Allocator + Copy>(
     alloc: A,
     points: Vec<Point, A>,
     ids: Vec<[u32; 3], A>,
     degenerate: &[Facet],
-    found: Option<Grouped<A>>,
+    found: Option<Grouping<A>>,
 ) -> Result<Numbering<A>, WeldFault>
     requires named { AreNamed points.items ids.items }
     requires kept { length ids.items ≤ FACET_LIMIT }
@@ -146,11 +147,11 @@ pub(crate) fn named_numbering<A: Allocator + Copy>(
     }
 }
 
-/// The numbering of the facets that the ids name, from what groups told of them.
+/// The numbering of facets that are given by ids, from their grouping.
 fn numbered<A: Allocator>(
     points: Vec<Point, A>,
     mut ids: Vec<[u32; 3], A>,
-    found: Grouped<A>,
+    found: Grouping<A>,
 ) -> Numbering<A>
     requires named { AreNamed points.items ids.items }
     requires edges { AreEdgesOf ids.items found.edges.numbers.items found.edges.count }
@@ -158,7 +159,7 @@ fn numbered<A: Allocator>(
     ensures { IsNumberingOf (facets_by points.items ids.items) result.points.items result.numbers.items result.edges.numbers.items result.edges.count result.heights.order.items result.heights.greatest_rise }
 {
     drop(points);
-    let Grouped {
+    let Grouping {
         edges,
         orders: Orders {
             points: PointOrder {

@@ -2,7 +2,7 @@
 ghost use Rattle.std.specs.Prelude.{◌≡◌, ◌≤◌, ◌<◌, ◌*◌, IfOk, OnOk, ◌++◌, ◌∷◌, [], length, vec_len, map, flat_map};
 ghost use Rattle.std.specs.List.Sorted.{IsPermutation};
 ghost use Rattle.geometry.specs.Facet.{corners};
-ghost use Rattle.mesh_weld.specs.Corner.{corners_from, AreAscending, IsAdded};
+ghost use Rattle.mesh_weld.specs.Corners.{corners_from, AreAscending, IsAdded};
 ghost use Rattle.mesh_weld.specs.Numbering.{threes};
 ghost use Rattle.mesh_weld.specs.Solid.{number_of, vertices};
 ghost use Rattle.geometry.specs.declared.limits.TheConstants.{CORNER_LIMIT, FACET_LIMIT};
@@ -12,7 +12,7 @@ use std::alloc::{AllocError, Allocator};
 
 /// A corner with its slot: its number among the corners of all facets, three a facet.
 #[derive(Clone, Copy)]
-pub(crate) struct Corner {
+pub(crate) struct CornerEntry {
     pub point: Point,
     pub slot: u32,
 }
@@ -21,7 +21,7 @@ pub(crate) struct Corner {
 fn list_corners<A: Allocator + Copy>(
     alloc: A,
     facets: &[Facet],
-) -> Result<Vec<Corner, A>, AllocError>
+) -> Result<Vec<CornerEntry, A>, AllocError>
     requires { length facets.now ≤ FACET_LIMIT }
     ensures { IfOk result (λ list. list.items ≡ corners_from 0 facets.now) }
 {
@@ -35,17 +35,17 @@ fn list_corners<A: Allocator + Copy>(
 }
 
 /// Puts a corner after the others, with the next slot.
-fn push_corner<A: Allocator>(list: &mut Vec<Corner, A>, point: Point) -> Result<(), AllocError>
+fn push_corner<A: Allocator>(list: &mut Vec<CornerEntry, A>, point: Point) -> Result<(), AllocError>
     requires { vec_len list.old ≤ CORNER_LIMIT }
     ensures { OnOk result (list.new.items ≡ list.old.items ++ (record { point = point; slot = vec_len list.old }) ∷ []) }
 {
     let slot = list.len() as u32;
-    list.push(Corner { point, slot })?;
+    list.push(CornerEntry { point, slot })?;
     Ok(())
 }
 
 /// Sorts corners by their points.
-fn sort_corners<A: Allocator>(list: &mut Vec<Corner, A>)
+fn sort_corners<A: Allocator>(list: &mut Vec<CornerEntry, A>)
     ensures permuted { IsPermutation list.old.items list.new.items }
     ensures ascending { AreAscending list.new.items }
 {
@@ -63,7 +63,7 @@ pub(crate) struct CornerNumbers<A: Allocator> {
 fn number_sorted<A: Allocator + Copy>(
     alloc: A,
     facets: &[Facet],
-    sorted: &[Corner],
+    sorted: &[CornerEntry],
 ) -> Result<CornerNumbers<A>, AllocError>
     requires limit { length facets.now ≤ FACET_LIMIT }
     requires permuted { IsPermutation (corners_from 0 facets.now) sorted.now }

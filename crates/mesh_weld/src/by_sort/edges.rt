@@ -6,7 +6,7 @@ ghost use Rattle.mesh_weld.specs.HalfEdge.{half_edges_from, pair_key, IsEven, Is
 ghost use Rattle.geometry.specs.declared.limits.TheConstants.{CORNER_LIMIT, FACET_LIMIT};
 
 use crate::half_edge::{EdgeNumbering, HalfEdge};
-use crate::run::Run;
+use crate::same_ends::SameEnds;
 use std::alloc::{AllocError, Allocator};
 
 /// The half-edges of the facets, in their order.
@@ -68,13 +68,13 @@ pub(crate) fn least_uneven(sorted: &[HalfEdge]) -> Option<(u32, u32)>
     requires ascending { IsNonDecreasingBy pair_key sorted.now }
     ensures { MatchOption result (IsEven sorted.now) (λ ends. IsLeastUneven sorted.now ends.0 ends.1) }
 {
-    let mut run = Run::NONE;
+    let mut run = SameEnds::NONE;
     for half_edge in sorted {
         if !run.has_ends_of(half_edge) {
             if run.there != run.back {
                 return Some((run.low, run.high));
             }
-            run = Run::started(half_edge);
+            run = SameEnds::started(half_edge);
         }
         run = run.counted(half_edge);
     }

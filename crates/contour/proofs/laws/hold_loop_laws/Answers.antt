@@ -1,5 +1,7 @@
+use Rattle.std.proofs.Common.{refl}
 use Rattle.contour.proofs.lemmas.LoopLaws.{loop_winds-cancel, loops-are_one}
 use Rattle.contour.proofs.lemmas.LoopsClose.{loops_close}
+use Rattle.contour.proofs.lemmas.OrderedLoops.{loops-ordered}
 use Rattle.contour.proofs.lemmas.Outlined.{outlines-join, starts-cut}
 use Rattle.contour.proofs.laws.hold_loop_laws.Goals as goal
 
@@ -8,6 +10,7 @@ returns c = record {
   winds = loop_winds-cancel;
   exist = λ facets numbers count z numbered balanced. loops_close facets numbers count numbered balanced z;
   one = loops-are_one;
+  ordered = λ facets z found distinct h. loops-ordered facets _ (z, refl) distinct found h;
   starts = starts-cut;
   joined = outlines-join;
 }

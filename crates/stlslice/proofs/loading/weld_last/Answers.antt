@@ -1,5 +1,5 @@
 use Rattle.std.proofs.Common.{◌≡◌, ◌++◌}
-use Rattle.mesh_weld.specs.Naming.{parts_of}
+use Rattle.mesh_weld.specs.Welder.{welder_of}
 use Rattle.stlslice.proofs.lemmas.Faults.{passed_on, told, unread_text}
 use Rattle.stlslice.proofs.lemmas.Reading.{none_made}
 use Rattle.geometry.specs.declared.limits.TheConstants.{FACET_LIMIT}
@@ -21,7 +21,7 @@ returns-in_err-last g c = λ unit taken fed welded is.
 pub returns : goal.returns
 returns g c = λ unit taken fed welded is.
     let found = c.in_ok-last.ensures.found FACET_LIMIT unit taken fed is in
-    let all : c.weld_next.new.welder ≡ parts_of (taken ++ c.in_ok-last.last.items) =
+    let all : c.weld_next.new.welder ≡ welder_of (taken ++ c.in_ok-last.last.items) =
     rw (← c.as_slice.ensures.value) (c.in_ok-weld_next.ensures.welded taken welded (rw c.as_slice.ensures.value found.few)) in
     record {
       ok = (taken ++ c.in_ok-last.last.items, found, all);

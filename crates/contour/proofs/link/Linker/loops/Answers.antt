@@ -1,7 +1,10 @@
 use Rattle.std.proofs.Common.{◌≡◌, ◌∙◌, arith, subst, sym}
+use Rattle.std.specs.Prelude.{All}
 use Rattle.contour.specs.Loops.{AreLoops, loops}
+use Rattle.contour.specs.Segment.{HasOrderedNodes}
 use Rattle.contour.specs.Link.{IsClear}
 use Rattle.contour.proofs.lemmas.Followers.{ok_from}
+use Rattle.contour.proofs.lemmas.OrderedLoops.{loops-ordered}
 use Rattle.contour.proofs.lemmas.Traces.{cut, segments_rise}
 use Rattle.contour.proofs.lemmas.Unique.{loops-are}
 use Rattle.contour.proofs.link.Linker.loops.Goals as goal
@@ -18,6 +21,11 @@ pub returns-clause-loops : goal.returns-clause-loops
 returns-clause-loops g c =
     ok_from (AreLoops c.args.list.now) (AreLoops c.args.list.now) (λ found. found ≡ loops c.args.list.now) c.trace_loops.result
     (λ found h k. loops-are c.args.s.now.facets c.args.list.now c.requires found h) c.trace_loops.ensures c.trace_loops.ensures
+
+pub returns-clause-ordered : goal.returns-clause-ordered
+returns-clause-ordered g c =
+    ok_from (AreLoops c.args.list.now) (AreLoops c.args.list.now) (All (All HasOrderedNodes)) c.trace_loops.result
+    (λ found h k. loops-ordered c.args.s.now.facets c.args.list.now c.requires c.count-facets.ensures.distinct found h) c.trace_loops.ensures c.trace_loops.ensures
 
 pub fill-requires-clause-list : goal.fill-requires-clause-list
 fill-requires-clause-list g c = c.requires

@@ -1,5 +1,5 @@
 use Rattle.std.proofs.Common.{subst}
-use Rattle.mesh_weld.specs.Naming.{IsNamed}
+use Rattle.mesh_weld.specs.Welder.{IsNamed}
 use Rattle.mesh_weld.proofs.lemmas.Naming.{named_three}
 use Rattle.mesh_weld.proofs.by_hash.corner_table.facet_ids.Goals as goal
 

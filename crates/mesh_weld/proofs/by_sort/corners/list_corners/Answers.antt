@@ -1,7 +1,7 @@
 use Rattle.std.proofs.Common.{◌≡◌, ◌<◌, ℕ, ◌+◌, ◌*◌, List, ◌∷◌, ◌++◌, length, drop, append-nil, sym, ap, ◌∙◌, subst, arith}
 use Rattle.std.proofs.lemmas.List.{drop_more, drop_all}
 use Rattle.geometry.specs.Facet.{Facet}
-use Rattle.mesh_weld.specs.Corner.{corners_from}
+use Rattle.mesh_weld.specs.Corners.{corners_from}
 use Rattle.mesh_weld.proofs.lemmas.Listing.{three_more}
 use Rattle.mesh_weld.proofs.by_sort.corners.list_corners.Goals as goal
 

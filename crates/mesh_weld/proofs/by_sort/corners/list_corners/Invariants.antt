@@ -1,5 +1,5 @@
 use Rattle.std.proofs.Common.{◌≡◌, ◌*◌, ◌++◌, drop, vec_len}
-use Rattle.mesh_weld.specs.Corner.{corners_from}
+use Rattle.mesh_weld.specs.Corners.{corners_from}
 use Rattle.mesh_weld.proofs.by_sort.corners.list_corners.Given as goal
 
 abbrev pub invariant-loop-facet : goal.invariant-loop-facet

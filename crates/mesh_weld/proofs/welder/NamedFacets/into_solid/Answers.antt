@@ -5,7 +5,7 @@ use Rattle.geometry.specs.Facet.{corners}
 use Rattle.geometry.specs.Winding.{ray}
 use Rattle.geometry.specs.declared.limits.TheConstants.{FACET_LIMIT}
 use Rattle.mesh_weld.specs.Balance.{IsBalanced}
-use Rattle.mesh_weld.specs.Naming.{Parts}
+use Rattle.mesh_weld.specs.Welder.{Welder}
 use Rattle.mesh_weld.specs.Solid.{facet_by, facets_by, number_of, solid_of, vertices}
 use Rattle.mesh_weld.specs.Welding.{IsKeptFault}
 use Rattle.mesh_weld.proofs.lemmas.Degenerate.{balanced_by_kept, kept_ray}
@@ -45,10 +45,10 @@ returns g c =
     record {
       kept = λ facets e.
           let count : c.len-dropped.result ≡ (solid_of facets).dropped =
-          omega (arith, ap (λ (p : Parts). length p.degenerate) e, degenerate_count facets, c.args.self.degenerate.ok.0) in
-          λ i. record { facets = (again ∙ ap (λ (p : Parts). p.kept) e) i; dropped = count i };
-      closed = λ facets e. balanced_by_kept facets (subst IsBalanced (ap (λ (p : Parts). p.kept) e) c.in_ok-points.ensures.numbering.closed);
-      ray = λ facets e place. ap (λ l. ray l place) (again ∙ ap (λ (p : Parts). p.kept) e) ∙ kept_ray facets place;
+          omega (arith, ap (λ (p : Welder). length p.degenerate) e, degenerate_count facets, c.args.self.degenerate.ok.0) in
+          λ i. record { facets = (again ∙ ap (λ (p : Welder). p.kept) e) i; dropped = count i };
+      closed = λ facets e. balanced_by_kept facets (subst IsBalanced (ap (λ (p : Welder). p.kept) e) c.in_ok-points.ensures.numbering.closed);
+      ray = λ facets e place. ap (λ l. ray l place) (again ∙ ap (λ (p : Welder). p.kept) e) ∙ kept_ray facets place;
       «open» = λ facets e. tt;
       only = λ facets e balanced. tt;
     }

@@ -1,5 +1,5 @@
 use Rattle.std.proofs.Common.{◌≡◌, take}
-use Rattle.mesh_weld.specs.Naming.{with_facets}
+use Rattle.mesh_weld.specs.Welder.{with_facets}
 use Rattle.mesh_weld.proofs.welder.Welder.add.Given as goal
 
 abbrev pub invariant-loop-at : goal.invariant-loop-at

@@ -1,10 +1,10 @@
 use Rattle.std.proofs.Common.{◌+◌, ◌∙◌, length, ap, arith}
 use Rattle.std.proofs.lemmas.List.{length-map}
-use Rattle.mesh_weld.specs.Naming.{Parts}
+use Rattle.mesh_weld.specs.Welder.{Welder}
 use Rattle.mesh_weld.specs.Solid.{facet_by}
-use Rattle.mesh_weld.proofs.lemmas.Naming.{parts_length}
+use Rattle.mesh_weld.proofs.lemmas.Naming.{welder_length}
 use Rattle.mesh_weld.proofs.welder.Welder.count.Goals as goal
 
 pub returns-clause-whole : goal.returns-clause-whole
 returns-clause-whole g c facets e =
-    omega (arith, ap (λ (p : Parts). length p.kept + length p.degenerate) (c.self.view_is ∙ e), parts_length facets, length-map c.self.inside.ids.items (facet_by c.self.inside.points.items), c.self.inside.ids.ok.0, c.self.inside.degenerate.ok.0)
+    omega (arith, ap (λ (p : Welder). length p.kept + length p.degenerate) (c.self.view_is ∙ e), welder_length facets, length-map c.self.inside.ids.items (facet_by c.self.inside.points.items), c.self.inside.ids.ok.0, c.self.inside.degenerate.ok.0)

@@ -1,6 +1,6 @@
 use Rattle.std.proofs.Common.{subst}
 use Rattle.std.proofs.lemmas.Result.{err_from_is_err_and}
-use Rattle.mesh_weld.specs.Naming.{Parts}
+use Rattle.mesh_weld.specs.Welder.{Welder}
 use Rattle.mesh_weld.specs.Welding.{IsWeldOf}
 use Rattle.mesh_weld.proofs.lemmas.Welds.{refused_weld}
 use Rattle.mesh_weld.proofs.welder.Welder.finish.Goals as goal
@@ -11,4 +11,4 @@ returns-in_err-found g c =
     rw (p.1, p.2) (refused_weld c.args.self)
 
 pub returns : goal.returns
-returns g c = subst (λ (w : Parts). IsWeldOf w c.into_solid.result) c.without_table-named.ensures.value c.into_solid.ensures
+returns g c = subst (λ (w : Welder). IsWeldOf w c.into_solid.result) c.without_table-named.ensures.value c.into_solid.ensures

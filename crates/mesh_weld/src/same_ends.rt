@@ -1,6 +1,7 @@
 //! Runs of half-edges with the same two ends. Both ways of numbering tell by them whether the half-edges balance.
 ghost use Rattle.std.specs.Prelude.{◌≡◌, ◌↔◌, ◌<◌, ◌*◌, ◌+◌, ◌-◌, ◌^◌, IsTrue, min, max};
-ghost use Rattle.mesh_weld.specs.Run.{started, counted};
+ghost use Rattle.mesh_weld.specs.SameEnds.{started, counted};
+ghost use Rattle.mesh_weld.specs.declared.packing.TheConstants.{HALF_WORD};
 
 use crate::half_edge::HalfEdge;
 use crate::packing::packed;
@@ -8,15 +9,15 @@ use crate::packing::packed;
 /// A run of half-edges with the same two ends in a sorted list: the numbers of those from the lesser end to the greater
 /// one, and of those back.
 #[derive(Clone, Copy)]
-pub(crate) struct Run {
+pub(crate) struct SameEnds {
     pub low: u32,
     pub high: u32,
     pub there: u32,
     pub back: u32,
 }
 
-impl Run {
-    pub(crate) const NONE: Run = Run {
+impl SameEnds {
+    pub(crate) const NONE: SameEnds = SameEnds {
         low: 0,
         high: 0,
         there: 0,
@@ -24,26 +25,26 @@ impl Run {
     };
 
     /// The run of a half-edge's ends, before any half-edge is counted.
-    pub(crate) fn started(half_edge: &HalfEdge) -> Run
+    pub(crate) fn started(half_edge: &HalfEdge) -> SameEnds
         ensures { result ≡ started half_edge.now }
     {
-        Run {
+        SameEnds {
             low: half_edge.from.min(half_edge.to),
             high: half_edge.from.max(half_edge.to),
-            ..Run::NONE
+            ..SameEnds::NONE
         }
     }
 
     /// The key that a half-edge with these ends has.
     pub(crate) fn pair(&self) -> u64
-        ensures { result ≡ self.now.low * 2 ^ 32 + self.now.high }
+        ensures { result ≡ self.now.low * HALF_WORD + self.now.high }
     {
         packed(self.low, self.high)
     }
 
     /// Whether a half-edge has the run's ends.
     pub(crate) fn has_ends_of(&self, half_edge: &HalfEdge) -> bool
-        ensures in_range { (self.now.high < 2 ^ 32) × (half_edge.now.from < 2 ^ 32) × (half_edge.now.to < 2 ^ 32) }
+        ensures in_range { (self.now.high < HALF_WORD) × (half_edge.now.from < HALF_WORD) × (half_edge.now.to < HALF_WORD) }
         ensures value { IsTrue result ↔ (self.now.low ≡ min half_edge.now.from half_edge.now.to) × (self.now.high ≡ max half_edge.now.from half_edge.now.to) }
     {
         let (from, to, high) = (half_edge.from, half_edge.to, self.high);
@@ -51,18 +52,18 @@ impl Run {
     }
 
     /// The run with one more half-edge between its ends.
-    pub(crate) fn counted(self, half_edge: &HalfEdge) -> Run
+    pub(crate) fn counted(self, half_edge: &HalfEdge) -> SameEnds
         requires there { self.there < 2 ^ 32 - 1 }
         requires back { self.back < 2 ^ 32 - 1 }
         ensures { result ≡ counted self half_edge.now }
     {
         if half_edge.from < half_edge.to {
-            Run {
+            SameEnds {
                 there: self.there + 1,
                 ..self
             }
         } else if half_edge.to < half_edge.from {
-            Run {
+            SameEnds {
                 back: self.back + 1,
                 ..self
             }

@@ -1,5 +1,5 @@
--- Facets by the ids of their corners: an id is a point's place among the points found so far. A point may have two ids, if
--- it found no free slot in the table.
+-- Welders, and facets by the ids of their corners: an id is a point's index among the points found so far. A point may
+-- have two ids, if it found no free slot in the table.
 use Rattle.std.specs.Prelude.{◌≡◌, ℕ, ◌*◌, ◌<◌, ◌≤◌, not, List, ◌++◌, length, filter, flat_map, slice_index_or}
 use Rattle.std.specs.List.{All, Contains}
 use Rattle.geometry.specs.Point.{Point, origin}
@@ -7,25 +7,25 @@ use Rattle.geometry.specs.Facet.{Facet, corners}
 use Rattle.mesh_weld.specs.PointOrder.{IsAppendedOrSame}
 use Rattle.mesh_weld.specs.Solid.{HaveDistinctCorners, facet_by, facets_by, is_kept, kept_facets}
 
--- facets as welding takes them apart: those with three distinct corners and the degenerate ones, each in their order
-pub record Parts : Type 0 where
+-- the facets that were added: those with three distinct corners and the degenerate ones, each in their order
+pub record Welder : Type 0 where
   pub kept : List Facet
   pub degenerate : List Facet
 
 abbrev pub degenerate_facets : List Facet → List Facet
 degenerate_facets facets = filter (λ t. not (is_kept t)) facets
 
-abbrev pub parts_of : List Facet → Parts
-parts_of facets = record { kept = kept_facets facets; degenerate = degenerate_facets facets }
+abbrev pub welder_of : List Facet → Welder
+welder_of facets = record { kept = kept_facets facets; degenerate = degenerate_facets facets }
 
--- the parts of facets that are named, and of degenerate ones
-abbrev pub named_parts : List Point → List (List ℕ) → List Facet → Parts
-named_parts points ids degenerate = record { kept = facets_by points ids; degenerate = degenerate }
+-- a welder of facets that are given by ids, and of degenerate ones
+abbrev pub welder_by : List Point → List (List ℕ) → List Facet → Welder
+welder_by points ids degenerate = record { kept = facets_by points ids; degenerate = degenerate }
 
 -- more facets after those so far
-abbrev pub with_facets : Parts → List Facet → Parts
-with_facets parts facets =
-    record { kept = parts.kept ++ kept_facets facets; degenerate = parts.degenerate ++ degenerate_facets facets }
+abbrev pub with_facets : Welder → List Facet → Welder
+with_facets welder facets =
+    record { kept = welder.kept ++ kept_facets facets; degenerate = welder.degenerate ++ degenerate_facets facets }
 
 -- an id that leads to a point, which is among the points already or is appended to them
 abbrev pub IsNamed : List Point → Point → List Point → ℕ → Type 0
