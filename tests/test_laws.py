@@ -104,10 +104,11 @@ def slabs_joined_are_the_whole(program, folder):
         grid = grid_round(facets)
         layers = grid.counts[2]
         cuts = sorted({0, 1, 8, layers // 2, layers - 1, layers})
-        slabs = [images(program, facets, grid.layers(*ends)) for ends in zip(cuts, cuts[1:])]
-        whole = images(program, facets, grid)
-        assert b"".join(slabs) == whole, f"{name}: other bytes"
-        assert all(any(p4_images(slab)[0][2]) for slab in slabs[1:-1]), f"{name}: a slab in the middle is empty"
+        for rule in RULES:
+            slabs = [images(program, facets, grid.layers(*ends), rule) for ends in zip(cuts, cuts[1:])]
+            assert b"".join(slabs) == images(program, facets, grid, rule), f"{name} by {rule}: other bytes"
+            empty = [not any(p4_images(slab)[0][2]) for slab in slabs[1:-1]]
+            assert not any(empty), f"{name} by {rule}: a slab in the middle is empty"
 
 
 def mesh_and_grid_moved_together_give_the_same(program, folder):
@@ -141,6 +142,7 @@ def facets_turned_over_give_the_same(program, folder):
         over = turned_over(facets)
         for rule in ("evenodd", "nonzero"):
             assert images(program, over, grid, rule) == images(program, facets, grid, rule), f"{name} by {rule}"
+            same(areas(program, over, grid, rule), areas(program, facets, grid, rule), f"{name} by {rule}: areas")
         found = [rays(program, facets, grid, voxel) for voxel in grid.voxels(2, 12)]
         assert any(ray != (0, 0) for ray in found), f"{name}: all rays are 0"
         negated = [rays(program, over, grid, voxel) for voxel in grid.voxels(2, 12)]

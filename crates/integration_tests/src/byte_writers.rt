@@ -1,8 +1,8 @@
 //! Images through writers that take few bytes a call, stop at any byte, and keep what they took.
 use crate::filling::layer;
 use crate::meshes::{CUBE, Part, WIDE_ROWS, solid_of};
-use raster::{Counted, Failures, Grid, Rule, Source, WriteFault, put_all, write_layer};
-use short_memory::{OneByteReader, SmallWriter};
+use raster::{Counted, Failures, Grid, Rule, Sink, Source, WriteFault, put_all, write_layer};
+use short_memory::{InterruptedOnce, OneByteReader, SmallWriter};
 use std::alloc::{AllocError, Global};
 use std::io::ErrorKind;
 use std::test::Fail;
@@ -115,7 +115,7 @@ fn an_image_beyond_one_chunk(rt: HostRuntime) -> Result<(), Fail> {
 }
 
 // Passes on what one call of a source gives: how many bytes, or `None` where either device failed.
-fn pass(r: &mut Counted<OneByteReader<'_>>, w: &mut Counted<SmallWriter>) -> Option<usize> {
+fn pass<I: Source, O: Sink>(r: &mut I, w: &mut O) -> Option<usize> {
     let mut buf = [0; 8];
     let count = r.pull(&mut buf).ok()?;
     put_all(w, &buf[..count]).ok()?;
@@ -123,7 +123,7 @@ fn pass(r: &mut Counted<OneByteReader<'_>>, w: &mut Counted<SmallWriter>) -> Opt
 }
 
 // Passes on all that a source gives, in at most a hundred calls: whether it came to its end.
-fn pass_all(r: &mut Counted<OneByteReader<'_>>, w: &mut Counted<SmallWriter>) -> bool {
+fn pass_all<I: Source, O: Sink>(r: &mut I, w: &mut O) -> bool {
     for _ in 0..100 {
         match pass(r, w) {
             Some(0) => return true,
@@ -163,4 +163,54 @@ fn a_byte_at_a_time_from_reader_to_writer(rt: HostRuntime) -> Result<(), Fail> {
         assert!(rt; SMALL.starts_with(taken.as_slice()));
     }
     Ok(())
+}
+
+fn interrupted<T>(inner: T, calls: u64) -> Counted<InterruptedOnce<T>> {
+    Counted::new(InterruptedOnce {
+        inner,
+        calls: Some(calls),
+    })
+}
+
+// The same where the call of the reader after `reads` calls, and that of the writer after `writes`, is interrupted, and
+// both would go on: also how many bytes the reader still has.
+fn passed_until(alloc: Global, reads: u64, writes: u64) -> (bool, Vec<u8>, usize, [u64; 2]) {
+    let reader = OneByteReader {
+        bytes: SMALL,
+        calls: u64::MAX,
+        fault: ErrorKind::Other,
+    };
+    let mut r = interrupted(reader, reads);
+    let mut w = interrupted(SmallWriter::new(alloc, 9, 1, None, true), writes);
+    let ended = pass_all(&mut r, &mut w);
+    let failures = [r.failures(), w.failures()];
+    let left = r.inner().inner.bytes.len();
+    (ended, w.into_inner().inner.taken, left, failures)
+}
+
+#[test]
+fn an_interrupted_call_is_not_tried_again(rt: HostRuntime) -> Result<(), Fail> {
+    for (reads, writes, told) in [
+        (0, 100, (false, 0, 9, [1, 0])),
+        (4, 100, (false, 4, 5, [1, 0])),
+        (9, 100, (false, 9, 0, [1, 0])),
+        (100, 0, (false, 0, 8, [0, 1])),
+        (100, 4, (false, 4, 4, [0, 1])),
+        (100, 8, (false, 8, 0, [0, 1])),
+        (100, 100, (true, 9, 0, [0, 0])),
+    ] {
+        let (ended, taken, left, failures) = passed_until(rt.alloc(), reads, writes);
+        assert_eq!(rt; (ended, taken.len(), left, failures), told);
+        assert!(rt; SMALL.starts_with(taken.as_slice()));
+    }
+    Ok(())
+}
+
+#[test]
+fn an_interrupted_flush_is_not_tried_again(rt: HostRuntime) {
+    let mut w = interrupted(SmallWriter::new(rt.alloc(), 9, 1, None, true), 0);
+    let first = w.settle().is_ok();
+    assert_eq!(rt; (first, w.failures()), (false, 1));
+    let second = w.settle().is_ok();
+    assert_eq!(rt; (second, w.failures()), (true, 1));
 }

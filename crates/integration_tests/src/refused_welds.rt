@@ -1,17 +1,34 @@
 //! Welds in memory of which an allocation fails: they answer just that.
 use crate::meshes::{BOX, CORNERS, CUBE, CUBE_AND_FLAT, CUBE_AND_PAIR, Part, facets_of, welded};
+use crate::welding::rings;
 use mesh_weld::WeldFault;
 use short_memory::ShortMemory;
-use std::alloc::Global;
+use std::alloc::{AllocError, Allocator, Global};
 use std::test::Fail;
-use stl_text::Point;
+use stl_text::{Facet, Point};
 
 // How many facets a weld has kept and dropped, or its fault.
 type Outcome = Result<(usize, u32), WeldFault>;
 
+// Facets that are welded.
+#[derive(Drop)]
+enum Mesh<'a> {
+    Parts(&'a [Part<'a>]),
+    // Those of the rings, of which there are enough to be welded by hashes.
+    Rings,
+}
+
+// The list of these facets.
+fn list_of<A: Allocator + Copy>(alloc: A, mesh: &Mesh<'_>) -> Result<Vec<Facet, A>, AllocError> {
+    match mesh {
+        Mesh::Parts(parts) => facets_of(alloc, parts),
+        Mesh::Rings => rings(alloc, 4608),
+    }
+}
+
 // What a weld answers; `None` where there is no memory for the list of facets itself.
-fn outcome(memory: &ShortMemory<Global>, parts: &[Part<'_>]) -> Option<Outcome> {
-    let list = facets_of(memory, parts).ok()?;
+fn outcome(memory: &ShortMemory<Global>, mesh: &Mesh<'_>) -> Option<Outcome> {
+    let list = list_of(memory, mesh).ok()?;
     Some(match welded(memory, list) {
         Ok(solid) => Ok((solid.count(), solid.dropped())),
         Err(fault) => Err(fault),
@@ -20,11 +37,11 @@ fn outcome(memory: &ShortMemory<Global>, parts: &[Part<'_>]) -> Option<Outcome> 
 
 // Fails each allocation in turn until none is left to fail: how many of the failed ones were the weld's. `None` where
 // one of these welds answered anything else, or where the last answer is not the usual one.
-fn refused(alloc: Global, parts: &[Part<'_>], usual: Outcome) -> Option<u32> {
+fn refused(alloc: Global, mesh: &Mesh<'_>, usual: Outcome) -> Option<u32> {
     let mut refused = 0u32;
     for turn in 1..200u64 {
         let memory = ShortMemory::new(alloc, turn);
-        let found = outcome(&memory, parts);
+        let found = outcome(&memory, mesh);
         if !memory.has_refused() {
             return (found == Some(usual)).then_some(refused);
         }
@@ -44,7 +61,7 @@ fn closed_meshes(rt: HostRuntime) -> Result<(), Fail> {
         (CUBE_AND_PAIR, (14, 0)),
         (CUBE_AND_FLAT, (12, 1)),
     ] {
-        assert!(rt; refused(rt.alloc(), parts, Ok(usual)) > Some(3));
+        assert!(rt; refused(rt.alloc(), &Mesh::Parts(parts), Ok(usual)) > Some(3));
     }
     Ok(())
 }
@@ -58,6 +75,13 @@ fn an_open_box(rt: HostRuntime) -> Result<(), Fail> {
         there: 0,
         back: 1,
     };
-    assert!(rt; refused(rt.alloc(), &[(CORNERS, &BOX[1..])], Err(open)) > Some(3));
+    let parts = [(CORNERS, &BOX[1..])];
+    assert!(rt; refused(rt.alloc(), &Mesh::Parts(&parts), Err(open)) > Some(3));
+    Ok(())
+}
+
+#[test]
+fn rings_of_many_facets(rt: HostRuntime) -> Result<(), Fail> {
+    assert!(rt; refused(rt.alloc(), &Mesh::Rings, Ok((4608, 0))) > Some(15));
     Ok(())
 }

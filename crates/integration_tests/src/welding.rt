@@ -181,19 +181,3 @@ fn rings_of_many_facets(rt: HostRuntime) -> Result<(), Fail> {
     assert_eq!(rt; open, Some(([0, 0, 0], [43, 0, 47], 0, 1)));
     Ok(())
 }
-
-// The facets of the rings.
-struct KeptOfRings;
-
-impl Count for KeptOfRings {
-    fn count(memory: &ShortMemory<Global>) -> Option<usize> {
-        let solid = welded_rings(memory, 4608).ok()?;
-        Some(solid.count())
-    }
-}
-
-#[test]
-fn each_allocation_fails_in_turn_among_many_facets(rt: HostRuntime) -> Result<(), Fail> {
-    assert!(rt; first_free_turn::<KeptOfRings>(rt.alloc(), 100, 4608) > Some(30));
-    Ok(())
-}

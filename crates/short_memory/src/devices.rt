@@ -1,4 +1,4 @@
-//! A reader and a writer that move few bytes a call, and fail where a test wants it.
+//! A reader and a writer that move few bytes a call, and fail where a test wants it; and a device that is interrupted once.
 ghost use Rattle.std.specs.Prelude.{◌≡◌, [], Some};
 
 use std::alloc::{Allocator, Global};
@@ -95,6 +95,67 @@ impl Write for SmallWriter {
             Ok(())
         } else {
             Err(Error::from(ErrorKind::Other))
+        }
+    }
+}
+
+/// A reader or a writer of which one call is interrupted: the one after `calls` calls fails with `ErrorKind::Interrupted`,
+/// and moves no byte. All others, also those after it, are calls of the device inside.
+#[derive(Drop)]
+pub struct InterruptedOnce<T> {
+    /// The device inside.
+    pub inner: T,
+    /// How many calls are left before the one that fails; `None` once it has failed.
+    pub calls: Option<u64>,
+}
+
+impl<T> InterruptedOnce<T> {
+    /// Counts a call: whether it is the one that fails.
+    fn is_interrupted(&mut self) -> bool
+        ensures { self.new.inner ≡ self.old.inner }
+    {
+        match self.calls {
+            Some(0) => {
+                self.calls = None;
+                true
+            }
+            Some(left) => {
+                self.calls = Some(left - 1);
+                false
+            }
+            None => false,
+        }
+    }
+}
+
+impl<T: Read> Read for InterruptedOnce<T> {
+    ghost remaining = { λ r. T.remaining r.inner };
+
+    fn read(&mut self, buf: &mut [u8]) -> Result<usize> {
+        if self.is_interrupted() {
+            Err(Error::from(ErrorKind::Interrupted))
+        } else {
+            self.inner.read(buf)
+        }
+    }
+}
+
+impl<T: Write> Write for InterruptedOnce<T> {
+    ghost contents = { λ w. T.contents w.inner };
+
+    fn write(&mut self, buf: &[u8]) -> Result<usize> {
+        if self.is_interrupted() {
+            Err(Error::from(ErrorKind::Interrupted))
+        } else {
+            self.inner.write(buf)
+        }
+    }
+
+    fn flush(&mut self) -> Result<()> {
+        if self.is_interrupted() {
+            Err(Error::from(ErrorKind::Interrupted))
+        } else {
+            self.inner.flush()
         }
     }
 }

@@ -2,7 +2,7 @@
 //!
 //! [`ShortMemory`] fails one allocation. A test repeats a call, and fails the first allocation, then the second, and so
 //! on, until the call has none left to fail. [`OneByteReader`] and [`SmallWriter`] move few bytes a call, and fail at a
-//! call, or after a byte, that the test chooses.
+//! call, or after a byte, that the test chooses. [`InterruptedOnce`] fails one call of a reader or writer, and goes on.
 //!
 //! ```text
 //! for number in 1..200 {
@@ -17,7 +17,7 @@
 
 mod devices;
 
-pub use devices::{OneByteReader, SmallWriter};
+pub use devices::{InterruptedOnce, OneByteReader, SmallWriter};
 use std::alloc::{AllocError, Allocator};
 use std::sync::atomic::AtomicU64;
 use std::sync::atomic::Ordering::SeqCst;

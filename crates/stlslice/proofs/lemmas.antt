@@ -5,3 +5,4 @@ pub mod Faults
 pub mod OneAnswer
 pub mod Reading
 pub mod Stream
+pub mod WrittenPixels

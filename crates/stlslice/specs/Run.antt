@@ -19,8 +19,9 @@ IsRunFault t input (cause.Write written) = Unit {0}
 IsRunFault t input (cause.Outside columns rows layers) = IsOutcome t input (Err (cause.Outside columns rows layers))
 
 pub record IsRun {T : Type 0} (t : Task) (result : Result T RunFault) (source sink : Transcript) (is_settled : Bool) : Type 0 where
-  -- it succeeds only where all was read, and just the text of the outcome was written and flushed
-  pub whole : OnOk result (IsAtEnd source.new)
+  -- all was read, also where the run ends with a fault of its text, unless reading or memory failed
+  pub whole : result ≢ Err cause.Read → result ≢ Err cause.Memory → IsAtEnd source.new
+  -- it succeeds only where just the text of the outcome was written and flushed
   pub flushed : OnOk result (is_settled ≡ true)
   pub ok : OnOk result (IfSome source.old (λ input. (text : List ℕ) × IsOutcome t input (Ok text) × Appends sink.old sink.new text))
   -- a fault of the input is its outcome, and the others come of a device or of memory

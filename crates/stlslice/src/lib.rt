@@ -4,7 +4,8 @@
 //! writes the images of all layers, a report, the box of the mesh, or the two rays of a voxel. A [`RunFault`] says why a
 //! run wrote nothing, or not all; its `Display` is the line on standard error, and its `status` the exit status.
 //! [`run_watched`] also tells a [`Gate`] of the layers as they are made. [`load`] is the closed mesh of a text at hand.
-//! [`one_answer`] is a law: a task and an input have one outcome, whatever the number of workers.
+//! [`one_answer`] is a law: a task and an input have one outcome, whatever the number of workers; [`written_pixels`] is
+//! another: a pixel that slicing writes follows the ray of all facets that were read.
 //!
 //! ```text
 //! let task = read_words(words)?;                    // --pitch 50 --layer 100
@@ -22,7 +23,7 @@ mod running;
 mod write;
 
 pub use build_book::Piece;
-pub use laws::one_answer;
+pub use laws::{one_answer, written_pixels};
 pub use layer_pool::Gate;
 pub use loading::load;
 pub use raster::{Counted, Failed, Failures, Sink, Source, image_len};

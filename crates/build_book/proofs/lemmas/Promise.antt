@@ -31,7 +31,7 @@ use Rattle.build_book.proofs.lemmas.Areas.{span_area-is, spans_sum}
 positive_decides : (n : ℤ) → Decides (int_lt (pos 0) n) (pos 0 <ℤ n)
 positive_decides n = grind (arith, ints)
 
-inside_decides : (rule : Rule) (n : ℤ) → Decides (is_inside rule n) (IsInside rule n)
+pub inside_decides : (rule : Rule) (n : ℤ) → Decides (is_inside rule n) (IsInside rule n)
 inside_decides EvenOdd n = Decides-eqb (nat_abs n % 2) 1
 inside_decides NonZero n = Decides-not (int_eq n (pos 0)) (Decides-int_eq n (pos 0))
 inside_decides Positive n = positive_decides n

@@ -118,13 +118,14 @@ sound_end (Err f) t input transcript same (inr h) differ = absurd (differ h.2.0 
 -- a run ends with a fault of reading its input
 pub unready : {T : Type 0} (r : Result T RunFault) (t : Task) (source sink : Transcript) (settled : Bool) (f : RunFault)
     → IsErrAnd r (λ x. x ≡ f) → IsInputFault (IsWorkFault t) source.old f
+    → (f ≢ fault.Read → f ≢ fault.Memory → IsAtEnd source.new)
     → (f ≡ fault.Read → Fails source.failed_before source.failed) → (f ≢ fault.Read → source.failed ≡ source.failed_before)
     → IsUntouched sink → IsRun t r source sink settled
-unready (Ok x) t source sink settled f is known unread sound kept = absurd is
-unready (Err x) t source sink settled f is known unread sound kept =
+unready (Ok x) t source sink settled f is known whole unread sound kept = absurd is
+unready (Err x) t source sink settled f is known whole unread sound kept =
     let unwritten : (written : ℕ) → x ≢ fault.Write written = λ written e. not_written known written (sym is ∙ e) in
     record {
-      whole = tt;
+      whole = λ not_read enough. whole (λ e. not_read (ap Err (is ∙ e))) (λ e. enough (ap Err (is ∙ e)));
       flushed = tt;
       ok = tt;
       fault = rw is (run_fault known);
@@ -188,7 +189,7 @@ pub ran : {T : Type 0} (r : Result T RunFault) (t : Task) (input : List ℕ) (so
     → OnOk r (settled ≡ true) → OnOk r ((text : List ℕ) × IsOutcome t input (Ok text) × Appends sink.old sink.new text)
     → OnOk r (sink.failed ≡ sink.failed_before) → IfErr r (IsEnd t input sink) → IsRun t r source sink settled
 ran r t input source sink settled is whole sound flushed ok same err = record {
-  whole = on_ok_weaker r (λ _. whole) flushed;
+  whole = λ _ _. whole;
   flushed = flushed;
   ok = on_ok_weaker r (of_input source.old input (λ bytes. (text : List ℕ) × IsOutcome t bytes (Ok text) × Appends sink.old sink.new text) is) ok;
   fault = run_faults r t source.old input sink is err;

@@ -16,6 +16,7 @@ returns-in_err-extent g c =
     let t = task.Box c.args.unit in
     unready c.from_residual.result t _ _ _ f c.from_residual.ensures.1
     (by_input _ (IsMisread c.args.unit) (IsWorkFault t) f (λ input h. misread_box c.args.unit input f h) c.in_err-extent.ensures.err)
+    (λ not_read enough. c.in_err-extent.ensures.whole (λ e. not_read (let same : f ≡ fault.Read = cc in same)) (λ e. enough (let same : f ≡ fault.Memory = cc in same)))
     (λ e. c.in_err-extent.ensures.unread (ap Err e)) (λ other. c.in_err-extent.ensures.sound (λ e. other (let same : f ≡ fault.Read = cc in same)))
     (keeps_self _, refl)
 

@@ -15,6 +15,7 @@ returns-in_err-solid g c =
     let t = task.Probe c.args.unit c.args.pitch c.args.layer c.args.given c.args.voxel.0 c.args.voxel.1 c.args.voxel.2 in
     unready c.from_residual.result t _ _ _ f c.from_residual.ensures.1
     (by_input _ (IsLoadFault c.args.unit) (IsWorkFault t) f (λ input h. unloaded t input f refl h) c.in_err-solid.ensures.err)
+    (λ not_read enough. c.in_err-solid.ensures.whole (λ e. not_read (let same : f ≡ fault.Read = cc in same)) (λ e. enough (let same : f ≡ fault.Memory = cc in same)))
     (λ e. c.in_err-solid.ensures.unread (ap Err e)) (λ other. c.in_err-solid.ensures.sound (λ e. other (let same : f ≡ fault.Read = cc in same)))
     (keeps_self _, refl)
 

@@ -25,6 +25,7 @@ returns-in_err-solid-in-Slice g c =
     rw s.is
     (unready c.from_residual.result t _ _ _ f c.from_residual.ensures.1
     (by_input _ (IsLoadFault s.unit) (IsWorkFault t) f (λ input h. unloaded t input f refl h) c.in_err-solid-in-Slice.ensures.err)
+    (λ not_read enough. c.in_err-solid-in-Slice.ensures.whole (λ e. not_read (let same : f ≡ fault.Read = cc in same)) (λ e. enough (let same : f ≡ fault.Memory = cc in same)))
     (λ e. c.in_err-solid-in-Slice.ensures.unread (ap Err e))
     (λ other. c.in_err-solid-in-Slice.ensures.sound (λ e. other (let same : f ≡ fault.Read = cc in same)))
     (keeps_self _, refl))
