@@ -14,7 +14,7 @@ use Rattle.contour.specs.Loops.{loops}
 use Rattle.contour.specs.Segment.{segments}
 use Rattle.raster.specs.Filler.{below}
 use Rattle.raster.specs.Grid.{Grid, centre, plane}
-use Rattle.raster.specs.Picture.{picture}
+use Rattle.raster.specs.Image.{image_of_pixels}
 use Rattle.raster.specs.declared.rule.Rule.{Rule}
 use Rattle.build_book.specs.Promise.{IsInside}
 use Rattle.task_words.specs.declared.task.Given.{Given}
@@ -28,7 +28,7 @@ pixel_area grid pixel = sum_by (λ j. count_by (λ i. pixel i j) (below grid.col
 
 -- `pixel k i j` tells whether the pixel of column i and row j is 1 in layer k. The loops are those of these facets.
 abbrev pub text_of_pixels : Output → Grid → List Facet → (ℕ → ℕ → ℕ → Bool) → List ℕ
-text_of_pixels output.Images grid facets pixel = flat_map (λ k. picture grid.columns grid.rows (pixel k)) (below grid.layers)
+text_of_pixels output.Images grid facets pixel = flat_map (λ k. image_of_pixels grid.columns grid.rows (pixel k)) (below grid.layers)
 text_of_pixels output.Report grid facets pixel =
     flat_map (λ k. line_of_layer k (length (loops (segments facets (plane grid k)))) (pixel_area grid (pixel k))) (below grid.layers)
     ++ total_line (sum_by (λ k. pixel_area grid (pixel k)) (below grid.layers))

@@ -11,7 +11,7 @@ use Rattle.contour.specs.Loops.{loops}
 use Rattle.contour.specs.Segment.{segments}
 use Rattle.raster.specs.Filler.{below, is_filled}
 use Rattle.raster.specs.Grid.{Grid, centre, plane}
-use Rattle.raster.specs.Picture.{picture}
+use Rattle.raster.specs.Image.{image_of_pixels}
 use Rattle.raster.specs.Rule.{is_inside}
 use Rattle.raster.specs.declared.grid.GridFault.{GridFault}
 use Rattle.raster.specs.declared.rule.Rule.{Rule}
@@ -36,7 +36,7 @@ same_text : (out : Output) (facets : List Facet) (grid : Grid) (rule : Rule) (pi
     → ((i j k : ℕ) → pixel k i j ≡ is_filled rule facets (centre grid i j k))
     → text_of_pixels out grid facets pixel ≡ sliced_text out grid rule facets
 same_text output.Images facets grid rule pixel same =
-    λ n. flat_map (λ k. picture grid.columns grid.rows (λ i j. same i j k n)) (below grid.layers)
+    λ n. flat_map (λ k. image_of_pixels grid.columns grid.rows (λ i j. same i j k n)) (below grid.layers)
 same_text output.Report facets grid rule pixel same =
     λ n. flat_map (λ k. line_of_layer k (length (loops (segments facets (plane grid k)))) (pixel_area grid (λ i j. same i j k n))) (below grid.layers)
     ++ total_line (sum_by (λ k. pixel_area grid (λ i j. same i j k n)) (below grid.layers))
