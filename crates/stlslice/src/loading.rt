@@ -7,7 +7,7 @@ ghost use Rattle.mesh_weld.specs.Balance.{IsBalanced};
 ghost use Rattle.mesh_weld.specs.Solid.{solid_of};
 ghost use Rattle.micro_num.specs.declared.unit.Unit.{Unit as LengthUnit};
 ghost use Rattle.raster.specs.Devices.{Fails};
-ghost use Rattle.stl_text.specs.Pieces.{IsAfter};
+ghost use Rattle.stl_text.specs.TextReader.{IsAfter};
 ghost use Rattle.stl_text.specs.Text.{Reads};
 ghost use Rattle.stlslice.specs.Loading.{HasWelded, IsAllWelded, IsFed, IsFilled, IsLoadFault, IsLoaded, IsMisread, IsReadAs, IsSolidOf, IsTextExtent, OfText};
 ghost use Rattle.stlslice.specs.Transcript.{transcript};

@@ -79,9 +79,9 @@ zeros_before_a_high_exponent : coordinate_of Millimetre (codes "0." ++ replicate
 unfolding magnitude
 zeros_before_a_high_exponent = refl
 
-half_behind_many_zeros : coordinate_of Millimetre (codes "0." ++ replicate 240 48 ++ codes "5e237") ≡ Ok (pos 1)
+half_after_many_zeros : coordinate_of Millimetre (codes "0." ++ replicate 240 48 ++ codes "5e237") ≡ Ok (pos 1)
 unfolding magnitude
-half_behind_many_zeros = refl
+half_after_many_zeros = refl
 
 many_nines_below_half : coordinate_of Millimetre (codes "0.00049" ++ replicate 240 57) ≡ Ok (pos 0)
 unfolding magnitude

@@ -6,17 +6,17 @@ use Rattle.stl_text.proofs.lemmas.Stages.{solid_read, some_word, stuck_between}
 use Rattle.stl_text.proofs.stage.step_between.Goals as goal
 
 pub returns-then-is_keyword-clause-read : goal.returns-then-is_keyword-clause-read
-returns-then-is_keyword-clause-read c = λ limit unit some facets text behind w.
-    solid_read limit unit some facets text behind w.stands
+returns-then-is_keyword-clause-read c = λ limit unit some facets text after w.
+    solid_read limit unit some facets text after w.stands
     (ap (is_keyword (keyword_text Solid)) w.word_is ∙ sym c.is_keyword.ensures ∙ c.if-is_keyword.true)
 
 pub returns-else-is_keyword-clause-fault : goal.returns-else-is_keyword-clause-fault
-returns-else-is_keyword-clause-fault c = λ limit unit some facets text behind w.
-    stuck_between limit unit some facets text behind (Expected Solid c.args.at) w.stands
+returns-else-is_keyword-clause-fault c = λ limit unit some facets text after w.
+    stuck_between limit unit some facets text after (Expected Solid c.args.at) w.stands
     (λ before. (
       refl,
       λ e. cc,
-      some_word behind c.args.word.now w.word_is w.some,
+      some_word after c.args.word.now w.word_is w.some,
       ap (is_keyword (keyword_text Solid)) w.word_is ∙ sym c.is_keyword.ensures ∙ c.if-is_keyword.false,
       w.at_is,
     ))
