@@ -15,6 +15,7 @@ use Rattle.micro_num.specs.Scan.{is_other, digits_after_point, rest_after_point,
 use Rattle.micro_num.proofs.lemmas.Grammar.{numeral_of-is, numeral_of-text, regrouped, sign-text, after_sign-is, numeral_unsigned, front-text}
 use Rattle.micro_num.proofs.lemmas.Scanning.{numeral_of-scanned, scanned_digits, scanned-text, after-text, scanned-is, ended_take}
 use Rattle.geometry.specs.declared.limits.TheConstants.{COORDINATE_LIMIT}
+use Rattle.micro_num.specs.declared.limits.TheConstants.{WORD_LIMIT}
 
 -- the answer for a magnitude
 module _ (unit : LengthUnit) (text : List ℕ) (r : ℕ) (is : is_numeral (scanned unsigned text) ≡ true)
@@ -146,10 +147,10 @@ signed_magnitude minus (suc k) = by_test (nat_le (suc k) COORDINATE_LIMIT)
     by_test true = refl
     by_test false = refl
 
-pub coordinate-is : (unit : LengthUnit) (word : List ℕ) → length word ≤ 255
+pub coordinate-is : (unit : LengthUnit) (word : List ℕ) → length word ≤ WORD_LIMIT
     → coordinate_of unit word ≡ signed (sign_of word) (text_magnitude unit (after_sign word))
 coordinate-is unit word short =
-    ap (λ b. if b then Err TooLong else numeral_coordinate unit (numeral_of word)) (le-ltb 255 (length word) short)
+    ap (λ b. if b then Err TooLong else numeral_coordinate unit (numeral_of word)) (le-ltb WORD_LIMIT (length word) short)
     ∙ ap (numeral_coordinate unit) (numeral_of-scanned word)
     ∙ by_test (is_numeral n)
   where
@@ -162,20 +163,20 @@ coordinate-is unit word short =
 
 -- What the coordinate says about the word.
 module _ (unit : LengthUnit) (word : List ℕ) where
-  short_coordinate : length word ≤ 255 → coordinate_of unit word ≡ numeral_coordinate unit (numeral_of word)
-  short_coordinate short = ap (λ b. if b then Err TooLong else numeral_coordinate unit (numeral_of word)) (le-ltb 255 (length word) short)
+  short_coordinate : length word ≤ WORD_LIMIT → coordinate_of unit word ≡ numeral_coordinate unit (numeral_of word)
+  short_coordinate short = ap (λ b. if b then Err TooLong else numeral_coordinate unit (numeral_of word)) (le-ltb WORD_LIMIT (length word) short)
 
-  long_coordinate : 255 < length word → coordinate_of unit word ≡ Err TooLong
-  long_coordinate long = ap (λ b. if b then Err TooLong else numeral_coordinate unit (numeral_of word)) (lt-ltb 255 (length word) long)
+  long_coordinate : WORD_LIMIT < length word → coordinate_of unit word ≡ Err TooLong
+  long_coordinate long = ap (λ b. if b then Err TooLong else numeral_coordinate unit (numeral_of word)) (lt-ltb WORD_LIMIT (length word) long)
 
-  pub spelled_coordinate : (n : Numeral) → IsNumeral n → word ≡ numeral_text n → length word ≤ 255 → coordinate_of unit word ≡ coordinate_or_fault (micro unit n)
+  pub spelled_coordinate : (n : Numeral) → IsNumeral n → word ≡ numeral_text n → length word ≤ WORD_LIMIT → coordinate_of unit word ≡ coordinate_or_fault (micro unit n)
   spelled_coordinate n is spelled short =
       short_coordinate short ∙ ap (numeral_coordinate unit) (ap numeral_of spelled ∙ numeral_of-text n is)
 
   pub is_spelled : (z : ℤ) → coordinate_of unit word ≡ Ok z → IsSpelled word
-  is_spelled z e = by_cases (cases_lt 255 (length word)) (numeral_of word) refl
+  is_spelled z e = by_cases (cases_lt WORD_LIMIT (length word)) (numeral_of word) refl
     where
-      by_cases : (255 < length word) ⊎ (length word ≤ 255) → (o : Option Numeral) → numeral_of word ≡ o → IsSpelled word
+      by_cases : (WORD_LIMIT < length word) ⊎ (length word ≤ WORD_LIMIT) → (o : Option Numeral) → numeral_of word ≡ o → IsSpelled word
       by_cases (inl long) o is = let other = long_coordinate long in cc
       by_cases (inr short) None is = let other = short_coordinate short ∙ ap (numeral_coordinate unit) is in cc
       by_cases (inr short) (Some n) is = let read : IsNumeral n × (word ≡ numeral_text n) = numeral_of-is word n is in (short, n, read.0, read.1)
@@ -194,31 +195,31 @@ module _ (unit : LengthUnit) (word : List ℕ) where
       by_test true e = cc
       by_test false e = cc
 
-  pub not_number : (coordinate_of unit word ≡ Err NotNumber) ↔ ((length word ≤ 255) × (IsSpelled word → ⊥))
-  not_number = (λ e. forth (cases_lt 255 (length word)) e, λ h. back h.0 h.1 (numeral_of word) refl)
+  pub not_number : (coordinate_of unit word ≡ Err NotNumber) ↔ ((length word ≤ WORD_LIMIT) × (IsSpelled word → ⊥))
+  not_number = (λ e. forth (cases_lt WORD_LIMIT (length word)) e, λ h. back h.0 h.1 (numeral_of word) refl)
     where
-      forth : (255 < length word) ⊎ (length word ≤ 255) → coordinate_of unit word ≡ Err NotNumber → (length word ≤ 255) × (IsSpelled word → ⊥)
+      forth : (WORD_LIMIT < length word) ⊎ (length word ≤ WORD_LIMIT) → coordinate_of unit word ≡ Err NotNumber → (length word ≤ WORD_LIMIT) × (IsSpelled word → ⊥)
       forth (inl long) e = let other = long_coordinate long in cc
       forth (inr short) e = (short, λ h. is_range (micro unit h.1) (sym (spelled_coordinate h.1 h.2 h.3 short) ∙ e))
 
-      back : length word ≤ 255 → (IsSpelled word → ⊥) → (o : Option Numeral) → numeral_of word ≡ o → coordinate_of unit word ≡ Err NotNumber
+      back : length word ≤ WORD_LIMIT → (IsSpelled word → ⊥) → (o : Option Numeral) → numeral_of word ≡ o → coordinate_of unit word ≡ Err NotNumber
       back short none None e = short_coordinate short ∙ ap (numeral_coordinate unit) e
       back short none (Some n) e =
           let read : IsNumeral n × (word ≡ numeral_text n) = numeral_of-is word n e in
           absurd (none (short, n, read.0, read.1))
 
-  pub too_long : (coordinate_of unit word ≡ Err TooLong) ↔ (255 < length word)
-  too_long = (λ e. forth (cases_lt 255 (length word)) e (numeral_of word) refl, long_coordinate)
+  pub too_long : (coordinate_of unit word ≡ Err TooLong) ↔ (WORD_LIMIT < length word)
+  too_long = (λ e. forth (cases_lt WORD_LIMIT (length word)) e (numeral_of word) refl, long_coordinate)
     where
-      forth : (255 < length word) ⊎ (length word ≤ 255) → coordinate_of unit word ≡ Err TooLong → (o : Option Numeral) → numeral_of word ≡ o → 255 < length word
+      forth : (WORD_LIMIT < length word) ⊎ (length word ≤ WORD_LIMIT) → coordinate_of unit word ≡ Err TooLong → (o : Option Numeral) → numeral_of word ≡ o → WORD_LIMIT < length word
       forth (inl long) e o is = long
       forth (inr short) e None is = let other = short_coordinate short ∙ ap (numeral_coordinate unit) is in cc
       forth (inr short) e (Some n) is =
           absurd (never_too_long (micro unit n) (sym (short_coordinate short ∙ ap (numeral_coordinate unit) is) ∙ e))
 
   pub out_of_range : (coordinate_of unit word ≡ Err OutOfRange)
-      ↔ ((n : Numeral) × IsNumeral n × (word ≡ numeral_text n) × (length word ≤ 255) × (COORDINATE_LIMIT < unsigned_abs (micro unit n)))
-  out_of_range = (λ e. forth (cases_lt 255 (length word)) e (numeral_of word) refl, λ h. back h.0 h.1 h.2 h.3 h.4)
+      ↔ ((n : Numeral) × IsNumeral n × (word ≡ numeral_text n) × (length word ≤ WORD_LIMIT) × (COORDINATE_LIMIT < unsigned_abs (micro unit n)))
+  out_of_range = (λ e. forth (cases_lt WORD_LIMIT (length word)) e (numeral_of word) refl, λ h. back h.0 h.1 h.2 h.3 h.4)
     where
       beyond : (z : ℤ) → coordinate_or_fault z ≡ Err OutOfRange → (COORDINATE_LIMIT < unsigned_abs z) ⊎ (unsigned_abs z ≤ COORDINATE_LIMIT) → COORDINATE_LIMIT < unsigned_abs z
       beyond z e (inl far) = far
@@ -226,8 +227,8 @@ module _ (unit : LengthUnit) (word : List ℕ) where
           let other : coordinate_or_fault z ≡ Ok z = ap (λ b. if b then Ok z else Err OutOfRange) (le-leb (unsigned_abs z) COORDINATE_LIMIT near) in
           cc
 
-      forth : (255 < length word) ⊎ (length word ≤ 255) → coordinate_of unit word ≡ Err OutOfRange → (o : Option Numeral) → numeral_of word ≡ o
-          → (n : Numeral) × IsNumeral n × (word ≡ numeral_text n) × (length word ≤ 255) × (COORDINATE_LIMIT < unsigned_abs (micro unit n))
+      forth : (WORD_LIMIT < length word) ⊎ (length word ≤ WORD_LIMIT) → coordinate_of unit word ≡ Err OutOfRange → (o : Option Numeral) → numeral_of word ≡ o
+          → (n : Numeral) × IsNumeral n × (word ≡ numeral_text n) × (length word ≤ WORD_LIMIT) × (COORDINATE_LIMIT < unsigned_abs (micro unit n))
       forth (inl long) e o is = let other = long_coordinate long in cc
       forth (inr short) e None is = let other = short_coordinate short ∙ ap (numeral_coordinate unit) is in cc
       forth (inr short) e (Some n) is =
@@ -235,13 +236,13 @@ module _ (unit : LengthUnit) (word : List ℕ) where
           let far : coordinate_or_fault (micro unit n) ≡ Err OutOfRange = sym (short_coordinate short ∙ ap (numeral_coordinate unit) is) ∙ e in
           (n, read.0, read.1, short, beyond (micro unit n) far (cases_lt COORDINATE_LIMIT (unsigned_abs (micro unit n))))
 
-      back : (n : Numeral) → IsNumeral n → word ≡ numeral_text n → length word ≤ 255 → COORDINATE_LIMIT < unsigned_abs (micro unit n) → coordinate_of unit word ≡ Err OutOfRange
+      back : (n : Numeral) → IsNumeral n → word ≡ numeral_text n → length word ≤ WORD_LIMIT → COORDINATE_LIMIT < unsigned_abs (micro unit n) → coordinate_of unit word ≡ Err OutOfRange
       back n is spelled short far =
           spelled_coordinate n is spelled short
           ∙ ap (λ b. if b then Ok (micro unit n) else Err OutOfRange) (lt-leb (unsigned_abs (micro unit n)) COORDINATE_LIMIT far)
 
 -- A number at the front of a text, after an optional sign, stands for its magnitude with that sign.
-module _ (unit : LengthUnit) (text rest : List ℕ) (r : ℕ) (front : IsNumberFront unit (after_sign text) rest r) (short : length text - length rest ≤ 255) where
+module _ (unit : LengthUnit) (text rest : List ℕ) (r : ℕ) (front : IsNumberFront unit (after_sign text) rest r) (short : length text - length rest ≤ WORD_LIMIT) where
   front_signed : coordinate_of unit (take (length text - length rest) text) ≡ signed (sign_of text) (magnitude_or_fault (magnitude_of unit front.number))
   front_signed =
       let n : Numeral = front.number in
@@ -278,7 +279,7 @@ module _ (unit : LengthUnit) (text rest : List ℕ) (r : ℕ) (front : IsNumberF
 -- The bytes are a number in range, and then no byte of a number. The text is the front of the bytes, as long as a number
 -- may be, so it begins in the same way. A reader that finds every unsigned number finds this one after its sign.
 pub reads_number : (unit : LengthUnit) (bytes word rest text digits : List ℕ) (limit : ℕ) (z : ℤ) (P : List ℕ → Type 0) → bytes ≡ word ++ rest
-    → IsEnded rest → coordinate_of unit word ≡ Ok z → text ≡ take limit bytes → (length word ≤ 255 → length word ≤ limit) → digits ≡ after_sign text
+    → IsEnded rest → coordinate_of unit word ≡ Ok z → text ≡ take limit bytes → (length word ≤ WORD_LIMIT → length word ≤ limit) → digits ≡ after_sign text
     → ((n : Numeral) (left : List ℕ) → IsNumeral n → n.sign ≡ unsigned → digits ≡ numeral_text n ++ left → IsEnded left → P left)
     → (left : List ℕ) × P left × (text ≡ word ++ left)
 reads_number unit bytes word rest text digits limit z P spelled ended is cut long after reads =

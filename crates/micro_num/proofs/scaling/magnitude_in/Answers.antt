@@ -1,5 +1,6 @@
 use Rattle.std.proofs.Common.{◌≡◌, ◌≤◌, ◌*◌, ◌++◌, ◌^◌, ◌<◌, List, ℕ, ℤ, pos, ◌+ℤ◌, ◌-ℤ◌, length, arith, subst, length-append}
 use Rattle.std.proofs.lemmas.Int.{ints}
+use Rattle.micro_num.specs.declared.limits.TheConstants.{WORD_LIMIT}
 use Rattle.micro_num.specs.Micrometres.{digits_value, magnitude, unit_factor, unit_power}
 use Rattle.micro_num.specs.Scan.{IsCapped}
 use Rattle.micro_num.proofs.lemmas.DigitRows.{digits_below}
@@ -17,7 +18,7 @@ returns c = λ z is_near.
     let m : ℕ = unit_factor c.args.unit * digits_value (w ++ f) in
     let d : ℤ = pos u -ℤ pos (length f) in
     let up : u ≤ 3 = power_small c.args.unit in
-    let short : length (w ++ f) ≤ 255 = omega (arith, length-append w f) in
+    let short : length (w ++ f) ≤ WORD_LIMIT = omega (arith, length-append w f) in
     let below : m < 10 ^ 300 = times_below c.args.unit (digits_value (w ++ f)) (length (w ++ f)) (digits_below (w ++ f) c.requires.mantissa.digits) short in
     let cut = c.in_unit.ensures in
     let first : IsCapped (magnitude m (z +ℤ d)) (magnitude m (e +ℤ d)) = IsCapped_near m e z d below is_near (omega (arith, ints)) (omega (arith, ints)) in
