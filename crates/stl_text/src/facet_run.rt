@@ -1,7 +1,8 @@
 //! Runs of facets, which several workers find in parts of a text at the same time, and over which its reader jumps.
 //!
-//! A run says only that from some byte on these facets stand, which is so whatever the text wants there. So where a
-//! part begins may be guessed, and a wrong guess does no more than find a run that the reader never comes to.
+//! A run says that its facets stand one after another from some byte of the text on. It does not say that the reader wants
+//! a facet at that byte. So a worker may guess where the facets of its part begin: after a wrong guess the reader never
+//! stands where the run begins, and does not use it.
 ghost use Rattle.std.specs.Prelude.{◌≡◌, ◌≤◌, ◌<◌, ◌+◌, ℕ, All, IfOk, IfSome, List, None, length};
 ghost use Rattle.stl_text.specs.FacetRun.{IsFacetRun, IsRestOf};
 

@@ -9,7 +9,7 @@ ghost use Rattle.stl_text.specs.Text.{coordinate, facet_tokens, normal_part, res
 
 use crate::reader::Reader;
 use crate::scanning::{after_keyword, skip_line};
-use crate::word::{END_SOLID, FACET, SOLID, Word};
+use crate::word::{END_SOLID, FACET, Word};
 use geometry::{Facet, Point};
 use micro_num::Unit;
 
@@ -115,7 +115,7 @@ pub(crate) fn after_solid(bytes: &[u8]) -> Option<&[u8]>
     ensures shorter { IfSome result (λ rest. length rest.now < length bytes.now) }
 {
     let remark = after_keyword(bytes, END_SOLID)?;
-    let name = after_keyword(skip_line(remark), SOLID)?;
+    let name = after_keyword(skip_line(remark), Word::Solid.text().as_bytes())?;
     let inside = skip_line(name);
     if inside.is_empty() {
         return None;

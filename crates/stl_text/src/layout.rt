@@ -135,7 +135,7 @@ fn after_any_word(bytes: &[u8]) -> Option<&[u8]>
     if word.is_empty() { None } else { Some(rest) }
 }
 
-/// Like `after_coordinate`, and called where the coordinate is rarely read so.
+/// The same as `after_coordinate`, out of line: few coordinates have more than one blank before them.
 #[cold]
 #[inline(never)]
 fn after_any_coordinate(bytes: &[u8], unit: Unit) -> Option<(i32, &[u8])>

@@ -10,7 +10,7 @@ ghost use Rattle.stl_text.specs.Stage.{AtWord, IsPlain, IsWantedAt, ReadInside, 
 
 use crate::scanning::is_keyword;
 use crate::stl_fault::StlFault;
-use crate::word::{END_SOLID, FACET, SOLID, Word};
+use crate::word::{END_SOLID, FACET, Word};
 use geometry::{Facet, Point};
 use micro_num::{Unit, read_micro};
 
@@ -22,7 +22,7 @@ pub(crate) enum Axis {
     Z,
 }
 
-/// A corner of a facet.
+/// A corner of a facet: the first, the second or the third.
 #[derive(Clone, Copy, Debug, PartialEq, Eq)]
 pub(crate) enum FacetCorner {
     A,
@@ -30,7 +30,7 @@ pub(crate) enum FacetCorner {
     C,
 }
 
-/// What is wanted inside a facet.
+/// What a word inside a facet has to be.
 #[derive(Clone, Copy, Debug, PartialEq, Eq)]
 pub(crate) enum InnerWord {
     /// The one keyword of this kind.
@@ -41,7 +41,7 @@ pub(crate) enum InnerWord {
     Number(FacetCorner, Axis),
 }
 
-/// Where in the grammar the reading of a text stands, between two words.
+/// Where in the grammar the reading of a text stands, between two words: what the next word may be.
 #[derive(Clone, Copy, Debug, PartialEq, Eq)]
 pub(crate) enum Stage {
     /// `solid` is wanted. `some` tells whether a whole solid was read.
@@ -64,7 +64,7 @@ pub(crate) enum Step {
     Whole(Facet),
 }
 
-/// Where the reading of a text stands.
+/// Where a `TextReader` stands. It adds to a stage the rest of a line, in which no word counts, and the end at a fault.
 #[derive(Clone, Copy, Debug, PartialEq, Eq)]
 pub(crate) enum ReaderState {
     /// Between two words, or in one.
@@ -192,7 +192,7 @@ fn step_between(word: &[u8], at: usize) -> Result<Step, StlFault>
         → AtWord limit unit (between some) facets text after word.now at
         → IfErr result (IsFaultOf limit unit text) }
 {
-    if is_keyword(word, SOLID) {
+    if is_keyword(word, Word::Solid.text().as_bytes()) {
         Ok(Step::Line(Stage::Facets))
     } else {
         Err(StlFault::Expected {
