@@ -1,4 +1,4 @@
 pub mod Setup
 pub mod Session
 pub mod Answers
-pub mod Reading
+pub mod SessionReader

@@ -19,7 +19,7 @@
 //! ```
 //!
 //! - [`Session`]: the closed mesh of an ASCII STL text, in its grid, with a rule. Whatever it is asked, it stays as it is.
-//! - [`SessionReader`]: opens a text that arrives in pieces.
+//! - [`SessionReader`]: opens a text that arrives in chunks.
 //! - [`Setup`]: what a text is opened with; [`Placing`]: a grid that fits the mesh, or a given one.
 //! - [`SessionFault`]: why there is no session, or no answer. The `Display` of a fault of text, mesh or grid, of one of memory
 //!   and of `Outside` is what the program writes for it after `stlslice: `; the program refuses `Step` as it reads its words.

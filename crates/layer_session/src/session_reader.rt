@@ -1,6 +1,6 @@
-//! Opening a text that arrives in pieces.
+//! Opening a text that arrives in chunks.
 ghost use Rattle.std.specs.Prelude.{◌≡◌, ◌++◌, [], Err, IfErr, IfOk, List, ℕ};
-ghost use Rattle.layer_session.specs.Reading.{IsFed};
+ghost use Rattle.layer_session.specs.SessionReader.{IsFed};
 ghost use Rattle.layer_session.specs.Session.{IsOpenFault, IsSessionOf, Session as Opened};
 ghost use Rattle.layer_session.specs.Setup.{IsInRange};
 ghost use Rattle.layer_session.specs.declared.session_fault.SessionFault.TheVariants.{Memory, Step};
@@ -14,7 +14,7 @@ use std::alloc::Allocator;
 use std::marker::Model;
 use stl_text::TextReader;
 
-/// Opens an ASCII STL text that arrives in pieces, cut anywhere. It keeps the facets and no more of the text than the
+/// Opens an ASCII STL text that arrives in chunks, cut anywhere. It keeps the facets and no more of the text than the
 /// front of a word that is not whole yet.
 #[derive(Drop)]
 pub struct SessionReader<A: Allocator> {
@@ -25,13 +25,13 @@ pub struct SessionReader<A: Allocator> {
 
 impl<A: Allocator> Model for SessionReader<A> {
     ghost use Rattle.std.specs.Prelude.{List, ℕ};
-    ghost use Rattle.layer_session.specs.Reading.{IsFed, Reading};
+    ghost use Rattle.layer_session.specs.SessionReader.{IsFed, SessionReader};
 
-    ghost Value = { Reading };
+    ghost Value = { SessionReader };
 
-    ghost view = { λ r. record { setup = r.setup; progress = r.reader } };
+    ghost view = { λ r. record { setup = r.setup; reader = r.reader } };
 
-    ghost invariant = { λ r. (fed : List ℕ) × IsFed r.setup (record { setup = r.setup; progress = r.reader }) fed };
+    ghost invariant = { λ r. (fed : List ℕ) × IsFed r.setup (record { setup = r.setup; reader = r.reader }) fed };
 }
 
 impl<A: Allocator + Copy + Send + Sync> SessionReader<A> {
@@ -46,11 +46,11 @@ impl<A: Allocator + Copy + Send + Sync> SessionReader<A> {
         }
     }
 
-    /// Reads the next piece of the text. Where it is cut from the next does not matter.
-    pub fn feed(&mut self, piece: &[u8])
-        ensures { (setup : OpenedWith) (fed : List ℕ) → IsFed setup self.old fed → IsFed setup self.new (fed ++ piece.now) }
+    /// Reads the next chunk of the text. Where it is cut from the next does not matter.
+    pub fn feed(&mut self, chunk: &[u8])
+        ensures { (setup : OpenedWith) (fed : List ℕ) → IsFed setup self.old fed → IsFed setup self.new (fed ++ chunk.now) }
     {
-        self.reader.feed(piece);
+        self.reader.feed(chunk);
     }
 
     /// The session of the text that was fed, as of [`Session::open`].

@@ -1,6 +1,6 @@
 -- The state of the reader of numbers between the parts of a word: what it has read, and what this says of the number.
 --     scanned                   the parts of a text after its sign, read from the left
---     size_of                   the coordinate that such a text stands for, or its fault
+--     text_magnitude            the coordinate that such a text stands for, or its fault
 --     IsLeading                 the value of the leading digits of a number, and how many digits were dropped
 --     IsMantissa                the digits of a number, with their leading digits
 --     IsCarry                   what dropped digits add to 254 times the leading ones
@@ -25,40 +25,40 @@ abbrev pub is_other : ℕ → Bool
 is_other byte = not (is_ascii_digit byte)
 
 -- the digits after the point, where a point comes first
-abbrev pub digits_behind : List ℕ → Option (List ℕ)
-digits_behind [] = None
-digits_behind (byte ∷ bytes) = if byte == 46 then Some (before_first is_other bytes) else None
+abbrev pub digits_after_point : List ℕ → Option (List ℕ)
+digits_after_point [] = None
+digits_after_point (byte ∷ bytes) = if byte == 46 then Some (before_first is_other bytes) else None
 
 -- the text after the point and its digits
-abbrev pub rest_behind : List ℕ → List ℕ
-rest_behind [] = []
-rest_behind (byte ∷ bytes) = if byte == 46 then from_first is_other bytes else byte ∷ bytes
+abbrev pub rest_after_point : List ℕ → List ℕ
+rest_after_point [] = []
+rest_after_point (byte ∷ bytes) = if byte == 46 then from_first is_other bytes else byte ∷ bytes
 
 -- The digits at the front are the whole part; a point after them begins the fraction; the rest is the exponent.
 abbrev pub scanned : Sign → List ℕ → Numeral
 scanned s text = record {
   sign = s;
   whole = before_first is_other text;
-  fraction = digits_behind (from_first is_other text);
-  exponent = exponent_of (rest_behind (from_first is_other text));
+  fraction = digits_after_point (from_first is_other text);
+  exponent = exponent_of (rest_after_point (from_first is_other text));
 }
 
 abbrev pub is_numeral : Numeral → Bool
 is_numeral n = are_digits (mantissa_digits n) && is_exponent n.exponent
 
 -- the value of a number without its sign
-abbrev pub size : LengthUnit → Numeral → ℕ
-size unit n = magnitude (unit_factor unit * digits_value (mantissa_digits n)) (power_of unit n)
+abbrev pub magnitude_of : LengthUnit → Numeral → ℕ
+magnitude_of unit n = magnitude (unit_factor unit * digits_value (mantissa_digits n)) (power_of unit n)
 
-abbrev pub size_or_fault : ℕ → Result ℤ NumFault
-size_or_fault m = if nat_le m COORDINATE_LIMIT then Ok (pos m) else Err OutOfRange
+abbrev pub magnitude_or_fault : ℕ → Result ℤ NumFault
+magnitude_or_fault m = if nat_le m COORDINATE_LIMIT then Ok (pos m) else Err OutOfRange
 
-abbrev pub scanned_size : LengthUnit → Numeral → Result ℤ NumFault
-scanned_size unit n = if is_numeral n then size_or_fault (size unit n) else Err NotNumber
+abbrev pub scanned_magnitude : LengthUnit → Numeral → Result ℤ NumFault
+scanned_magnitude unit n = if is_numeral n then magnitude_or_fault (magnitude_of unit n) else Err NotNumber
 
 -- the coordinate that the text after a sign stands for, or its fault
-abbrev pub size_of : LengthUnit → List ℕ → Result ℤ NumFault
-size_of unit text = scanned_size unit (scanned unsigned text)
+abbrev pub text_magnitude : LengthUnit → List ℕ → Result ℤ NumFault
+text_magnitude unit text = scanned_magnitude unit (scanned unsigned text)
 
 -- the value of the digits of n with these digits after them
 abbrev pub digits_after : ℕ → List ℕ → ℕ
@@ -115,7 +115,7 @@ pub record IsNumberFront (unit : LengthUnit) (text rest : List ℕ) (m : ℕ) : 
   pub is : IsNumeral number
   pub no_sign : number.sign ≡ unsigned
   pub spelled : text ≡ numeral_text number ++ rest
-  pub capped : IsCapped (size unit number) m
+  pub capped : IsCapped (magnitude_of unit number) m
 
 -- a text that is empty, or whose first byte is no digit, no point and neither `e` nor `E`
 abbrev pub IsEnded : List ℕ → Type 0

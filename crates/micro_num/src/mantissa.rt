@@ -3,7 +3,7 @@ ghost use Rattle.std.specs.Prelude.{◌≡◌, ◌≤◌, ◌<◌, ◌+◌, ◌+
 ghost use Rattle.std.specs.List.{before_first};
 ghost use Rattle.micro_num.specs.Numeral.{Exponent, minus, after_sign, sign_of, exponent_text, is_exponent, from_first, fraction_digits};
 ghost use Rattle.micro_num.specs.Micrometres.{digits_value};
-ghost use Rattle.micro_num.specs.Scan.{IsEnded, IsExponentFront, IsLeading, is_other, digits_behind, rest_behind};
+ghost use Rattle.micro_num.specs.Scan.{IsEnded, IsExponentFront, IsLeading, is_other, digits_after_point, rest_after_point};
 ghost use Rattle.micro_num.specs.declared.limits.TheConstants.{LEADING_LIMIT, WORD_LIMIT};
 
 use crate::digits::{LeadingDigits, read_digits};
@@ -12,7 +12,7 @@ use crate::digits::{LeadingDigits, read_digits};
 #[inline(always)]
 pub(crate) fn split_sign(bytes: &[u8]) -> (bool, &[u8])
     ensures minus { (result.0 ≡ true) ↔ (sign_of bytes.now ≡ minus) }
-    ensures behind { result.1.now ≡ after_sign bytes.now }
+    ensures after { result.1.now ≡ after_sign bytes.now }
     ensures within { length bytes.now ≤ length result.1.now + 1 }
 {
     let Some(first) = bytes.first() else {
@@ -21,8 +21,8 @@ pub(crate) fn split_sign(bytes: &[u8]) -> (bool, &[u8])
     let negative = *first == b'-';
     // This test has no branch: the signs of a mesh follow no pattern, so the processor would often predict it wrongly.
     let signed = negative | (*first == b'+');
-    let (_, behind) = bytes.split_at(usize::from(signed));
-    (negative, behind)
+    let (_, after) = bytes.split_at(usize::from(signed));
+    (negative, after)
 }
 
 /// The digits of a number, before and after its point, and the text after them.
@@ -31,7 +31,7 @@ pub(crate) struct Mantissa<'a> {
     pub(crate) leading: LeadingDigits,
     pub(crate) whole: &'a [u8],
     pub(crate) fraction: &'a [u8],
-    pub(crate) behind: &'a [u8],
+    pub(crate) after: &'a [u8],
 }
 
 /// Reads the digits at the front of a text, and the point among them where there is one.
@@ -39,29 +39,29 @@ pub(crate) struct Mantissa<'a> {
 pub(crate) fn read_mantissa(bytes: &[u8]) -> Mantissa<'_>
     requires { length bytes.now ≤ WORD_LIMIT }
     ensures whole { result.whole.now ≡ before_first is_other bytes.now }
-    ensures fraction { result.fraction.now ≡ fraction_digits (digits_behind (from_first is_other bytes.now)) }
-    ensures behind { result.behind.now ≡ rest_behind (from_first is_other bytes.now) }
+    ensures fraction { result.fraction.now ≡ fraction_digits (digits_after_point (from_first is_other bytes.now)) }
+    ensures after { result.after.now ≡ rest_after_point (from_first is_other bytes.now) }
     ensures leads { IsLeading result.leading.value result.leading.dropped (digits_value (result.whole.now ++ result.fraction.now)) }
     ensures few { result.leading.dropped ≤ length result.whole.now + length result.fraction.now }
-    ensures within { length result.whole.now + length result.fraction.now + length result.behind.now ≤ length bytes.now }
+    ensures within { length result.whole.now + length result.fraction.now + length result.after.now ≤ length bytes.now }
 {
     let digits = read_digits(bytes, LeadingDigits::NONE);
-    let (whole, behind) = bytes.split_at(digits.count);
-    if let Some((b'.', text)) = behind.split_first() {
+    let (whole, after) = bytes.split_at(digits.count);
+    if let Some((b'.', text)) = after.split_first() {
         let more = read_digits(text, digits.leading);
-        let (fraction, behind) = text.split_at(more.count);
+        let (fraction, after) = text.split_at(more.count);
         Mantissa {
             leading: more.leading,
             whole,
             fraction,
-            behind,
+            after,
         }
     } else {
         Mantissa {
             leading: digits.leading,
             whole,
             fraction: &[],
-            behind,
+            after,
         }
     }
 }
@@ -88,7 +88,7 @@ pub(crate) fn exponent_front(bytes: &[u8]) -> Option<(i64, &[u8])>
     if digits.count == 0 {
         return None;
     }
-    let size = digits.leading.value as i64;
-    let (_, behind) = text.split_at(digits.count);
-    Some((if negative { -size } else { size }, behind))
+    let magnitude = digits.leading.value as i64;
+    let (_, after) = text.split_at(digits.count);
+    Some((if negative { -magnitude } else { magnitude }, after))
 }

@@ -1,6 +1,6 @@
 //! The two readers of numbers: of a whole word, and of the number at the front of a text.
 ghost use Rattle.std.specs.Prelude.{◌≡◌, ◌≤◌, ◌<◌, ◌↔◌, ◌≤ℤ◌, ◌++◌, Err, IfOk, IfSome, List, MatchOption, Ok, Some, length, ℕ, ℤ, pos, take, unsigned_abs};
-ghost use Rattle.micro_num.specs.Scan.{IsEnded, IsNumberFront, size_of};
+ghost use Rattle.micro_num.specs.Scan.{IsEnded, IsNumberFront, text_magnitude};
 ghost use Rattle.micro_num.specs.Numeral.{Numeral, IsNumeral, IsSpelled, numeral_text, unsigned};
 ghost use Rattle.micro_num.specs.Micrometres.{coordinate_of, coordinate_or_fault, micro};
 ghost use Rattle.micro_num.specs.declared.num_fault.NumFault.TheVariants.{NotNumber, OutOfRange, TooLong};
@@ -10,7 +10,7 @@ ghost use Rattle.micro_num.specs.declared.limits.TheConstants.{WORD_LIMIT};
 use crate::limits::{SHORT_ROOM, WORD_LIMIT};
 use crate::mantissa::{exponent_front, read_mantissa, split_sign};
 use crate::num_fault::NumFault;
-use crate::scaling::{signed_coordinate, size_in};
+use crate::scaling::{magnitude_in, signed_coordinate};
 use crate::short::short_front;
 use crate::unit::Unit;
 use geometry::COORDINATE_LIMIT;
@@ -45,22 +45,22 @@ fn read_word(word: &[u8], unit: Unit) -> Result<i32, NumFault>
         return Err(NumFault::TooLong);
     }
     let (negative, text) = split_sign(word);
-    let size = read_unsigned(text, unit)?;
-    Ok(if negative { -size } else { size })
+    let magnitude = read_unsigned(text, unit)?;
+    Ok(if negative { -magnitude } else { magnitude })
 }
 
 /// The coordinate of a text without a sign.
 fn read_unsigned(text: &[u8], unit: Unit) -> Result<i32, NumFault>
     requires { length text.now ≤ WORD_LIMIT }
-    ensures exact { result ≡ size_of unit text.now }
+    ensures exact { result ≡ text_magnitude unit text.now }
     ensures small { IfOk result (λ z. (pos 0 ≤ℤ z) × (z ≤ℤ pos COORDINATE_LIMIT)) }
 {
-    match size_front(text, unit) {
-        Some((size, behind)) if behind.is_empty() => {
-            if size > COORDINATE_LIMIT {
+    match magnitude_front(text, unit) {
+        Some((magnitude, after)) if after.is_empty() => {
+            if magnitude > COORDINATE_LIMIT {
                 Err(NumFault::OutOfRange)
             } else {
-                Ok(size as i32)
+                Ok(magnitude as i32)
             }
         }
         _ => Err(NumFault::NotNumber),
@@ -98,15 +98,15 @@ fn long_front(bytes: &[u8], unit: Unit) -> Option<(i32, usize)>
 {
     let (text, _) = bytes.split_at(bytes.len().min(WORD_LIMIT));
     let (negative, digits) = split_sign(text);
-    let (size, behind) = size_front(digits, unit)?;
-    let coordinate = signed_coordinate(negative, size)?;
-    Some((coordinate, text.len() - behind.len()))
+    let (magnitude, after) = magnitude_front(digits, unit)?;
+    let coordinate = signed_coordinate(negative, magnitude)?;
+    Some((coordinate, text.len() - after.len()))
 }
 
 /// The value of the number at the front of a text, which has no sign, in micrometres, and the text after the number. A
 /// value above `COORDINATE_LIMIT` may be given as any other such value.
 #[inline(always)]
-fn size_front(text: &[u8], unit: Unit) -> Option<(u64, &[u8])>
+fn magnitude_front(text: &[u8], unit: Unit) -> Option<(u64, &[u8])>
     requires { length text.now ≤ WORD_LIMIT }
     ensures front { IfSome result (λ found. IsNumberFront unit text.now found.1.now found.0) }
     ensures reads { (n : Numeral) (rest : List ℕ) → IsNumeral n → n.sign ≡ unsigned → text.now ≡ numeral_text n ++ rest → IsEnded rest
@@ -116,6 +116,6 @@ fn size_front(text: &[u8], unit: Unit) -> Option<(u64, &[u8])>
     if mantissa.whole.len() + mantissa.fraction.len() == 0 {
         return None;
     }
-    let (exponent, behind) = exponent_front(mantissa.behind)?;
-    Some((size_in(&mantissa, exponent, unit), behind))
+    let (exponent, after) = exponent_front(mantissa.after)?;
+    Some((magnitude_in(&mantissa, exponent, unit), after))
 }

@@ -116,14 +116,14 @@ fn scaled(value: u64, power: i64) -> u64
     }
 }
 
-/// The whole part of 254 times the decimal fraction with these digits, to which the digits after them add `behind`.
-fn carried(digits: &[u8], behind: u64) -> u64
-    requires { behind < CARRY_LIMIT }
-    ensures carry { (count n : ℕ) → IsCarry behind count n
+/// The whole part of 254 times the decimal fraction with these digits, to which the digits after them carry `after`.
+fn carried(digits: &[u8], after: u64) -> u64
+    requires { after < CARRY_LIMIT }
+    ensures carry { (count n : ℕ) → IsCarry after count n
         → IsCarry result (length digits.now + count) (digits_after 0 digits.now * 10 ^ count + n) }
     ensures small { result < CARRY_LIMIT }
 {
-    let mut carry = behind;
+    let mut carry = after;
     for index in 0..digits.len() {
         let digit = digits[digits.len() - 1 - index].saturating_sub(b'0');
         carry = (254 * u64::from(digit) + carry) / 10;
@@ -141,9 +141,9 @@ fn in_inches(leading: LeadingDigits, whole: &[u8], fraction: &[u8]) -> u64
     ensures long { 254 * leading.value ≤ result }
 {
     let dropped = leading.dropped as usize;
-    let behind = dropped.min(fraction.len());
-    let (_, last) = fraction.split_at(fraction.len() - behind);
-    let (_, before) = whole.split_at(whole.len() - (dropped - behind));
+    let in_fraction = dropped.min(fraction.len());
+    let (_, last) = fraction.split_at(fraction.len() - in_fraction);
+    let (_, before) = whole.split_at(whole.len() - (dropped - in_fraction));
     254 * leading.value + carried(before, carried(last, 0))
 }
 
@@ -176,7 +176,7 @@ fn power_in(unit: Unit) -> i64
 /// The value of a number without its sign, in micrometres. A value above `COORDINATE_LIMIT` may be given as any other
 /// such value.
 #[inline(always)]
-pub(crate) fn size_in(mantissa: &Mantissa<'_>, exponent: i64, unit: Unit) -> u64
+pub(crate) fn magnitude_in(mantissa: &Mantissa<'_>, exponent: i64, unit: Unit) -> u64
     requires mantissa { IsMantissa mantissa.now.leading.value mantissa.now.leading.dropped
         mantissa.now.whole.now mantissa.now.fraction.now }
     requires small { unsigned_abs exponent < LEADING_LIMIT }
@@ -191,15 +191,15 @@ pub(crate) fn size_in(mantissa: &Mantissa<'_>, exponent: i64, unit: Unit) -> u64
     scaled(in_unit(mantissa, unit), power)
 }
 
-/// The coordinate of a size in micrometres with a sign, or `None` where it is out of range.
+/// The coordinate of a magnitude in micrometres with a sign, or `None` where it is out of range.
 #[inline(always)]
-pub(crate) fn signed_coordinate(negative: bool, size: u64) -> Option<i32>
-    ensures in_range { MatchOption result (COORDINATE_LIMIT < size) (λ _. size ≤ COORDINATE_LIMIT) }
-    ensures value { IfSome result (λ z. z ≡ (if negative then neg_ℤ (pos size) else pos size)) }
+pub(crate) fn signed_coordinate(negative: bool, magnitude: u64) -> Option<i32>
+    ensures in_range { MatchOption result (COORDINATE_LIMIT < magnitude) (λ _. magnitude ≤ COORDINATE_LIMIT) }
+    ensures value { IfSome result (λ z. z ≡ (if negative then neg_ℤ (pos magnitude) else pos magnitude)) }
 {
-    if COORDINATE_LIMIT < size {
+    if COORDINATE_LIMIT < magnitude {
         return None;
     }
-    let size = size as i32;
-    Some(if negative { -size } else { size })
+    let magnitude = magnitude as i32;
+    Some(if negative { -magnitude } else { magnitude })
 }

@@ -4,12 +4,12 @@ ghost use Rattle.std.specs.Prelude.{◌≡◌, ◌≤◌, ◌<◌, ◌+◌, ◌*
 ghost use Rattle.std.specs.List.{before_first};
 ghost use Rattle.micro_num.specs.Numeral.{Exponent, IsNumeral, Numeral, exponent_text, fraction_digits, from_first, is_exponent, numeral_text, unsigned};
 ghost use Rattle.micro_num.specs.Micrometres.{coordinate_of, digits_value};
-ghost use Rattle.micro_num.specs.Scan.{IsEnded, IsExponentFront, IsLeading, IsNumberFront, digits_behind, is_other, rest_behind};
+ghost use Rattle.micro_num.specs.Scan.{IsEnded, IsExponentFront, IsLeading, IsNumberFront, digits_after_point, is_other, rest_after_point};
 ghost use Rattle.micro_num.specs.declared.limits.TheConstants.{FEW_DIGITS, LEADING_LIMIT, SHORT_ROOM};
 
 use crate::digits::{LeadingDigits, few_digits};
 use crate::mantissa::{Mantissa, split_sign};
-use crate::scaling::{signed_coordinate, size_in};
+use crate::scaling::{magnitude_in, signed_coordinate};
 use crate::unit::Unit;
 
 /// Like `read_mantissa`, where there are fewer than `FEW_DIGITS` digits before the point and after it. Else `None`.
@@ -17,30 +17,30 @@ use crate::unit::Unit;
 fn short_mantissa(bytes: &[u8]) -> Option<Mantissa<'_>>
     requires { 2 * FEW_DIGITS ≤ length bytes.now }
     ensures whole { IfSome result (λ m. m.whole.now ≡ before_first is_other bytes.now) }
-    ensures fraction { IfSome result (λ m. m.fraction.now ≡ fraction_digits (digits_behind (from_first is_other bytes.now))) }
-    ensures behind { IfSome result (λ m. m.behind.now ≡ rest_behind (from_first is_other bytes.now)) }
+    ensures fraction { IfSome result (λ m. m.fraction.now ≡ fraction_digits (digits_after_point (from_first is_other bytes.now))) }
+    ensures after { IfSome result (λ m. m.after.now ≡ rest_after_point (from_first is_other bytes.now)) }
     ensures leads { IfSome result (λ m. IsLeading m.leading.value m.leading.dropped (digits_value (m.whole.now ++ m.fraction.now))) }
     ensures few { IfSome result (λ m. m.leading.dropped ≡ 0) }
     ensures short { IfSome result (λ m. (length m.whole.now < FEW_DIGITS) × (length m.fraction.now < FEW_DIGITS)) }
-    ensures within { IfSome result (λ m. length bytes.now < length m.behind.now + 2 * FEW_DIGITS) }
+    ensures within { IfSome result (λ m. length bytes.now < length m.after.now + 2 * FEW_DIGITS) }
 {
     let digits = few_digits(bytes, LeadingDigits::NONE)?;
-    let (whole, behind) = bytes.split_at(digits.count);
-    if let Some((b'.', text)) = behind.split_first() {
+    let (whole, after) = bytes.split_at(digits.count);
+    if let Some((b'.', text)) = after.split_first() {
         let more = few_digits(text, digits.leading)?;
-        let (fraction, behind) = text.split_at(more.count);
+        let (fraction, after) = text.split_at(more.count);
         Some(Mantissa {
             leading: more.leading,
             whole,
             fraction,
-            behind,
+            after,
         })
     } else {
         Some(Mantissa {
             leading: digits.leading,
             whole,
             fraction: &[],
-            behind,
+            after,
         })
     }
 }
@@ -66,14 +66,14 @@ fn short_exponent(bytes: &[u8]) -> Option<(i64, &[u8])>
     if digits.count == 0 {
         return None;
     }
-    let size = digits.leading.value as i64;
-    let (_, behind) = text.split_at(digits.count);
-    Some((if negative { -size } else { size }, behind))
+    let magnitude = digits.leading.value as i64;
+    let (_, after) = text.split_at(digits.count);
+    Some((if negative { -magnitude } else { magnitude }, after))
 }
 
-/// Like `size_front`, where the number is short. Else `None`.
+/// Like `magnitude_front`, where the number is short. Else `None`.
 #[inline(always)]
-fn short_size(text: &[u8], unit: Unit) -> Option<(u64, &[u8])>
+fn short_magnitude(text: &[u8], unit: Unit) -> Option<(u64, &[u8])>
     requires { SHORT_ROOM ≤ length text.now + 1 }
     ensures front { IfSome result (λ found. IsNumberFront unit text.now found.1.now found.0) }
     ensures reads { IfSome result (λ found. (n : Numeral) (rest : List ℕ) → IsNumeral n → n.sign ≡ unsigned → text.now ≡ numeral_text n ++ rest
@@ -84,8 +84,8 @@ fn short_size(text: &[u8], unit: Unit) -> Option<(u64, &[u8])>
     if mantissa.whole.len() + mantissa.fraction.len() == 0 {
         return None;
     }
-    let (exponent, behind) = short_exponent(mantissa.behind)?;
-    Some((size_in(&mantissa, exponent, unit), behind))
+    let (exponent, after) = short_exponent(mantissa.after)?;
+    Some((magnitude_in(&mantissa, exponent, unit), after))
 }
 
 /// Like `read_front`, where the number is short. Else `None`.
@@ -98,7 +98,7 @@ pub(crate) fn short_front(bytes: &[u8], unit: Unit) -> Option<(i32, usize)>
         → coordinate_of unit word ≡ Ok z → found ≡ (z, length word)) }
 {
     let (negative, digits) = split_sign(bytes);
-    let (size, behind) = short_size(digits, unit)?;
-    let coordinate = signed_coordinate(negative, size)?;
-    Some((coordinate, bytes.len() - behind.len()))
+    let (magnitude, after) = short_magnitude(digits, unit)?;
+    let coordinate = signed_coordinate(negative, magnitude)?;
+    Some((coordinate, bytes.len() - after.len()))
 }

@@ -6,10 +6,10 @@ pub mod OneFault
 pub mod Either
 pub mod Steps
 pub mod Solids
-pub mod Runs
+pub mod FacetRuns
 pub mod Written
 pub mod ReadIsWritten
 pub mod Stages
 pub mod Locality
-pub mod Pieces
+pub mod TextReaders
 pub mod Layouts

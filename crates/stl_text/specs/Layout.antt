@@ -6,7 +6,7 @@
 use Rattle.std.specs.Prelude.{◌≡◌, ◌<◌, List, [], ◌∷◌, Some, drop, length, ℕ}
 use Rattle.micro_num.specs.declared.unit.Unit.{Unit as LengthUnit}
 use Rattle.stl_text.specs.Reader.{Reader}
-use Rattle.stl_text.specs.Text.{Token, after_space, facet_word, keyword_of, rest_behind}
+use Rattle.stl_text.specs.Text.{Token, after_space, facet_word, keyword_of, rest_after}
 use Rattle.stl_text.specs.declared.grammar.Separator.{Separator}
 use Rattle.stl_text.specs.declared.grammar.Separator.TheVariants as separator
 use Rattle.stl_text.specs.declared.word.Word.TheVariants.{EndFacet, EndLoop, Loop, Normal, Outer, Vertex}
@@ -20,24 +20,24 @@ separator_tokens separator.Closing = keyword_of EndLoop ∷ keyword_of EndFacet 
 
 -- the text between two readers is these tokens and white space
 pub record Skips (tokens : List Token) (old new : Reader) : Type 0 where
-  pub behind : List ℕ
-  pub spelled : rest_behind old.unit tokens old.rest ≡ Some behind
-  pub space : after_space behind ≡ after_space new.rest
+  pub after : List ℕ
+  pub spelled : rest_after old.unit tokens old.rest ≡ Some after
+  pub space : after_space after ≡ after_space new.rest
   pub same_unit : new.unit ≡ old.unit
 
 -- Bytes that stand for these tokens and white space after them, at least one byte of it: so they stand for them whatever
 -- follows.
 pub record IsSeparator (tokens : List Token) (bytes : List ℕ) : Type 0 where
-  pub behind : List ℕ
-  pub spelled : (unit : LengthUnit) → rest_behind unit tokens bytes ≡ Some behind
-  pub some : 0 < length behind
-  pub white : after_space behind ≡ []
+  pub after : List ℕ
+  pub spelled : (unit : LengthUnit) → rest_after unit tokens bytes ≡ Some after
+  pub some : 0 < length after
+  pub white : after_space after ≡ []
 
 -- Bytes that begin with the last keywords of a facet and have something after them. `words_len` is the length of these
 -- keywords with the white space before each.
 pub record IsClosing (words_len : ℕ) (bytes : List ℕ) : Type 0 where
   pub some : words_len < length bytes
-  pub spelled : (unit : LengthUnit) → rest_behind unit (separator_tokens separator.Closing) bytes ≡ Some (drop words_len bytes)
+  pub spelled : (unit : LengthUnit) → rest_after unit (separator_tokens separator.Closing) bytes ≡ Some (drop words_len bytes)
 
 pub record Layout : Type 0 where
   pub opening : List ℕ

@@ -1,8 +1,8 @@
 pub mod Text
 pub mod Reader
-pub mod Run
+pub mod FacetRun
 pub mod Layout
 pub mod Written
 pub mod Stage
-pub mod Pieces
+pub mod TextReader
 pub mod Reading

@@ -5,7 +5,7 @@ use Rattle.std.specs.Prelude.{◌≡◌, List, ◌∷◌, [], ◌++◌, Some, �
 use Rattle.micro_num.specs.declared.unit.Unit.{Unit as LengthUnit}
 use Rattle.stl_text.specs.declared.word.Word.TheVariants.{EndFacet}
 use Rattle.geometry.specs.Facet.{Facet}
-use Rattle.stl_text.specs.Text.{Token, keyword_of, loop_tokens, normal_tokens, rest_behind}
+use Rattle.stl_text.specs.Text.{Token, keyword_of, loop_tokens, normal_tokens, rest_after}
 
 pub record Reader : Type 0 where
   pub unit : LengthUnit
@@ -17,7 +17,7 @@ start unit bytes = record { unit = unit; rest = bytes }
 
 -- the text between two readers is these tokens
 pub record Spells (tokens : List Token) (old new : Reader) : Type 0 where
-  pub spelled : rest_behind old.unit tokens old.rest ≡ Some new.rest
+  pub spelled : rest_after old.unit tokens old.rest ≡ Some new.rest
   pub same_unit : new.unit ≡ old.unit
 
 -- the tokens of a facet after its word `facet`

@@ -14,16 +14,16 @@ use Rattle.stl_text.specs.declared.stl_fault.StlFault.{StlFault}
 use Rattle.stl_text.specs.declared.stl_fault.StlFault.TheVariants as faults
 use Rattle.stl_text.specs.declared.stage.Axis.{Axis}
 use Rattle.stl_text.specs.declared.stage.Axis.TheVariants as axis
-use Rattle.stl_text.specs.declared.stage.Corner.{Corner}
-use Rattle.stl_text.specs.declared.stage.Corner.TheVariants as corner
-use Rattle.stl_text.specs.declared.stage.Wanted.{Wanted}
-use Rattle.stl_text.specs.declared.stage.Wanted.TheVariants as wanted
+use Rattle.stl_text.specs.declared.stage.FacetCorner.{FacetCorner}
+use Rattle.stl_text.specs.declared.stage.FacetCorner.TheVariants as corner
+use Rattle.stl_text.specs.declared.stage.InnerWord.{InnerWord}
+use Rattle.stl_text.specs.declared.stage.InnerWord.TheVariants as inner
 use Rattle.stl_text.specs.declared.stage.Stage.{Stage}
 use Rattle.stl_text.specs.declared.stage.Stage.TheVariants as stage
 use Rattle.stl_text.specs.declared.stage.Step.{Step}
 use Rattle.stl_text.specs.declared.stage.Step.TheVariants as step
 use Rattle.stl_text.specs.declared.stage.TheConstants.{LAST_WORD}
-use Rattle.stl_text.specs.Text.{wanted as wanted_at, is_keyword, is_wanted, facet_keyword, Token, keyword_of, normal_part, coordinate, rest_of_line, facet_word, facet_tokens, solid_tokens, HasOneKeyword, begins_with, after_token, rest_behind, first_word, after_space, after_word, after_line, facets_of}
+use Rattle.stl_text.specs.Text.{wanted as wanted_at, is_keyword, is_wanted, facet_keyword, Token, keyword_of, normal_part, coordinate, rest_of_line, facet_word, facet_tokens, solid_tokens, HasOneKeyword, begins_with, after_token, rest_after, first_word, after_space, after_word, after_line, facets_of}
 use Rattle.stl_text.specs.Reader.{facet_tail}
 
 -- a point with another coordinate
@@ -33,7 +33,7 @@ with_axis axis.Y value p = record { x = p.x; y = value; z = p.z }
 with_axis axis.Z value p = record { x = p.x; y = p.y; z = value }
 
 -- a facet with another coordinate
-abbrev pub with_number : Corner → Axis → ℤ → Facet → Facet
+abbrev pub with_number : FacetCorner → Axis → ℤ → Facet → Facet
 with_number corner.A axis value t = facet_with (with_axis axis value t.a) t.b t.c
 with_number corner.B axis value t = facet_with t.a (with_axis axis value t.b) t.c
 with_number corner.C axis value t = facet_with t.a t.b (with_axis axis value t.c)
@@ -44,23 +44,23 @@ pub record Goes (words : ℕ) (token : Token) (t u : Facet) : Type 0 where
   pub on : take (words + 1) (facet_tail u) ≡ take words (facet_tail t) ++ token ∷ []
 
 -- what is wanted after this number of the words that follow `facet`
-abbrev pub IsWantedAt : ℕ → Wanted → Type 0
-IsWantedAt words (wanted.Keyword kind) = (kind ≢ Solid) × ((t : Facet) → Goes words (keyword_of kind) t t)
-IsWantedAt words wanted.Part = (t : Facet) → Goes words normal_part t t
-IsWantedAt words (wanted.Number corner axis) = (t : Facet) (value : ℤ) → Goes words (coordinate value) t (with_number corner axis value t)
+abbrev pub IsWantedAt : ℕ → InnerWord → Type 0
+IsWantedAt words (inner.Keyword kind) = (kind ≢ Solid) × ((t : Facet) → Goes words (keyword_of kind) t t)
+IsWantedAt words inner.Part = (t : Facet) → Goes words normal_part t t
+IsWantedAt words (inner.Number corner axis) = (t : Facet) (value : ℤ) → Goes words (coordinate value) t (with_number corner axis value t)
 
 -- a kind with one keyword, or no keyword
-abbrev pub IsPlain : Wanted → Type 0
-IsPlain (wanted.Keyword kind) = HasOneKeyword kind
-IsPlain wanted.Part = Unit {0}
-IsPlain (wanted.Number corner axis) = Unit {0}
+abbrev pub IsPlain : InnerWord → Type 0
+IsPlain (inner.Keyword kind) = HasOneKeyword kind
+IsPlain inner.Part = Unit {0}
+IsPlain (inner.Number corner axis) = Unit {0}
 
 -- the text after t begins with the next token, and then the facet is u
-pub record ReadInside (unit : LengthUnit) (words : ℕ) (t : Facet) (behind : List ℕ) (u : Facet) : Type 0 where
+pub record ReadInside (unit : LengthUnit) (words : ℕ) (t : Facet) (after : List ℕ) (u : Facet) : Type 0 where
   pub token : Token
   pub goes : Goes words token t u
-  pub begins : begins_with unit token behind ≡ true
-  pub after : after_token token behind ≡ after_word behind
+  pub begins : begins_with unit token after ≡ true
+  pub one_word : after_token token after ≡ after_word after
 
 -- What a fault says of a text at its offset, where `rest` is left: `token` is wanted there, and `facets_before` facets have
 -- begun, of the `room` facets that may begin.
@@ -78,12 +78,12 @@ IsStop room unit text token facets_before rest (faults.TooMany at) =
 IsStop room unit text token facets_before rest faults.Memory = ⊥
 
 -- the next word of the text after t does not fit
-pub record StopsInside (unit : LengthUnit) (words : ℕ) (t : Facet) (behind : List ℕ) (at : ℕ) (fault : StlFault) : Type 0 where
+pub record StopsInside (unit : LengthUnit) (words : ℕ) (t : Facet) (after : List ℕ) (at : ℕ) (fault : StlFault) : Type 0 where
   pub token : Token
   pub u : Facet
   pub goes : Goes words token t u
-  pub stop : (room before : ℕ) (text : List ℕ) → at + length (after_space behind) ≡ length text
-      → IsStop room unit text token before behind fault
+  pub stop : (room before : ℕ) (text : List ℕ) → at + length (after_space after) ≡ length text
+      → IsStop room unit text token before after fault
   pub other : fault ≢ faults.Ended Solid
 
 -- a solid that is open after these facets
@@ -112,23 +112,23 @@ IsForm limit (stage.Between false) solids added count = (added ≡ []) × (solid
 IsForm limit stage.Facets solids added count = count ≤ limit
 IsForm limit (stage.Inside words t) solids added count = (words ≤ LAST_WORD) × (count < limit)
 
--- the text is read up to this stage, which leaves `behind`; these are the whole facets
-pub record Stands (limit : ℕ) (unit : LengthUnit) (stage : Stage) (facets : List Facet) (text behind : List ℕ) : Type 0 where
+-- the text is read up to this stage, which leaves `after`; these are the whole facets
+pub record Stands (limit : ℕ) (unit : LengthUnit) (stage : Stage) (facets : List Facet) (text after : List ℕ) : Type 0 where
   pub solids : List (List Facet)
   pub added : List Facet
   pub items : facets ≡ facets_of solids ++ added
   pub form : IsForm limit stage solids added (length facets)
-  pub spelled : rest_behind unit (front stage solids added) text ≡ Some behind
+  pub spelled : rest_after unit (front stage solids added) text ≡ Some after
 
 -- the text is read up to this stage, and this word comes next, at this byte offset
-pub record AtWord (limit : ℕ) (unit : LengthUnit) (stage : Stage) (facets : List Facet) (text behind word : List ℕ) (at : ℕ) : Type 0 where
-  pub stands : Stands limit unit stage facets text behind
-  pub word_is : first_word behind ≡ word
+pub record AtWord (limit : ℕ) (unit : LengthUnit) (stage : Stage) (facets : List Facet) (text after word : List ℕ) (at : ℕ) : Type 0 where
+  pub stands : Stands limit unit stage facets text after
+  pub word_is : first_word after ≡ word
   pub some : 0 < length word
-  pub at_is : at + length (after_space behind) ≡ length text
+  pub at_is : at + length (after_space after) ≡ length text
 
 -- the stage after a word, to which this step leads
 abbrev pub StandsAfter : ℕ → LengthUnit → List Facet → List ℕ → List ℕ → Step → Type 0
-StandsAfter limit unit facets text behind (step.To s) = Stands limit unit s facets text (after_word behind)
-StandsAfter limit unit facets text behind (step.Line s) = Stands limit unit s facets text (after_line (after_word behind))
-StandsAfter limit unit facets text behind (step.Whole t) = Stands limit unit stage.Facets (facets ++ t ∷ []) text (after_word behind)
+StandsAfter limit unit facets text after (step.To s) = Stands limit unit s facets text (after_word after)
+StandsAfter limit unit facets text after (step.Line s) = Stands limit unit s facets text (after_line (after_word after))
+StandsAfter limit unit facets text after (step.Whole t) = Stands limit unit stage.Facets (facets ++ t ∷ []) text (after_word after)

@@ -2,7 +2,7 @@
 -- fault it has otherwise.
 --     keywords                the table of keywords
 --     Token, solid_tokens     what a solid is written with: keywords, words of normals, coordinates, rests of lines
---     rest_behind             the rest of a text after the tokens at its front
+--     rest_after              the rest of a text after the tokens at its front
 --     Reads                   the text is whole solids, and these are their facets
 --     Wants                   up to a byte offset the text begins as solids do, and there it wants this token
 --     IsFaultOf               the one fault of a text
@@ -142,10 +142,10 @@ after_token normal_part bytes = after_word bytes
 after_token (coordinate z) bytes = after_word bytes
 
 -- the rest of the text after the tokens, if the text begins with them
-abbrev pub rest_behind : LengthUnit → List Token → List ℕ → Option (List ℕ)
-rest_behind unit [] bytes = Some bytes
-rest_behind unit (token ∷ tokens) bytes =
-    if begins_with unit token bytes then rest_behind unit tokens (after_token token bytes) else None
+abbrev pub rest_after : LengthUnit → List Token → List ℕ → Option (List ℕ)
+rest_after unit [] bytes = Some bytes
+rest_after unit (token ∷ tokens) bytes =
+    if begins_with unit token bytes then rest_after unit tokens (after_token token bytes) else None
 
 abbrev pub facets_of : List (List Facet) → List Facet
 facets_of solids = flat_map (λ facets. facets) solids
@@ -158,7 +158,7 @@ pub record Reads (limit : ℕ) (unit : LengthUnit) (bytes : List ℕ) (facets : 
   pub each : facets ≡ facets_of solids
   pub few : length facets ≤ limit
   pub rest : List ℕ
-  pub spelled : rest_behind unit (flat_map solid_tokens solids) bytes ≡ Some rest
+  pub spelled : rest_after unit (flat_map solid_tokens solids) bytes ≡ Some rest
   pub whole : after_space rest ≡ []
 
 -- What is wanted where a token has to come, as a fault names it. A word of a normal counts as a number.
@@ -189,7 +189,7 @@ pub record Wants (limit : ℕ) (unit : LengthUnit) (bytes : List ℕ) (at : ℕ)
   pub count : facets_before ≡ facet_count front
   pub few : facets_before ≤ limit
   pub rest : List ℕ
-  pub spelled : rest_behind unit front bytes ≡ Some rest
+  pub spelled : rest_after unit front bytes ≡ Some rest
   pub offset : at + length (after_space rest) ≡ length bytes
   pub stands : word ≡ first_word rest
 

@@ -1,12 +1,12 @@
 -- How facets may be written: in solids, with any white space between words, keywords in any case, any words for
 -- normals, any names, and anything after `endsolid` on its line.
---     Spaced            a piece of a text, and the white space after it
---     AreWordsOf        these pieces are words that stand for these tokens, with white space after each
+--     Spaced            a stretch of a text, and the white space after it
+--     AreWordsOf        these stretches are words that stand for these tokens, with white space after each
 --     IsRemark          what may follow a word up to the end of its line: a name, or what is skipped
 --     IsLineBreak       the end of a line, and more white space
 --     IsEnd             a line break, or nothing
 --     WrittenSolid      a solid of these facets, up to the end of the line of `endsolid`
---     AreWrittenSolids  these pieces are solids of these facets, with a line break after each
+--     AreWrittenSolids  these stretches are solids of these facets, with a line break after each
 --     Written           a text of these facets
 use Rattle.std.specs.Prelude.{◌≡◌, ℕ, Bool, true, ◌&&◌, not, List, [], ◌∷◌, ◌++◌, length, Ok, nat_lt, flat_map}
 use Rattle.std.specs.Str.{str_to_ascii_lowercase}
@@ -24,14 +24,14 @@ are_white bytes = list_all is_white bytes
 abbrev pub is_word : List ℕ → Bool
 is_word bytes = nat_lt 0 (length bytes) && list_all (λ byte. not (is_white byte)) bytes
 
--- a piece of a text, and the white space after it
+-- a stretch of a text, and the white space after it
 pub record Spaced : Type 0 where
   pub text : List ℕ
   pub space : List ℕ
 
--- one piece after the other
+-- one stretch after the other
 abbrev pub laid_out : List Spaced → List ℕ
-laid_out pieces = flat_map (λ s. s.text ++ s.space) pieces
+laid_out stretches = flat_map (λ s. s.text ++ s.space) stretches
 
 abbrev pub is_spaced_word : Spaced → Bool
 is_spaced_word s = is_word s.text && (nat_lt 0 (length s.space) && are_white s.space)
@@ -102,7 +102,7 @@ pub record Written (unit : LengthUnit) (facets : List Facet) (text : List ℕ) :
   pub last : List Facet
   pub last_text : List ℕ
   pub last_is : WrittenSolid unit last last_text
-  pub behind : List ℕ
-  pub behind_is : IsEnd behind
+  pub after : List ℕ
+  pub after_is : IsEnd after
   pub each : facets ≡ facets_of solids ++ last
-  pub text_is : text ≡ lead ++ (laid_out texts ++ (last_text ++ behind))
+  pub text_is : text ≡ lead ++ (laid_out texts ++ (last_text ++ after))

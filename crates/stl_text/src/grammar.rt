@@ -3,13 +3,13 @@
 ghost use Rattle.std.specs.Prelude.{◌≡◌, ◌<◌, [], ◌∷◌, IfSome, Some, length};
 ghost use Rattle.micro_num.specs.declared.unit.Unit.{Unit as LengthUnit};
 ghost use Rattle.stl_text.specs.Layout.{separator_tokens};
-ghost use Rattle.stl_text.specs.Run.{next_solid};
+ghost use Rattle.stl_text.specs.FacetRun.{next_solid};
 ghost use Rattle.stl_text.specs.Reader.{Spells};
-ghost use Rattle.stl_text.specs.Text.{coordinate, facet_tokens, normal_part, rest_behind};
+ghost use Rattle.stl_text.specs.Text.{coordinate, facet_tokens, normal_part, rest_after};
 
 use crate::reader::Reader;
-use crate::scanning::{behind_keyword, skip_line};
-use crate::word::{END_SOLID, FACET, SOLID, Word};
+use crate::scanning::{after_keyword, skip_line};
+use crate::word::{END_SOLID, FACET, Word};
 use geometry::{Facet, Point};
 use micro_num::Unit;
 
@@ -34,7 +34,7 @@ impl<'t> Reader<'t> {
     {
         match separator {
             Separator::Opening => {
-                self.rest = behind_keyword(self.rest, FACET)?;
+                self.rest = after_keyword(self.rest, FACET)?;
                 self.keyword(Word::Normal)
             },
             Separator::First => {
@@ -94,7 +94,7 @@ impl<'t> Reader<'t> {
 /// The whole facet at the front of a text, read word by word, and the text after it, which is not empty. `None` says
 /// nothing about the text.
 pub(crate) fn facet_by_words(bytes: &[u8], unit: Unit) -> Option<(Facet, &[u8])>
-    ensures read { IfSome result (λ found. rest_behind unit (facet_tokens found.0) bytes.now ≡ Some found.1.now) }
+    ensures read { IfSome result (λ found. rest_after unit (facet_tokens found.0) bytes.now ≡ Some found.1.now) }
     ensures some { IfSome result (λ found. 0 < length found.1.now) }
     ensures shorter { IfSome result (λ found. length found.1.now < length bytes.now) }
 {
@@ -109,13 +109,13 @@ pub(crate) fn facet_by_words(bytes: &[u8], unit: Unit) -> Option<(Facet, &[u8])>
 
 /// The text after the end of a solid and the beginning of the next, if these are at the front of a text and the text
 /// after them is not empty. `None` says nothing about the text.
-pub(crate) fn behind_solid(bytes: &[u8]) -> Option<&[u8]>
-    ensures read { IfSome result (λ rest. (unit : LengthUnit) → rest_behind unit next_solid bytes.now ≡ Some rest.now) }
+pub(crate) fn after_solid(bytes: &[u8]) -> Option<&[u8]>
+    ensures read { IfSome result (λ rest. (unit : LengthUnit) → rest_after unit next_solid bytes.now ≡ Some rest.now) }
     ensures some { IfSome result (λ rest. 0 < length rest.now) }
     ensures shorter { IfSome result (λ rest. length rest.now < length bytes.now) }
 {
-    let remark = behind_keyword(bytes, END_SOLID)?;
-    let name = behind_keyword(skip_line(remark), SOLID)?;
+    let remark = after_keyword(bytes, END_SOLID)?;
+    let name = after_keyword(skip_line(remark), Word::Solid.text().as_bytes())?;
     let inside = skip_line(name);
     if inside.is_empty() {
         return None;

@@ -5,12 +5,12 @@ ghost use Rattle.std.specs.List.{list_all};
 ghost use Rattle.micro_num.specs.Micrometres.{coordinate_of};
 ghost use Rattle.stl_text.specs.Layout.{IsClosing, IsSeparator, Skips, separator_tokens};
 ghost use Rattle.stl_text.specs.Reader.{Spells};
-ghost use Rattle.stl_text.specs.Text.{Token, after_space, after_word, coordinate, facet_tokens, first_word, is_white, normal_part, rest_behind};
+ghost use Rattle.stl_text.specs.Text.{Token, after_space, after_word, coordinate, facet_tokens, first_word, is_white, normal_part, rest_after};
 ghost use Rattle.stl_text.specs.declared.grammar.Separator.TheVariants.{Closing};
 
 use crate::grammar::{Separator, facet_by_words};
 use crate::reader::Reader;
-use crate::scanning::{behind_coordinate, ends_word, skip_blank, skip_space, split_word};
+use crate::scanning::{after_coordinate, ends_word, skip_blank, skip_space, split_word};
 use geometry::{Facet, Point};
 use micro_num::{Unit, read_front};
 use std::marker::Model;
@@ -46,7 +46,7 @@ impl<'t> Reader<'t> {
     fn skip(&mut self, bytes: &[u8]) -> Option<()>
         ensures { IfSome result (λ _. (tokens : List Token) → IsSeparator tokens bytes.now → Skips tokens self.old self.new) }
     {
-        self.rest = behind_bytes(self.rest, bytes)?;
+        self.rest = after_bytes(self.rest, bytes)?;
         Some(())
     }
 
@@ -56,7 +56,7 @@ impl<'t> Reader<'t> {
         ensures { IfSome result (λ _. Spells (separator_tokens Closing) self.old self.new) }
     {
         let start = self.rest;
-        behind_bytes(start, layout.closing)?;
+        after_bytes(start, layout.closing)?;
         let (_, rest) = start.split_at(layout.words_len);
         self.rest = rest;
         Some(())
@@ -77,9 +77,9 @@ impl<'t> Reader<'t> {
     fn near_part(&mut self) -> Option<()>
         ensures { IfSome result (λ _. Spells (normal_part ∷ []) self.old self.new) }
     {
-        self.rest = match behind_short_word(skip_blank(self.rest)) {
+        self.rest = match after_short_word(skip_blank(self.rest)) {
             Some(rest) => rest,
-            None => behind_any_word(self.rest)?,
+            None => after_any_word(self.rest)?,
         };
         Some(())
     }
@@ -103,9 +103,9 @@ impl<'t> Reader<'t> {
     fn near_coordinate(&mut self) -> Option<i32>
         ensures { IfSome result (λ z. Spells (coordinate z ∷ []) self.old self.new) }
     {
-        let (z, rest) = match behind_front(skip_blank(self.rest), self.unit) {
+        let (z, rest) = match after_front(skip_blank(self.rest), self.unit) {
             Some(found) => found,
-            None => behind_any_coordinate(self.rest, self.unit)?,
+            None => after_any_coordinate(self.rest, self.unit)?,
         };
         self.rest = rest;
         Some(z)
@@ -114,7 +114,7 @@ impl<'t> Reader<'t> {
 
 /// The text after these bytes, if it begins with them.
 #[inline(always)]
-fn behind_bytes<'t>(text: &'t [u8], bytes: &[u8]) -> Option<&'t [u8]>
+fn after_bytes<'t>(text: &'t [u8], bytes: &[u8]) -> Option<&'t [u8]>
     ensures { IfSome result (λ rest. text.now ≡ bytes.now ++ rest.now) }
 {
     if text.len() < bytes.len() {
@@ -127,7 +127,7 @@ fn behind_bytes<'t>(text: &'t [u8], bytes: &[u8]) -> Option<&'t [u8]>
 /// The text after its first word, if it has one.
 #[cold]
 #[inline(never)]
-fn behind_any_word(bytes: &[u8]) -> Option<&[u8]>
+fn after_any_word(bytes: &[u8]) -> Option<&[u8]>
     ensures word { IfSome result (λ rest. 0 < length (first_word bytes.now)) }
     ensures rest { IfSome result (λ rest. rest.now ≡ after_word bytes.now) }
 {
@@ -135,14 +135,14 @@ fn behind_any_word(bytes: &[u8]) -> Option<&[u8]>
     if word.is_empty() { None } else { Some(rest) }
 }
 
-/// Like `behind_coordinate`, and called where the coordinate is rarely read so.
+/// The same as `after_coordinate`, out of line: few coordinates have more than one blank before them.
 #[cold]
 #[inline(never)]
-fn behind_any_coordinate(bytes: &[u8], unit: Unit) -> Option<(i32, &[u8])>
+fn after_any_coordinate(bytes: &[u8], unit: Unit) -> Option<(i32, &[u8])>
     ensures read { IfSome result (λ found. coordinate_of unit (first_word bytes.now) ≡ Ok found.0) }
     ensures rest { IfSome result (λ found. found.1.now ≡ after_word bytes.now) }
 {
-    behind_coordinate(bytes, unit)
+    after_coordinate(bytes, unit)
 }
 
 /// The number of bytes above 32 at the front of a text, of which none is white space, or `LANES` if there are more.
@@ -164,7 +164,7 @@ fn black_len(bytes: &[u8]) -> usize
 
 /// The text after the word at its front, if that has fewer than `LANES` bytes. `None` says nothing about the text.
 #[inline(always)]
-fn behind_short_word(bytes: &[u8]) -> Option<&[u8]>
+fn after_short_word(bytes: &[u8]) -> Option<&[u8]>
     ensures word { IfSome result (λ rest. 0 < length (first_word bytes.now)) }
     ensures rest { IfSome result (λ rest. rest.now ≡ after_word bytes.now) }
 {
@@ -183,7 +183,7 @@ fn behind_short_word(bytes: &[u8]) -> Option<&[u8]>
 /// The coordinate that the word at the front of a text stands for, and the text after the word. `None` says nothing about
 /// the text.
 #[inline(always)]
-fn behind_front(bytes: &[u8], unit: Unit) -> Option<(i32, &[u8])>
+fn after_front(bytes: &[u8], unit: Unit) -> Option<(i32, &[u8])>
     ensures read { IfSome result (λ found. coordinate_of unit (first_word bytes.now) ≡ Ok found.0) }
     ensures rest { IfSome result (λ found. found.1.now ≡ after_word bytes.now) }
 {
@@ -203,8 +203,8 @@ fn separator_at(text: &[u8], separator: Separator) -> Option<&[u8]>
 {
     let mut reader = Reader::new(text, Unit::Millimetre);
     reader.separator(separator)?;
-    let behind = skip_space(reader.rest);
-    let (bytes, _) = text.split_at(text.len().saturating_sub(behind.len()));
+    let after = skip_space(reader.rest);
+    let (bytes, _) = text.split_at(text.len().saturating_sub(after.len()));
     let mut again = Reader::new(bytes, Unit::Millimetre);
     again.separator(separator)?;
     if again.rest.is_empty() || !again.is_at_end() {
@@ -261,7 +261,7 @@ fn facet_by_layout<'t>(
     unit: Unit,
     layout: &Layout<'_>,
 ) -> Option<(Facet, &'t [u8])>
-    ensures read { IfSome result (λ found. rest_behind unit (facet_tokens found.0) bytes.now ≡ Some found.1.now) }
+    ensures read { IfSome result (λ found. rest_after unit (facet_tokens found.0) bytes.now ≡ Some found.1.now) }
     ensures some { IfSome result (λ found. 0 < length found.1.now) }
     ensures shorter { IfSome result (λ found. length found.1.now < length bytes.now) }
 {
@@ -291,7 +291,7 @@ pub(crate) fn front_facet<'t>(
     unit: Unit,
     layout: &Option<Layout<'_>>,
 ) -> Option<(Facet, &'t [u8])>
-    ensures read { IfSome result (λ found. rest_behind unit (facet_tokens found.0) bytes.now ≡ Some found.1.now) }
+    ensures read { IfSome result (λ found. rest_after unit (facet_tokens found.0) bytes.now ≡ Some found.1.now) }
     ensures some { IfSome result (λ found. 0 < length found.1.now) }
     ensures shorter { IfSome result (λ found. length found.1.now < length bytes.now) }
 {

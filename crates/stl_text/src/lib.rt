@@ -2,7 +2,7 @@
 //!
 //! - [`read_stl`], [`read_stl_at_most`]: the facets of a text in file order, or its one fault.
 //! - [`read_stl_by`]: the same, read in parts by several workers.
-//! - [`TextReader`]: the same of a text that arrives in pieces, and is not held; several workers may read each piece.
+//! - [`TextReader`]: the same of a text that arrives in chunks, and is not held; several workers may read each chunk.
 //! - [`StlFault`]: why a text is no mesh, with the byte offset of the fault; [`Word`]: what is wanted there.
 //! - [`one_outcome`], [`reads_as_written`]: laws. Each text has one outcome, and it reads as facets exactly where it is
 //!   these facets written as STL.
@@ -21,12 +21,12 @@
 //! in bytes, from 0.
 #![tactic(auto)]
 
+mod facet_run;
 mod grammar;
 mod laws;
 mod layout;
 mod reader;
 mod reading;
-mod run;
 mod scanning;
 mod stage;
 mod stl_fault;

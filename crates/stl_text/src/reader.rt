@@ -3,7 +3,7 @@ ghost use Rattle.std.specs.Prelude.{◌≡◌, ◌↔◌, [], ◌∷◌, IfSome,
 ghost use Rattle.stl_text.specs.Reader.{Spells, start};
 ghost use Rattle.stl_text.specs.Text.{after_space, coordinate, keyword_of, HasOneKeyword, normal_part};
 
-use crate::scanning::{behind_coordinate, behind_keyword, skip_space, split_word};
+use crate::scanning::{after_coordinate, after_keyword, skip_space, split_word};
 use crate::word::Word;
 use micro_num::Unit;
 use std::marker::Model;
@@ -47,7 +47,7 @@ impl<'t> Reader<'t> {
         requires { HasOneKeyword wanted }
         ensures { IfSome result (λ _. Spells (keyword_of wanted ∷ []) self.old self.new) }
     {
-        self.rest = behind_keyword(self.rest, wanted.text().as_bytes())?;
+        self.rest = after_keyword(self.rest, wanted.text().as_bytes())?;
         Some(())
     }
 
@@ -68,7 +68,7 @@ impl<'t> Reader<'t> {
     pub(crate) fn coordinate(&mut self) -> Option<i32>
         ensures { IfSome result (λ z. Spells (coordinate z ∷ []) self.old self.new) }
     {
-        let (z, rest) = behind_coordinate(self.rest, self.unit)?;
+        let (z, rest) = after_coordinate(self.rest, self.unit)?;
         self.rest = rest;
         Some(z)
     }

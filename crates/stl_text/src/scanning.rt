@@ -111,7 +111,7 @@ pub(crate) fn ends_word(bytes: &[u8]) -> bool
 
 /// The text after the first word, if that is this keyword. `None` says nothing about the text.
 #[inline(always)]
-pub(crate) fn behind_keyword<'t>(bytes: &'t [u8], text: &[u8]) -> Option<&'t [u8]>
+pub(crate) fn after_keyword<'t>(bytes: &'t [u8], text: &[u8]) -> Option<&'t [u8]>
     requires lower { str_to_ascii_lowercase text.now ≡ text.now }
     requires word { list_all (λ byte. not (Text.is_white byte)) text.now ≡ true }
     ensures keyword { IfSome result (λ rest. Text.is_keyword text.now (first_word bytes.now) ≡ true) }
@@ -132,7 +132,7 @@ pub(crate) fn behind_keyword<'t>(bytes: &'t [u8], text: &[u8]) -> Option<&'t [u8
 
 /// The coordinate that the first word stands for, and the text after the word. `None` says nothing about the text.
 #[inline(always)]
-pub(crate) fn behind_coordinate(bytes: &[u8], unit: Unit) -> Option<(i32, &[u8])>
+pub(crate) fn after_coordinate(bytes: &[u8], unit: Unit) -> Option<(i32, &[u8])>
     ensures read { IfSome result (λ found. coordinate_of unit (first_word bytes.now) ≡ Ok found.0) }
     ensures rest { IfSome result (λ found. found.1.now ≡ after_word bytes.now) }
     ensures within { IfSome result (λ found. length found.1.now ≤ length bytes.now) }

@@ -10,7 +10,7 @@ ghost use Rattle.stl_text.specs.Stage.{AtWord, IsPlain, IsWantedAt, ReadInside, 
 
 use crate::scanning::is_keyword;
 use crate::stl_fault::StlFault;
-use crate::word::{END_SOLID, FACET, SOLID, Word};
+use crate::word::{END_SOLID, FACET, Word};
 use geometry::{Facet, Point};
 use micro_num::{Unit, read_micro};
 
@@ -22,26 +22,26 @@ pub(crate) enum Axis {
     Z,
 }
 
-/// A corner of a facet.
+/// A corner of a facet: the first, the second or the third.
 #[derive(Clone, Copy, Debug, PartialEq, Eq)]
-pub(crate) enum Corner {
+pub(crate) enum FacetCorner {
     A,
     B,
     C,
 }
 
-/// What is wanted inside a facet.
+/// What a word inside a facet has to be.
 #[derive(Clone, Copy, Debug, PartialEq, Eq)]
-pub(crate) enum Wanted {
+pub(crate) enum InnerWord {
     /// The one keyword of this kind.
     Keyword(Word),
     /// A word of a normal.
     Part,
     /// This coordinate of this corner.
-    Number(Corner, Axis),
+    Number(FacetCorner, Axis),
 }
 
-/// Where in the grammar the reading of a text stands, between two words.
+/// Where in the grammar the reading of a text stands, between two words: what the next word may be.
 #[derive(Clone, Copy, Debug, PartialEq, Eq)]
 pub(crate) enum Stage {
     /// `solid` is wanted. `some` tells whether a whole solid was read.
@@ -64,9 +64,9 @@ pub(crate) enum Step {
     Whole(Facet),
 }
 
-/// Where the reading of a text stands.
+/// Where a `TextReader` stands. It adds to a stage the rest of a line, in which no word counts, and the end at a fault.
 #[derive(Clone, Copy, Debug, PartialEq, Eq)]
-pub(crate) enum Place {
+pub(crate) enum ReaderState {
     /// Between two words, or in one.
     Word(Stage),
     /// In the rest of a line, with this stage after it.
@@ -105,7 +105,7 @@ fn put(point: Point, axis: Axis, value: i32) -> Point
 }
 
 /// A facet with another coordinate.
-fn put_in(facet: Facet, corner: Corner, axis: Axis, value: i32) -> Facet
+fn put_in(facet: Facet, corner: FacetCorner, axis: Axis, value: i32) -> Facet
     requires { IsAtMost COORDINATE_LIMIT value }
     ensures { result ≡ with_number corner axis value facet }
 {
@@ -113,9 +113,9 @@ fn put_in(facet: Facet, corner: Corner, axis: Axis, value: i32) -> Facet
     let b = facet.corner(1);
     let c = facet.corner(2);
     match corner {
-        Corner::A => Facet::of(put(a, axis, value), b, c),
-        Corner::B => Facet::of(a, put(b, axis, value), c),
-        Corner::C => Facet::of(a, b, put(c, axis, value)),
+        FacetCorner::A => Facet::of(put(a, axis, value), b, c),
+        FacetCorner::B => Facet::of(a, put(b, axis, value), c),
+        FacetCorner::C => Facet::of(a, b, put(c, axis, value)),
     }
 }
 
@@ -126,31 +126,31 @@ fn unread_facet() -> Facet {
 }
 
 /// What is wanted in a facet after `words` of the words that follow `facet`.
-fn wanted_behind(words: usize) -> Wanted
+fn wanted_after(words: usize) -> InnerWord
     ensures plain { IsPlain result }
     ensures wanted { words ≤ LAST_WORD → IsWantedAt words result }
 {
     match words {
-        0 => Wanted::Keyword(Word::Normal),
-        1 => Wanted::Part,
-        2 => Wanted::Part,
-        3 => Wanted::Part,
-        4 => Wanted::Keyword(Word::Outer),
-        5 => Wanted::Keyword(Word::Loop),
-        6 => Wanted::Keyword(Word::Vertex),
-        7 => Wanted::Number(Corner::A, Axis::X),
-        8 => Wanted::Number(Corner::A, Axis::Y),
-        9 => Wanted::Number(Corner::A, Axis::Z),
-        10 => Wanted::Keyword(Word::Vertex),
-        11 => Wanted::Number(Corner::B, Axis::X),
-        12 => Wanted::Number(Corner::B, Axis::Y),
-        13 => Wanted::Number(Corner::B, Axis::Z),
-        14 => Wanted::Keyword(Word::Vertex),
-        15 => Wanted::Number(Corner::C, Axis::X),
-        16 => Wanted::Number(Corner::C, Axis::Y),
-        17 => Wanted::Number(Corner::C, Axis::Z),
-        18 => Wanted::Keyword(Word::EndLoop),
-        _ => Wanted::Keyword(Word::EndFacet),
+        0 => InnerWord::Keyword(Word::Normal),
+        1 => InnerWord::Part,
+        2 => InnerWord::Part,
+        3 => InnerWord::Part,
+        4 => InnerWord::Keyword(Word::Outer),
+        5 => InnerWord::Keyword(Word::Loop),
+        6 => InnerWord::Keyword(Word::Vertex),
+        7 => InnerWord::Number(FacetCorner::A, Axis::X),
+        8 => InnerWord::Number(FacetCorner::A, Axis::Y),
+        9 => InnerWord::Number(FacetCorner::A, Axis::Z),
+        10 => InnerWord::Keyword(Word::Vertex),
+        11 => InnerWord::Number(FacetCorner::B, Axis::X),
+        12 => InnerWord::Number(FacetCorner::B, Axis::Y),
+        13 => InnerWord::Number(FacetCorner::B, Axis::Z),
+        14 => InnerWord::Keyword(Word::Vertex),
+        15 => InnerWord::Number(FacetCorner::C, Axis::X),
+        16 => InnerWord::Number(FacetCorner::C, Axis::Y),
+        17 => InnerWord::Number(FacetCorner::C, Axis::Z),
+        18 => InnerWord::Keyword(Word::EndLoop),
+        _ => InnerWord::Keyword(Word::EndFacet),
     }
 }
 
@@ -162,21 +162,21 @@ fn read_inside(
     at: usize,
     unit: Unit,
 ) -> Result<Facet, StlFault>
-    ensures read { words ≤ LAST_WORD → (behind : List ℕ) → first_word behind ≡ word.now → 0 < length word.now
-        → IfOk result (ReadInside unit words facet behind) }
-    ensures fault { words ≤ LAST_WORD → (behind : List ℕ) → first_word behind ≡ word.now → 0 < length word.now
-        → IfErr result (StopsInside unit words facet behind at) }
+    ensures read { words ≤ LAST_WORD → (after : List ℕ) → first_word after ≡ word.now → 0 < length word.now
+        → IfOk result (ReadInside unit words facet after) }
+    ensures fault { words ≤ LAST_WORD → (after : List ℕ) → first_word after ≡ word.now → 0 < length word.now
+        → IfErr result (StopsInside unit words facet after at) }
 {
-    match wanted_behind(words) {
-        Wanted::Keyword(kind) => {
+    match wanted_after(words) {
+        InnerWord::Keyword(kind) => {
             if is_keyword(word, kind.text().as_bytes()) {
                 Ok(facet)
             } else {
                 Err(StlFault::Expected { word: kind, at })
             }
         }
-        Wanted::Part => Ok(facet),
-        Wanted::Number(corner, axis) => match read_micro(word, unit) {
+        InnerWord::Part => Ok(facet),
+        InnerWord::Number(corner, axis) => match read_micro(word, unit) {
             Ok(value) => Ok(put_in(facet, corner, axis, value)),
             Err(cause) => Err(StlFault::Number { cause, at }),
         },
@@ -185,14 +185,14 @@ fn read_inside(
 
 /// Reads a word where `solid` is wanted.
 fn step_between(word: &[u8], at: usize) -> Result<Step, StlFault>
-    ensures read { (limit : ℕ) (unit : LengthUnit) (some : Bool) (facets : List Facet) (text behind : List ℕ)
-        → AtWord limit unit (between some) facets text behind word.now at
-        → IfOk result (StandsAfter limit unit facets text behind) }
-    ensures fault { (limit : ℕ) (unit : LengthUnit) (some : Bool) (facets : List Facet) (text behind : List ℕ)
-        → AtWord limit unit (between some) facets text behind word.now at
+    ensures read { (limit : ℕ) (unit : LengthUnit) (some : Bool) (facets : List Facet) (text after : List ℕ)
+        → AtWord limit unit (between some) facets text after word.now at
+        → IfOk result (StandsAfter limit unit facets text after) }
+    ensures fault { (limit : ℕ) (unit : LengthUnit) (some : Bool) (facets : List Facet) (text after : List ℕ)
+        → AtWord limit unit (between some) facets text after word.now at
         → IfErr result (IsFaultOf limit unit text) }
 {
-    if is_keyword(word, SOLID) {
+    if is_keyword(word, Word::Solid.text().as_bytes()) {
         Ok(Step::Line(Stage::Facets))
     } else {
         Err(StlFault::Expected {
@@ -204,11 +204,11 @@ fn step_between(word: &[u8], at: usize) -> Result<Step, StlFault>
 
 /// Reads a word where `facet` or `endsolid` is wanted, and `room` more facets may begin.
 fn step_facets(word: &[u8], at: usize, room: usize) -> Result<Step, StlFault>
-    ensures read { (limit : ℕ) (unit : LengthUnit) (facets : List Facet) (text behind : List ℕ)
-        → AtWord limit unit in_facets facets text behind word.now at → room ≡ limit - length facets
-        → IfOk result (StandsAfter limit unit facets text behind) }
-    ensures fault { (limit : ℕ) (unit : LengthUnit) (facets : List Facet) (text behind : List ℕ)
-        → AtWord limit unit in_facets facets text behind word.now at → room ≡ limit - length facets
+    ensures read { (limit : ℕ) (unit : LengthUnit) (facets : List Facet) (text after : List ℕ)
+        → AtWord limit unit in_facets facets text after word.now at → room ≡ limit - length facets
+        → IfOk result (StandsAfter limit unit facets text after) }
+    ensures fault { (limit : ℕ) (unit : LengthUnit) (facets : List Facet) (text after : List ℕ)
+        → AtWord limit unit in_facets facets text after word.now at → room ≡ limit - length facets
         → IfErr result (IsFaultOf limit unit text) }
 {
     if is_keyword(word, FACET) {
@@ -237,11 +237,11 @@ fn step_inside(
     at: usize,
     unit: Unit,
 ) -> Result<Step, StlFault>
-    ensures read { (limit : ℕ) (facets : List Facet) (text behind : List ℕ)
-        → AtWord limit unit (inside words facet) facets text behind word.now at
-        → IfOk result (StandsAfter limit unit facets text behind) }
-    ensures fault { (limit : ℕ) (facets : List Facet) (text behind : List ℕ)
-        → AtWord limit unit (inside words facet) facets text behind word.now at
+    ensures read { (limit : ℕ) (facets : List Facet) (text after : List ℕ)
+        → AtWord limit unit (inside words facet) facets text after word.now at
+        → IfOk result (StandsAfter limit unit facets text after) }
+    ensures fault { (limit : ℕ) (facets : List Facet) (text after : List ℕ)
+        → AtWord limit unit (inside words facet) facets text after word.now at
         → IfErr result (IsFaultOf limit unit text) }
 {
     let read = read_inside(words, facet, word, at, unit)?;
@@ -264,11 +264,11 @@ impl Stage {
         room: usize,
         unit: Unit,
     ) -> Result<Step, StlFault>
-        ensures read { (limit : ℕ) (facets : List Facet) (text behind : List ℕ)
-            → AtWord limit unit self facets text behind word.now at → room ≡ limit - length facets
-            → IfOk result (StandsAfter limit unit facets text behind) }
-        ensures fault { (limit : ℕ) (facets : List Facet) (text behind : List ℕ)
-            → AtWord limit unit self facets text behind word.now at → room ≡ limit - length facets
+        ensures read { (limit : ℕ) (facets : List Facet) (text after : List ℕ)
+            → AtWord limit unit self facets text after word.now at → room ≡ limit - length facets
+            → IfOk result (StandsAfter limit unit facets text after) }
+        ensures fault { (limit : ℕ) (facets : List Facet) (text after : List ℕ)
+            → AtWord limit unit self facets text after word.now at → room ≡ limit - length facets
             → IfErr result (IsFaultOf limit unit text) }
     {
         match self {
@@ -280,21 +280,21 @@ impl Stage {
 
     /// What the end of a text means here: the text is whole, or a word is wanted.
     pub(crate) fn end(self) -> Result<(), StlFault>
-        ensures read { (limit : ℕ) (unit : LengthUnit) (facets : List Facet) (text behind : List ℕ)
-            → Stands limit unit self facets text behind → after_space behind ≡ []
+        ensures read { (limit : ℕ) (unit : LengthUnit) (facets : List Facet) (text after : List ℕ)
+            → Stands limit unit self facets text after → after_space after ≡ []
             → IfOk result (λ _. Reads limit unit text facets) }
-        ensures fault { (limit : ℕ) (unit : LengthUnit) (facets : List Facet) (text behind : List ℕ)
-            → Stands limit unit self facets text behind → after_space behind ≡ []
+        ensures fault { (limit : ℕ) (unit : LengthUnit) (facets : List Facet) (text after : List ℕ)
+            → Stands limit unit self facets text after → after_space after ≡ []
             → IfErr result (IsFaultOf limit unit text) }
     {
         let word = match self {
             Stage::Between { some: true } => return Ok(()),
             Stage::Between { some: false } => Word::Solid,
             Stage::Facets => Word::FacetOrEnd,
-            Stage::Inside { words, .. } => match wanted_behind(words) {
-                Wanted::Keyword(kind) => kind,
-                Wanted::Part => Word::Number,
-                Wanted::Number(_, _) => Word::Number,
+            Stage::Inside { words, .. } => match wanted_after(words) {
+                InnerWord::Keyword(kind) => kind,
+                InnerWord::Part => Word::Number,
+                InnerWord::Number(_, _) => Word::Number,
             },
         };
         Err(StlFault::Ended { word })

@@ -1,18 +1,18 @@
-//! The reader of a text that is fed in pieces.
+//! The reader of a text that is fed in chunks.
 ghost use Rattle.std.specs.Prelude.{◌≡◌, ◌≢◌, ◌↔◌, ◌<◌, ◌≤◌, ◌+◌, ◌-◌, ℕ, [], ◌∷◌, ◌++◌, All, List, IfErr, IfOk, IfSome, IsTrue, MatchResult, None, length};
 ghost use Rattle.geometry.specs.Facet.{Facet};
 ghost use Rattle.geometry.specs.declared.limits.TheConstants.{FACET_LIMIT};
 ghost use Rattle.micro_num.specs.declared.unit.Unit.{Unit as LengthUnit};
 ghost use Rattle.stl_text.specs.declared.stl_fault.StlFault.TheVariants.{Memory};
 ghost use Rattle.stl_text.specs.Text.{IsFaultOf, Reads};
-ghost use Rattle.stl_text.specs.Run.{IsFacetRun};
+ghost use Rattle.stl_text.specs.FacetRun.{IsFacetRun};
 ghost use Rattle.stl_text.specs.Stage.{AtWord, in_facets};
-ghost use Rattle.stl_text.specs.Pieces.{EndsAt, IsAfter, IsReading, ReadsOn, StandsAt, at_line, at_word};
+ghost use Rattle.stl_text.specs.TextReader.{EndsAt, IsAfter, IsReading, ReadsOn, StandsAt, at_line, at_word};
 
+use crate::facet_run::{FacetRun, layout_within};
 use crate::layout::{Layout, front_facet};
-use crate::run::{Run, layout_within};
 use crate::scanning::{skip_line, skip_space, word_len};
-use crate::stage::{Place, Stage, Step};
+use crate::stage::{ReaderState, Stage, Step};
 use crate::stl_fault::StlFault;
 use geometry::{FACET_LIMIT, Facet};
 use micro_num::Unit;
@@ -21,14 +21,14 @@ use std::marker::Model;
 use std::mem::swap;
 use std::thread::Threads;
 
-/// The least length of a part of a piece, in bytes. A piece that is too short for two parts is read by one worker.
+/// The least length of a part of a chunk, in bytes. A chunk that is too short for two parts is read by one worker.
 const LEAST_PART: usize = 1 << 15;
 
 /// Whether `facet` or `endsolid` is wanted.
-fn is_among_facets(place: Place) -> bool
-    ensures { IsTrue result ↔ (place ≡ at_word in_facets) }
+fn is_among_facets(state: ReaderState) -> bool
+    ensures { IsTrue result ↔ (state ≡ at_word in_facets) }
 {
-    matches!(place, Place::Word(Stage::Facets))
+    matches!(state, ReaderState::Word(Stage::Facets))
 }
 
 /// Adds a facet, where memory suffices.
@@ -69,28 +69,28 @@ fn read_word<A: Allocator>(
     limit: usize,
     unit: Unit,
     facets: &mut Vec<Facet, A>,
-) -> Place
-    ensures { (taken : List Facet) (text behind : List ℕ)
-        → AtWord (length taken + limit) unit stage (taken ++ facets.old.items) text behind word.now at
-        → StandsAt (length taken + limit) unit result (taken ++ facets.new.items) text behind }
+) -> ReaderState
+    ensures { (taken : List Facet) (text after : List ℕ)
+        → AtWord (length taken + limit) unit stage (taken ++ facets.old.items) text after word.now at
+        → StandsAt (length taken + limit) unit result (taken ++ facets.new.items) text after }
 {
     let room = limit.saturating_sub(facets.len());
     let step = match stage.step(word, at, room, unit) {
         Ok(step) => step,
-        Err(fault) => return Place::Stopped(fault),
+        Err(fault) => return ReaderState::Stopped(fault),
     };
     match step {
-        Step::To(next) => Place::Word(next),
-        Step::Line(next) => Place::Line(next),
+        Step::To(next) => ReaderState::Word(next),
+        Step::Line(next) => ReaderState::Line(next),
         Step::Whole(facet) => match add(facets, facet) {
-            Ok(()) => Place::Word(Stage::Facets),
-            Err(fault) => Place::Stopped(fault),
+            Ok(()) => ReaderState::Word(Stage::Facets),
+            Err(fault) => ReaderState::Stopped(fault),
         },
     }
 }
 
-/// A reader of an ASCII STL text that arrives in pieces, cut anywhere: also in a word, a number, a name or a line break.
-/// It keeps the facets until they are taken and, between two pieces, no more of the text than the front of a word that
+/// A reader of an ASCII STL text that arrives in chunks, cut anywhere: also in a word, a number, a name or a line break.
+/// It keeps the facets until they are taken and, between two chunks, no more of the text than the front of a word that
 /// is not whole yet. Names, rests of lines and white space take nothing, and nor does what follows a fault. A word is kept
 /// whole, however long it is.
 #[derive(Drop)]
@@ -102,7 +102,7 @@ pub struct TextReader<A: Allocator> {
     /// The number of bytes so far.
     count: usize,
     /// Where the reading stands.
-    place: Place,
+    state: ReaderState,
     /// The front of a word that is not whole yet.
     held: Vec<u8, A>,
     /// The facets so far that were not taken.
@@ -110,11 +110,11 @@ pub struct TextReader<A: Allocator> {
 }
 
 impl<A: Allocator> Model for TextReader<A> {
-    ghost use Rattle.stl_text.specs.Pieces.{Progress};
+    ghost use Rattle.stl_text.specs.TextReader.{TextReader};
 
-    ghost Value = { Progress };
+    ghost Value = { TextReader };
 
-    ghost view = { λ r. record { limit = r.limit; unit = r.unit; count = r.count; place = r.place; held = r.held.items; facets = r.facets.items } };
+    ghost view = { λ r. record { limit = r.limit; unit = r.unit; count = r.count; state = r.state; held = r.held.items; facets = r.facets.items } };
 }
 
 impl<A: Allocator + Copy> TextReader<A> {
@@ -127,7 +127,7 @@ impl<A: Allocator + Copy> TextReader<A> {
             limit: limit as usize,
             unit,
             count: 0,
-            place: Place::Word(Stage::Between { some: false }),
+            state: ReaderState::Word(Stage::Between { some: false }),
             held: Vec::new(alloc),
             facets: Vec::new(alloc),
         }
@@ -135,26 +135,26 @@ impl<A: Allocator + Copy> TextReader<A> {
 }
 
 impl<A: Allocator> TextReader<A> {
-    /// Reads the next piece of the text. Where it is cut from the next does not matter.
-    pub fn feed(&mut self, piece: &[u8])
+    /// Reads the next chunk of the text. Where it is cut from the next does not matter.
+    pub fn feed(&mut self, chunk: &[u8])
         ensures { (limit : ℕ) (unit : LengthUnit) (taken : List Facet) (fed : List ℕ) → IsAfter limit unit taken self.old fed
-            → IsAfter limit unit taken self.new (fed ++ piece.now) }
+            → IsAfter limit unit taken self.new (fed ++ chunk.now) }
     {
-        self.count_piece(piece);
-        let rest = self.resume(piece);
-        self.read_to(rest, &layout_within(piece), 0);
+        self.count_chunk(chunk);
+        let rest = self.resume(chunk);
+        self.read_to(rest, &layout_within(chunk), 0);
     }
 
-    /// Reads the next piece of the text, of which some runs are known, in the order in which they begin.
-    fn feed_runs<'p>(&mut self, piece: &'p [u8], runs: &[Run<'p, A>])
+    /// Reads the next chunk of the text, of which some runs are known, in the order in which they begin.
+    fn feed_runs<'p>(&mut self, chunk: &'p [u8], runs: &[FacetRun<'p, A>])
         ensures { (limit : ℕ) (unit : LengthUnit) (taken : List Facet) (fed : List ℕ)
             → IsAfter limit unit taken self.old fed
-            → All (λ run. IsFacetRun unit piece.now run.facets.items run.from.now run.to.now) runs.now
-            → IsAfter limit unit taken self.new (fed ++ piece.now) }
+            → All (λ run. IsFacetRun unit chunk.now run.facets.items run.from.now run.to.now) runs.now
+            → IsAfter limit unit taken self.new (fed ++ chunk.now) }
     {
-        self.count_piece(piece);
-        let layout = layout_within(piece);
-        let mut rest = self.resume(piece);
+        self.count_chunk(chunk);
+        let layout = layout_within(chunk);
+        let mut rest = self.resume(chunk);
         for run in runs {
             rest = self.read_to(rest, &layout, run.from.len());
             rest = self.jump(rest, run);
@@ -164,18 +164,18 @@ impl<A: Allocator> TextReader<A> {
 
     /// Jumps over a run, if it begins where this part does, `facet` or `endsolid` is wanted here and the limit has room for
     /// its facets: answers the text after it. Else it answers the part.
-    fn jump<'p>(&mut self, part: &'p [u8], run: &Run<'p, A>) -> &'p [u8]
+    fn jump<'p>(&mut self, part: &'p [u8], run: &FacetRun<'p, A>) -> &'p [u8]
         requires free { 0 < length part.now → self.old.held ≡ [] }
-        ensures read { (limit : ℕ) (unit : LengthUnit) (taken : List Facet) (fed piece : List ℕ)
-            → IsFacetRun unit piece run.now.facets.items run.now.from.now run.now.to.now
-            → IsReading limit unit taken self.old (fed ++ piece) part.now
-            → IsReading limit unit taken self.new (fed ++ piece) result.now }
+        ensures read { (limit : ℕ) (unit : LengthUnit) (taken : List Facet) (fed chunk : List ℕ)
+            → IsFacetRun unit chunk run.now.facets.items run.now.from.now run.now.to.now
+            → IsReading limit unit taken self.old (fed ++ chunk) part.now
+            → IsReading limit unit taken self.new (fed ++ chunk) result.now }
         ensures free { 0 < length result.now → self.new.held ≡ [] }
     {
         if part.is_empty() || part.len() != run.from.len() {
             return part;
         }
-        if !is_among_facets(self.place) {
+        if !is_among_facets(self.state) {
             return part;
         }
         if self.limit.saturating_sub(self.facets.len()) < run.facets.len() {
@@ -183,7 +183,7 @@ impl<A: Allocator> TextReader<A> {
         }
         let rest = run.to;
         if let Err(fault) = add_all(&mut self.facets, &run.facets) {
-            self.place = Place::Stopped(fault);
+            self.state = ReaderState::Stopped(fault);
             return rest;
         }
         rest
@@ -233,42 +233,42 @@ impl<A: Allocator> TextReader<A> {
             → IfErr result (λ fault. fault ≢ Memory → IsFaultOf limit unit fed fault) }
     {
         let mut reader = self;
-        let place = reader.close();
-        match place {
-            Place::Stopped(fault) => Err(fault),
-            Place::Word(stage) | Place::Line(stage) => match stage.end() {
+        let state = reader.close();
+        match state {
+            ReaderState::Stopped(fault) => Err(fault),
+            ReaderState::Word(stage) | ReaderState::Line(stage) => match stage.end() {
                 Ok(()) => Ok(reader.facets),
                 Err(fault) => Err(fault),
             },
         }
     }
 
-    /// Counts the bytes of a piece.
-    fn count_piece(&mut self, piece: &[u8])
+    /// Counts the bytes of a chunk.
+    fn count_chunk(&mut self, chunk: &[u8])
         ensures { (limit : ℕ) (unit : LengthUnit) (taken : List Facet) (fed : List ℕ) → IsAfter limit unit taken self.old fed
-            → IsReading limit unit taken self.new (fed ++ piece.now) piece.now }
+            → IsReading limit unit taken self.new (fed ++ chunk.now) chunk.now }
     {
-        match self.count.checked_add(piece.len()) {
+        match self.count.checked_add(chunk.len()) {
             Some(count) => self.count = count,
-            None => self.place = Place::Stopped(StlFault::Memory),
+            None => self.state = ReaderState::Stopped(StlFault::Memory),
         }
     }
 
-    /// Goes on with a word that the last piece cut: answers the text after it.
-    fn resume<'p>(&mut self, piece: &'p [u8]) -> &'p [u8]
-        ensures read { ReadsOn self.old piece.now self.new result.now }
+    /// Goes on with a word that the last chunk cut: answers the text after it.
+    fn resume<'p>(&mut self, chunk: &'p [u8]) -> &'p [u8]
+        ensures read { ReadsOn self.old chunk.now self.new result.now }
         ensures free { 0 < length result.now → self.new.held ≡ [] }
     {
         if self.held.is_empty() {
-            return piece;
+            return chunk;
         }
-        let (word, rest) = piece.split_at(word_len(piece));
+        let (word, rest) = chunk.split_at(word_len(chunk));
         let (_, none) = rest.split_at(rest.len());
-        let Place::Word(stage) = self.place else {
+        let ReaderState::Word(stage) = self.state else {
             return none;
         };
         if let Err(fault) = hold(&mut self.held, word) {
-            self.place = Place::Stopped(fault);
+            self.state = ReaderState::Stopped(fault);
             return none;
         }
         if rest.is_empty() {
@@ -286,10 +286,10 @@ impl<A: Allocator> TextReader<A> {
         ensures free { 0 < length result.now → self.new.held ≡ [] }
         ensures shorter { length result.now < length part.now }
     {
-        match self.place {
-            Place::Stopped(_) => part.split_at(part.len()).1,
-            Place::Line(stage) => self.line(stage, part),
-            Place::Word(stage) => {
+        match self.state {
+            ReaderState::Stopped(_) => part.split_at(part.len()).1,
+            ReaderState::Line(stage) => self.line(stage, part),
+            ReaderState::Word(stage) => {
                 if matches!(stage, Stage::Facets) {
                     if let Some(rest) = self.facet(part, layout) {
                         return rest;
@@ -304,7 +304,7 @@ impl<A: Allocator> TextReader<A> {
     fn line<'p>(&mut self, stage: Stage, part: &'p [u8]) -> &'p [u8]
         requires free { self.old.held ≡ [] }
         requires some { 0 < length part.now }
-        requires place { self.old.place ≡ at_line stage }
+        requires state { self.old.state ≡ at_line stage }
         ensures read { ReadsOn self.old part.now self.new result.now }
         ensures free { 0 < length result.now → self.new.held ≡ [] }
         ensures shorter { length result.now < length part.now }
@@ -313,16 +313,16 @@ impl<A: Allocator> TextReader<A> {
         if rest.is_empty() {
             return rest;
         }
-        let (_, behind) = rest.split_at(1);
-        self.place = Place::Word(stage);
-        behind
+        let (_, after) = rest.split_at(1);
+        self.state = ReaderState::Word(stage);
+        after
     }
 
     /// Reads a whole facet at the front, if there is one and the limit has room for it: answers the text after it.
     #[inline(always)]
     fn facet<'p>(&mut self, part: &'p [u8], layout: &Option<Layout<'_>>) -> Option<&'p [u8]>
         requires free { self.old.held ≡ [] }
-        requires place { self.old.place ≡ at_word in_facets }
+        requires state { self.old.state ≡ at_word in_facets }
         ensures read { IfSome result (λ rest. ReadsOn self.old part.now self.new rest.now) }
         ensures free { IfSome result (λ rest. self.new.held ≡ []) }
         ensures shorter { IfSome result (λ rest. length rest.now < length part.now) }
@@ -336,7 +336,7 @@ impl<A: Allocator> TextReader<A> {
         };
         let rest = found.1;
         if let Err(fault) = add(&mut self.facets, found.0) {
-            self.place = Place::Stopped(fault);
+            self.state = ReaderState::Stopped(fault);
             let (_, none) = rest.split_at(rest.len());
             return Some(none);
         }
@@ -347,7 +347,7 @@ impl<A: Allocator> TextReader<A> {
     fn word<'p>(&mut self, stage: Stage, part: &'p [u8]) -> &'p [u8]
         requires free { self.old.held ≡ [] }
         requires some { 0 < length part.now }
-        requires place { self.old.place ≡ at_word stage }
+        requires state { self.old.state ≡ at_word stage }
         ensures read { ReadsOn self.old part.now self.new result.now }
         ensures free { 0 < length result.now → self.new.held ≡ [] }
         ensures shorter { length result.now < length part.now }
@@ -359,36 +359,36 @@ impl<A: Allocator> TextReader<A> {
         let (word, rest) = front.split_at(word_len(front));
         if rest.is_empty() {
             if let Err(fault) = hold(&mut self.held, word) {
-                self.place = Place::Stopped(fault);
+                self.state = ReaderState::Stopped(fault);
             }
             return rest;
         }
         let at = self.count.saturating_sub(front.len());
-        self.place = read_word(stage, word, at, self.limit, self.unit, &mut self.facets);
+        self.state = read_word(stage, word, at, self.limit, self.unit, &mut self.facets);
         rest
     }
 
     /// Reads the last word of the text: answers where the text ends.
-    fn close(&mut self) -> Place
+    fn close(&mut self) -> ReaderState
         ensures { (limit : ℕ) (unit : LengthUnit) (taken : List Facet) (fed : List ℕ) → IsAfter limit unit taken self.old fed
             → EndsAt limit unit result (taken ++ self.new.facets) fed }
     {
-        let Place::Word(stage) = self.place else {
-            return self.place;
+        let ReaderState::Word(stage) = self.state else {
+            return self.state;
         };
         if self.held.is_empty() {
-            return self.place;
+            return self.state;
         }
         self.read_held(stage, 0);
-        self.place
+        self.state
     }
 
     /// Reads the word that is held, after which the text so far has `left` bytes.
     fn read_held(&mut self, stage: Stage, left: usize)
-        ensures read { (taken : List Facet) (text behind : List ℕ)
-            → AtWord (length taken + self.old.limit) self.old.unit stage (taken ++ self.old.facets) text behind self.old.held
+        ensures read { (taken : List Facet) (text after : List ℕ)
+            → AtWord (length taken + self.old.limit) self.old.unit stage (taken ++ self.old.facets) text after self.old.held
             (self.old.count - left - length self.old.held)
-            → StandsAt (length taken + self.old.limit) self.old.unit self.new.place (taken ++ self.new.facets) text behind }
+            → StandsAt (length taken + self.old.limit) self.old.unit self.new.state (taken ++ self.new.facets) text after }
         ensures same { (self.new.limit ≡ self.old.limit) × (self.new.unit ≡ self.old.unit) × (self.new.count ≡ self.old.count) }
         ensures free { self.new.held ≡ [] }
     {
@@ -396,7 +396,7 @@ impl<A: Allocator> TextReader<A> {
             .count
             .saturating_sub(left)
             .saturating_sub(self.held.len());
-        self.place = read_word(
+        self.state = read_word(
             stage,
             self.held.as_slice(),
             at,
@@ -409,22 +409,22 @@ impl<A: Allocator> TextReader<A> {
 }
 
 impl<A: Allocator + Copy + Send + Sync> TextReader<A> {
-    /// Reads the next piece of the text, a long one in parts by up to `workers` workers at the same time. The answer is
+    /// Reads the next chunk of the text, a long one in parts by up to `workers` workers at the same time. The answer is
     /// that of [`TextReader::feed`], for every number of workers.
-    pub fn feed_by<R: Threads + Sync>(&mut self, rt: &R, piece: &[u8], workers: u32)
+    pub fn feed_by<R: Threads + Sync>(&mut self, rt: &R, chunk: &[u8], workers: u32)
         ensures { (limit : ℕ) (unit : LengthUnit) (taken : List Facet) (fed : List ℕ)
-            → IsAfter limit unit taken self.old fed → IsAfter limit unit taken self.new (fed ++ piece.now) }
+            → IsAfter limit unit taken self.old fed → IsAfter limit unit taken self.new (fed ++ chunk.now) }
     {
-        let parts = (piece.len() / LEAST_PART).min(workers as usize);
-        let stopped = matches!(self.place, Place::Stopped(_));
+        let parts = (chunk.len() / LEAST_PART).min(workers as usize);
+        let stopped = matches!(self.state, ReaderState::Stopped(_));
         if stopped || parts < 2 {
-            self.feed(piece);
+            self.feed(chunk);
             return;
         }
         let alloc = *self.facets.allocator();
-        match Run::found_by(rt, alloc, piece, self.unit, parts) {
-            Ok(runs) => self.feed_runs(piece, &runs),
-            Err(_) => self.feed(piece),
+        match FacetRun::found_by(rt, alloc, chunk, self.unit, parts) {
+            Ok(runs) => self.feed_runs(chunk, &runs),
+            Err(_) => self.feed(chunk),
         }
     }
 }

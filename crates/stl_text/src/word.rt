@@ -4,10 +4,7 @@ ghost use Rattle.stl_text.specs.Text.{HasOneKeyword, keyword_text};
 
 use std::fmt::{Display, Error, Formatter, Write};
 
-/// The keyword that begins a solid, in lower case.
-pub(crate) const SOLID: &[u8] = b"solid";
-
-/// The keyword that begins a facet, in lower case.
+/// The keyword that begins a facet, in lower case. It and the next are those of `Word::FacetOrEnd`, whose text names both.
 pub(crate) const FACET: &[u8] = b"facet";
 
 /// The keyword that ends a solid, in lower case.

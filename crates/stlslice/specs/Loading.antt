@@ -8,7 +8,7 @@ use Rattle.mesh_weld.specs.Welder.{Welder, welder_of}
 use Rattle.mesh_weld.specs.Solid.{Solid, solid_of}
 use Rattle.micro_num.specs.declared.unit.Unit.{Unit as LengthUnit}
 use Rattle.raster.specs.Devices.{Fails}
-use Rattle.stl_text.specs.Pieces.{IsAfter, Progress}
+use Rattle.stl_text.specs.TextReader.{IsAfter, TextReader}
 use Rattle.stl_text.specs.Text.{IsFaultOf, Reads}
 use Rattle.stl_text.specs.declared.stl_fault.StlFault.{StlFault}
 use Rattle.stlslice.specs.Extent.{extent_of}
@@ -51,12 +51,12 @@ HasWelded facets old new = (taken : List Facet) → AreWelded taken old → AreW
 
 -- A welder and a reader have all facets of a text between them, those that were taken off the reader in the welder: what
 -- `says` tells holds of the text.
-abbrev pub OfText : Welder → Progress → (LengthUnit → List ℕ → Type 0) → Type 0
+abbrev pub OfText : Welder → TextReader → (LengthUnit → List ℕ → Type 0) → Type 0
 OfText welder reader says = (unit : LengthUnit) (taken : List Facet) (fed : List ℕ) → AreWelded taken welder
     → IsAfter FACET_LIMIT unit taken reader fed → says unit fed
 
 -- the reader was fed what a source had at the start and has no more, and these facets were taken off it
-abbrev pub IsFed : LengthUnit → List Facet → Progress → Option (List ℕ) → Option (List ℕ) → Type 0
+abbrev pub IsFed : LengthUnit → List Facet → TextReader → Option (List ℕ) → Option (List ℕ) → Type 0
 IsFed unit taken reader start now = (fed : List ℕ) × Consumes start now fed × IsAfter FACET_LIMIT unit taken reader fed
 
 -- these bytes are all of the input, where that is known

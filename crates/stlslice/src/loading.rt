@@ -7,7 +7,7 @@ ghost use Rattle.mesh_weld.specs.Balance.{IsBalanced};
 ghost use Rattle.mesh_weld.specs.Solid.{solid_of};
 ghost use Rattle.micro_num.specs.declared.unit.Unit.{Unit as LengthUnit};
 ghost use Rattle.raster.specs.Devices.{Fails};
-ghost use Rattle.stl_text.specs.Pieces.{IsAfter};
+ghost use Rattle.stl_text.specs.TextReader.{IsAfter};
 ghost use Rattle.stl_text.specs.Text.{Reads};
 ghost use Rattle.stlslice.specs.Loading.{HasWelded, IsAllWelded, IsFed, IsFilled, IsLoadFault, IsLoaded, IsMisread, IsReadAs, IsSolidOf, IsTextExtent, OfText};
 ghost use Rattle.stlslice.specs.Transcript.{transcript};
@@ -160,9 +160,10 @@ fn weld_last<A: Allocator + Copy + Send + Sync>(
     Ok(welder)
 }
 
-/// Feeds a reader with a round while the facets of the last one are welded and, where there `is_more`, the next one is filled:
-/// answers whether there is more after it. Of up to `workers` workers one welds and fills, on the thread that calls, and the
-/// others read. Where there is nothing to weld or to fill, all of them read.
+/// Feeds a reader with a round. Meanwhile the facets of the round before are welded and, where the source has more
+/// (`is_more`), the next round is filled. Answers whether the source has more after the next round. Of up to `workers` workers
+/// one welds and fills, on the thread that calls, and the others read. Where there is nothing to weld or to fill, all of them
+/// read.
 fn read_and_weld<R: Threads + Sync, A: Allocator + Copy + Send + Sync, I: Source>(
     rt: &R,
     workers: u32,
@@ -192,8 +193,8 @@ fn read_and_weld<R: Threads + Sync, A: Allocator + Copy + Send + Sync, I: Source
     filled
 }
 
-/// Adds facets to a welder, and fills a round from a source where there `is_more`, else leaves the round empty: answers whether
-/// there is more after it.
+/// Adds facets to a welder, and fills a round from a source, or leaves it empty where the source has no more (`is_more`).
+/// Answers whether the source has more after the round.
 fn weld_and_fill<A: Allocator + Copy + Send + Sync, I: Source>(
     welder: &mut Welder<A>,
     facets: &[Facet],

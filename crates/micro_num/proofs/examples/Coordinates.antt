@@ -6,6 +6,7 @@ use Rattle.micro_num.specs.declared.num_fault.NumFault.TheVariants.{NotNumber, T
 use Rattle.micro_num.specs.Micrometres.{coordinate_of, coordinate_or_fault, magnitude}
 use Rattle.micro_num.proofs.lemmas.Magnitude.{magnitude-zero, magnitude_far, magnitude-near}
 use Rattle.geometry.specs.declared.limits.TheConstants.{COORDINATE_LIMIT}
+use Rattle.micro_num.specs.declared.limits.TheConstants.{WORD_LIMIT}
 
 half_away_from_zero : coordinate_of Millimetre (codes "0.0005") ≡ Ok (pos 1)
 unfolding magnitude
@@ -63,11 +64,11 @@ empty_word : coordinate_of Millimetre (codes "") ≡ Err NotNumber
 unfolding magnitude
 empty_word = refl
 
-longest_word : coordinate_of Millimetre (replicate 255 48) ≡ Ok (pos 0)
+longest_word : coordinate_of Millimetre (replicate WORD_LIMIT 48) ≡ Ok (pos 0)
 unfolding magnitude
 longest_word = refl
 
-word_too_long : coordinate_of Millimetre (replicate 256 48) ≡ Err TooLong
+word_too_long : coordinate_of Millimetre (replicate (WORD_LIMIT + 1) 48) ≡ Err TooLong
 unfolding magnitude
 word_too_long = refl
 
@@ -79,9 +80,9 @@ zeros_before_a_high_exponent : coordinate_of Millimetre (codes "0." ++ replicate
 unfolding magnitude
 zeros_before_a_high_exponent = refl
 
-half_behind_many_zeros : coordinate_of Millimetre (codes "0." ++ replicate 240 48 ++ codes "5e237") ≡ Ok (pos 1)
+half_after_many_zeros : coordinate_of Millimetre (codes "0." ++ replicate 240 48 ++ codes "5e237") ≡ Ok (pos 1)
 unfolding magnitude
-half_behind_many_zeros = refl
+half_after_many_zeros = refl
 
 many_nines_below_half : coordinate_of Millimetre (codes "0.00049" ++ replicate 240 57) ≡ Ok (pos 0)
 unfolding magnitude

@@ -19,7 +19,7 @@ use Rattle.micro_num.specs.declared.limits.TheConstants.{LEADING_ROOM}
 pub marked_rest : (bytes : List ℕ) (x : Option Exponent) (rest : List ℕ) → is_exponent x ≡ true → bytes ≡ exponent_text x ++ rest → IsEnded rest
     → (mark : ℕ) (text ds : List ℕ) → bytes ≡ mark ∷ text → is_exponent_mark mark ≡ true → ds ≡ after_sign text
     → (0 < position_or_len is_other ds) × (from_first is_other ds ≡ rest)
-marked_rest bytes x rest is spelled ended mark text ds begins marks behind = by_exponent x is spelled
+marked_rest bytes x rest is spelled ended mark text ds begins marks after = by_exponent x is spelled
   where
     no_mark : (rest : List ℕ) → IsEnded rest → mark ∷ text ≡ rest → ⊥
     no_mark [] h e = cc
@@ -37,7 +37,7 @@ marked_rest bytes x rest is spelled ended mark text ds begins marks behind = by_
         and_parts (nat_lt 0 (length e.digits)) (list_all is_ascii_digit e.digits) digits in
         let text_is : text ≡ (sign_text e.sign ++ e.digits) ++ rest = cc in
         let ds_is : ds ≡ e.digits ++ rest =
-        behind ∙ ap after_sign (text_is ∙ append_assoc (sign_text e.sign) e.digits rest)
+        after ∙ ap after_sign (text_is ∙ append_assoc (sign_text e.sign) e.digits rest)
         ∙ after_sign-is e.sign (e.digits ++ rest) (digits_unsigned_on e.digits rest digits) in
         let clear = no_other e.digits parts.1 in
         let starts = ended_other rest ended in
@@ -49,7 +49,7 @@ marked_rest bytes x rest is spelled ended mark text ds begins marks behind = by_
 pub front_exponent : (bytes : List ℕ) (mark : ℕ) (text ds : List ℕ) (n : ℕ) (e : ℤ) → bytes ≡ mark ∷ text → ds ≡ after_sign text
     → is_exponent_mark mark ≡ true → n ≡ position_or_len is_other ds → 0 < n → IsNear e (with_sign (sign_of text) (digits_value (take n ds)))
     → IsExponentFront bytes (drop n ds) e
-front_exponent bytes mark text ds n e spelled behind is count some is_near =
+front_exponent bytes mark text ds n e spelled after is count some is_near =
     let digits : list_all is_ascii_digit (take n ds) ≡ true = rw count (front_digits ds) in
     let long : nat_lt 0 (length (take n ds)) ≡ true = is_long n ds count some in
     record {
@@ -57,7 +57,7 @@ front_exponent bytes mark text ds n e spelled behind is count some is_near =
       is = rw (is, long) digits;
       spelled = spelled
           ∙ ap {B = List ℕ} (λ t. mark ∷ t) (sym (sign-text text))
-          ∙ ap {B = List ℕ} (λ t. mark ∷ (sign_text (sign_of text) ++ t)) (sym behind ∙ sym (take-append-drop n ds))
+          ∙ ap {B = List ℕ} (λ t. mark ∷ (sign_text (sign_of text) ++ t)) (sym after ∙ sym (take-append-drop n ds))
           ∙ ap {B = List ℕ} (λ t. mark ∷ t) (sym (append_assoc (sign_text (sign_of text)) (take n ds) (drop n ds)));
       near = is_near;
     }

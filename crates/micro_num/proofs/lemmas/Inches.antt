@@ -9,6 +9,7 @@ use Rattle.std.proofs.lemmas.Bool.{and_parts, cases_lt}
 use Rattle.std.proofs.Math.Nat.{pow-le-pow_right}
 use Rattle.micro_num.specs.declared.unit.Unit.{Unit as LengthUnit}
 use Rattle.micro_num.specs.declared.unit.Unit.TheVariants.{Millimetre, Inch}
+use Rattle.micro_num.specs.declared.limits.TheConstants.{WORD_LIMIT}
 use Rattle.micro_num.specs.Micrometres.{unit_factor, unit_power}
 use Rattle.micro_num.specs.Scan.{IsLeading, IsCarry, digits_after}
 use Rattle.micro_num.proofs.lemmas.Powers.{power_suc}
@@ -76,7 +77,7 @@ pub power_small : (unit : LengthUnit) → unit_power unit ≤ 3
 power_small Millimetre = lit≤ tt
 power_small Inch = lit≤ tt
 
-pub times_below : (unit : LengthUnit) (n k : ℕ) → n < 10 ^ k → k ≤ 255 → unit_factor unit * n < 10 ^ 300
+pub times_below : (unit : LengthUnit) (n k : ℕ) → n < 10 ^ k → k ≤ WORD_LIMIT → unit_factor unit * n < 10 ^ 300
 times_below unit n k below few = by_unit unit
   where
     more : 1000 * 10 ^ k ≤ 10 ^ 300

@@ -8,7 +8,7 @@ use Rattle.std.proofs.lemmas.List.Folds.{list_all-append}
 use Rattle.std.proofs.Math.Numerals.{one-add}
 use Rattle.std.proofs.lemmas.Bool.{and_parts, eqb-true, ltb-true}
 use Rattle.micro_num.specs.Numeral.{Sign, unsigned, Exponent, Numeral, is_point, is_exponent_mark, sign_text, fraction_text, exponent_text, numeral_text, fraction_digits, mantissa_digits, is_exponent, IsNumeral, sign_of, after_sign, from_first, exponent_of, numeral_of}
-use Rattle.micro_num.specs.Scan.{is_other, digits_behind, rest_behind, scanned, is_numeral, IsEnded}
+use Rattle.micro_num.specs.Scan.{is_other, digits_after_point, rest_after_point, scanned, is_numeral, IsEnded}
 use Rattle.exact_int.proofs.lemmas.Lists.{all-weaker}
 use Rattle.micro_num.proofs.lemmas.Grammar.{Starts, before-is, from-is, sign-text, exponent-text, regrouped, IsUnsigned, sign-is, after_sign-is, exponent-is, numeral_digits, numeral_unsigned, numeral_of-is, numeral_of-text, front-text}
 
@@ -22,9 +22,9 @@ front_digits (x ∷ xs) = by_test (front_digits xs) (is_ascii_digit x) refl
     by_test rest true e = rw e (rw one-add (rw e rest))
     by_test rest false e = rw e refl
 
-pub behind_digits : (bytes : List ℕ) → list_all is_ascii_digit (fraction_digits (digits_behind bytes)) ≡ true
-behind_digits [] = refl
-behind_digits (byte ∷ bytes) = by_test (byte == 46)
+pub point_digits : (bytes : List ℕ) → list_all is_ascii_digit (fraction_digits (digits_after_point bytes)) ≡ true
+point_digits [] = refl
+point_digits (byte ∷ bytes) = by_test (byte == 46)
   where
     by_test : (b : Bool) → list_all is_ascii_digit (fraction_digits (if b then Some (before_first is_other bytes) else None)) ≡ true
     by_test true = front_digits bytes
@@ -32,14 +32,14 @@ behind_digits (byte ∷ bytes) = by_test (byte == 46)
 
 pub scanned_digits : (s : Sign) (text : List ℕ) → list_all is_ascii_digit (mantissa_digits (scanned s text)) ≡ true
 scanned_digits s text =
-    list_all-append is_ascii_digit (before_first is_other text) (fraction_digits (digits_behind (from_first is_other text)))
-    ∙ rw (front_digits text) (behind_digits (from_first is_other text))
+    list_all-append is_ascii_digit (before_first is_other text) (fraction_digits (digits_after_point (from_first is_other text)))
+    ∙ rw (front_digits text) (point_digits (from_first is_other text))
 
 -- A text consists of the parts that a scan finds.
 
-pub behind-text : (bytes : List ℕ) → fraction_text (digits_behind bytes) ++ rest_behind bytes ≡ bytes
-behind-text [] = refl
-behind-text (byte ∷ bytes) = by_test (byte == 46) refl
+pub after-text : (bytes : List ℕ) → fraction_text (digits_after_point bytes) ++ rest_after_point bytes ≡ bytes
+after-text [] = refl
+after-text (byte ∷ bytes) = by_test (byte == 46) refl
   where
     by_test : (b : Bool) → (byte == 46) ≡ b
         → fraction_text (if b then Some (before_first is_other bytes) else None) ++ (if b then from_first is_other bytes else byte ∷ bytes) ≡ byte ∷ bytes
@@ -51,10 +51,10 @@ behind-text (byte ∷ bytes) = by_test (byte == 46) refl
 pub scanned-text : (s : Sign) (text : List ℕ) → numeral_text (scanned s text) ≡ sign_text s ++ text
 scanned-text s text =
     let whole : List ℕ = before_first is_other text in
-    let behind : List ℕ = from_first is_other text in
-    regrouped (sign_text s) whole (fraction_text (digits_behind behind)) (exponent_text (exponent_of (rest_behind behind)))
-    ∙ ap (λ e. sign_text s ++ (whole ++ (fraction_text (digits_behind behind) ++ e))) (exponent-text (rest_behind behind))
-    ∙ ap (λ b. sign_text s ++ (whole ++ b)) (behind-text behind)
+    let after : List ℕ = from_first is_other text in
+    regrouped (sign_text s) whole (fraction_text (digits_after_point after)) (exponent_text (exponent_of (rest_after_point after)))
+    ∙ ap (λ e. sign_text s ++ (whole ++ (fraction_text (digits_after_point after) ++ e))) (exponent-text (rest_after_point after))
+    ∙ ap (λ b. sign_text s ++ (whole ++ b)) (after-text after)
     ∙ ap (λ t. sign_text s ++ t) (take-append-drop (position_or_len is_other text) text)
 
 -- A scan of the text of a number finds the parts of the number.
@@ -106,14 +106,14 @@ point_starts : (fraction : Option (List ℕ)) (tail : List ℕ) → Stops tail �
 point_starts None tail stops = stops_other tail stops
 point_starts (Some ds) tail stops = refl
 
-behind-is : (fraction : Option (List ℕ)) (tail : List ℕ) → list_all is_ascii_digit (fraction_digits fraction) ≡ true
-    → Stops tail → digits_behind (fraction_text fraction ++ tail) ≡ fraction
-behind-is None [] digits stops = refl
-behind-is None (x ∷ xs) digits stops = rw stops.1 refl
-behind-is (Some ds) tail digits stops = ap Some (before-is is_other ds tail (no_other ds digits) (stops_other tail stops))
+after-is : (fraction : Option (List ℕ)) (tail : List ℕ) → list_all is_ascii_digit (fraction_digits fraction) ≡ true
+    → Stops tail → digits_after_point (fraction_text fraction ++ tail) ≡ fraction
+after-is None [] digits stops = refl
+after-is None (x ∷ xs) digits stops = rw stops.1 refl
+after-is (Some ds) tail digits stops = ap Some (before-is is_other ds tail (no_other ds digits) (stops_other tail stops))
 
 rest-is : (fraction : Option (List ℕ)) (tail : List ℕ) → list_all is_ascii_digit (fraction_digits fraction) ≡ true
-    → Stops tail → rest_behind (fraction_text fraction ++ tail) ≡ tail
+    → Stops tail → rest_after_point (fraction_text fraction ++ tail) ≡ tail
 rest-is None [] digits stops = refl
 rest-is None (x ∷ xs) digits stops = rw stops.1 refl
 rest-is (Some ds) tail digits stops = from-is is_other ds tail (no_other ds digits) (stops_other tail stops)
@@ -126,11 +126,11 @@ module _ (n : Numeral) (tail : List ℕ) (is : IsNumeral n) (stops : Stops tail)
   met-point : from_first is_other (n.whole ++ (fraction_text n.fraction ++ tail)) ≡ fraction_text n.fraction ++ tail
   met-point = from-is is_other n.whole _ (no_other n.whole (numeral_digits n is).0) (point_starts n.fraction tail stops)
 
-  met-fraction : digits_behind (from_first is_other (n.whole ++ (fraction_text n.fraction ++ tail))) ≡ n.fraction
-  met-fraction = ap digits_behind met-point ∙ behind-is n.fraction tail (numeral_digits n is).1 stops
+  met-fraction : digits_after_point (from_first is_other (n.whole ++ (fraction_text n.fraction ++ tail))) ≡ n.fraction
+  met-fraction = ap digits_after_point met-point ∙ after-is n.fraction tail (numeral_digits n is).1 stops
 
-  met-tail : rest_behind (from_first is_other (n.whole ++ (fraction_text n.fraction ++ tail))) ≡ tail
-  met-tail = ap rest_behind met-point ∙ rest-is n.fraction tail (numeral_digits n is).1 stops
+  met-tail : rest_after_point (from_first is_other (n.whole ++ (fraction_text n.fraction ++ tail))) ≡ tail
+  met-tail = ap rest_after_point met-point ∙ rest-is n.fraction tail (numeral_digits n is).1 stops
 
 pub scanned-is : (n : Numeral) → IsNumeral n → scanned n.sign (n.whole ++ (fraction_text n.fraction ++ exponent_text n.exponent)) ≡ n
 scanned-is n is = λ i. record {
@@ -154,19 +154,19 @@ module _ (text : List ℕ) (n : Numeral) (rest : List ℕ) (is : IsNumeral n) (n
       spelled ∙ front-text n rest
       ∙ ap (λ s. sign_text s ++ (n.whole ++ (fraction_text n.fraction ++ (exponent_text n.exponent ++ rest)))) no_sign
 
-  stops_behind : Stops (exponent_text n.exponent ++ rest)
-  stops_behind = stops_on (exponent_text n.exponent) rest (exponent_stops n.exponent is.1) (ended_stops rest ended)
+  stops_after : Stops (exponent_text n.exponent ++ rest)
+  stops_after = stops_on (exponent_text n.exponent) rest (exponent_stops n.exponent is.1) (ended_stops rest ended)
 
-  pub some_met : 0 < length (before_first is_other text) + length (fraction_digits (digits_behind (from_first is_other text)))
+  pub some_met : 0 < length (before_first is_other text) + length (fraction_digits (digits_after_point (from_first is_other text)))
   some_met =
-      let whole : before_first is_other text ≡ n.whole = ap (before_first is_other) parts ∙ met-whole n _ is stops_behind in
-      let fraction : digits_behind (from_first is_other text) ≡ n.fraction =
-      ap (λ t. digits_behind (from_first is_other t)) parts ∙ met-fraction n _ is stops_behind in
+      let whole : before_first is_other text ≡ n.whole = ap (before_first is_other) parts ∙ met-whole n _ is stops_after in
+      let fraction : digits_after_point (from_first is_other text) ≡ n.fraction =
+      ap (λ t. digits_after_point (from_first is_other t)) parts ∙ met-fraction n _ is stops_after in
       let some : 0 < length (mantissa_digits n) = ltb-true 0 (length (mantissa_digits n)) (and_parts _ _ is.0).0 in
       rw (whole, fraction) (omega (arith, length-append n.whole (fraction_digits n.fraction)))
 
-  pub behind_met : rest_behind (from_first is_other text) ≡ exponent_text n.exponent ++ rest
-  behind_met = ap (λ t. rest_behind (from_first is_other t)) parts ∙ met-tail n _ is stops_behind
+  pub after_met : rest_after_point (from_first is_other text) ≡ exponent_text n.exponent ++ rest
+  after_met = ap (λ t. rest_after_point (from_first is_other t)) parts ∙ met-tail n _ is stops_after
 
 -- a scan of the text of a number finds that number
 scanned_word : (word : List ℕ) (n : Numeral) → IsNumeral n → word ≡ numeral_text n → scanned (sign_of word) (after_sign word) ≡ n

@@ -322,8 +322,8 @@ written_twice =
       last = small ∷ [];
       last_text = solid_text small (codes " endsolid");
       last_is = solid_in_capitals;
-      behind = [];
-      behind_is = tt;
+      after = [];
+      after_is = tt;
       each = refl;
       text_is = refl;
     }

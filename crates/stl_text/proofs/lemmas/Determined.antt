@@ -12,7 +12,7 @@ use Rattle.micro_num.specs.Micrometres.{coordinate_of}
 use Rattle.stl_text.specs.declared.word.Word.{Word}
 use Rattle.stl_text.specs.declared.word.Word.TheVariants.{Solid, FacetOrEnd, Normal, Outer, Loop, Vertex, Number, EndLoop, EndFacet}
 use Rattle.geometry.specs.Facet.{Facet}
-use Rattle.stl_text.specs.Text.{Token, keyword, normal_part, coordinate, rest_of_line, end_word, facet_tokens, solid_tokens, is_keyword, is_read_as, begins_with, after_token, rest_behind, first_word, keyword_text, facet_keyword, end_keyword}
+use Rattle.stl_text.specs.Text.{Token, keyword, normal_part, coordinate, rest_of_line, end_word, facet_tokens, solid_tokens, is_keyword, is_read_as, begins_with, after_token, rest_after, first_word, keyword_text, facet_keyword, end_keyword}
 
 -- Slots are tokens without their values: a keyword, a word of a normal, a coordinate, a rest of a line.
 pub data Slot : Type 0 where
@@ -267,14 +267,14 @@ with_head p ps qs (shorter q more is) = shorter q more (ap {B = List Token} (λ 
 
 pub agree : (unit : LengthUnit) (state : State) (bytes : List ℕ) (ps qs : List Token) (s t : State) (rest rest' : List ℕ)
     → run state ps ≡ Some s → run state qs ≡ Some t
-    → rest_behind unit ps bytes ≡ Some rest → rest_behind unit qs bytes ≡ Some rest' → Prefixes ps qs
+    → rest_after unit ps bytes ≡ Some rest → rest_after unit qs bytes ≡ Some rest' → Prefixes ps qs
 agree unit state bytes [] qs s t rest rest' h k spelled spelled' = longer qs refl
 agree unit state bytes (p ∷ ps) [] s t rest rest' h k spelled spelled' = shorter p ps refl
 agree unit state bytes (p ∷ ps) (q ∷ qs) s t rest rest' h k spelled spelled' =
     let a : (after : State) × (next state p ≡ Some after) × (run after ps ≡ Some s) = then-some _ _ s h in
     let b : (after : State) × (next state q ≡ Some after) × (run after qs ≡ Some t) = then-some _ _ t k in
-    let c : (begins_with unit p bytes ≡ true) × (rest_behind unit ps (after_token p bytes) ≡ Some rest) = first_begins _ _ rest spelled in
-    let d : (begins_with unit q bytes ≡ true) × (rest_behind unit qs (after_token q bytes) ≡ Some rest') = first_begins _ _ rest' spelled' in
+    let c : (begins_with unit p bytes ≡ true) × (rest_after unit ps (after_token p bytes) ≡ Some rest) = first_begins _ _ rest spelled in
+    let d : (begins_with unit q bytes ≡ true) × (rest_after unit qs (after_token q bytes) ≡ Some rest') = first_begins _ _ rest' spelled' in
     let same : p ≡ q = same_next_in unit bytes state.slots state.is_open p q a.0 b.0 a.1 b.1 c.0 d.0 in
     let same_after : a.0 ≡ b.0 = some-is (sym a.1 ∙ ap (next state) same ∙ b.1) in
     subst (λ x. Prefixes (p ∷ ps) (x ∷ qs)) same
@@ -282,7 +282,7 @@ agree unit state bytes (p ∷ ps) (q ∷ qs) s t rest rest' h k spelled spelled'
     (agree unit a.0 (after_token p bytes) ps qs s t rest rest' a.2
     (subst (λ x. run x qs ≡ Some t) (sym same_after) b.2)
     c.1
-    (subst (λ x. rest_behind unit qs (after_token x bytes) ≡ Some rest') (sym same) d.1)))
+    (subst (λ x. rest_after unit qs (after_token x bytes) ≡ Some rest') (sym same) d.1)))
   where
     first_begins : (b : Bool) (o : Option (List ℕ)) (r : List ℕ) → (if b then o else None) ≡ Some r → (b ≡ true) × (o ≡ Some r)
     first_begins true o r e = (refl, e)

@@ -21,7 +21,7 @@ use Rattle.stl_text.specs.declared.stl_fault.StlFault.{StlFault}
 use Rattle.stl_text.specs.declared.stl_fault.StlFault.TheVariants as fault
 use Rattle.geometry.specs.Point.{Point}
 use Rattle.geometry.specs.Facet.{Facet, facet_with}
-use Rattle.stl_text.specs.Text.{Token, keyword, normal_part, coordinate, rest_of_line, facet_word, end_word, facet_tokens, solid_tokens, is_keyword, is_text_of, is_wanted, is_read_as, is_facet_word, wanted, begins_with, after_token, rest_behind, first_word, after_word, after_line, after_space, is_white, is_line_end, facets_of, Reads, Wants, IsFaultOf, keyword_of, keyword_text, facet_keyword, end_keyword, facet_count}
+use Rattle.stl_text.specs.Text.{Token, keyword, normal_part, coordinate, rest_of_line, facet_word, end_word, facet_tokens, solid_tokens, is_keyword, is_text_of, is_wanted, is_read_as, is_facet_word, wanted, begins_with, after_token, rest_after, first_word, after_word, after_line, after_space, is_white, is_line_end, facets_of, Reads, Wants, IsFaultOf, keyword_of, keyword_text, facet_keyword, end_keyword, facet_count}
 use Rattle.stl_text.proofs.lemmas.Determined.{Slot, fixed, any_word, any_coordinate, any_line, facet_slots}
 use Rattle.stl_text.proofs.lemmas.OneReading.{then_on, rest-append}
 
@@ -62,11 +62,11 @@ fill-append (slot ∷ slots) more zs = ap {B = List Token} (λ r. token_of slot 
 abbrev from_three : List ℤ → Point
 from_three zs = record { x = first_of zs; y = first_of (others_of zs); z = first_of (others_of (others_of zs)) }
 
-abbrev behind_three : List ℤ → List ℤ
-behind_three zs = others_of (others_of (others_of zs))
+abbrev after_three : List ℤ → List ℤ
+after_three zs = others_of (others_of (others_of zs))
 
 abbrev from_nine : List ℤ → Facet
-from_nine zs = facet_with (from_three zs) (from_three (behind_three zs)) (from_three (behind_three (behind_three zs)))
+from_nine zs = facet_with (from_three zs) (from_three (after_three zs)) (from_three (after_three (after_three zs)))
 
 -- Scanning a text by slots, and what may stop a scan.
 
@@ -94,14 +94,14 @@ record Stopped (unit : LengthUnit) (slots : List Slot) (bytes : List ℕ) : Type
   split : slots ≡ before ++ slot ∷ after
   values : List ℤ
   rest : List ℕ
-  spelled : rest_behind unit (fill before values) bytes ≡ Some rest
+  spelled : rest_after unit (fill before values) bytes ≡ Some rest
   fails : Fails unit slot rest
   plain : IsPlain slot
 
 record Passed (unit : LengthUnit) (slots : List Slot) (bytes : List ℕ) : Type 0 where
   values : List ℤ
   rest : List ℕ
-  spelled : rest_behind unit (fill slots values) bytes ≡ Some rest
+  spelled : rest_after unit (fill slots values) bytes ≡ Some rest
 
 -- the list of values from which the slot takes z, if it takes one
 put : Slot → ℤ → List ℤ → List ℤ
@@ -157,12 +157,12 @@ after-slot any_line zs bytes = refl
 -- a token of a first slot, and then those of the other slots
 with_first : (unit : LengthUnit) (slot : Slot) (slots : List Slot) (z : ℤ) (values : List ℤ) (bytes rest : List ℕ)
     → begins_with unit (token_of slot (put slot z values)) bytes ≡ true
-    → rest_behind unit (fill slots values) (after_slot slot bytes) ≡ Some rest
-    → rest_behind unit (fill (slot ∷ slots) (put slot z values)) bytes ≡ Some rest
+    → rest_after unit (fill slots values) (after_slot slot bytes) ≡ Some rest
+    → rest_after unit (fill (slot ∷ slots) (put slot z values)) bytes ≡ Some rest
 with_first unit slot slots z values bytes rest begins spelled =
     rw begins
-    (ap (λ zs. rest_behind unit (fill slots zs) (after_token (token_of slot (put slot z values)) bytes)) (left-put slot z values)
-    ∙ ap (rest_behind unit (fill slots values)) (after-slot slot (put slot z values) bytes)
+    (ap (λ zs. rest_after unit (fill slots zs) (after_token (token_of slot (put slot z values)) bytes)) (left-put slot z values)
+    ∙ ap (rest_after unit (fill slots values)) (after-slot slot (put slot z values) bytes)
     ∙ spelled)
 
 scan : (unit : LengthUnit) (slots : List Slot) (bytes : List ℕ) → ArePlain slots → Passed unit slots bytes ⊎ Stopped unit slots bytes
@@ -227,7 +227,7 @@ after_token-le normal_part bytes = after_word-le bytes
 after_token-le (coordinate z) bytes = after_word-le bytes
 after_token-le rest_of_line bytes = after_line-le bytes
 
-pub rest-le : (unit : LengthUnit) (ps : List Token) (bytes rest : List ℕ) → rest_behind unit ps bytes ≡ Some rest → length rest ≤ length bytes
+pub rest-le : (unit : LengthUnit) (ps : List Token) (bytes rest : List ℕ) → rest_after unit ps bytes ≡ Some rest → length rest ≤ length bytes
 rest-le unit [] bytes rest e = omega (arith, length_is e)
   where
     length_is : ◌≡◌ {A = Option (List ℕ)} (Some bytes) (Some rest) → length bytes ≡ length rest
@@ -235,8 +235,8 @@ rest-le unit [] bytes rest e = omega (arith, length_is e)
 rest-le unit (p ∷ ps) bytes rest e =
     by_test (begins_with unit p bytes) (λ h. rest-le unit ps (after_token p bytes) rest h) e
   where
-    by_test : (b : Bool) → (rest_behind unit ps (after_token p bytes) ≡ Some rest → length rest ≤ length (after_token p bytes))
-        → (if b then rest_behind unit ps (after_token p bytes) else None) ≡ Some rest → length rest ≤ length bytes
+    by_test : (b : Bool) → (rest_after unit ps (after_token p bytes) ≡ Some rest → length rest ≤ length (after_token p bytes))
+        → (if b then rest_after unit ps (after_token p bytes) else None) ≡ Some rest → length rest ≤ length bytes
     by_test true le h = omega (arith, le h, after_token-le p bytes)
     by_test false le h = cc
 
@@ -331,10 +331,10 @@ module _ (limit : ℕ) (unit : LengthUnit) (bytes : List ℕ) where
   Outcome = ((facets : List Facet) × Reads limit unit bytes facets) ⊎ ((f : StlFault) × IsFaultOf limit unit bytes f)
 
   data Situation : Type 0 where
-    closed : (solids : List (List Facet)) (rest : List ℕ) → rest_behind unit (flat_map solid_tokens solids) bytes ≡ Some rest
+    closed : (solids : List (List Facet)) (rest : List ℕ) → rest_after unit (flat_map solid_tokens solids) bytes ≡ Some rest
         → length (facets_of solids) ≤ limit → Situation
     opened : (solids : List (List Facet)) (facets : List Facet) (rest : List ℕ)
-        → rest_behind unit (flat_map solid_tokens solids ++ open_tokens facets) bytes ≡ Some rest
+        → rest_after unit (flat_map solid_tokens solids ++ open_tokens facets) bytes ≡ Some rest
         → length (facets_of solids) + length facets ≤ limit → Situation
 
   abbrev rest_of : Situation → List ℕ
@@ -342,7 +342,7 @@ module _ (limit : ℕ) (unit : LengthUnit) (bytes : List ℕ) where
   rest_of (opened solids facets rest spelled few) = rest
 
   wants_at : (solids : List (List Facet)) (front : List Token) (token : Token) (more : List Token) (rest : List ℕ)
-      → flat_map solid_tokens solids ≡ front ++ token ∷ more → facet_count front ≤ limit → rest_behind unit front bytes ≡ Some rest
+      → flat_map solid_tokens solids ≡ front ++ token ∷ more → facet_count front ≤ limit → rest_after unit front bytes ≡ Some rest
       → Wants limit unit bytes (length bytes - length (after_space rest)) token (facet_count front) (first_word rest)
   wants_at solids front token more rest cut few spelled =
       record {
@@ -359,7 +359,7 @@ module _ (limit : ℕ) (unit : LengthUnit) (bytes : List ℕ) where
       }
 
   ended : (solids : List (List Facet)) (front : List Token) (token : Token) (more : List Token) (rest : List ℕ) (kind : Word)
-      → flat_map solid_tokens solids ≡ front ++ token ∷ more → facet_count front ≤ limit → rest_behind unit front bytes ≡ Some rest
+      → flat_map solid_tokens solids ≡ front ++ token ∷ more → facet_count front ≤ limit → rest_after unit front bytes ≡ Some rest
       → first_word rest ≡ [] → wanted token ≡ Some kind → (kind ≡ Solid → after_space bytes ≡ []) → Outcome
   ended solids front token more rest kind cut few spelled none kind_is no_solid =
       let at_end : length (after_space rest) ≡ 0 = ap length (no_word-space rest none) in
@@ -386,7 +386,7 @@ module _ (limit : ℕ) (unit : LengthUnit) (bytes : List ℕ) where
       )
 
   unexpected : (solids : List (List Facet)) (front : List Token) (token : Token) (more : List Token) (rest : List ℕ) (kind : Word)
-      → flat_map solid_tokens solids ≡ front ++ token ∷ more → facet_count front ≤ limit → rest_behind unit front bytes ≡ Some rest
+      → flat_map solid_tokens solids ≡ front ++ token ∷ more → facet_count front ≤ limit → rest_after unit front bytes ≡ Some rest
       → 0 < length (first_word rest) → wanted token ≡ Some kind → kind ≢ Number → is_wanted kind (first_word rest) ≡ false → Outcome
   unexpected solids front token more rest kind cut few spelled some kind_is no_number other =
       inr (
@@ -405,7 +405,7 @@ module _ (limit : ℕ) (unit : LengthUnit) (bytes : List ℕ) where
 
   -- a stopped scan is a fault
   stopped : (solids : List (List Facet)) (front : List Token) (slot : Slot) (zs : List ℤ) (more : List Token) (rest : List ℕ)
-      → flat_map solid_tokens solids ≡ front ++ token_of slot zs ∷ more → facet_count front ≤ limit → rest_behind unit front bytes ≡ Some rest
+      → flat_map solid_tokens solids ≡ front ++ token_of slot zs ∷ more → facet_count front ≤ limit → rest_after unit front bytes ≡ Some rest
       → Fails unit slot rest → IsPlain slot → Outcome
   stopped solids front (fixed w text) zs more rest cut few spelled fails plain = by_word (first_word rest) refl
     where
@@ -440,7 +440,7 @@ module _ (limit : ℕ) (unit : LengthUnit) (bytes : List ℕ) where
   abbrev Step : Situation → Type 0
   Step s = Outcome ⊎ ((next : Situation) × (length (rest_of next) < length (rest_of s)))
 
-  at_end : (solids : List (List Facet)) (rest : List ℕ) → rest_behind unit (flat_map solid_tokens solids) bytes ≡ Some rest
+  at_end : (solids : List (List Facet)) (rest : List ℕ) → rest_after unit (flat_map solid_tokens solids) bytes ≡ Some rest
       → length (facets_of solids) ≤ limit → first_word rest ≡ [] → Outcome
   at_end [] rest spelled few none =
       let whole : bytes ≡ rest = some-is spelled in
@@ -457,15 +457,15 @@ module _ (limit : ℕ) (unit : LengthUnit) (bytes : List ℕ) where
       )
 
   -- the text continues after a front of solids
-  on_behind : (front more : List Token) (rest last : List ℕ) → rest_behind unit front bytes ≡ Some rest
-      → rest_behind unit more rest ≡ Some last → rest_behind unit (front ++ more) bytes ≡ Some last
-  on_behind front more rest last spelled on =
-      rest-append unit front more bytes ∙ ap (λ o. then_on o (λ r. rest_behind unit more r)) spelled ∙ on
+  on_after : (front more : List Token) (rest last : List ℕ) → rest_after unit front bytes ≡ Some rest
+      → rest_after unit more rest ≡ Some last → rest_after unit (front ++ more) bytes ≡ Some last
+  on_after front more rest last spelled on =
+      rest-append unit front more bytes ∙ ap (λ o. then_on o (λ r. rest_after unit more r)) spelled ∙ on
 
   few_solids : (solids : List (List Facet)) → length (facets_of solids) ≤ limit → facet_count (flat_map solid_tokens solids) ≤ limit
   few_solids solids few = omega (arith, facet_count-solids solids, few)
 
-  step_closed : (solids : List (List Facet)) (rest : List ℕ) (spelled : rest_behind unit (flat_map solid_tokens solids) bytes ≡ Some rest)
+  step_closed : (solids : List (List Facet)) (rest : List ℕ) (spelled : rest_after unit (flat_map solid_tokens solids) bytes ≡ Some rest)
       (few : length (facets_of solids) ≤ limit) → Step (closed solids rest spelled few)
   step_closed solids rest spelled few = by_word (first_word rest) refl
     where
@@ -477,9 +477,9 @@ module _ (limit : ℕ) (unit : LengthUnit) (bytes : List ℕ) where
 
       by_test : 0 < length (first_word rest) → (b : Bool) → is_keyword (keyword_text Solid) (first_word rest) ≡ b → Step (closed solids rest spelled few)
       by_test some true h =
-          let on : rest_behind unit (solid_word ∷ rest_of_line ∷ []) rest ≡ Some next_rest = rw h refl in
+          let on : rest_after unit (solid_word ∷ rest_of_line ∷ []) rest ≡ Some next_rest = rw h refl in
           inr (
-            opened solids [] next_rest (on_behind (flat_map solid_tokens solids) (open_tokens []) rest next_rest spelled on) (omega (arith, few)),
+            opened solids [] next_rest (on_after (flat_map solid_tokens solids) (open_tokens []) rest next_rest spelled on) (omega (arith, few)),
             omega (arith, after_line-le (after_word rest), after_word-lt rest some),
           )
       by_test some false h =
@@ -556,7 +556,7 @@ module _ (limit : ℕ) (unit : LengthUnit) (bytes : List ℕ) where
       vertex = (λ w. refl, λ e. cc, λ e. cc)
 
   step_opened : (solids : List (List Facet)) (facets : List Facet) (rest : List ℕ)
-      (spelled : rest_behind unit (flat_map solid_tokens solids ++ open_tokens facets) bytes ≡ Some rest)
+      (spelled : rest_after unit (flat_map solid_tokens solids ++ open_tokens facets) bytes ≡ Some rest)
       (few : length (facets_of solids) + length facets ≤ limit) → Step (opened solids facets rest spelled few)
   step_opened solids facets rest spelled few = by_word (first_word rest) refl
     where
@@ -581,11 +581,11 @@ module _ (limit : ℕ) (unit : LengthUnit) (bytes : List ℕ) where
           let t : Facet = from_nine on.values in
           let whole : flat_map facet_tokens (facets ++ t ∷ []) ≡ flat_map facet_tokens facets ++ facet_tokens t =
           flat_map-append facet_tokens facets (t ∷ []) ∙ ap (λ r. flat_map facet_tokens facets ++ r) (append-nil (facet_tokens t)) in
-          let read : rest_behind unit (facet_word ∷ fill facet_slots on.values) rest ≡ Some on.rest = rw h on.spelled in
-          let longer : rest_behind unit (P ++ open_tokens (facets ++ t ∷ [])) bytes ≡ Some on.rest =
-          ap (λ r. rest_behind unit (P ++ (keyword_of Solid ∷ rest_of_line ∷ r)) bytes) whole
-          ∙ ap (λ ps. rest_behind unit ps bytes) (sym (append_assoc P (open_tokens facets) (facet_tokens t)))
-          ∙ on_behind front (facet_word ∷ fill facet_slots on.values) rest on.rest spelled read in
+          let read : rest_after unit (facet_word ∷ fill facet_slots on.values) rest ≡ Some on.rest = rw h on.spelled in
+          let longer : rest_after unit (P ++ open_tokens (facets ++ t ∷ [])) bytes ≡ Some on.rest =
+          ap (λ r. rest_after unit (P ++ (keyword_of Solid ∷ rest_of_line ∷ r)) bytes) whole
+          ∙ ap (λ ps. rest_after unit ps bytes) (sym (append_assoc P (open_tokens facets) (facet_tokens t)))
+          ∙ on_after front (facet_word ∷ fill facet_slots on.values) rest on.rest spelled read in
           let more : length (facets ++ t ∷ []) ≡ length facets + 1 = length-append facets (t ∷ []) in
           inr (
             opened solids (facets ++ t ∷ []) on.rest longer (omega (arith, few, room, more)),
@@ -602,12 +602,12 @@ module _ (limit : ℕ) (unit : LengthUnit) (bytes : List ℕ) where
           let parts : facet_count (facet_tokens (from_nine stop.values)) ≡ facet_count (facet_word ∷ before) + facet_count (fill (stop.slot ∷ stop.after) left) =
           ap facet_count tokens ∙ sum_by-append f (facet_word ∷ before) (fill (stop.slot ∷ stop.after) left) in
           let one : facet_count (facet_tokens (from_nine stop.values)) ≡ 1 = refl in
-          let read : rest_behind unit (facet_word ∷ before) rest ≡ Some stop.rest = rw h stop.spelled in
+          let read : rest_after unit (facet_word ∷ before) rest ≡ Some stop.rest = rw h stop.spelled in
           inl (stopped (solids ++ (facets ++ from_nine stop.values ∷ []) ∷ []) (front ++ (facet_word ∷ before)) stop.slot left
           (fill stop.after (left_by stop.slot left) ++ end_tokens) stop.rest
           (cut_facet solids facets (from_nine stop.values) (facet_word ∷ before) (token_of stop.slot left) (fill stop.after (left_by stop.slot left)) tokens)
           (omega (arith, split, parts, one, facet_count-open solids facets, few, room))
-          (on_behind front (facet_word ∷ before) rest stop.rest spelled read)
+          (on_after front (facet_word ∷ before) rest stop.rest spelled read)
           stop.fails stop.plain)
 
       by_room : 0 < length (first_word rest) → is_keyword facet_keyword (first_word rest) ≡ true
@@ -632,10 +632,10 @@ module _ (limit : ℕ) (unit : LengthUnit) (bytes : List ℕ) where
           → (b : Bool) → is_keyword end_keyword (first_word rest) ≡ b → Here
       by_end some no_facet true h =
           let next_rest : List ℕ = after_line (after_word rest) in
-          let on : rest_behind unit end_tokens rest ≡ Some next_rest = rw h refl in
+          let on : rest_after unit end_tokens rest ≡ Some next_rest = rw h refl in
           inr (
             closed (solids ++ facets ∷ []) next_rest
-                (ap (λ ps. rest_behind unit ps bytes) cut_end ∙ on_behind front end_tokens rest next_rest spelled on)
+                (ap (λ ps. rest_after unit ps bytes) cut_end ∙ on_after front end_tokens rest next_rest spelled on)
                 (omega (arith, facets_of-open solids facets, few)),
             omega (arith, after_line-le (after_word rest), after_word-lt rest some),
           )

@@ -8,13 +8,13 @@ use Rattle.geometry.specs.Point.{Point}
 use Rattle.stl_text.specs.declared.grammar.Separator.TheVariants as separator
 use Rattle.stl_text.specs.Layout.{IsClosing, IsSeparator, Skips, separator_tokens}
 use Rattle.stl_text.specs.declared.grammar.Separator.{Separator}
-use Rattle.stl_text.specs.Run.{IsRestOf}
+use Rattle.stl_text.specs.FacetRun.{IsRestOf}
 use Rattle.stl_text.specs.Reader.{Reader, Spells, facet_tail, start}
 use Rattle.std.specs.List.{before_first}
 use Rattle.micro_num.specs.Numeral.{from_first}
-use Rattle.stl_text.specs.Text.{Token, keyword, normal_part, coordinate, rest_of_line, after_space, after_word, facet_keyword, facet_tokens, first_word, is_keyword, is_read_as, is_white, rest_behind}
+use Rattle.stl_text.specs.Text.{Token, keyword, normal_part, coordinate, rest_of_line, after_space, after_word, facet_keyword, facet_tokens, first_word, is_keyword, is_read_as, is_white, rest_after}
 use Rattle.stl_text.proofs.lemmas.Locality.{space-over, tokens-on}
-use Rattle.stl_text.proofs.lemmas.Runs.{rest_behind-rest, same_rest}
+use Rattle.stl_text.proofs.lemmas.FacetRuns.{rest_after-rest, same_rest}
 use Rattle.stl_text.proofs.lemmas.Either.{after_word-lt, rest-le}
 use Rattle.stl_text.proofs.lemmas.Steps.{spelled-append, spells_then}
 
@@ -27,52 +27,52 @@ is_word_token rest_of_line = false
 
 -- words are read after the white space at the front
 word-space : (unit : LengthUnit) (t : Token) (tokens : List Token) (xs ys : List ℕ) → is_word_token t ≡ true → after_space xs ≡ after_space ys
-    → rest_behind unit (t ∷ tokens) xs ≡ rest_behind unit (t ∷ tokens) ys
+    → rest_after unit (t ∷ tokens) xs ≡ rest_after unit (t ∷ tokens) ys
 word-space unit (keyword kind text) tokens xs ys is same =
-    ap (λ front. if is_keyword text (before_first is_white front) then rest_behind unit tokens (from_first is_white front) else None) same
+    ap (λ front. if is_keyword text (before_first is_white front) then rest_after unit tokens (from_first is_white front) else None) same
 word-space unit normal_part tokens xs ys is same =
-    ap (λ front. if nat_lt 0 (length (before_first is_white front)) then rest_behind unit tokens (from_first is_white front) else None) same
+    ap (λ front. if nat_lt 0 (length (before_first is_white front)) then rest_after unit tokens (from_first is_white front) else None) same
 word-space unit (coordinate z) tokens xs ys is same =
-    ap (λ front. if is_read_as z (before_first is_white front) unit then rest_behind unit tokens (from_first is_white front) else None) same
+    ap (λ front. if is_read_as z (before_first is_white front) unit then rest_after unit tokens (from_first is_white front) else None) same
 word-space unit rest_of_line tokens xs ys is same = cc
 
 -- what follows a separator stands for words as if nothing but the keywords were before it
 pub skips_then : (ps : List Token) (t : Token) (tokens : List Token) {old mid new : Reader} → is_word_token t ≡ true → Skips ps old mid → Spells (t ∷ tokens) mid new
     → Spells (ps ++ t ∷ tokens) old new
 skips_then ps t tokens {old} {mid} {new} is first last =
-    let on : rest_behind old.unit (t ∷ tokens) first.behind ≡ Some new.rest =
-    word-space old.unit t tokens first.behind mid.rest is first.space
-    ∙ subst (λ u. rest_behind u (t ∷ tokens) mid.rest ≡ Some new.rest) first.same_unit last.spelled in
+    let on : rest_after old.unit (t ∷ tokens) first.after ≡ Some new.rest =
+    word-space old.unit t tokens first.after mid.rest is first.space
+    ∙ subst (λ u. rest_after u (t ∷ tokens) mid.rest ≡ Some new.rest) first.same_unit last.spelled in
     record {
-      spelled = spelled-append old.unit ps (t ∷ tokens) old.rest first.behind new.rest first.spelled on;
+      spelled = spelled-append old.unit ps (t ∷ tokens) old.rest first.after new.rest first.spelled on;
       same_unit = last.same_unit ∙ first.same_unit;
     }
 
 pub separated : (tokens : List Token) (bytes rest : List ℕ) (old new : Reader) → IsSeparator tokens bytes → old.rest ≡ bytes ++ rest
     → new.rest ≡ rest → new.unit ≡ old.unit → Skips tokens old new
-separated tokens bytes rest old new is at behind unit = record {
-  behind = is.behind ++ rest;
-  spelled = ap (rest_behind old.unit tokens) at ∙ tokens-on old.unit tokens bytes rest is.behind (is.spelled old.unit) is.some;
-  space = space-over is.behind rest is.white ∙ ap after_space (sym behind);
+separated tokens bytes rest old new is at after unit = record {
+  after = is.after ++ rest;
+  spelled = ap (rest_after old.unit tokens) at ∙ tokens-on old.unit tokens bytes rest is.after (is.spelled old.unit) is.some;
+  space = space-over is.after rest is.white ∙ ap after_space (sym after);
   same_unit = unit;
 }
 
 -- words at the front of bytes with which the text goes on
 pub closed : (n : ℕ) (bytes rest : List ℕ) (old new : Reader) → IsClosing n bytes → old.rest ≡ bytes ++ rest → new.rest ≡ drop n old.rest
     → new.unit ≡ old.unit → Spells (separator_tokens separator.Closing) old new
-closed n bytes rest old new is at behind unit =
+closed n bytes rest old new is at after unit =
     let some : 0 < length (drop n bytes) = omega (arith, length-drop n bytes, is.some) in
     let rest_is : drop n bytes ++ rest ≡ new.rest =
-    sym (drop-append-le n bytes rest (omega (arith, is.some))) ∙ ap (drop n) (sym at) ∙ sym behind in
+    sym (drop-append-le n bytes rest (omega (arith, is.some))) ∙ ap (drop n) (sym at) ∙ sym after in
     record {
-      spelled = ap (rest_behind old.unit (separator_tokens separator.Closing)) at
+      spelled = ap (rest_after old.unit (separator_tokens separator.Closing)) at
           ∙ tokens-on old.unit (separator_tokens separator.Closing) bytes rest (drop n bytes) (is.spelled old.unit) some
           ∙ ap {B = Option (List ℕ)} Some rest_is;
       same_unit = unit;
     }
 
 -- no separator has a number, so the unit does not matter
-pub any_unit : (p : Separator) (u v : LengthUnit) (bytes : List ℕ) → rest_behind u (separator_tokens p) bytes ≡ rest_behind v (separator_tokens p) bytes
+pub any_unit : (p : Separator) (u v : LengthUnit) (bytes : List ℕ) → rest_after u (separator_tokens p) bytes ≡ rest_after v (separator_tokens p) bytes
 any_unit separator.Opening u v bytes = refl
 any_unit separator.First u v bytes = refl
 any_unit separator.Next u v bytes = refl
@@ -109,14 +109,14 @@ in_layout a b c opening parts first at_a next at_b last at_c closing =
 
 -- what a reader at the start of a text has read
 pub read_from : (tokens : List Token) (u : LengthUnit) (bytes rest : List ℕ) {old new : Reader} → old ≡ start u bytes → Spells tokens old new
-    → new.rest ≡ rest → rest_behind u tokens bytes ≡ Some rest
-read_from tokens u bytes rest {old} {new} begins read behind =
-    subst (λ r. rest_behind r.unit tokens r.rest ≡ Some new.rest) begins read.spelled ∙ ap {B = Option (List ℕ)} Some behind
+    → new.rest ≡ rest → rest_after u tokens bytes ≡ Some rest
+read_from tokens u bytes rest {old} {new} begins read after =
+    subst (λ r. rest_after r.unit tokens r.rest ≡ Some new.rest) begins read.spelled ∙ ap {B = Option (List ℕ)} Some after
 
 pub separates : (p : Separator) (u : LengthUnit) (bytes : List ℕ) {old new : Reader} → old ≡ start u bytes → Spells (separator_tokens p) old new
     → 0 < length new.rest → after_space new.rest ≡ [] → IsSeparator (separator_tokens p) bytes
 separates p u bytes {old} {new} begins read some white = record {
-  behind = new.rest;
+  after = new.rest;
   spelled = λ v. any_unit p v u bytes ∙ read_from (separator_tokens p) u bytes new.rest begins read refl;
   some = some;
   white = white;
@@ -124,9 +124,9 @@ separates p u bytes {old} {new} begins read some white = record {
 
 pub closes : (u : LengthUnit) (bytes rest : List ℕ) {old new : Reader} → old ≡ start u bytes → Spells (separator_tokens separator.Closing) old new
     → new.rest ≡ rest → 0 < length rest → IsClosing (length bytes - length rest) bytes
-closes u bytes rest {old} {new} begins read behind some =
-    let spelled : rest_behind u (separator_tokens separator.Closing) bytes ≡ Some rest = read_from (separator_tokens separator.Closing) u bytes rest begins read behind in
-    let is : IsRestOf bytes rest = rest_behind-rest u (separator_tokens separator.Closing) bytes rest spelled in
+closes u bytes rest {old} {new} begins read after some =
+    let spelled : rest_after u (separator_tokens separator.Closing) bytes ≡ Some rest = read_from (separator_tokens separator.Closing) u bytes rest begins read after in
+    let is : IsRestOf bytes rest = rest_after-rest u (separator_tokens separator.Closing) bytes rest spelled in
     let n : ℕ = length bytes - length rest in
     let len : length rest ≡ length bytes - is.skipped = ap length is.rest_is ∙ length-drop is.skipped bytes in
     let other : IsRestOf bytes (drop n bytes) = record { skipped = n; rest_is = refl } in
@@ -137,14 +137,14 @@ closes u bytes rest {old} {new} begins read behind some =
     }
 
 -- the text of a facet is never empty
-pub facet-some : (t : Facet) (u : LengthUnit) (bytes rest : List ℕ) → rest_behind u (facet_tokens t) bytes ≡ Some rest → length rest < length bytes
+pub facet-some : (t : Facet) (u : LengthUnit) (bytes rest : List ℕ) → rest_after u (facet_tokens t) bytes ≡ Some rest → length rest < length bytes
 facet-some t u bytes rest read = by_test (is_keyword facet_keyword (first_word bytes)) refl read
   where
     some_word : (w : List ℕ) → is_keyword facet_keyword w ≡ true → 0 < length w
     some_word [] h = cc
     some_word (b ∷ bs) h = omega arith
 
-    by_test : (b : Bool) → is_keyword facet_keyword (first_word bytes) ≡ b → (if b then rest_behind u (facet_tail t) (after_word bytes) else None) ≡ Some rest
+    by_test : (b : Bool) → is_keyword facet_keyword (first_word bytes) ≡ b → (if b then rest_after u (facet_tail t) (after_word bytes) else None) ≡ Some rest
         → length rest < length bytes
     by_test true is h =
         omega (arith, after_word-lt bytes (some_word (first_word bytes) is), rest-le u (facet_tail t) (after_word bytes) rest h)

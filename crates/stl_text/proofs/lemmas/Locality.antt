@@ -10,7 +10,7 @@ use Rattle.std.proofs.Math.Seq.{drop-append-add}
 use Rattle.micro_num.specs.declared.unit.Unit.{Unit as LengthUnit}
 use Rattle.micro_num.specs.Numeral.{from_first}
 use Rattle.micro_num.proofs.lemmas.Grammar.{Starts, before-is, from-is}
-use Rattle.stl_text.specs.Text.{Token, keyword, normal_part, coordinate, rest_of_line, begins_with, after_token, rest_behind, first_word, after_space, after_word, after_line, is_keyword, is_read_as, is_white, is_line_end}
+use Rattle.stl_text.specs.Text.{Token, keyword, normal_part, coordinate, rest_of_line, begins_with, after_token, rest_after, first_word, after_space, after_word, after_line, is_keyword, is_read_as, is_white, is_line_end}
 use Rattle.stl_text.specs.declared.word.Word.{Word}
 use Rattle.stl_text.proofs.lemmas.Either.{rest-le}
 
@@ -67,8 +67,8 @@ pub word-on : (xs ys : List ℕ) → 0 < length (after_word xs) → first_word (
 word-on xs ys some =
     ap (before_first is_white) (space-on xs ys (space-some xs some)) ∙ take-on (λ x. not (is_white x)) (after_space xs) ys some
 
-pub behind-on : (xs ys : List ℕ) → 0 < length (after_word xs) → after_word (xs ++ ys) ≡ after_word xs ++ ys
-behind-on xs ys some =
+pub past_word-on : (xs ys : List ℕ) → 0 < length (after_word xs) → after_word (xs ++ ys) ≡ after_word xs ++ ys
+past_word-on xs ys some =
     ap (from_first is_white) (space-on xs ys (space-some xs some)) ∙ drop-on (λ x. not (is_white x)) (after_space xs) ys some
 
 -- Tokens, with something after them.
@@ -80,32 +80,32 @@ begins-on unit (coordinate z) xs ys some = ap (λ w. is_read_as z w unit) (word-
 begins-on unit rest_of_line xs ys some = refl
 
 after-on : (t : Token) (xs ys : List ℕ) → 0 < length (after_token t xs) → after_token t (xs ++ ys) ≡ after_token t xs ++ ys
-after-on (keyword kind text) xs ys some = behind-on xs ys some
-after-on normal_part xs ys some = behind-on xs ys some
-after-on (coordinate z) xs ys some = behind-on xs ys some
+after-on (keyword kind text) xs ys some = past_word-on xs ys some
+after-on normal_part xs ys some = past_word-on xs ys some
+after-on (coordinate z) xs ys some = past_word-on xs ys some
 after-on rest_of_line xs ys some = line-on xs ys some
 
 -- A text that begins with tokens and goes on after them begins with them whatever follows it.
-pub tokens-on : (unit : LengthUnit) (tokens : List Token) (xs ys rest : List ℕ) → rest_behind unit tokens xs ≡ Some rest → 0 < length rest
-    → rest_behind unit tokens (xs ++ ys) ≡ Some (rest ++ ys)
+pub tokens-on : (unit : LengthUnit) (tokens : List Token) (xs ys rest : List ℕ) → rest_after unit tokens xs ≡ Some rest → 0 < length rest
+    → rest_after unit tokens (xs ++ ys) ≡ Some (rest ++ ys)
 tokens-on unit [] xs ys rest spelled some = let same : xs ≡ rest = cc in ap {B = Option (List ℕ)} (λ r. Some (r ++ ys)) same
 tokens-on unit (t ∷ tokens) xs ys rest spelled some =
     by_test (λ e. tokens-on unit tokens (after_token t xs) ys rest e some) (begins_with unit t xs) refl spelled
   where
-    by_test : (rest_behind unit tokens (after_token t xs) ≡ Some rest → rest_behind unit tokens (after_token t xs ++ ys) ≡ Some (rest ++ ys))
-        → (b : Bool) → begins_with unit t xs ≡ b → (if b then rest_behind unit tokens (after_token t xs) else None) ≡ Some rest
-        → rest_behind unit (t ∷ tokens) (xs ++ ys) ≡ Some (rest ++ ys)
+    by_test : (rest_after unit tokens (after_token t xs) ≡ Some rest → rest_after unit tokens (after_token t xs ++ ys) ≡ Some (rest ++ ys))
+        → (b : Bool) → begins_with unit t xs ≡ b → (if b then rest_after unit tokens (after_token t xs) else None) ≡ Some rest
+        → rest_after unit (t ∷ tokens) (xs ++ ys) ≡ Some (rest ++ ys)
     by_test on true begins e =
         let left : 0 < length (after_token t xs) = omega (arith, some, rest-le unit tokens (after_token t xs) rest e) in
         rw (begins-on unit t xs ys left, begins)
-        (ap (rest_behind unit tokens) (after-on t xs ys left) ∙ on e)
+        (ap (rest_after unit tokens) (after-on t xs ys left) ∙ on e)
     by_test on false begins e = cc
 
 -- A word at the front.
 
-pub word_next : (behind word rest : List ℕ) → after_space behind ≡ word ++ rest → list_all (λ byte. not (is_white byte)) word ≡ true
-    → Starts is_white rest → (first_word behind ≡ word) × (after_word behind ≡ rest)
-word_next behind word rest at clear starts = (
+pub word_next : (after word rest : List ℕ) → after_space after ≡ word ++ rest → list_all (λ byte. not (is_white byte)) word ≡ true
+    → Starts is_white rest → (first_word after ≡ word) × (after_word after ≡ rest)
+word_next after word rest at clear starts = (
   ap (before_first is_white) at ∙ before-is is_white word rest clear starts,
   ap (from_first is_white) at ∙ from-is is_white word rest clear starts,
 )
@@ -126,7 +126,7 @@ starts-on (x ∷ xs) ys starts some = starts
 
 -- Tokens that begin with a keyword see a text after its white space.
 pub seen_keyword : (unit : LengthUnit) (kind : Word) (text : List ℕ) (tokens : List Token) (xs ys rest : List ℕ) → after_space xs ≡ after_space ys
-    → rest_behind unit (keyword kind text ∷ tokens) ys ≡ Some rest → rest_behind unit (keyword kind text ∷ tokens) xs ≡ Some rest
+    → rest_after unit (keyword kind text ∷ tokens) ys ≡ Some rest → rest_after unit (keyword kind text ∷ tokens) xs ≡ Some rest
 seen_keyword unit kind text tokens xs ys rest same spelled =
-    ap {B = Option (List ℕ)} (λ front. if is_keyword text (before_first is_white front) then rest_behind unit tokens (from_first is_white front) else None) same
+    ap {B = Option (List ℕ)} (λ front. if is_keyword text (before_first is_white front) then rest_after unit tokens (from_first is_white front) else None) same
     ∙ spelled

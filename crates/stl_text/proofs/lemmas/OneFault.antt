@@ -15,7 +15,7 @@ use Rattle.stl_text.specs.declared.word.Word.TheVariants.{Solid, FacetOrEnd, Nor
 use Rattle.stl_text.specs.declared.stl_fault.StlFault.{StlFault}
 use Rattle.stl_text.specs.declared.stl_fault.StlFault.TheVariants as fault
 use Rattle.geometry.specs.Facet.{Facet}
-use Rattle.stl_text.specs.Text.{Token, keyword, normal_part, coordinate, rest_of_line, facet_word, end_word, facet_tokens, solid_tokens, is_keyword, is_text_of, is_wanted, is_facet_word, wanted, begins_with, rest_behind, first_word, after_space, is_white, facets_of, Reads, Wants, IsFaultOf, keyword_of, facet_keyword, facet_count}
+use Rattle.stl_text.specs.Text.{Token, keyword, normal_part, coordinate, rest_of_line, facet_word, end_word, facet_tokens, solid_tokens, is_keyword, is_text_of, is_wanted, is_facet_word, wanted, begins_with, rest_after, first_word, after_space, is_white, facets_of, Reads, Wants, IsFaultOf, keyword_of, facet_keyword, facet_count}
 use Rattle.stl_text.proofs.lemmas.Determined.{Slot, fixed, any_word, any_coordinate, any_line, facet_slots, State, Prefixes, Prefixes.longer, Prefixes.shorter, word_code, word_at, word_at-code, matches, outside, next, next_in, run, run-append, then-some, then_at, only, passed, shape-is, read-is, solid_slot, facet_slot, end_slot, solids-run, agree}
 use Rattle.stl_text.proofs.lemmas.OneReading.{GoesOn, goes_on, nothing_more}
 
@@ -189,7 +189,7 @@ module _ (limit : ℕ) (unit : LengthUnit) (bytes : List ℕ) where
   -- no token follows where a fault is
   no_more : (h : Halt limit unit bytes) → Refuses limit unit bytes h → (p : Token) (more : List Token) (end : State) (last : List ℕ)
       → list_all is_sound (h.wants.front ++ p ∷ more) ≡ true → facet_count (h.wants.front ++ p ∷ more) ≤ limit
-      → run outside (h.wants.front ++ p ∷ more) ≡ Some end → rest_behind unit (h.wants.front ++ p ∷ more) bytes ≡ Some last → ⊥
+      → run outside (h.wants.front ++ p ∷ more) ≡ Some end → rest_after unit (h.wants.front ++ p ∷ more) bytes ≡ Some last → ⊥
   no_more h refuses p more end last sound few ran spelled =
       let state : (state : State) × (run outside h.wants.front ≡ Some state) × (after : State) × (next state h.token ≡ Some after) = state_of h in
       let on : GoesOn unit state.0 p h.wants.rest =
@@ -302,15 +302,15 @@ module _ (limit : ℕ) (unit : LengthUnit) (bytes : List ℕ) where
   few_front h = omega (arith, h.wants.count, h.wants.few)
 
   -- a fault is never after another one
-  not_behind : (h : Halt limit unit bytes) → Refuses limit unit bytes h → (k : Halt limit unit bytes) (p : Token) (more : List Token)
+  not_after : (h : Halt limit unit bytes) → Refuses limit unit bytes h → (k : Halt limit unit bytes) (p : Token) (more : List Token)
       → k.wants.front ≡ h.wants.front ++ p ∷ more → ⊥
-  not_behind h refusing k p more is =
+  not_after h refusing k p more is =
       let state : (state : State) × (run outside k.wants.front ≡ Some state) × (after : State) × (next state k.token ≡ Some after) = state_of k in
       no_more h refusing p more state.0 k.wants.rest
       (ap (list_all is_sound) (sym is) ∙ sound_front k)
       (subst (λ ps. facet_count ps ≤ limit) is (few_front k))
       (ap (run outside) (sym is) ∙ state.1)
-      (ap (λ ps. rest_behind unit ps bytes) (sym is) ∙ k.wants.spelled)
+      (ap (λ ps. rest_after unit ps bytes) (sym is) ∙ k.wants.spelled)
 
   same_front : (h k : Halt limit unit bytes) → Refuses limit unit bytes h → Refuses limit unit bytes k → h.wants.front ≡ k.wants.front
   same_front h k refusing refusing' = by_prefix (agree unit outside bytes h.wants.front k.wants.front state.0 state'.0
@@ -324,8 +324,8 @@ module _ (limit : ℕ) (unit : LengthUnit) (bytes : List ℕ) where
 
       by_prefix : Prefixes h.wants.front k.wants.front → h.wants.front ≡ k.wants.front
       by_prefix (longer [] is) = sym (append-nil _) ∙ sym is
-      by_prefix (longer (p ∷ more) is) = absurd (not_behind h refusing k p more is)
-      by_prefix (shorter p more is) = absurd (not_behind k refusing' h p more is)
+      by_prefix (longer (p ∷ more) is) = absurd (not_after h refusing k p more is)
+      by_prefix (shorter p more is) = absurd (not_after k refusing' h p more is)
 
   -- two faults after the same front
   record Same (h k : Halt limit unit bytes) : Type 0 where
@@ -335,7 +335,7 @@ module _ (limit : ℕ) (unit : LengthUnit) (bytes : List ℕ) where
 
   same_halt : (h k : Halt limit unit bytes) → h.wants.front ≡ k.wants.front → Same h k
   same_halt h k front =
-      let rest : h.wants.rest ≡ k.wants.rest = some-is (sym h.wants.spelled ∙ ap (λ ps. rest_behind unit ps bytes) front ∙ k.wants.spelled) in
+      let rest : h.wants.rest ≡ k.wants.rest = some-is (sym h.wants.spelled ∙ ap (λ ps. rest_after unit ps bytes) front ∙ k.wants.spelled) in
       let state : (state : State) × (run outside h.wants.front ≡ Some state) × (after : State) × (next state h.token ≡ Some after) = state_of h in
       let state' : (state : State) × (run outside k.wants.front ≡ Some state) × (after : State) × (next state k.token ≡ Some after) = state_of k in
       let state_is : state.0 ≡ state'.0 = state-is (sym state.1 ∙ ap (run outside) front ∙ state'.1) in
@@ -435,7 +435,7 @@ module _ (limit : ℕ) (unit : LengthUnit) (bytes : List ℕ) where
 
   -- a text that reads as facets has a word
   has_word : (solids : List (List Facet)) (rest : List ℕ) → 0 < length solids
-      → rest_behind unit (flat_map solid_tokens solids) bytes ≡ Some rest → after_space bytes ≡ [] → ⊥
+      → rest_after unit (flat_map solid_tokens solids) bytes ≡ Some rest → after_space bytes ≡ [] → ⊥
   has_word [] rest some spelled none = omega (arith, some)
   has_word (facets ∷ solids) rest some spelled none =
       nothing_more unit solid_word bytes none
@@ -469,7 +469,7 @@ module _ (limit : ℕ) (unit : LengthUnit) (bytes : List ℕ) where
 
       at_end : h.wants.front ≡ whole → ⊥
       at_end e =
-          let rest : h.wants.rest ≡ r.rest = some-is (sym h.wants.spelled ∙ ap (λ ps. rest_behind unit ps bytes) e ∙ r.spelled) in
+          let rest : h.wants.rest ≡ r.rest = some-is (sym h.wants.spelled ∙ ap (λ ps. rest_after unit ps bytes) e ∙ r.spelled) in
           let there : state.0 ≡ outside = state-is (sym state.1 ∙ ap (run outside) e ∙ solids-run r.solids) in
           no_fault_at_end f x
           (h.wants.stands ∙ ap first_word rest ∙ no_word_left r.rest r.whole)
@@ -485,10 +485,10 @@ module _ (limit : ℕ) (unit : LengthUnit) (bytes : List ℕ) where
           nothing_more unit p r.rest r.whole
           (goes_on unit bytes whole p more outside state.0 r.rest h.wants.rest (solids-run r.solids) r.spelled
           (ap (run outside) (sym is) ∙ state.1)
-          (ap (λ ps. rest_behind unit ps bytes) (sym is) ∙ h.wants.spelled))
+          (ap (λ ps. rest_after unit ps bytes) (sym is) ∙ h.wants.spelled))
       by_prefix (shorter p more is) =
           no_more h (refuses f x) p more outside r.rest
           (ap (list_all is_sound) (sym is) ∙ sound_solids r.solids)
           (subst (λ ps. facet_count ps ≤ limit) is few)
           (ap (run outside) (sym is) ∙ solids-run r.solids)
-          (ap (λ ps. rest_behind unit ps bytes) (sym is) ∙ r.spelled)
+          (ap (λ ps. rest_after unit ps bytes) (sym is) ∙ r.spelled)

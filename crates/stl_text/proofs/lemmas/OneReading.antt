@@ -7,7 +7,7 @@ use Rattle.micro_num.specs.declared.unit.Unit.{Unit as LengthUnit}
 use Rattle.geometry.specs.Point.{Point}
 use Rattle.geometry.specs.Facet.{Facet}
 use Rattle.stl_text.specs.declared.word.Word.TheVariants.{Solid}
-use Rattle.stl_text.specs.Text.{Token, keyword, keyword_of, normal_part, coordinate, rest_of_line, facet_tokens, solid_tokens, is_keyword, begins_with, after_token, rest_behind, first_word, after_space, is_white, end_word, facets_of, Reads, keyword_text}
+use Rattle.stl_text.specs.Text.{Token, keyword, keyword_of, normal_part, coordinate, rest_of_line, facet_tokens, solid_tokens, is_keyword, begins_with, after_token, rest_after, first_word, after_space, is_white, end_word, facets_of, Reads, keyword_text}
 use Rattle.stl_text.proofs.lemmas.Determined.{State, Prefixes, Prefixes.longer, Prefixes.shorter, outside, next, run, run-append, then-some, then_at, only, shape-is, solid_slot, solids-run, agree}
 
 -- The rest of a text after tokens, and after further tokens.
@@ -17,13 +17,13 @@ then_on None f = None
 then_on (Some bytes) f = f bytes
 
 pub rest-append : (unit : LengthUnit) (ps qs : List Token) (bytes : List ℕ)
-    → rest_behind unit (ps ++ qs) bytes ≡ then_on (rest_behind unit ps bytes) (λ rest. rest_behind unit qs rest)
+    → rest_after unit (ps ++ qs) bytes ≡ then_on (rest_after unit ps bytes) (λ rest. rest_after unit qs rest)
 rest-append unit [] qs bytes = refl
 rest-append unit (p ∷ ps) qs bytes = by_test (begins_with unit p bytes) (rest-append unit ps qs (after_token p bytes))
   where
-    by_test : (b : Bool) → rest_behind unit (ps ++ qs) (after_token p bytes) ≡ then_on (rest_behind unit ps (after_token p bytes)) (λ rest. rest_behind unit qs rest)
-        → (if b then rest_behind unit (ps ++ qs) (after_token p bytes) else None)
-        ≡ then_on (if b then rest_behind unit ps (after_token p bytes) else None) (λ rest. rest_behind unit qs rest)
+    by_test : (b : Bool) → rest_after unit (ps ++ qs) (after_token p bytes) ≡ then_on (rest_after unit ps (after_token p bytes)) (λ rest. rest_after unit qs rest)
+        → (if b then rest_after unit (ps ++ qs) (after_token p bytes) else None)
+        ≡ then_on (if b then rest_after unit ps (after_token p bytes) else None) (λ rest. rest_after unit qs rest)
     by_test true e = e
     by_test false e = refl
 
@@ -34,13 +34,13 @@ pub record GoesOn (unit : LengthUnit) (state : State) (p : Token) (rest : List �
   pub begins : begins_with unit p rest ≡ true
 
 pub goes_on : (unit : LengthUnit) (bytes : List ℕ) (front : List Token) (p : Token) (more : List Token) (state end : State) (rest last : List ℕ)
-    → run outside front ≡ Some state → rest_behind unit front bytes ≡ Some rest
-    → run outside (front ++ p ∷ more) ≡ Some end → rest_behind unit (front ++ p ∷ more) bytes ≡ Some last → GoesOn unit state p rest
+    → run outside front ≡ Some state → rest_after unit front bytes ≡ Some rest
+    → run outside (front ++ p ∷ more) ≡ Some end → rest_after unit (front ++ p ∷ more) bytes ≡ Some last → GoesOn unit state p rest
 goes_on unit bytes front p more state end rest last ran spelled ran_on spelled_on =
     let on : run state (p ∷ more) ≡ Some end =
     ap (λ o. then_at o (λ after. run after (p ∷ more))) (sym ran) ∙ sym (run-append outside front (p ∷ more)) ∙ ran_on in
-    let text_on : rest_behind unit (p ∷ more) rest ≡ Some last =
-    ap (λ o. then_on o (λ bs. rest_behind unit (p ∷ more) bs)) (sym spelled) ∙ sym (rest-append unit front (p ∷ more) bytes) ∙ spelled_on in
+    let text_on : rest_after unit (p ∷ more) rest ≡ Some last =
+    ap (λ o. then_on o (λ bs. rest_after unit (p ∷ more) bs)) (sym spelled) ∙ sym (rest-append unit front (p ∷ more) bytes) ∙ spelled_on in
     let step : (after : State) × (next state p ≡ Some after) × (run after more ≡ Some end) = then-some _ _ end on in
     record { after = step.0; permitted = step.1; begins = tested _ _ text_on }
   where
@@ -127,9 +127,9 @@ one_reading limit unit bytes facets others r s =
         absurd (nothing_more unit p r.rest r.whole
         (goes_on unit bytes (flat_map solid_tokens r.solids) p more outside outside r.rest s.rest (solids-run r.solids) r.spelled
         (ap (run outside) (sym is) ∙ solids-run s.solids)
-        (ap (λ ps. rest_behind unit ps bytes) (sym is) ∙ s.spelled)))
+        (ap (λ ps. rest_after unit ps bytes) (sym is) ∙ s.spelled)))
     same (shorter p more is) =
         absurd (nothing_more unit p s.rest s.whole
         (goes_on unit bytes (flat_map solid_tokens s.solids) p more outside outside s.rest r.rest (solids-run s.solids) s.spelled
         (ap (run outside) (sym is) ∙ solids-run r.solids)
-        (ap (λ ps. rest_behind unit ps bytes) (sym is) ∙ r.spelled)))
+        (ap (λ ps. rest_after unit ps bytes) (sym is) ∙ r.spelled)))

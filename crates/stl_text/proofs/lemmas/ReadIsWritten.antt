@@ -14,7 +14,7 @@ use Rattle.micro_num.proofs.lemmas.Grammar.{Starts, from_starts}
 use Rattle.stl_text.specs.declared.word.Word.{Word}
 use Rattle.stl_text.specs.declared.word.Word.TheVariants.{FacetOrEnd, Solid}
 use Rattle.geometry.specs.Facet.{Facet}
-use Rattle.stl_text.specs.Text.{Token, keyword, normal_part, coordinate, rest_of_line, facet_tokens, facets_of, solid_tokens, is_keyword, is_white, is_line_end, begins_with, after_space, first_word, after_word, after_line, after_token, rest_behind, Reads, keyword_of, keyword_text, end_keyword}
+use Rattle.stl_text.specs.Text.{Token, keyword, normal_part, coordinate, rest_of_line, facet_tokens, facets_of, solid_tokens, is_keyword, is_white, is_line_end, begins_with, after_space, first_word, after_word, after_line, after_token, rest_after, Reads, keyword_of, keyword_text, end_keyword}
 use Rattle.stl_text.specs.Written.{Spaced, is_word, is_spaced_word, are_white, laid_out, IsWordOf, AreWordsOf, IsApart, IsRemark, IsLineBreak, IsEnd, WrittenSolid, AreWrittenSolids, Written}
 use Rattle.stl_text.proofs.lemmas.Determined.{read-is}
 use Rattle.stl_text.proofs.lemmas.OneReading.{then_on, rest-append}
@@ -98,13 +98,13 @@ first_is_word bytes some = rw (some, before_clear is_white (after_space bytes)) 
 -- a first token
 record Begins (unit : LengthUnit) (p : Token) (ps : List Token) (bytes rest : List ℕ) : Type 0 where
   begins : begins_with unit p bytes ≡ true
-  on : rest_behind unit ps (after_token p bytes) ≡ Some rest
+  on : rest_after unit ps (after_token p bytes) ≡ Some rest
 
-first_begins : (unit : LengthUnit) (p : Token) (ps : List Token) (bytes rest : List ℕ) → rest_behind unit (p ∷ ps) bytes ≡ Some rest
+first_begins : (unit : LengthUnit) (p : Token) (ps : List Token) (bytes rest : List ℕ) → rest_after unit (p ∷ ps) bytes ≡ Some rest
     → Begins unit p ps bytes rest
 first_begins unit p ps bytes rest e = by_test (begins_with unit p bytes) refl e
   where
-    by_test : (b : Bool) → begins_with unit p bytes ≡ b → (if b then rest_behind unit ps (after_token p bytes) else None) ≡ Some rest
+    by_test : (b : Bool) → begins_with unit p bytes ≡ b → (if b then rest_after unit ps (after_token p bytes) else None) ≡ Some rest
         → Begins unit p ps bytes rest
     by_test true is h = record { begins = is; on = h }
     by_test false is h = cc
@@ -116,7 +116,7 @@ record WordsAt (unit : LengthUnit) (ps : List Token) (bytes rest : List ℕ) : T
   text_is : after_space bytes ≡ laid_out words ++ after_space rest
 
 words_written : (unit : LengthUnit) (ps : List Token) (bytes rest : List ℕ) → list_all is_for_word ps ≡ true → 0 < length (after_space rest)
-    → rest_behind unit ps bytes ≡ Some rest → WordsAt unit ps bytes rest
+    → rest_after unit ps bytes ≡ Some rest → WordsAt unit ps bytes rest
 words_written unit [] bytes rest words some e =
     let same : bytes ≡ rest = cc in
     record { words = []; are = tt; text_is = ap after_space same }
@@ -126,7 +126,7 @@ words_written unit (p ∷ ps) bytes rest words some e =
     let first : StandsFor unit p bytes = stands unit p bytes parts.0 begin.begins in
     let more : List ℕ = after_word bytes in
     let on : WordsAt unit ps more rest =
-    words_written unit ps more rest parts.1 some (ap (rest_behind unit ps) (sym first.after) ∙ begin.on) in
+    words_written unit ps more rest parts.1 some (ap (rest_after unit ps) (sym first.after) ∙ begin.on) in
     let left : 0 < length (after_space more) = omega (arith, ap length on.text_is, length-append (laid_out on.words) (after_space rest), some) in
     let gap : nat_lt 0 (length (space_of more)) ≡ true = gap_some more (word_ends bytes) left in
     let spaced : is_spaced_word (record { text = first_word bytes; space = space_of more }) ≡ true =
@@ -172,17 +172,17 @@ end_is (b ∷ bytes) ends none =
 -- the text between two lists of tokens
 record Between (unit : LengthUnit) (ps qs : List Token) (bytes rest : List ℕ) : Type 0 where
   mid : List ℕ
-  before : rest_behind unit ps bytes ≡ Some mid
-  behind : rest_behind unit qs mid ≡ Some rest
+  before : rest_after unit ps bytes ≡ Some mid
+  after : rest_after unit qs mid ≡ Some rest
 
-between : (unit : LengthUnit) (ps qs : List Token) (bytes rest : List ℕ) → rest_behind unit (ps ++ qs) bytes ≡ Some rest
+between : (unit : LengthUnit) (ps qs : List Token) (bytes rest : List ℕ) → rest_after unit (ps ++ qs) bytes ≡ Some rest
     → Between unit ps qs bytes rest
-between unit ps qs bytes rest e = by_rest (rest_behind unit ps bytes) refl (sym (rest-append unit ps qs bytes) ∙ e)
+between unit ps qs bytes rest e = by_rest (rest_after unit ps bytes) refl (sym (rest-append unit ps qs bytes) ∙ e)
   where
-    by_rest : (o : Option (List ℕ)) → rest_behind unit ps bytes ≡ o → then_on o (λ r. rest_behind unit qs r) ≡ Some rest
+    by_rest : (o : Option (List ℕ)) → rest_after unit ps bytes ≡ o → then_on o (λ r. rest_after unit qs r) ≡ Some rest
         → Between unit ps qs bytes rest
     by_rest None is h = cc
-    by_rest (Some mid) is h = record { mid = mid; before = is; behind = h }
+    by_rest (Some mid) is h = record { mid = mid; before = is; after = h }
 
 word_some : (bytes : List ℕ) → nat_lt 0 (length (first_word bytes)) ≡ true → 0 < length (after_space bytes)
 word_some bytes some =
@@ -199,21 +199,21 @@ record LineAt (text bytes rest : List ℕ) : Type 0 where
   ends : EndsLine rest
 
 line_written : (unit : LengthUnit) (kind : Word) (text bytes rest : List ℕ) → nat_lt 0 (length text) ≡ true
-    → rest_behind unit (keyword kind text ∷ rest_of_line ∷ []) bytes ≡ Some rest → LineAt text bytes rest
+    → rest_after unit (keyword kind text ∷ rest_of_line ∷ []) bytes ≡ Some rest → LineAt text bytes rest
 line_written unit kind text bytes rest some e =
     let begun : Begins unit (keyword kind text) (rest_of_line ∷ []) bytes rest = first_begins unit (keyword kind text) (rest_of_line ∷ []) bytes rest e in
     let first : StandsFor unit (keyword kind text) bytes = stands unit (keyword kind text) bytes some begun.begins in
-    let behind : List ℕ = after_word bytes in
-    let last : after_line behind ≡ rest = some-is begun.on in
+    let after : List ℕ = after_word bytes in
+    let last : after_line after ≡ rest = some-is begun.on in
     record {
       word = first_word bytes;
       word_is = first.is;
-      remark = before_first is_line_end behind;
-      remark_is = remark_is behind (word_ends bytes);
+      remark = before_first is_line_end after;
+      remark_is = remark_is after (word_ends bytes);
       text_is = sym (word_first bytes)
-          ∙ ap (λ t. first_word bytes ++ t) (sym (line_first behind) ∙ ap (λ t. before_first is_line_end behind ++ t) last);
+          ∙ ap (λ t. first_word bytes ++ t) (sym (line_first after) ∙ ap (λ t. before_first is_line_end after ++ t) last);
       some = word_some bytes first.some;
-      ends = subst EndsLine last (from_starts is_line_end behind);
+      ends = subst EndsLine last (from_starts is_line_end after);
     }
   where
     some-is : {x y : List ℕ} → ◌≡◌ {A = Option (List ℕ)} (Some x) (Some y) → x ≡ y
@@ -262,14 +262,14 @@ solid_of unit facets bytes line mid rest opening words closing =
       ends = closing.ends;
     }
 
-solid_written : (unit : LengthUnit) (facets : List Facet) (bytes rest : List ℕ) → rest_behind unit (solid_tokens facets) bytes ≡ Some rest
+solid_written : (unit : LengthUnit) (facets : List Facet) (bytes rest : List ℕ) → rest_after unit (solid_tokens facets) bytes ≡ Some rest
     → SolidAt unit facets bytes rest
 solid_written unit facets bytes rest e =
     let body : List Token = flat_map facet_tokens facets in
     let opened : Between unit open_line (body ++ end_tokens) bytes rest = between unit open_line (body ++ end_tokens) bytes rest e in
     let line : List ℕ = opened.mid in
-    let inner : Between unit body end_tokens line rest = between unit body end_tokens line rest opened.behind in
-    let closing : LineAt end_keyword inner.mid rest = line_written unit FacetOrEnd end_keyword inner.mid rest refl inner.behind in
+    let inner : Between unit body end_tokens line rest = between unit body end_tokens line rest opened.after in
+    let closing : LineAt end_keyword inner.mid rest = line_written unit FacetOrEnd end_keyword inner.mid rest refl inner.after in
     solid_of unit facets bytes line inner.mid rest
     (line_written unit Solid (keyword_text Solid) bytes line refl opened.before)
     (words_written unit body line inner.mid (facets-words facets) closing.some inner.before) closing
@@ -282,17 +282,17 @@ record SolidsAt (unit : LengthUnit) (facets : List Facet) (front : List ℕ) : T
   last : List Facet
   last_text : List ℕ
   last_is : WrittenSolid unit last last_text
-  behind : List ℕ
-  behind_is : IsEnd behind
+  after : List ℕ
+  after_is : IsEnd after
   each : facets ≡ facets_of solids ++ last
-  text_is : front ≡ laid_out texts ++ (last_text ++ behind)
+  text_is : front ≡ laid_out texts ++ (last_text ++ after)
 
 solids_written : (unit : LengthUnit) (facets : List Facet) (solids : List (List Facet)) (bytes rest : List ℕ)
-    → rest_behind unit (flat_map solid_tokens (facets ∷ solids)) bytes ≡ Some rest → after_space rest ≡ []
+    → rest_after unit (flat_map solid_tokens (facets ∷ solids)) bytes ≡ Some rest → after_space rest ≡ []
     → SolidsAt unit (facets_of (facets ∷ solids)) (after_space bytes)
 solids_written unit facets [] bytes rest e ended =
     let at : SolidAt unit facets bytes rest =
-    solid_written unit facets bytes rest (ap (λ ps. rest_behind unit ps bytes) (sym (append-nil (solid_tokens facets))) ∙ e) in
+    solid_written unit facets bytes rest (ap (λ ps. rest_after unit ps bytes) (sym (append-nil (solid_tokens facets))) ∙ e) in
     record {
       solids = [];
       texts = [];
@@ -300,8 +300,8 @@ solids_written unit facets [] bytes rest e ended =
       last = facets;
       last_text = at.text;
       last_is = at.is;
-      behind = rest;
-      behind_is = end_is rest at.ends ended;
+      after = rest;
+      after_is = end_is rest at.ends ended;
       each = append-nil facets;
       text_is = at.text_is;
     }
@@ -310,9 +310,9 @@ solids_written unit facets (next ∷ solids) bytes rest e ended =
     let inner : Between unit (solid_tokens facets) more bytes rest = between unit (solid_tokens facets) more bytes rest e in
     let mid : List ℕ = inner.mid in
     let at : SolidAt unit facets bytes mid = solid_written unit facets bytes mid inner.before in
-    let on : SolidsAt unit (facets_of (next ∷ solids)) (after_space mid) = solids_written unit next solids mid rest inner.behind ended in
+    let on : SolidsAt unit (facets_of (next ∷ solids)) (after_space mid) = solids_written unit next solids mid rest inner.after ended in
     let after : Between unit (solid_tokens next) (flat_map solid_tokens solids) mid rest =
-    between unit (solid_tokens next) (flat_map solid_tokens solids) mid rest inner.behind in
+    between unit (solid_tokens next) (flat_map solid_tokens solids) mid rest inner.after in
     let some : 0 < length (after_space mid) = (solid_written unit next mid after.mid after.before).some in
     record {
       solids = facets ∷ on.solids;
@@ -321,12 +321,12 @@ solids_written unit facets (next ∷ solids) bytes rest e ended =
       last = on.last;
       last_text = on.last_text;
       last_is = on.last_is;
-      behind = on.behind;
-      behind_is = on.behind_is;
+      after = on.after;
+      after_is = on.after_is;
       each = ap (λ xs. facets ++ xs) on.each ∙ sym (append_assoc facets (facets_of on.solids) on.last);
       text_is = at.text_is ∙ ap (λ t. at.text ++ t) (sym (space_first mid) ∙ ap (λ t. space_of mid ++ t) on.text_is)
-          ∙ sym (append_assoc at.text (space_of mid) (laid_out on.texts ++ (on.last_text ++ on.behind)))
-          ∙ sym (append_assoc (at.text ++ space_of mid) (laid_out on.texts) (on.last_text ++ on.behind));
+          ∙ sym (append_assoc at.text (space_of mid) (laid_out on.texts ++ (on.last_text ++ on.after)))
+          ∙ sym (append_assoc (at.text ++ space_of mid) (laid_out on.texts) (on.last_text ++ on.after));
     }
 
 -- a text that reads as facets is these facets written out
@@ -335,7 +335,7 @@ pub read_written : (limit : ℕ) (unit : LengthUnit) (bytes : List ℕ) (facets 
 read_written limit unit bytes facets r = by_solids r.solids r.some r.each r.spelled
   where
     by_solids : (solids : List (List Facet)) → 0 < length solids → facets ≡ facets_of solids
-        → rest_behind unit (flat_map solid_tokens solids) bytes ≡ Some r.rest → Written unit facets bytes
+        → rest_after unit (flat_map solid_tokens solids) bytes ≡ Some r.rest → Written unit facets bytes
     by_solids [] some each spelled = absurd (omega (arith, some))
     by_solids (first ∷ solids) some each spelled =
         let at : SolidsAt unit (facets_of (first ∷ solids)) (after_space bytes) = solids_written unit first solids bytes r.rest spelled r.whole in
@@ -348,8 +348,8 @@ read_written limit unit bytes facets r = by_solids r.solids r.some r.each r.spel
           last = at.last;
           last_text = at.last_text;
           last_is = at.last_is;
-          behind = at.behind;
-          behind_is = at.behind_is;
+          after = at.after;
+          after_is = at.after_is;
           each = each ∙ at.each;
           text_is = sym (space_first bytes) ∙ ap (λ t. space_of bytes ++ t) at.text_is;
         }

@@ -10,7 +10,7 @@ use Rattle.micro_num.specs.Numeral.{Numeral, numeral_of}
 use Rattle.micro_num.specs.Micrometres.{coordinate_of, numeral_coordinate, is_coordinate, micro}
 use Rattle.stl_text.specs.declared.word.Word.{Word}
 use Rattle.stl_text.specs.declared.word.Word.TheVariants.{Solid, FacetOrEnd, Normal, Outer, Loop, Vertex, Number, EndLoop, EndFacet}
-use Rattle.stl_text.specs.Text.{Token, is_keyword, is_wanted, keyword_text, HasOneKeyword, rest_behind}
+use Rattle.stl_text.specs.Text.{Token, is_keyword, is_wanted, keyword_text, HasOneKeyword, rest_after}
 use Rattle.stl_text.specs.Reader.{Reader, Spells}
 use Rattle.std.proofs.lemmas.Bool.{eqb-true, leb-true}
 use Rattle.std.proofs.Common.{to_z, of_z, w32}
@@ -18,14 +18,14 @@ use Rattle.stl_text.proofs.lemmas.OneReading.{then_on, rest-append}
 use Rattle.geometry.specs.declared.limits.TheConstants.{COORDINATE_LIMIT}
 use Rattle.micro_num.specs.declared.limits.TheConstants.{WORD_LIMIT}
 
-pub spelled-append : (unit : LengthUnit) (ps qs : List Token) (bytes rest last : List ℕ) → rest_behind unit ps bytes ≡ Some rest
-    → rest_behind unit qs rest ≡ Some last → rest_behind unit (ps ++ qs) bytes ≡ Some last
+pub spelled-append : (unit : LengthUnit) (ps qs : List Token) (bytes rest last : List ℕ) → rest_after unit ps bytes ≡ Some rest
+    → rest_after unit qs rest ≡ Some last → rest_after unit (ps ++ qs) bytes ≡ Some last
 spelled-append unit ps qs bytes rest last spelled on =
-    rest-append unit ps qs bytes ∙ ap (λ o. then_on o (λ r. rest_behind unit qs r)) spelled ∙ on
+    rest-append unit ps qs bytes ∙ ap (λ o. then_on o (λ r. rest_after unit qs r)) spelled ∙ on
 
 pub spells_then : (ps qs : List Token) {old mid new : Reader} → Spells ps old mid → Spells qs mid new → Spells (ps ++ qs) old new
 spells_then ps qs {old} {mid} {new} first last =
-    let on : rest_behind old.unit qs mid.rest ≡ Some new.rest = subst (λ u. rest_behind u qs mid.rest ≡ Some new.rest) first.same_unit last.spelled in
+    let on : rest_after old.unit qs mid.rest ≡ Some new.rest = subst (λ u. rest_after u qs mid.rest ≡ Some new.rest) first.same_unit last.spelled in
     record {
       spelled = spelled-append old.unit ps qs old.rest mid.rest new.rest first.spelled on;
       same_unit = last.same_unit ∙ first.same_unit;

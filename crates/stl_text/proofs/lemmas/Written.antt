@@ -14,7 +14,7 @@ use Rattle.micro_num.specs.Numeral.{from_first}
 use Rattle.stl_text.specs.declared.word.Word.{Word}
 use Rattle.stl_text.specs.declared.word.Word.TheVariants.{FacetOrEnd, Solid}
 use Rattle.geometry.specs.Facet.{Facet}
-use Rattle.stl_text.specs.Text.{Token, keyword, normal_part, coordinate, rest_of_line, end_word, facet_tokens, solid_tokens, is_white, is_line_end, is_read_as, begins_with, after_space, first_word, after_word, after_token, rest_behind, Reads, keyword_of, keyword_text, end_keyword}
+use Rattle.stl_text.specs.Text.{Token, keyword, normal_part, coordinate, rest_of_line, end_word, facet_tokens, solid_tokens, is_white, is_line_end, is_read_as, begins_with, after_space, first_word, after_word, after_token, rest_after, Reads, keyword_of, keyword_text, end_keyword}
 use Rattle.stl_text.specs.Written.{Spaced, is_word, are_white, laid_out, IsWordOf, AreWordsOf, IsApart, IsRemark, IsLineBreak, IsEnd, WrittenSolid, AreWrittenSolids, Written}
 use Rattle.micro_num.proofs.lemmas.Grammar.{Starts, before-is, from-is}
 use Rattle.stl_text.proofs.lemmas.Solids.{facets-more, tokens-more}
@@ -75,8 +75,8 @@ token_read unit (coordinate z) space word more white black apart is =
 token_read unit rest_of_line space word more white black apart is = absurd is
 
 step_on : (unit : LengthUnit) (p : Token) (ps : List Token) (bytes more last : List ℕ) → ReadsToken unit p bytes more
-    → rest_behind unit ps more ≡ Some last → rest_behind unit (p ∷ ps) bytes ≡ Some last
-step_on unit p ps bytes more last read on = rw read.begins (ap (rest_behind unit ps) read.after ∙ on)
+    → rest_after unit ps more ≡ Some last → rest_after unit (p ∷ ps) bytes ≡ Some last
+step_on unit p ps bytes more last read on = rw read.begins (ap (rest_after unit ps) read.after ∙ on)
 
 apart_white : (space more : List ℕ) → nat_lt 0 (length space) ≡ true → are_white space ≡ true → Starts is_white (space ++ more)
 apart_white [] more h white = cc
@@ -86,7 +86,7 @@ apart_white (b ∷ space) more h white = (and_parts _ _ white).0
 record Leaves (unit : LengthUnit) (ps : List Token) (bytes more : List ℕ) : Type 0 where
   space : List ℕ
   white : are_white space ≡ true
-  spelled : rest_behind unit ps bytes ≡ Some (space ++ more)
+  spelled : rest_after unit ps bytes ≡ Some (space ++ more)
 
 words_read : (unit : LengthUnit) (ps : List Token) (words : List Spaced) (space more : List ℕ) → AreWordsOf unit ps words
     → are_white space ≡ true → Leaves unit ps (space ++ (laid_out words ++ more)) more
@@ -96,17 +96,17 @@ words_read unit (p ∷ ps) [] space more are white = absurd are
 words_read unit (p ∷ ps) (t ∷ words) space more are white =
     let word : is_word t.text ≡ true = (and_parts _ _ are.0).0 in
     let gap : (nat_lt 0 (length t.space) ≡ true) × (are_white t.space ≡ true) = and_parts _ _ (and_parts _ _ are.0).1 in
-    let behind : List ℕ = t.space ++ (laid_out words ++ more) in
-    let text : (((t.text ++ t.space) ++ laid_out words) ++ more) ≡ t.text ++ behind =
+    let after : List ℕ = t.space ++ (laid_out words ++ more) in
+    let text : (((t.text ++ t.space) ++ laid_out words) ++ more) ≡ t.text ++ after =
     append_assoc (t.text ++ t.space) (laid_out words) more ∙ append_assoc t.text t.space (laid_out words ++ more) in
-    let read : ReadsToken unit p (space ++ (t.text ++ behind)) behind =
-    token_read unit p space t.text behind white word (apart_white t.space (laid_out words ++ more) gap.0 gap.1) are.1 in
-    let on : Leaves unit ps behind more = words_read unit ps words t.space more are.2 gap.1 in
+    let read : ReadsToken unit p (space ++ (t.text ++ after)) after =
+    token_read unit p space t.text after white word (apart_white t.space (laid_out words ++ more) gap.0 gap.1) are.1 in
+    let on : Leaves unit ps after more = words_read unit ps words t.space more are.2 gap.1 in
     record {
       space = on.space;
       white = on.white;
-      spelled = ap (λ bs. rest_behind unit (p ∷ ps) (space ++ bs)) text
-          ∙ step_on unit p ps (space ++ (t.text ++ behind)) behind (on.space ++ more) read on.spelled;
+      spelled = ap (λ bs. rest_after unit (p ∷ ps) (space ++ bs)) text
+          ∙ step_on unit p ps (space ++ (t.text ++ after)) after (on.space ++ more) read on.spelled;
     }
 
 -- white space is the same in upper and lower case
@@ -147,7 +147,7 @@ apart_remark (b ∷ remark) more apart ends = apart
 -- a keyword, and the rest of its line
 line_read : (unit : LengthUnit) (kind : Word) (text space word remark more : List ℕ) → are_white space ≡ true
     → str_to_ascii_lowercase word ≡ text → is_word text ≡ true → IsRemark remark → EndsLine more
-    → rest_behind unit (keyword kind text ∷ rest_of_line ∷ []) (space ++ (word ++ (remark ++ more))) ≡ Some more
+    → rest_after unit (keyword kind text ∷ rest_of_line ∷ []) (space ++ (word ++ (remark ++ more))) ≡ Some more
 line_read unit kind text space word remark more white is text_is remark_is ends =
     step_on unit (keyword kind text) (rest_of_line ∷ []) (space ++ (word ++ (remark ++ more))) (remark ++ more) more
     (token_read unit (keyword kind text) space word (remark ++ more) white (keyword_is_word word text is text_is)
@@ -171,19 +171,19 @@ end_ends [] is = tt
 end_ends (b ∷ bytes) is = is.0
 
 solid_read : (unit : LengthUnit) (facets : List Facet) (text space more : List ℕ) → WrittenSolid unit facets text → are_white space ≡ true
-    → EndsLine more → rest_behind unit (solid_tokens facets) (space ++ (text ++ more)) ≡ Some more
+    → EndsLine more → rest_after unit (solid_tokens facets) (space ++ (text ++ more)) ≡ Some more
 solid_read unit facets text space more w white ends =
     let closing : List ℕ = w.closing ++ (w.remark ++ more) in
     let body : List ℕ = w.line_break ++ (laid_out w.body ++ closing) in
     let whole : text ++ more ≡ w.opening ++ (w.name ++ body) = ap (λ t. t ++ more) w.text_is ∙ simp append_assoc in
-    let opened : rest_behind unit (keyword_of Solid ∷ rest_of_line ∷ []) (space ++ (w.opening ++ (w.name ++ body))) ≡ Some body =
+    let opened : rest_after unit (keyword_of Solid ∷ rest_of_line ∷ []) (space ++ (w.opening ++ (w.name ++ body))) ≡ Some body =
     line_read unit Solid (keyword_text Solid) space w.opening w.name body white w.opening_is refl w.name_is
     (break_ends w.line_break (laid_out w.body ++ closing) w.line_break_is) in
     let read : Leaves unit (flat_map facet_tokens facets) body closing =
     words_read unit (flat_map facet_tokens facets) w.body w.line_break closing w.body_is (break_white w.line_break w.line_break_is) in
-    let closed : rest_behind unit (end_word ∷ rest_of_line ∷ []) (read.space ++ closing) ≡ Some more =
+    let closed : rest_after unit (end_word ∷ rest_of_line ∷ []) (read.space ++ closing) ≡ Some more =
     line_read unit FacetOrEnd end_keyword read.space w.closing w.remark more read.white w.closing_is refl w.remark_is ends in
-    ap (λ bs. rest_behind unit (solid_tokens facets) (space ++ bs)) whole
+    ap (λ bs. rest_after unit (solid_tokens facets) (space ++ bs)) whole
     ∙ spelled-append unit ((keyword_of Solid ∷ rest_of_line ∷ []) ++ flat_map facet_tokens facets) (end_word ∷ rest_of_line ∷ [])
     (space ++ (w.opening ++ (w.name ++ body))) (read.space ++ closing) more
     (spelled-append unit (keyword_of Solid ∷ rest_of_line ∷ []) (flat_map facet_tokens facets)
@@ -196,38 +196,38 @@ solids_read unit [] [] space more are white = record { space = space; white = wh
 solids_read unit [] (t ∷ texts) space more are white = absurd are
 solids_read unit (facets ∷ solids) [] space more are white = absurd are
 solids_read unit (facets ∷ solids) (t ∷ texts) space more are white =
-    let behind : List ℕ = t.space ++ (laid_out texts ++ more) in
-    let text : (((t.text ++ t.space) ++ laid_out texts) ++ more) ≡ t.text ++ behind =
+    let after : List ℕ = t.space ++ (laid_out texts ++ more) in
+    let text : (((t.text ++ t.space) ++ laid_out texts) ++ more) ≡ t.text ++ after =
     append_assoc (t.text ++ t.space) (laid_out texts) more ∙ append_assoc t.text t.space (laid_out texts ++ more) in
-    let first : rest_behind unit (solid_tokens facets) (space ++ (t.text ++ behind)) ≡ Some behind =
-    solid_read unit facets t.text space behind are.0 white (break_ends t.space (laid_out texts ++ more) are.1) in
-    let on : Leaves unit (flat_map solid_tokens solids) behind more = solids_read unit solids texts t.space more are.2 (break_white t.space are.1) in
+    let first : rest_after unit (solid_tokens facets) (space ++ (t.text ++ after)) ≡ Some after =
+    solid_read unit facets t.text space after are.0 white (break_ends t.space (laid_out texts ++ more) are.1) in
+    let on : Leaves unit (flat_map solid_tokens solids) after more = solids_read unit solids texts t.space more are.2 (break_white t.space are.1) in
     record {
       space = on.space;
       white = on.white;
-      spelled = ap (λ bs. rest_behind unit (flat_map solid_tokens (facets ∷ solids)) (space ++ bs)) text
-          ∙ spelled-append unit (solid_tokens facets) (flat_map solid_tokens solids) (space ++ (t.text ++ behind))
-          behind (on.space ++ more) first on.spelled;
+      spelled = ap (λ bs. rest_after unit (flat_map solid_tokens (facets ∷ solids)) (space ++ bs)) text
+          ∙ spelled-append unit (solid_tokens facets) (flat_map solid_tokens solids) (space ++ (t.text ++ after))
+          after (on.space ++ more) first on.spelled;
     }
 
 -- a text in which facets are written reads as these facets
 pub written_reads : (limit : ℕ) (unit : LengthUnit) (facets : List Facet) (text : List ℕ) → length facets ≤ limit → Written unit facets text
     → Reads limit unit text facets
 written_reads limit unit facets text few w =
-    let last : List ℕ = w.last_text ++ w.behind in
+    let last : List ℕ = w.last_text ++ w.after in
     let before : Leaves unit (flat_map solid_tokens w.solids) (w.lead ++ (laid_out w.texts ++ last)) last =
     solids_read unit w.solids w.texts w.lead last w.texts_are w.lead_is in
-    let read : rest_behind unit (solid_tokens w.last) (before.space ++ last) ≡ Some w.behind =
-    solid_read unit w.last w.last_text before.space w.behind w.last_is before.white (end_ends w.behind w.behind_is) in
+    let read : rest_after unit (solid_tokens w.last) (before.space ++ last) ≡ Some w.after =
+    solid_read unit w.last w.last_text before.space w.after w.last_is before.white (end_ends w.after w.after_is) in
     record {
       solids = w.solids ++ w.last ∷ [];
       some = omega (arith, length-append w.solids (w.last ∷ []));
       each = w.each ∙ facets-more w.solids w.last;
       few = few;
-      rest = w.behind;
-      spelled = ap (rest_behind unit (flat_map solid_tokens (w.solids ++ w.last ∷ []))) w.text_is
-          ∙ ap (λ ps. rest_behind unit ps (w.lead ++ (laid_out w.texts ++ last))) (tokens-more w.solids w.last)
+      rest = w.after;
+      spelled = ap (rest_after unit (flat_map solid_tokens (w.solids ++ w.last ∷ []))) w.text_is
+          ∙ ap (λ ps. rest_after unit ps (w.lead ++ (laid_out w.texts ++ last))) (tokens-more w.solids w.last)
           ∙ spelled-append unit (flat_map solid_tokens w.solids) (solid_tokens w.last) (w.lead ++ (laid_out w.texts ++ last))
-          (before.space ++ last) w.behind before.spelled read;
-      whole = ap after_space (sym (append-nil w.behind)) ∙ skip_white w.behind [] (end_white w.behind w.behind_is);
+          (before.space ++ last) w.after before.spelled read;
+      whole = ap after_space (sym (append-nil w.after)) ∙ skip_white w.after [] (end_white w.after w.after_is);
     }

@@ -209,7 +209,7 @@ no_answer : {T : Type 0} (P : Type 0) (r : Result T RunFault) (f : RunFault) →
 no_answer P (Ok x) f e = absurd e
 no_answer P (Err x) f e = tt
 
--- a run ends with a fault behind its reading, before the first byte is written
+-- a run ends with a fault after its reading, before the first byte is written
 pub ended_early : {T : Type 0} (r : Result T RunFault) (t : Task) (input : List ℕ) (source sink : Transcript) (settled : Bool) (f : RunFault)
     → IsInput source.old input → IsAtEnd source.new → source.failed ≡ source.failed_before → IsUntouched sink → IsWorkFault t input f
     → IsErrAnd r (λ x. x ≡ f) → IsRun t r source sink settled

@@ -56,7 +56,7 @@ pub areas_of : (job : Job) (xs : List Layer) → IsComplete job xs
 areas_of job xs complete =
     areas_from job 0 xs complete.lawful ∙ ap (λ (n : ℕ). sum_by (area_of job.grid job.rule job.solid.facets) (below n)) complete.whole
 
--- the part of a number behind the parts of all before it
+-- the part of a number, which follows the parts of all before it
 pub one_more : (f : ℕ → List ℕ) (n : ℕ) → flat_map f (below (n + 1)) ≡ flat_map f (below n) ++ f n
 one_more f n = part_more f 0 n n (omega arith)
 

@@ -8,5 +8,5 @@ returns-clause-times c =
     let f : List ℕ = c.args.fraction.now in
     let one = rw c.split_at.ensures.back at c.carried.ensures.carry in
     let two = rw c.split_at-2.ensures.back at c.carried-2.ensures.carry in
-    carried_twice w f c.args.leading.dropped c.min-behind.result c.min-behind.ensures c.requires.few
+    carried_twice w f c.args.leading.dropped c.min-in_fraction.result c.min-in_fraction.ensures c.requires.few
     c.args.leading.value c.carried.result c.carried-2.result c.requires.leads c.requires.digits one two

@@ -29,7 +29,7 @@ returns-clause-front c =
       | else-negative w ↦ IsNear-plus e v _ _ (sign_of c.in-Some.text.now) leads (w.result-is ∙ high) (λ h. let both = c.split_sign-negative.ensures.minus.1 h in let other = w.if-negative.false in cc)
     ] in
     let front : IsExponentFront c.args.bytes.now _ e =
-    front_exponent c.args.bytes.now c.in-Some.mark.now c.in-Some.text.now ds n e c.in-Some.ensures.cases.0 c.split_sign-negative.ensures.behind (is_mark c)
+    front_exponent c.args.bytes.now c.in-Some.mark.now c.in-Some.text.now ds n e c.in-Some.ensures.cases.0 c.split_sign-negative.ensures.after (is_mark c)
     c.in_ok-digits.ensures.count (omega (arith, c.if-digits-eq0.false)) is_near in
     subst (λ r. IsExponentFront c.args.bytes.now r e) (sym c.split_at.ensures.back) front
 
@@ -37,5 +37,5 @@ pub returns-clause-reads : goal.returns-clause-reads
 returns-clause-reads c = λ x rest is spelled ended.
     let ds : List ℕ = c.split_sign-negative.result.1.now in
     let read = marked_rest c.args.bytes.now x rest is spelled ended c.in-Some.mark.now c.in-Some.text.now ds c.in-Some.ensures.cases.0 (is_mark c)
-    c.split_sign-negative.ensures.behind in
+    c.split_sign-negative.ensures.after in
     c.split_at.ensures.back ∙ ap (λ n. drop n ds) c.in_ok-digits.ensures.count ∙ read.1

@@ -10,19 +10,19 @@ use Rattle.micro_num.proofs.short.short_front.Goals as goal
 pub returns-clause-exact : goal.returns-clause-exact
 returns-clause-exact c =
     let text : List ℕ = c.args.bytes.now in
-    let rest : List ℕ = c.in_ok-size.behind.now in
-    let size : ℕ = c.in_ok-size.size in
+    let rest : List ℕ = c.in_ok-magnitude.after.now in
+    let magnitude : ℕ = c.in_ok-magnitude.magnitude in
     let fits : FitsSigned w32 c.in_ok-coordinate.coordinate = search rules in
-    let front : IsNumberFront c.args.unit (after_sign text) rest size =
-    subst (λ t. IsNumberFront c.args.unit t rest size) c.split_sign-negative.ensures.behind c.in_ok-size.ensures.front in
-    front_coordinate c.args.unit text rest size front (omega (arith, c.in_ok-size.ensures.within, c.split_sign-negative.ensures.within)) c.in_ok-coordinate.ensures.in_range
-    ∙ ap Ok (sym (to_z-of_z w32 c.in_ok-coordinate.coordinate fits ∙ c.in_ok-coordinate.ensures.value ∙ turned-by (sign_of text) _ (pos size) c.split_sign-negative.ensures.minus))
+    let front : IsNumberFront c.args.unit (after_sign text) rest magnitude =
+    subst (λ t. IsNumberFront c.args.unit t rest magnitude) c.split_sign-negative.ensures.after c.in_ok-magnitude.ensures.front in
+    front_coordinate c.args.unit text rest magnitude front (omega (arith, c.in_ok-magnitude.ensures.within, c.split_sign-negative.ensures.within)) c.in_ok-coordinate.ensures.in_range
+    ∙ ap Ok (sym (to_z-of_z w32 c.in_ok-coordinate.coordinate fits ∙ c.in_ok-coordinate.ensures.value ∙ turned-by (sign_of text) _ (pos magnitude) c.split_sign-negative.ensures.minus))
 
 pub returns-clause-reads : goal.returns-clause-reads
 returns-clause-reads c = λ word rest z spelled ended is.
     let text : List ℕ = c.args.bytes.now in
-    let behind : List ℕ = c.in_ok-size.behind.now in
-    let number = reads_number c.args.unit text word rest text _ (length text) z (λ left. behind ≡ left) spelled ended is (sym (take-length text))
-    (λ short. omega (arith, ap length spelled, length-append word rest)) c.split_sign-negative.ensures.behind c.in_ok-size.ensures.reads in
+    let after : List ℕ = c.in_ok-magnitude.after.now in
+    let number = reads_number c.args.unit text word rest text _ (length text) z (λ left. after ≡ left) spelled ended is (sym (take-length text))
+    (λ short. omega (arith, ap length spelled, length-append word rest)) c.split_sign-negative.ensures.after c.in_ok-magnitude.ensures.reads in
     found_pair c.args.unit text word rest _ spelled
     (omega (arith, ap length number.1, ap length number.2, length-append word number.0)) _ z (returns-clause-exact c) is

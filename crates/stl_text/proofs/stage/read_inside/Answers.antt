@@ -9,7 +9,7 @@ use Rattle.stl_text.proofs.lemmas.Stages.{some_word, reads_as, reads_number}
 use Rattle.stl_text.proofs.stage.read_inside.Goals as goal
 
 pub returns-then-is_keyword-clause-read : goal.returns-then-is_keyword-clause-read
-returns-then-is_keyword-clause-read c = λ few behind word_is some.
+returns-then-is_keyword-clause-read c = λ few after word_is some.
     let kind = c.in-Keyword.kind in
     let word = c.args.word.now in
     let text : c.as_bytes.result.now ≡ keyword_text kind = c.as_bytes.ensures.value ∙ c.text.ensures c.in-Keyword.ensures.plain in
@@ -17,17 +17,17 @@ returns-then-is_keyword-clause-read c = λ few behind word_is some.
       token = keyword_of kind;
       goes = (c.in-Keyword.ensures.wanted few).1 c.args.facet;
       begins = ap (is_keyword (keyword_text kind)) word_is ∙ ap (λ t. is_keyword t word) (sym text) ∙ sym c.is_keyword.ensures ∙ c.if-is_keyword.true;
-      after = refl;
+      one_word = refl;
     }
 
 pub returns-else-is_keyword-clause-fault : goal.returns-else-is_keyword-clause-fault
-returns-else-is_keyword-clause-fault c = λ few behind word_is some.
+returns-else-is_keyword-clause-fault c = λ few after word_is some.
     let kind = c.in-Keyword.kind in
     let word = c.args.word.now in
     let names : NamesKeyword kind = names_keyword kind c.in-Keyword.ensures.plain in
     let text : c.as_bytes.result.now ≡ keyword_text kind = c.as_bytes.ensures.value ∙ c.text.ensures c.in-Keyword.ensures.plain in
-    let other : is_wanted kind (first_word behind) ≡ false =
-    names.only (first_word behind) ∙ ap (is_keyword (keyword_text kind)) word_is ∙ ap (λ t. is_keyword t word) (sym text) ∙ sym c.is_keyword.ensures
+    let other : is_wanted kind (first_word after) ≡ false =
+    names.only (first_word after) ∙ ap (is_keyword (keyword_text kind)) word_is ∙ ap (λ t. is_keyword t word) (sym text) ∙ sym c.is_keyword.ensures
     ∙ c.if-is_keyword.false in
     record {
       token = keyword_of kind;
@@ -36,7 +36,7 @@ returns-else-is_keyword-clause-fault c = λ few behind word_is some.
       stop = λ room before text offset. (
         refl,
         names.no_number,
-        some_word behind c.args.word.now word_is some,
+        some_word after c.args.word.now word_is some,
         other,
         offset,
       );
@@ -44,27 +44,27 @@ returns-else-is_keyword-clause-fault c = λ few behind word_is some.
     }
 
 pub returns-in-Part-clause-read : goal.returns-in-Part-clause-read
-returns-in-Part-clause-read c = λ few behind word_is some.
-    record { token = normal_part; goes = c.in-Part.ensures.wanted few c.args.facet; begins = reads_as behind c.args.word.now word_is some; after = refl }
+returns-in-Part-clause-read c = λ few after word_is some.
+    record { token = normal_part; goes = c.in-Part.ensures.wanted few c.args.facet; begins = reads_as after c.args.word.now word_is some; one_word = refl }
 
 pub put_in-requires : goal.put_in-requires
 put_in-requires c = coordinate-within-bits c.args.unit c.args.word.now c.in-Ok.value (sym c.read_micro.ensures.exact ∙ c.in-Ok.is)
 
 pub returns-in-Ok-clause-read : goal.returns-in-Ok-clause-read
-returns-in-Ok-clause-read c = λ few behind word_is some.
+returns-in-Ok-clause-read c = λ few after word_is some.
     let value = c.in-Ok.value in
     let fits : FitsSigned w32 value = search rules in
     rw c.put_in.ensures
     (record {
       token = coordinate value;
       goes = rw (to_z-of_z w32 value fits) (c.in-Number.ensures.wanted few c.args.facet value);
-      begins = reads_number c.args.unit behind c.args.word.now value word_is (sym c.read_micro.ensures.exact ∙ c.in-Ok.is);
-      after = refl;
+      begins = reads_number c.args.unit after c.args.word.now value word_is (sym c.read_micro.ensures.exact ∙ c.in-Ok.is);
+      one_word = refl;
     })
 
 pub returns-in-Err-clause-fault : goal.returns-in-Err-clause-fault
-returns-in-Err-clause-fault c = λ few behind word_is some.
-    let refused : coordinate_of c.args.unit (first_word behind) ≡ Err c.in-Err.cause =
+returns-in-Err-clause-fault c = λ few after word_is some.
+    let refused : coordinate_of c.args.unit (first_word after) ≡ Err c.in-Err.cause =
     ap (coordinate_of c.args.unit) word_is ∙ sym c.read_micro.ensures.exact ∙ c.in-Err.is in
     record {
       token = coordinate (pos 0);
@@ -72,7 +72,7 @@ returns-in-Err-clause-fault c = λ few behind word_is some.
       goes = c.in-Number.ensures.wanted few c.args.facet (pos 0);
       stop = λ room before text offset. (
         (pos 0, refl),
-        some_word behind c.args.word.now word_is some,
+        some_word after c.args.word.now word_is some,
         refused,
         offset,
       );

@@ -1,4 +1,4 @@
-use Rattle.std.proofs.Common.{refl, sym, ◌∙◌, ap}
+use Rattle.std.proofs.Common.{◌≡◌, refl, sym, ◌∙◌, ap}
 use Rattle.stl_text.specs.declared.stl_fault.StlFault.TheVariants.{Expected}
 use Rattle.stl_text.specs.declared.word.Word.TheVariants.{Solid}
 use Rattle.stl_text.specs.Text.{is_keyword, keyword_text}
@@ -6,18 +6,22 @@ use Rattle.stl_text.proofs.lemmas.Stages.{solid_read, some_word, stuck_between}
 use Rattle.stl_text.proofs.stage.step_between.Goals as goal
 
 pub returns-then-is_keyword-clause-read : goal.returns-then-is_keyword-clause-read
-returns-then-is_keyword-clause-read c = λ limit unit some facets text behind w.
-    solid_read limit unit some facets text behind w.stands
-    (ap (is_keyword (keyword_text Solid)) w.word_is ∙ sym c.is_keyword.ensures ∙ c.if-is_keyword.true)
+returns-then-is_keyword-clause-read c = λ limit unit some facets text after w.
+    let same : c.as_bytes.result.now ≡ keyword_text Solid = c.as_bytes.ensures.value ∙ c.text.ensures refl in
+    solid_read limit unit some facets text after w.stands
+    (ap (is_keyword (keyword_text Solid)) w.word_is ∙ ap (λ t. is_keyword t c.args.word.now) (sym same)
+    ∙ sym c.is_keyword.ensures ∙ c.if-is_keyword.true)
 
 pub returns-else-is_keyword-clause-fault : goal.returns-else-is_keyword-clause-fault
-returns-else-is_keyword-clause-fault c = λ limit unit some facets text behind w.
-    stuck_between limit unit some facets text behind (Expected Solid c.args.at) w.stands
+returns-else-is_keyword-clause-fault c = λ limit unit some facets text after w.
+    let same : c.as_bytes.result.now ≡ keyword_text Solid = c.as_bytes.ensures.value ∙ c.text.ensures refl in
+    stuck_between limit unit some facets text after (Expected Solid c.args.at) w.stands
     (λ before. (
       refl,
       λ e. cc,
-      some_word behind c.args.word.now w.word_is w.some,
-      ap (is_keyword (keyword_text Solid)) w.word_is ∙ sym c.is_keyword.ensures ∙ c.if-is_keyword.false,
+      some_word after c.args.word.now w.word_is w.some,
+      ap (is_keyword (keyword_text Solid)) w.word_is ∙ ap (λ t. is_keyword t c.args.word.now) (sym same)
+          ∙ sym c.is_keyword.ensures ∙ c.if-is_keyword.false,
       w.at_is,
     ))
     (λ e. cc)

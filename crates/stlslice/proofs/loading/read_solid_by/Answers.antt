@@ -6,7 +6,7 @@ use Rattle.std.proofs.lemmas.Result.{IfErr-weaker}
 use Rattle.geometry.specs.Facet.{Facet}
 use Rattle.geometry.specs.declared.limits.TheConstants.{FACET_LIMIT}
 use Rattle.raster.specs.Devices.{Fails}
-use Rattle.stl_text.specs.Pieces.{IsAfter}
+use Rattle.stl_text.specs.TextReader.{IsAfter}
 use Rattle.stlslice.specs.Loading.{AreWelded, IsFed, IsLoadFault, IsSolidOf}
 use Rattle.stlslice.specs.declared.run_fault.RunFault.TheVariants.{Memory, Read}
 use Rattle.stlslice.proofs.lemmas.Faults.{not_read}

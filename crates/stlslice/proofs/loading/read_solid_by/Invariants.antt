@@ -3,7 +3,7 @@ use Rattle.std.specs.Prelude.{List, ℕ}
 use Rattle.std.specs.Io.KnownBytes.{Consumes, IsAtEnd}
 use Rattle.geometry.specs.Facet.{Facet}
 use Rattle.geometry.specs.declared.limits.TheConstants.{FACET_LIMIT}
-use Rattle.stl_text.specs.Pieces.{IsAfter}
+use Rattle.stl_text.specs.TextReader.{IsAfter}
 use Rattle.stlslice.specs.Loading.{AreWelded}
 use Rattle.stlslice.proofs.loading.read_solid_by.Given as goal
 

@@ -1,18 +1,18 @@
 use Rattle.std.proofs.Common.{◌≡◌, ℕ, List, [], rules, subst, sym, arith}
 use Rattle.std.specs.Prelude.{IfErr, IfOk}
 use Rattle.geometry.specs.declared.limits.TheConstants.{FACET_LIMIT}
-use Rattle.stl_text.specs.Pieces.{IsAfter, Progress}
+use Rattle.stl_text.specs.TextReader.{IsAfter, TextReader}
 use Rattle.stl_text.specs.declared.stl_fault.StlFault.TheVariants as stl
-use Rattle.layer_session.specs.Reading.{IsFed, Reading}
+use Rattle.layer_session.specs.SessionReader.{IsFed, SessionReader}
 use Rattle.layer_session.specs.Session.{IsOpenFault, IsSessionOf}
 use Rattle.layer_session.specs.declared.setup.Setup.{Setup}
 use Rattle.layer_session.proofs.session_reader.SessionReader.finish.Goals as goal
 
 -- what was fed, by the parts of the reader
-inside : (s : Setup) (p : Progress) (reading : Reading) (setup : Setup) (fed : List ℕ) → record { setup = s; progress = p } ≡ reading
+inside : (s : Setup) (p : TextReader) (reading : SessionReader) (setup : Setup) (fed : List ℕ) → record { setup = s; reader = p } ≡ reading
     → IsFed setup reading fed → (s ≡ setup) × IsAfter FACET_LIMIT s.unit [] p fed
 inside s p reading setup fed e is =
-    let here : IsFed setup (record { setup = s; progress = p }) fed = subst (λ r. IsFed setup r fed) (sym e) is in
+    let here : IsFed setup (record { setup = s; reader = p }) fed = subst (λ r. IsFed setup r fed) (sym e) is in
     (here.with_setup, subst (λ (q : Setup). IsAfter FACET_LIMIT q.unit [] p fed) (sym here.with_setup) here.after)
 
 pub of_facets-requires-clause-few : goal.of_facets-requires-clause-few

@@ -8,41 +8,41 @@ use Rattle.stl_text.proofs.lemmas.Stages.{ended_first, ended_word, stuck_facets,
 use Rattle.stl_text.proofs.stage.Stage.end.Goals as goal
 
 pub returns-in-Between-false-clause-fault : goal.returns-in-Between-false-clause-fault
-returns-in-Between-false-clause-fault c = λ limit unit facets text behind s e.
-    ended_first limit unit facets text behind
-    (subst (λ v. Stands limit unit v facets text behind) (c.in-Between-false.is ∙ ap Between c.in-Between-false.some-test) s) e
+returns-in-Between-false-clause-fault c = λ limit unit facets text after s e.
+    ended_first limit unit facets text after
+    (subst (λ v. Stands limit unit v facets text after) (c.in-Between-false.is ∙ ap Between c.in-Between-false.some-test) s) e
 
 pub returns-in-Facets-clause-fault : goal.returns-in-Facets-clause-fault
-returns-in-Facets-clause-fault c = λ limit unit facets text behind s e.
-    stuck_facets limit unit facets text behind (Ended FacetOrEnd)
-    (subst (λ v. Stands limit unit v facets text behind) c.in-Facets.is s) (refl, ended_word behind e) (λ h. cc)
+returns-in-Facets-clause-fault c = λ limit unit facets text after s e.
+    stuck_facets limit unit facets text after (Ended FacetOrEnd)
+    (subst (λ v. Stands limit unit v facets text after) c.in-Facets.is s) (refl, ended_word after e) (λ h. cc)
 
 pub returns-in-Keyword-clause-fault : goal.returns-in-Keyword-clause-fault
-returns-in-Keyword-clause-fault c = λ limit unit facets text behind s e.
+returns-in-Keyword-clause-fault c = λ limit unit facets text after s e.
     let words = c.in-Inside.words in
     let t = c.in-Inside.facet in
     let kind = c.in-Keyword.kind in
-    let stands : Stands limit unit (inside words t) facets text behind =
-    subst (λ v. Stands limit unit v facets text behind) c.in-Inside.is s in
+    let stands : Stands limit unit (inside words t) facets text after =
+    subst (λ v. Stands limit unit v facets text after) c.in-Inside.is s in
     let wants = c.in-Keyword.ensures.wanted stands.form.0 in
-    stuck_inside limit unit words facets t t (keyword_of kind) text behind (Ended kind) stands (wants.1 t)
-    (λ before. (refl, ended_word behind e))
+    stuck_inside limit unit words facets t t (keyword_of kind) text after (Ended kind) stands (wants.1 t)
+    (λ before. (refl, ended_word after e))
     (λ h. let same : kind ≡ Solid = cc in absurd (wants.0 same))
 
 pub returns-in-Part-clause-fault : goal.returns-in-Part-clause-fault
-returns-in-Part-clause-fault c = λ limit unit facets text behind s e.
+returns-in-Part-clause-fault c = λ limit unit facets text after s e.
     let words = c.in-Inside.words in
     let t = c.in-Inside.facet in
-    let stands : Stands limit unit (inside words t) facets text behind =
-    subst (λ v. Stands limit unit v facets text behind) c.in-Inside.is s in
-    stuck_inside limit unit words facets t t normal_part text behind (Ended Number) stands (c.in-Part.ensures.wanted stands.form.0 t)
-    (λ before. (refl, ended_word behind e)) (λ h. cc)
+    let stands : Stands limit unit (inside words t) facets text after =
+    subst (λ v. Stands limit unit v facets text after) c.in-Inside.is s in
+    stuck_inside limit unit words facets t t normal_part text after (Ended Number) stands (c.in-Part.ensures.wanted stands.form.0 t)
+    (λ before. (refl, ended_word after e)) (λ h. cc)
 
 pub returns-in-Number-clause-fault : goal.returns-in-Number-clause-fault
-returns-in-Number-clause-fault c = λ limit unit facets text behind s e.
+returns-in-Number-clause-fault c = λ limit unit facets text after s e.
     let words = c.in-Inside.words in
     let t = c.in-Inside.facet in
-    let stands : Stands limit unit (inside words t) facets text behind =
-    subst (λ v. Stands limit unit v facets text behind) c.in-Inside.is s in
-    stuck_inside limit unit words facets t (with_number c.in-Number.field-0 c.in-Number.field-1 (pos 0) t) (coordinate (pos 0)) text behind (Ended Number) stands
-    (c.in-Number.ensures.wanted stands.form.0 t (pos 0)) (λ before. (refl, ended_word behind e)) (λ h. cc)
+    let stands : Stands limit unit (inside words t) facets text after =
+    subst (λ v. Stands limit unit v facets text after) c.in-Inside.is s in
+    stuck_inside limit unit words facets t (with_number c.in-Number.field-0 c.in-Number.field-1 (pos 0) t) (coordinate (pos 0)) text after (Ended Number) stands
+    (c.in-Number.ensures.wanted stands.form.0 t (pos 0)) (λ before. (refl, ended_word after e)) (λ h. cc)

@@ -1,32 +1,32 @@
 use Rattle.std.proofs.Common.{◌≡◌, ◌≤◌, false, ◌+◌, ◌++◌, ◌<◌, [], append_assoc, length, length-append, refl, sym, ◌∙◌, ap, subst, arith}
 use Rattle.std.proofs.lemmas.Bool.{eqb-false}
 use Rattle.stl_text.specs.Stage.{in_facets}
-use Rattle.stl_text.specs.Pieces.{IsReading, IsReadingAt, Progress, Waits, at_word}
-use Rattle.stl_text.proofs.lemmas.Pieces.{run_passed, within_limit}
+use Rattle.stl_text.specs.TextReader.{IsReading, IsReadingAt, TextReader, Waits, at_word}
+use Rattle.stl_text.proofs.lemmas.TextReaders.{run_passed, within_limit}
 use Rattle.stl_text.proofs.text_reader.TextReader.jump.Goals as goal
 
 pub returns-in-Err-clause-read : goal.returns-in-Err-clause-read
-returns-in-Err-clause-read g c = λ limit unit taken fed piece run is no more. absurd (no c.in-Err.ensures.fault)
+returns-in-Err-clause-read g c = λ limit unit taken fed chunk run is no more. absurd (no c.in-Err.ensures.fault)
 
 pub returns-clause-read : goal.returns-clause-read
-returns-clause-read g c = λ limit unit taken fed piece run is.
+returns-clause-read g c = λ limit unit taken fed chunk run is.
     let i = c.self.inside in
-    let p : Progress = record { limit = length taken + i.limit; unit = i.unit; count = i.count; place = i.place; held = i.held.items; facets = taken ++ i.facets.items } in
-    let q : Progress = record { limit = length taken + i.limit; unit = i.unit; count = i.count; place = i.place; held = i.held.items; facets = taken ++ c.add_all.new.facets.items } in
-    let text = fed ++ piece in
+    let p : TextReader = record { limit = length taken + i.limit; unit = i.unit; count = i.count; state = i.state; held = i.held.items; facets = taken ++ i.facets.items } in
+    let q : TextReader = record { limit = length taken + i.limit; unit = i.unit; count = i.count; state = i.state; held = i.held.items; facets = taken ++ c.add_all.new.facets.items } in
+    let text = fed ++ chunk in
     let part = c.args.part.now in
     let facets = c.args.run.now.facets in
     let to = c.args.run.now.to.now in
     let some : 0 < length part = omega (arith, eqb-false (length part) 0 (sym c.is_empty.ensures ∙ c.if-is_empty.false)) in
     let free : i.held.items ≡ [] = ap (λ r. r.held) c.self.view_is ∙ c.requires.free some in
-    let at_place : i.place ≡ at_word in_facets = c.is_among_facets.ensures.0 c.if-not-is_among_facets.false in
-    let here : IsReadingAt limit unit p i.place text part = subst (λ r. IsReading limit unit taken r text part) (sym c.self.view_is) is in
-    let w : Waits limit unit p in_facets false text part = subst (λ pl. IsReadingAt limit unit p pl text part) at_place here in
+    let at_state : i.state ≡ at_word in_facets = c.is_among_facets.ensures.0 c.if-not-is_among_facets.false in
+    let here : IsReadingAt limit unit p i.state text part = subst (λ r. IsReading limit unit taken r text part) (sym c.self.view_is) is in
+    let w : Waits limit unit p in_facets false text part = subst (λ pl. IsReadingAt limit unit p pl text part) at_state here in
     let room : length (taken ++ i.facets.items) + length facets.items ≤ limit =
     omega (
       arith,
       w.limit_is,
-      within_limit limit unit in_facets p.facets (text ++ []) (w.behind []) (w.stands []),
+      within_limit limit unit in_facets p.facets (text ++ []) (w.after []) (w.stands []),
       c.saturating_sub.ensures,
       c.len.ensures,
       c.len-2.ensures,
@@ -35,7 +35,7 @@ returns-clause-read g c = λ limit unit taken fed piece run is.
       c.if-saturating_sub-len.false,
       length-append taken i.facets.items,
     ) in
-    subst (λ pl. IsReadingAt limit unit q pl text to) (sym at_place)
-    (run_passed limit unit p q facets.items fed piece part c.args.run.now.from.now to w free run c.if-part-run.false room refl refl refl refl
+    subst (λ pl. IsReadingAt limit unit q pl text to) (sym at_state)
+    (run_passed limit unit p q facets.items fed chunk part c.args.run.now.from.now to w free run c.if-part-run.false room refl refl refl refl
     (ap (λ fs. taken ++ fs) (c.in_default.ensures.added ∙ ap (λ xs. i.facets.items ++ xs) c.deref.ensures.value)
     ∙ sym (append_assoc taken i.facets.items facets.items)))

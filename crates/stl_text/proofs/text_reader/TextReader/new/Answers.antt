@@ -1,4 +1,4 @@
-use Rattle.stl_text.proofs.lemmas.Pieces.{at_start}
+use Rattle.stl_text.proofs.lemmas.TextReaders.{at_start}
 use Rattle.stl_text.proofs.text_reader.TextReader.new.Goals as goal
 
 pub returns : goal.returns

@@ -1,5 +1,5 @@
 use Rattle.std.proofs.Common.{◌≡◌, ◌<◌, [], length}
-use Rattle.stl_text.specs.Pieces.{ReadsOn}
+use Rattle.stl_text.specs.TextReader.{ReadsOn}
 use Rattle.stl_text.proofs.text_reader.TextReader.read_to.Given as goal
 
 abbrev pub invariant-part : goal.invariant-part

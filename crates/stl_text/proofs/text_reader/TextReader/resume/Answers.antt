@@ -1,47 +1,47 @@
 use Rattle.std.proofs.Common.{ℕ, false, ◌+◌, ◌<◌, ◌-◌, ◌++◌, length, refl, sym, ◌∙◌, ap, subst, arith}
 use Rattle.std.proofs.lemmas.Bool.{eqb-false}
-use Rattle.stl_text.specs.Pieces.{IsReading, IsReadingAt, Progress, Waits, whole}
+use Rattle.stl_text.specs.TextReader.{IsReading, IsReadingAt, TextReader, Waits, whole}
 use Rattle.stl_text.proofs.lemmas.Steps.{empty-list}
-use Rattle.stl_text.proofs.lemmas.Pieces.{kept_on, kept_word, moved_by, nil-of-length}
-use Rattle.stl_text.proofs.lemmas.Runs.{drop_rest, rest_then}
+use Rattle.stl_text.proofs.lemmas.TextReaders.{kept_on, kept_word, moved_by, nil-of-length}
+use Rattle.stl_text.proofs.lemmas.FacetRuns.{drop_rest, rest_then}
 use Rattle.stl_text.proofs.text_reader.TextReader.resume.Goals as goal
 
 pub returns-then-is_empty-2-clause-read : goal.returns-then-is_empty-2-clause-read
 returns-then-is_empty-2-clause-read g c = λ limit unit taken text is.
     let i = c.self.inside in
-    let p : Progress = record { limit = length taken + i.limit; unit = i.unit; count = i.count; place = i.place; held = i.held.items; facets = taken ++ i.facets.items } in
-    let q : Progress = record { limit = length taken + i.limit; unit = i.unit; count = i.count; place = i.place; held = c.hold.new.held.items; facets = taken ++ i.facets.items } in
-    let piece = c.args.piece.now in
+    let p : TextReader = record { limit = length taken + i.limit; unit = i.unit; count = i.count; state = i.state; held = i.held.items; facets = taken ++ i.facets.items } in
+    let q : TextReader = record { limit = length taken + i.limit; unit = i.unit; count = i.count; state = i.state; held = c.hold.new.held.items; facets = taken ++ i.facets.items } in
+    let chunk = c.args.chunk.now in
     let rest = c.split_at.result.1.now in
     let last = c.split_at-2.result.1.now in
     let stage = c.in-Word.stage in
-    let here : IsReadingAt limit unit p i.place text piece = subst (λ r. IsReading limit unit taken r text piece) (sym c.self.view_is) is in
-    let w : Waits limit unit p stage false text piece = subst (λ pl. IsReadingAt limit unit p pl text piece) c.in-Word.is here in
+    let here : IsReadingAt limit unit p i.state text chunk = subst (λ r. IsReading limit unit taken r text chunk) (sym c.self.view_is) is in
+    let w : Waits limit unit p stage false text chunk = subst (λ pl. IsReadingAt limit unit p pl text chunk) c.in-Word.is here in
     let some : 0 < length i.held.items = omega (arith, i.held.ok.0, eqb-false _ 0 (sym c.is_empty.ensures ∙ c.if-is_empty.false)) in
     subst (λ pl. IsReadingAt limit unit q pl text last) (sym c.in-Word.is)
-    (kept_on limit unit p q stage text piece c.split_at.result.0.now rest last c.word_len.result w some c.word_len.ensures.len c.split_at.ensures.front
+    (kept_on limit unit p q stage text chunk c.split_at.result.0.now rest last c.word_len.result w some c.word_len.ensures.len c.split_at.ensures.front
     c.split_at.ensures.back (empty-list rest (sym c.is_empty-2.ensures ∙ c.if-is_empty-2.true)) (nil-of-length last (omega (arith, c.split_at-2.ensures.back_len)))
     refl refl refl refl c.in_default-hold.ensures.held)
 
 pub returns-clause-read : goal.returns-clause-read
 returns-clause-read g c = λ limit unit taken text is.
     let i = c.self.inside in
-    let p : Progress = record { limit = length taken + i.limit; unit = i.unit; count = i.count; place = i.place; held = i.held.items; facets = taken ++ i.facets.items } in
-    let q : Progress = whole taken c.read_held.new.self in
-    let piece = c.args.piece.now in
+    let p : TextReader = record { limit = length taken + i.limit; unit = i.unit; count = i.count; state = i.state; held = i.held.items; facets = taken ++ i.facets.items } in
+    let q : TextReader = whole taken c.read_held.new.self in
+    let chunk = c.args.chunk.now in
     let rest = c.split_at.result.1.now in
     let word = c.split_at.result.0.now in
     let kept = c.hold.new.held.items in
     let stage = c.in-Word.stage in
-    let here : IsReadingAt limit unit p i.place text piece = subst (λ r. IsReading limit unit taken r text piece) (sym c.self.view_is) is in
-    let w : Waits limit unit p stage false text piece = subst (λ pl. IsReadingAt limit unit p pl text piece) c.in-Word.is here in
+    let here : IsReadingAt limit unit p i.state text chunk = subst (λ r. IsReading limit unit taken r text chunk) (sym c.self.view_is) is in
+    let w : Waits limit unit p stage false text chunk = subst (λ pl. IsReadingAt limit unit p pl text chunk) c.in-Word.is here in
     let some : 0 < length i.held.items = omega (arith, i.held.ok.0, eqb-false _ 0 (sym c.is_empty.ensures ∙ c.if-is_empty.false)) in
     let left : 0 < length rest = omega (arith, eqb-false (length rest) 0 (sym c.is_empty-2.ensures ∙ c.if-is_empty-2.false)) in
-    let new : Progress = c.read_held.new.self in
+    let new : TextReader = c.read_held.new.self in
     let at : ℕ = i.count - length rest - length kept in
-    moved_by limit (length taken + i.limit) unit i.unit q stage new.place (taken ++ i.facets.items) text kept rest at
+    moved_by limit (length taken + i.limit) unit i.unit q stage new.state (taken ++ i.facets.items) text kept rest at
     w.limit_is w.unit_is (ap (λ n. length taken + n) c.read_held.ensures.same.0) c.read_held.ensures.same.1
-    (kept_word limit unit p stage text piece kept word rest at c.word_len.result w some c.word_len.ensures.len c.split_at.ensures.front
+    (kept_word limit unit p stage text chunk kept word rest at c.word_len.result w some c.word_len.ensures.len c.split_at.ensures.front
     c.split_at.ensures.back c.in_default-hold.ensures.held left refl)
     (c.read_held.ensures.read taken) (c.read_held.ensures.same.2 ∙ w.count_is) c.read_held.ensures.free
-    (rest_then text piece rest w.at_hand (drop_rest c.word_len.result piece rest c.split_at.ensures.back))
+    (rest_then text chunk rest w.at_hand (drop_rest c.word_len.result chunk rest c.split_at.ensures.back))

@@ -2,36 +2,36 @@ use Rattle.std.proofs.Common.{◌≡◌, false, ◌+◌, ◌<◌, [], ◌++◌, 
 use Rattle.std.proofs.lemmas.Bool.{eqb-false}
 use Rattle.std.specs.List.{prefix_len}
 use Rattle.stl_text.specs.Text.{is_white}
-use Rattle.stl_text.specs.Pieces.{IsReading, IsReadingAt, Progress, Waits, whole, at_word}
+use Rattle.stl_text.specs.TextReader.{IsReading, IsReadingAt, TextReader, Waits, whole, at_word}
 use Rattle.stl_text.proofs.lemmas.Steps.{empty-list}
-use Rattle.stl_text.proofs.lemmas.Pieces.{front_held, front_le, front_word, moved_by, space_passed, word_some}
-use Rattle.stl_text.proofs.lemmas.Runs.{drop_rest, rest_then}
+use Rattle.stl_text.proofs.lemmas.TextReaders.{front_held, front_le, front_word, moved_by, space_passed, word_some}
+use Rattle.stl_text.proofs.lemmas.FacetRuns.{drop_rest, rest_then}
 use Rattle.stl_text.proofs.text_reader.TextReader.word.Goals as goal
 
 pub returns-then-is_empty-clause-read : goal.returns-then-is_empty-clause-read
 returns-then-is_empty-clause-read g c = λ limit unit taken text is.
-    let p : Progress = whole taken c.args.self.now in
+    let p : TextReader = whole taken c.args.self.now in
     let part = c.args.part.now in
     let front = c.skip_space-front.result.now in
-    let w : Waits limit unit p c.args.stage false text part = subst (λ pl. IsReadingAt limit unit p pl text part) c.requires.place is in
-    subst (λ pl. IsReadingAt limit unit p pl text front) (sym c.requires.place)
+    let w : Waits limit unit p c.args.stage false text part = subst (λ pl. IsReadingAt limit unit p pl text part) c.requires.state is in
+    subst (λ pl. IsReadingAt limit unit p pl text front) (sym c.requires.state)
     (space_passed limit unit p c.args.stage text part front w c.requires.free c.skip_space-front.ensures
     (empty-list front (sym c.is_empty.ensures ∙ c.if-is_empty.true)))
 
 pub returns-in_default-clause-read : goal.returns-in_default-clause-read
 returns-in_default-clause-read g c = λ limit unit taken text is.
     let i = c.self.inside in
-    let p : Progress = record { limit = length taken + i.limit; unit = i.unit; count = i.count; place = i.place; held = i.held.items; facets = taken ++ i.facets.items } in
-    let q : Progress = record { limit = length taken + i.limit; unit = i.unit; count = i.count; place = i.place; held = c.hold.new.held.items; facets = taken ++ i.facets.items } in
+    let p : TextReader = record { limit = length taken + i.limit; unit = i.unit; count = i.count; state = i.state; held = i.held.items; facets = taken ++ i.facets.items } in
+    let q : TextReader = record { limit = length taken + i.limit; unit = i.unit; count = i.count; state = i.state; held = c.hold.new.held.items; facets = taken ++ i.facets.items } in
     let part = c.args.part.now in
     let front = c.skip_space-front.result.now in
     let rest = c.split_at.result.1.now in
-    let at_place : i.place ≡ at_word c.args.stage = ap (λ r. r.place) c.self.view_is ∙ c.requires.place in
+    let at_state : i.state ≡ at_word c.args.stage = ap (λ r. r.state) c.self.view_is ∙ c.requires.state in
     let free : i.held.items ≡ [] = ap (λ r. r.held) c.self.view_is ∙ c.requires.free in
-    let here : IsReadingAt limit unit p i.place text part = subst (λ r. IsReading limit unit taken r text part) (sym c.self.view_is) is in
-    let w : Waits limit unit p c.args.stage false text part = subst (λ pl. IsReadingAt limit unit p pl text part) at_place here in
+    let here : IsReadingAt limit unit p i.state text part = subst (λ r. IsReading limit unit taken r text part) (sym c.self.view_is) is in
+    let w : Waits limit unit p c.args.stage false text part = subst (λ pl. IsReadingAt limit unit p pl text part) at_state here in
     let some : 0 < length front = omega (arith, eqb-false (length front) 0 (sym c.is_empty.ensures ∙ c.if-is_empty.false)) in
-    subst (λ pl. IsReadingAt limit unit q pl text rest) (sym at_place)
+    subst (λ pl. IsReadingAt limit unit q pl text rest) (sym at_state)
     (front_held limit unit p q c.args.stage text part front c.split_at.result.0.now rest c.word_len.result w free c.skip_space-front.ensures some
     c.word_len.ensures.len c.split_at.ensures.front c.split_at.ensures.back (empty-list rest (sym c.is_empty-2.ensures ∙ c.if-is_empty-2.true))
     refl refl refl refl c.in_default.ensures.held)
@@ -39,12 +39,12 @@ returns-in_default-clause-read g c = λ limit unit taken text is.
 pub returns-clause-read : goal.returns-clause-read
 returns-clause-read g c = λ limit unit taken text is.
     let i = c.self.inside in
-    let p : Progress = record { limit = length taken + i.limit; unit = i.unit; count = i.count; place = i.place; held = i.held.items; facets = taken ++ i.facets.items } in
-    let q : Progress = record {
+    let p : TextReader = record { limit = length taken + i.limit; unit = i.unit; count = i.count; state = i.state; held = i.held.items; facets = taken ++ i.facets.items } in
+    let q : TextReader = record {
       limit = length taken + i.limit;
       unit = i.unit;
       count = i.count;
-      place = c.read_word-self-inside.result;
+      state = c.read_word-self-inside.result;
       held = i.held.items;
       facets = taken ++ c.read_word-self-inside.new.facets.items;
     } in
@@ -52,10 +52,10 @@ returns-clause-read g c = λ limit unit taken text is.
     let front = c.skip_space-front.result.now in
     let rest = c.split_at.result.1.now in
     let word = c.split_at.result.0.now in
-    let at_place : i.place ≡ at_word c.args.stage = ap (λ r. r.place) c.self.view_is ∙ c.requires.place in
+    let at_state : i.state ≡ at_word c.args.stage = ap (λ r. r.state) c.self.view_is ∙ c.requires.state in
     let free : i.held.items ≡ [] = ap (λ r. r.held) c.self.view_is ∙ c.requires.free in
-    let here : IsReadingAt limit unit p i.place text part = subst (λ r. IsReading limit unit taken r text part) (sym c.self.view_is) is in
-    let w : Waits limit unit p c.args.stage false text part = subst (λ pl. IsReadingAt limit unit p pl text part) at_place here in
+    let here : IsReadingAt limit unit p i.state text part = subst (λ r. IsReading limit unit taken r text part) (sym c.self.view_is) is in
+    let w : Waits limit unit p c.args.stage false text part = subst (λ pl. IsReadingAt limit unit p pl text part) at_state here in
     let left : 0 < length rest = omega (arith, eqb-false (length rest) 0 (sym c.is_empty-2.ensures ∙ c.if-is_empty-2.false)) in
     moved_by limit (length taken + i.limit) unit i.unit q c.args.stage c.read_word-self-inside.result (taken ++ i.facets.items) text word rest c.saturating_sub-at.result
     w.limit_is w.unit_is refl refl

@@ -1,0 +1,584 @@
+-- Reading a text in chunks: what a reader knows of the text so far, whatever follows it.
+use Rattle.std.proofs.Common.{◌≡◌, ℕ, ◌+◌, ◌-◌, ◌<◌, ◌≤◌, Bool, true, false, not, List, [], ◌∷◌, ◌++◌, length, take, drop, refl, sym, ◌∙◌, ap, subst, ◌⊎◌, inl, inr, arith, append_assoc, append-nil, length-append, length-drop}
+use Rattle.std.specs.Prelude.{Some, ◌==◌, ◌||◌}
+use Rattle.std.specs.List.{list_all, before_first, position_or_len}
+use Rattle.std.proofs.Math.Numerals.{one-add}
+use Rattle.std.proofs.lemmas.Bool.{eqb-true}
+use Rattle.std.proofs.lemmas.List.{take-append-drop}
+use Rattle.std.proofs.lemmas.List.Folds.{list_all-append}
+use Rattle.micro_num.specs.declared.unit.Unit.{Unit as LengthUnit}
+use Rattle.micro_num.proofs.lemmas.Grammar.{Starts, from_starts}
+use Rattle.geometry.specs.Facet.{Facet}
+use Rattle.stl_text.specs.declared.stl_fault.StlFault.{StlFault}
+use Rattle.stl_text.specs.declared.stage.Stage.{Stage}
+use Rattle.stl_text.specs.declared.stage.Stage.TheVariants as stage
+use Rattle.stl_text.specs.declared.stage.ReaderState.{ReaderState}
+use Rattle.stl_text.specs.declared.stage.ReaderState.TheVariants as state
+use Rattle.stl_text.specs.Text.{first_word, after_space, after_word, after_line, is_white, IsFaultOf, facet_keyword, facet_tokens, is_line_end, rest_after}
+use Rattle.stl_text.specs.Reader.{facet_tail}
+use Rattle.stl_text.specs.Stage.{AtWord, IsForm, Stands}
+use Rattle.stl_text.specs.TextReader.{EndsAt, IsAfter, IsReading, IsReadingAt, TextReader, Sees, StandsAt, Waits, whole}
+use Rattle.stl_text.specs.FacetRun.{IsFacetRun, IsRestOf, StandsBefore}
+use Rattle.stl_text.specs.declared.word.Word.TheVariants.{FacetOrEnd}
+use Rattle.stl_text.proofs.lemmas.Locality.{line-on, line-over, seen_keyword, space-on, space-over, starts-on, tokens-on, word-first, word_next}
+use Rattle.stl_text.proofs.lemmas.FacetRuns.{added_rest, drop_rest, no_rest, rest_after-rest, rest_then, rest_within, same_rest, whole_rest}
+use Rattle.stl_text.proofs.lemmas.Stages.{facet_read}
+use Rattle.stl_text.proofs.lemmas.Either.{after_space-le, no_word-space}
+
+abbrev is_black : ℕ → Bool
+is_black byte = not (is_white byte)
+
+-- A reader before its first byte.
+
+pub at_start : (limit : ℕ) (unit : LengthUnit) → IsAfter limit unit []
+    (record { limit = limit; unit = unit; count = 0; state = state.Word (stage.Between false); held = []; facets = [] }) []
+at_start limit unit = record {
+  limit_is = omega arith;
+  unit_is = refl;
+  count_is = refl;
+  at_hand = whole_rest [];
+  within = omega arith;
+  clear = refl;
+  after = λ more. more;
+  stands = λ more. record { solids = []; added = []; items = refl; form = (refl, refl, omega arith); spelled = refl };
+  sees = λ more. refl;
+}
+
+-- The next chunk comes.
+
+begun_at : (limit : ℕ) (unit : LengthUnit) (p q : TextReader) (in_line : Bool) (s : Stage) (fed chunk : List ℕ)
+    → q ≡ record p { count = p.count + length chunk } → Waits limit unit p s in_line fed [] → Waits limit unit q s in_line (fed ++ chunk) chunk
+begun_at limit unit p q in_line s fed chunk e w = subst (λ r. Waits limit unit r s in_line (fed ++ chunk) chunk) (sym e) (record {
+  limit_is = w.limit_is;
+  unit_is = w.unit_is;
+  count_is = omega (arith, w.count_is, length-append fed chunk);
+  at_hand = added_rest fed chunk;
+  within = omega (arith, w.within, length-append fed chunk);
+  clear = w.clear;
+  after = λ more. w.after (chunk ++ more);
+  stands = λ more. subst (λ t. Stands limit unit s p.facets t (w.after (chunk ++ more))) (sym (append_assoc fed chunk more)) (w.stands (chunk ++ more));
+  sees = λ more. w.sees (chunk ++ more);
+})
+
+pub begun : (limit : ℕ) (unit : LengthUnit) (taken : List Facet) (r : TextReader) (fed chunk : List ℕ) → IsAfter limit unit taken r fed
+    → IsReading limit unit taken (record r { count = r.count + length chunk }) (fed ++ chunk) chunk
+begun limit unit taken r fed chunk is = at r.state is
+  where
+    p : TextReader
+    p = whole taken r
+
+    at : (pl : ReaderState) → IsReadingAt limit unit p pl fed [] → IsReadingAt limit unit (record p { count = p.count + length chunk }) pl (fed ++ chunk) chunk
+    at (state.Word s) w = begun_at limit unit p (record p { count = p.count + length chunk }) false s fed chunk refl w
+    at (state.Line s) w = (begun_at limit unit p (record p { count = p.count + length chunk }) true s fed chunk refl w.0, w.1)
+    at (state.Stopped f) h = λ no more. subst (λ t. IsFaultOf limit unit t f) (sym (append_assoc fed chunk more)) (h no (chunk ++ more))
+
+-- A word that is whole.
+
+pub record Next (limit : ℕ) (unit : LengthUnit) (s : Stage) (facets : List Facet) (text word rest : List ℕ) (at : ℕ) : Type 0 where
+  pub after : (more : List ℕ) → List ℕ
+  pub at_word : (more : List ℕ) → AtWord limit unit s facets (text ++ more) (after more) word at
+  pub left : (more : List ℕ) → after_word (after more) ≡ rest ++ more
+
+pub next_word : (limit : ℕ) (unit : LengthUnit) (p : TextReader) (s : Stage) (text part word rest : List ℕ) (at : ℕ)
+    → Waits limit unit p s false text part → list_all is_black word ≡ true → 0 < length word → Starts is_white rest → 0 < length rest
+    → ((more : List ℕ) → after_space (p.held ++ (part ++ more)) ≡ word ++ (rest ++ more)) → at + (length word + length rest) ≡ length text
+    → Next limit unit s p.facets text word rest at
+next_word limit unit p s text part word rest at w clear some starts left_some spaced at_is = record {
+  after = w.after;
+  at_word = λ more. record {
+    stands = w.stands more;
+    word_is = (next more).0;
+    some = some;
+    at_is = omega (arith, at_is, length-append text more, length_is more);
+  };
+  left = λ more. (next more).1;
+}
+  where
+    seen : (more : List ℕ) → after_space (w.after more) ≡ word ++ (rest ++ more)
+    seen more = w.sees more ∙ spaced more
+
+    next : (more : List ℕ) → (first_word (w.after more) ≡ word) × (after_word (w.after more) ≡ rest ++ more)
+    next more = word_next (w.after more) word (rest ++ more) (seen more) clear (starts-on rest more starts left_some)
+
+    length_is : (more : List ℕ) → length (after_space (w.after more)) ≡ length word + (length rest + length more)
+    length_is more = ap length (seen more) ∙ length-append word (rest ++ more) ∙ ap (λ n. length word + n) (length-append rest more)
+
+-- after the word
+pub moved : (limit : ℕ) (unit : LengthUnit) (q : TextReader) (s : Stage) (pl : ReaderState) (facets : List Facet) (text word rest : List ℕ) (at : ℕ)
+    → Next limit unit s facets text word rest at
+    → ((t after : List ℕ) → AtWord limit unit s facets t after word at → StandsAt limit unit pl q.facets t after)
+    → q.limit ≡ limit → q.unit ≡ unit → q.count ≡ length text → q.held ≡ [] → IsRestOf text rest
+    → IsReadingAt limit unit q pl text rest
+moved limit unit q s (state.Word u) facets text word rest at n read limit_is unit_is count_is none at_hand = record {
+  limit_is = limit_is;
+  unit_is = unit_is;
+  count_is = count_is;
+  at_hand = at_hand;
+  within = omega (arith, ap length none, rest_within text rest at_hand);
+  clear = ap (list_all is_black) none;
+  after = λ more. after_word (n.after more);
+  stands = λ more. read (text ++ more) (n.after more) (n.at_word more);
+  sees = λ more. ap after_space (n.left more ∙ ap (λ h. h ++ (rest ++ more)) (sym none));
+}
+moved limit unit q s (state.Line u) facets text word rest at n read limit_is unit_is count_is none at_hand = (
+  record {
+    limit_is = limit_is;
+    unit_is = unit_is;
+    count_is = count_is;
+    at_hand = at_hand;
+    within = omega (arith, ap length none, rest_within text rest at_hand);
+    clear = ap (list_all is_black) none;
+    after = λ more. after_line (after_word (n.after more));
+    stands = λ more. read (text ++ more) (n.after more) (n.at_word more);
+    sees = λ more. ap after_line (n.left more ∙ ap (λ h. h ++ (rest ++ more)) (sym none));
+  },
+  none,
+)
+moved limit unit q s (state.Stopped f) facets text word rest at n read limit_is unit_is count_is none at_hand =
+    λ no more. read (text ++ more) (n.after more) (n.at_word more) no
+
+-- The front of a part, up to white space.
+
+pub front-clear : (p : ℕ → Bool) (xs : List ℕ) → list_all (λ x. not (p x)) (take (position_or_len p xs) xs) ≡ true
+front-clear p [] = refl
+front-clear p (x ∷ xs) = at_head (front-clear p xs) (p x) refl
+  where
+    at_head : list_all (λ y. not (p y)) (take (position_or_len p xs) xs) ≡ true → (b : Bool) → p x ≡ b
+        → list_all (λ y. not (p y)) (take (position_or_len p (x ∷ xs)) (x ∷ xs)) ≡ true
+    at_head tail true passes = rw passes refl
+    at_head tail false fails = rw fails (rw one-add (rw fails tail))
+
+-- The rest of a line.
+
+-- the line goes on after the part
+pub line_on : (limit : ℕ) (unit : LengthUnit) (p : TextReader) (s : Stage) (text part rest : List ℕ) → IsReadingAt limit unit p (state.Line s) text part
+    → rest ≡ after_line part → rest ≡ [] → IsReadingAt limit unit p (state.Line s) text rest
+line_on limit unit p s text part rest is rest_is none =
+    subst (λ r. IsReadingAt limit unit p (state.Line s) text r) (sym none) (
+      record {
+        limit_is = is.0.limit_is;
+        unit_is = is.0.unit_is;
+        count_is = is.0.count_is;
+        at_hand = no_rest text;
+        within = omega (arith, is.0.within);
+        clear = is.0.clear;
+        after = is.0.after;
+        stands = is.0.stands;
+        sees = λ more. is.0.sees more ∙ ap after_line (ap (λ h. h ++ (part ++ more)) is.1) ∙ line-over part more (sym rest_is ∙ none)
+            ∙ ap after_line (ap (λ h. h ++ more) (sym is.1));
+      },
+      is.1,
+    )
+
+-- the line ends in the part
+pub line_ended : (limit : ℕ) (unit : LengthUnit) (p q : TextReader) (s : Stage) (text part rest : List ℕ) → IsReadingAt limit unit p (state.Line s) text part
+    → q.limit ≡ p.limit → q.unit ≡ p.unit → q.count ≡ p.count → q.held ≡ p.held → q.facets ≡ p.facets
+    → rest ≡ after_line part → 0 < length rest → length rest ≤ length part → IsReadingAt limit unit q (state.Word s) text rest
+line_ended limit unit p q s text part rest is limit_is unit_is count_is held_is facets_is rest_is some fewer =
+    let none : q.held ≡ [] = held_is ∙ is.1 in
+    record {
+      limit_is = limit_is ∙ is.0.limit_is;
+      unit_is = unit_is ∙ is.0.unit_is;
+      count_is = count_is ∙ is.0.count_is;
+      at_hand = rest_then text part rest is.0.at_hand (drop_rest (position_or_len is_line_end part) part rest rest_is);
+      within = omega (arith, is.0.within, ap length held_is, fewer);
+      clear = ap (list_all is_black) none;
+      after = is.0.after;
+      stands = λ more. subst (λ fs. Stands limit unit s fs (text ++ more) (is.0.after more)) (sym facets_is) (is.0.stands more);
+      sees = λ more. ap after_space
+          (is.0.sees more ∙ ap (λ h. after_line (h ++ (part ++ more))) is.1 ∙ line-on part more (subst (λ r. 0 < length r) rest_is some) ∙ ap (λ r. r ++ more) (sym rest_is)
+          ∙ ap (λ h. h ++ (rest ++ more)) (sym none));
+    }
+
+-- White space, and a word that goes on after the part.
+
+-- only white space is left of the part
+pub space_passed : (limit : ℕ) (unit : LengthUnit) (p : TextReader) (s : Stage) (text part rest : List ℕ) → Waits limit unit p s false text part
+    → p.held ≡ [] → rest ≡ after_space part → rest ≡ [] → Waits limit unit p s false text rest
+space_passed limit unit p s text part rest w none rest_is empty =
+    subst (λ r. Waits limit unit p s false text r) (sym empty)
+    (record {
+      limit_is = w.limit_is;
+      unit_is = w.unit_is;
+      count_is = w.count_is;
+      at_hand = no_rest text;
+      within = omega (arith, w.within);
+      clear = w.clear;
+      after = w.after;
+      stands = w.stands;
+      sees = λ more. w.sees more ∙ ap (λ h. after_space (h ++ (part ++ more))) none ∙ space-over part more (sym rest_is ∙ empty)
+          ∙ ap (λ h. after_space (h ++ more)) (sym none);
+    })
+
+-- what is seen of the part after its white space
+pub front_seen : (p : TextReader) (part front more : List ℕ) → p.held ≡ [] → front ≡ after_space part → 0 < length front
+    → after_space (p.held ++ (part ++ more)) ≡ front ++ more
+front_seen p part front more none front_is some =
+    ap (λ h. after_space (h ++ (part ++ more))) none ∙ space-on part more (subst (λ f. 0 < length f) front_is some) ∙ ap (λ f. f ++ more) (sym front_is)
+
+-- the front of a word is kept
+pub word_held : (limit : ℕ) (unit : LengthUnit) (p q : TextReader) (s : Stage) (text part word : List ℕ) → Waits limit unit p s false text part
+    → q.limit ≡ p.limit → q.unit ≡ p.unit → q.count ≡ p.count → q.facets ≡ p.facets → q.held ≡ word
+    → list_all is_black word ≡ true → 0 < length word → length word ≤ length text
+    → ((more : List ℕ) → after_space (p.held ++ (part ++ more)) ≡ word ++ more) → Waits limit unit q s false text []
+word_held limit unit p q s text part word w limit_is unit_is count_is facets_is held_is clear some within seen = record {
+  limit_is = limit_is ∙ w.limit_is;
+  unit_is = unit_is ∙ w.unit_is;
+  count_is = count_is ∙ w.count_is;
+  at_hand = no_rest text;
+  within = omega (arith, ap length held_is, within);
+  clear = ap (list_all is_black) held_is ∙ clear;
+  after = w.after;
+  stands = λ more. subst (λ fs. Stands limit unit s fs (text ++ more) (w.after more)) (sym facets_is) (w.stands more);
+  sees = λ more. w.sees more ∙ seen more ∙ sym (word-first word more some clear) ∙ ap (λ h. after_space (h ++ more)) (sym held_is);
+}
+
+-- A whole facet.
+
+pub facet_passed : (limit : ℕ) (unit : LengthUnit) (p q : TextReader) (t : Facet) (text part rest : List ℕ) → Waits limit unit p stage.Facets false text part
+    → p.held ≡ [] → rest_after unit (facet_tokens t) part ≡ Some rest → 0 < length rest → length rest < length part → length p.facets < limit
+    → q.limit ≡ p.limit → q.unit ≡ p.unit → q.count ≡ p.count → q.held ≡ p.held → q.facets ≡ p.facets ++ t ∷ []
+    → Waits limit unit q stage.Facets false text rest
+facet_passed limit unit p q t text part rest w none spelled some fewer room limit_is unit_is count_is held_is facets_is =
+    let empty : q.held ≡ [] = held_is ∙ none in
+    record {
+      limit_is = limit_is ∙ w.limit_is;
+      unit_is = unit_is ∙ w.unit_is;
+      count_is = count_is ∙ w.count_is;
+      at_hand = rest_then text part rest w.at_hand (rest_after-rest unit (facet_tokens t) part rest spelled);
+      within = omega (arith, ap length held_is, w.within, fewer);
+      clear = ap (list_all is_black) empty;
+      after = λ more. rest ++ more;
+      stands = λ more. subst (λ fs. Stands limit unit stage.Facets fs (text ++ more) (rest ++ more)) (sym facets_is)
+          (facet_read limit unit p.facets t (text ++ more) (w.after more) (rest ++ more) (w.stands more) room (read more));
+      sees = λ more. ap (λ h. after_space (h ++ (rest ++ more))) (sym empty);
+    }
+  where
+    seen : (more : List ℕ) → after_space (w.after more) ≡ after_space (part ++ more)
+    seen more = w.sees more ∙ ap (λ h. after_space (h ++ (part ++ more))) none
+
+    read : (more : List ℕ) → rest_after unit (facet_tokens t) (w.after more) ≡ Some (rest ++ more)
+    read more =
+        seen_keyword unit FacetOrEnd facet_keyword (facet_tail t) (w.after more) (part ++ more) (rest ++ more) (seen more)
+        (tokens-on unit (facet_tokens t) part more rest spelled some)
+
+-- A run of facets.
+
+pub run_passed : (limit : ℕ) (unit : LengthUnit) (p q : TextReader) (facets : List Facet) (fed chunk part from to : List ℕ)
+    → Waits limit unit p stage.Facets false (fed ++ chunk) part → p.held ≡ [] → IsFacetRun unit chunk facets from to → length part ≡ length from
+    → length p.facets + length facets ≤ limit
+    → q.limit ≡ p.limit → q.unit ≡ p.unit → q.count ≡ p.count → q.held ≡ p.held → q.facets ≡ p.facets ++ facets
+    → Waits limit unit q stage.Facets false (fed ++ chunk) to
+run_passed limit unit p q facets fed chunk part from to w none run long room limit_is unit_is count_is held_is facets_is =
+    let empty : q.held ≡ [] = held_is ∙ none in
+    record {
+      limit_is = limit_is ∙ w.limit_is;
+      unit_is = unit_is ∙ w.unit_is;
+      count_is = count_is ∙ w.count_is;
+      at_hand = at_hand;
+      within = omega (arith, ap length empty, rest_within (fed ++ chunk) to at_hand);
+      clear = ap (list_all is_black) empty;
+      after = λ more. (passed more).after;
+      stands = λ more. subst (λ fs. Stands limit unit stage.Facets fs ((fed ++ chunk) ++ more) (passed more).after) (sym facets_is) (passed more).stands;
+      sees = λ more. (passed more).sees ∙ ap (λ h. after_space (h ++ (to ++ more))) (sym empty);
+    }
+  where
+    begins : IsRestOf (fed ++ chunk) from
+    begins = rest_then (fed ++ chunk) chunk from (added_rest fed chunk) run.begins
+
+    here : part ≡ from
+    here = same_rest (fed ++ chunk) part from w.at_hand begins long
+
+    at_hand : IsRestOf (fed ++ chunk) to
+    at_hand = rest_then (fed ++ chunk) from to begins run.ends
+
+    passed : (more : List ℕ) → StandsBefore limit unit (p.facets ++ facets) ((fed ++ chunk) ++ more) (to ++ more)
+    passed more =
+        run.leads limit p.facets ((fed ++ chunk) ++ more) more
+        (record {
+          after = w.after more;
+          stands = w.stands more;
+          sees = w.sees more ∙ ap (λ h. after_space (h ++ (part ++ more))) none ∙ ap (λ f. after_space (f ++ more)) here;
+        })
+        room
+
+-- The end of a text.
+
+pub ended_at : (limit : ℕ) (unit : LengthUnit) (p : TextReader) (s : Stage) (pl : ReaderState) (facets : List Facet) (fed word : List ℕ) (at : ℕ)
+    → Waits limit unit p s false fed [] → p.held ≡ word → 0 < length word → at + length word ≡ length fed
+    → ((t after : List ℕ) → AtWord limit unit s p.facets t after word at → StandsAt limit unit pl facets t after)
+    → EndsAt limit unit pl facets fed
+ended_at limit unit p s pl facets fed word at w held_is some at_is read = by_state pl (read fed (w.after []) at_word)
+  where
+    clear : list_all is_black word ≡ true
+    clear = ap (list_all is_black) (sym held_is) ∙ w.clear
+
+    seen : after_space (w.after []) ≡ word ++ []
+    seen = w.sees [] ∙ ap (λ h. after_space (h ++ [])) held_is ∙ word-first word [] some clear
+
+    next : (first_word (w.after []) ≡ word) × (after_word (w.after []) ≡ [])
+    next = word_next (w.after []) word [] seen clear tt
+
+    at_word : AtWord limit unit s p.facets fed (w.after []) word at
+    at_word = record {
+      stands = subst (λ t. Stands limit unit s p.facets t (w.after [])) (append-nil fed) (w.stands []);
+      word_is = next.0;
+      some = some;
+      at_is = omega (arith, at_is, ap length seen, length-append word []);
+    }
+
+    by_state : (x : ReaderState) → StandsAt limit unit x facets fed (w.after []) → EndsAt limit unit x facets fed
+    by_state (state.Word u) h = (after_word (w.after []), h, ap after_space next.1)
+    by_state (state.Line u) h = (after_line (after_word (w.after [])), h, ap (λ r. after_space (after_line r)) next.1)
+    by_state (state.Stopped f) h = h
+
+-- no word is kept
+pub ended_free : (limit : ℕ) (unit : LengthUnit) (p : TextReader) (s : Stage) (fed : List ℕ) → Waits limit unit p s false fed [] → p.held ≡ []
+    → EndsAt limit unit (state.Word s) p.facets fed
+ended_free limit unit p s fed w none = (
+  w.after [],
+  subst (λ t. Stands limit unit s p.facets t (w.after [])) (append-nil fed) (w.stands []),
+  w.sees [] ∙ ap (λ h. after_space (h ++ [])) none,
+)
+
+-- the text ends in a line, or after a fault
+pub ended_other : (limit : ℕ) (unit : LengthUnit) (p : TextReader) (s : Stage) (fed : List ℕ) → IsReadingAt limit unit p (state.Line s) fed []
+    → EndsAt limit unit (state.Line s) p.facets fed
+ended_other limit unit p s fed is = (
+  is.0.after [],
+  subst (λ t. Stands limit unit s p.facets t (is.0.after [])) (append-nil fed) (is.0.stands []),
+  ap after_space (is.0.sees [] ∙ ap (λ h. after_line (h ++ [])) is.1),
+)
+
+pub ended_stopped : (limit : ℕ) (unit : LengthUnit) (p : TextReader) (f : StlFault) (fed : List ℕ) → IsReadingAt limit unit p (state.Stopped f) fed []
+    → EndsAt limit unit (state.Stopped f) p.facets fed
+ended_stopped limit unit p f fed is = λ no. subst (λ t. IsFaultOf limit unit t f) (append-nil fed) (is no [])
+
+-- A part that is cut after its first word.
+
+pub record Cut (front word rest : List ℕ) : Type 0 where
+  pub clear : list_all is_black word ≡ true
+  pub whole : front ≡ word ++ rest
+  pub starts : Starts is_white rest
+
+pub cut_at : (front word rest : List ℕ) (n : ℕ) → n ≡ position_or_len is_white front → word ≡ take n front → rest ≡ drop n front → Cut front word rest
+cut_at front word rest n n_is word_is rest_is = record {
+  clear = ap (list_all is_black) (word_is ∙ ap (λ k. take k front) n_is) ∙ front-clear is_white front;
+  whole = sym (take-append-drop n front) ∙ ap (λ w. w ++ drop n front) (sym word_is) ∙ ap (λ r. word ++ r) (sym rest_is);
+  starts = subst (Starts is_white) (sym (rest_is ∙ ap (λ k. drop k front) n_is)) (from_starts is_white front);
+}
+
+-- after white space there is a word
+pub word_some : (part front word : List ℕ) (n : ℕ) → front ≡ after_space part → 0 < length front → n ≡ position_or_len is_white front → word ≡ take n front
+    → 0 < length word
+word_some part front word n front_is some n_is word_is = by_word word refl
+  where
+    by_word : (w : List ℕ) → word ≡ w → 0 < length w
+    by_word [] e =
+        let none : first_word part ≡ [] = ap (before_first is_white) (sym front_is) ∙ ap (λ k. take k front) (sym n_is) ∙ sym word_is ∙ e in
+        absurd (omega (arith, some, ap length (front_is ∙ no_word-space part none)))
+    by_word (b ∷ bs) e = omega arith
+
+pub front_le : (part front : List ℕ) → front ≡ after_space part → length front ≤ length part
+front_le part front front_is = omega (arith, ap length front_is, after_space-le part)
+
+-- after a word, where the limit and the unit are those of the reader
+pub moved_by : (limit l : ℕ) (unit u : LengthUnit) (q : TextReader) (s : Stage) (pl : ReaderState) (facets : List Facet) (text word rest : List ℕ) (at : ℕ)
+    → l ≡ limit → u ≡ unit → q.limit ≡ l → q.unit ≡ u → Next limit unit s facets text word rest at
+    → ((t after : List ℕ) → AtWord l u s facets t after word at → StandsAt l u pl q.facets t after)
+    → q.count ≡ length text → q.held ≡ [] → IsRestOf text rest → IsReadingAt limit unit q pl text rest
+moved_by limit l unit u q s pl facets text word rest at l_is u_is q_limit q_unit n read count_is none at_hand =
+    subst (λ v. IsReadingAt limit v q pl text rest) u_is
+    (subst (λ k. IsReadingAt k u q pl text rest) l_is
+    (moved l u q s pl facets text word rest at
+    (subst (λ v. Next l v s facets text word rest at) (sym u_is) (subst (λ k. Next k unit s facets text word rest at) (sym l_is) n))
+    read q_limit q_unit count_is none at_hand))
+
+-- The word at the front of a part, where none is kept.
+
+pub front_word : (limit : ℕ) (unit : LengthUnit) (p : TextReader) (s : Stage) (text part front word rest : List ℕ) (at n : ℕ)
+    → Waits limit unit p s false text part → p.held ≡ [] → front ≡ after_space part → n ≡ position_or_len is_white front → word ≡ take n front
+    → rest ≡ drop n front → 0 < length rest → at ≡ p.count - length front → Next limit unit s p.facets text word rest at
+front_word limit unit p s text part front word rest at n w none front_is n_is word_is rest_is left_some at_is =
+    let cut : Cut front word rest = cut_at front word rest n n_is word_is rest_is in
+    let lengths : length front ≡ length word + length rest = ap length cut.whole ∙ length-append word rest in
+    let some : 0 < length front = omega (arith, lengths, left_some) in
+    next_word limit unit p s text part word rest at w cut.clear (word_some part front word n front_is some n_is word_is) cut.starts left_some
+    (λ more. front_seen p part front more none front_is some ∙ ap (λ f. f ++ more) cut.whole ∙ append_assoc word rest more)
+    (omega (arith, at_is, w.count_is, w.within, front_le part front front_is, lengths))
+
+-- The part ends in its first word, which is kept.
+
+pub front_held : (limit : ℕ) (unit : LengthUnit) (p q : TextReader) (s : Stage) (text part front word rest : List ℕ) (n : ℕ)
+    → Waits limit unit p s false text part → p.held ≡ [] → front ≡ after_space part → 0 < length front → n ≡ position_or_len is_white front
+    → word ≡ take n front → rest ≡ drop n front → rest ≡ []
+    → q.limit ≡ p.limit → q.unit ≡ p.unit → q.count ≡ p.count → q.facets ≡ p.facets → q.held ≡ p.held ++ word
+    → Waits limit unit q s false text rest
+front_held limit unit p q s text part front word rest n w none front_is some n_is word_is rest_is empty limit_is unit_is count_is facets_is held_is =
+    let cut : Cut front word rest = cut_at front word rest n n_is word_is rest_is in
+    let same : front ≡ word = cut.whole ∙ ap (λ r. word ++ r) empty ∙ append-nil word in
+    subst (λ r. Waits limit unit q s false text r) (sym empty)
+    (word_held limit unit p q s text part word w limit_is unit_is count_is facets_is (held_is ∙ ap (λ h. h ++ word) none) cut.clear
+    (subst (λ f. 0 < length f) same some) (omega (arith, ap length same, w.within, front_le part front front_is))
+    (λ more. front_seen p part front more none front_is some ∙ ap (λ f. f ++ more) same))
+
+-- A word that was kept goes on.
+
+joined : (held word rest more part : List ℕ) → part ≡ word ++ rest → held ++ (part ++ more) ≡ (held ++ word) ++ (rest ++ more)
+joined held word rest more part whole =
+    ap (λ v. held ++ (v ++ more)) whole ∙ ap (λ v. held ++ v) (append_assoc word rest more) ∙ sym (append_assoc held word (rest ++ more))
+
+kept_clear : (held word : List ℕ) → list_all is_black held ≡ true → list_all is_black word ≡ true → list_all is_black (held ++ word) ≡ true
+kept_clear held word h k = list_all-append is_black held word ∙ rw h k
+
+pub kept_word : (limit : ℕ) (unit : LengthUnit) (p : TextReader) (s : Stage) (text part kept word rest : List ℕ) (at n : ℕ)
+    → Waits limit unit p s false text part → 0 < length p.held → n ≡ position_or_len is_white part → word ≡ take n part → rest ≡ drop n part
+    → kept ≡ p.held ++ word → 0 < length rest → at ≡ p.count - length rest - length kept → Next limit unit s p.facets text kept rest at
+kept_word limit unit p s text part kept word rest at n w some n_is word_is rest_is kept_is left_some at_is =
+    let cut : Cut part word rest = cut_at part word rest n n_is word_is rest_is in
+    let lengths : length part ≡ length word + length rest = ap length cut.whole ∙ length-append word rest in
+    let size : length kept ≡ length p.held + length word = ap length kept_is ∙ length-append p.held word in
+    let clear : list_all is_black kept ≡ true = ap (list_all is_black) kept_is ∙ kept_clear p.held word w.clear cut.clear in
+    let kept_some : 0 < length kept = omega (arith, size, some) in
+    next_word limit unit p s text part kept rest at w clear kept_some cut.starts left_some
+    (λ more. ap after_space (joined p.held word rest more part cut.whole ∙ ap (λ k. k ++ (rest ++ more)) (sym kept_is))
+    ∙ word-first kept (rest ++ more) kept_some clear)
+    (omega (arith, at_is, w.count_is, w.within, lengths, size))
+
+pub kept_on : (limit : ℕ) (unit : LengthUnit) (p q : TextReader) (s : Stage) (text part word rest last : List ℕ) (n : ℕ)
+    → Waits limit unit p s false text part → 0 < length p.held → n ≡ position_or_len is_white part → word ≡ take n part → rest ≡ drop n part
+    → rest ≡ [] → last ≡ []
+    → q.limit ≡ p.limit → q.unit ≡ p.unit → q.count ≡ p.count → q.facets ≡ p.facets → q.held ≡ p.held ++ word
+    → Waits limit unit q s false text last
+kept_on limit unit p q s text part word rest last n w some n_is word_is rest_is empty last_is limit_is unit_is count_is facets_is held_is =
+    let cut : Cut part word rest = cut_at part word rest n n_is word_is rest_is in
+    let same : part ≡ word = cut.whole ∙ ap (λ r. word ++ r) empty ∙ append-nil word in
+    let kept : List ℕ = p.held ++ word in
+    let size : length kept ≡ length p.held + length word = length-append p.held word in
+    let clear : list_all is_black kept ≡ true = kept_clear p.held word w.clear cut.clear in
+    let kept_some : 0 < length kept = omega (arith, size, some) in
+    subst (λ r. Waits limit unit q s false text r) (sym last_is)
+    (word_held limit unit p q s text part kept w limit_is unit_is count_is facets_is held_is clear kept_some
+    (omega (arith, size, w.within, ap length same))
+    (λ more. ap after_space (ap (λ v. p.held ++ (v ++ more)) same ∙ sym (append_assoc p.held word more)) ∙ word-first kept more kept_some clear))
+
+pub nil-of-length : (xs : List ℕ) → length xs ≡ 0 → xs ≡ []
+nil-of-length [] h = refl
+nil-of-length (x ∷ xs) h = absurd (omega (arith, h))
+
+-- A line break is white space.
+
+line_white : (b : ℕ) → is_line_end b ≡ true → is_white b ≡ true
+line_white b h = by_tests (b == 10) (b == 13) refl refl h
+  where
+    by_tests : (x y : Bool) → (b == 10) ≡ x → (b == 13) ≡ y → (x || y) ≡ true → is_white b ≡ true
+    by_tests true y is other e = ap is_white (eqb-true b 10 is)
+    by_tests false true other is e = ap is_white (eqb-true b 13 is)
+    by_tests false false other other' e = cc
+
+break_seen : (rest more : List ℕ) → Starts is_line_end rest → 0 < length rest → after_space (rest ++ more) ≡ after_space (drop 1 rest ++ more)
+break_seen [] more starts some = absurd (omega (arith, some))
+break_seen (b ∷ bs) more starts some = rw (line_white b starts) (rw one-add refl)
+
+pub break_passed : (limit : ℕ) (unit : LengthUnit) (q : TextReader) (s : Stage) (text part rest last : List ℕ) → Waits limit unit q s false text rest
+    → q.held ≡ [] → rest ≡ after_line part → 0 < length rest → last ≡ drop 1 rest → Waits limit unit q s false text last
+break_passed limit unit q s text part rest last w none rest_is some last_is =
+    let starts : Starts is_line_end rest = subst (Starts is_line_end) (sym rest_is) (from_starts is_line_end part) in
+    subst (λ r. Waits limit unit q s false text r) (sym last_is)
+    (record {
+      limit_is = w.limit_is;
+      unit_is = w.unit_is;
+      count_is = w.count_is;
+      at_hand = rest_then text rest (drop 1 rest) w.at_hand (drop_rest 1 rest (drop 1 rest) refl);
+      within = omega (arith, w.within, length-drop 1 rest);
+      clear = w.clear;
+      after = w.after;
+      stands = w.stands;
+      sees = λ more. w.sees more ∙ ap (λ h. after_space (h ++ (rest ++ more))) none ∙ break_seen rest more starts some
+          ∙ ap (λ h. after_space (h ++ (drop 1 rest ++ more))) (sym none);
+    })
+
+-- The end of a text, where no word is left to be read.
+
+pub ends_free : (limit : ℕ) (unit : LengthUnit) (p : TextReader) (pl : ReaderState) (fed : List ℕ) → p.held ≡ [] → IsReadingAt limit unit p pl fed []
+    → EndsAt limit unit pl p.facets fed
+ends_free limit unit p (state.Word s) fed none is = ended_free limit unit p s fed is none
+ends_free limit unit p (state.Line s) fed none is = ended_other limit unit p s fed is
+ends_free limit unit p (state.Stopped f) fed none is = ended_stopped limit unit p f fed is
+
+pub ends_between : (limit : ℕ) (unit : LengthUnit) (p : TextReader) (pl : ReaderState) (fed : List ℕ) → ((s : Stage) → pl ≡ state.Word s → ⊥)
+    → IsReadingAt limit unit p pl fed [] → EndsAt limit unit pl p.facets fed
+ends_between limit unit p (state.Word s) fed other is = absurd (other s refl)
+ends_between limit unit p (state.Line s) fed other is = ended_other limit unit p s fed is
+ends_between limit unit p (state.Stopped f) fed other is = ended_stopped limit unit p f fed is
+
+-- The end of a text in a word, where the limit and the unit are those of the reader.
+pub ended_by : (limit l : ℕ) (unit u : LengthUnit) (p : TextReader) (s : Stage) (pl : ReaderState) (facets : List Facet) (fed word : List ℕ) (at : ℕ)
+    → l ≡ limit → u ≡ unit → Waits limit unit p s false fed [] → p.held ≡ word → 0 < length word → at + length word ≡ length fed
+    → ((t after : List ℕ) → AtWord l u s p.facets t after word at → StandsAt l u pl facets t after)
+    → EndsAt limit unit pl facets fed
+ended_by limit l unit u p s pl facets fed word at l_is u_is w held_is some at_is read =
+    subst (λ v. EndsAt limit v pl facets fed) u_is
+    (subst (λ k. EndsAt k u pl facets fed) l_is
+    (ended_at l u p s pl facets fed word at
+    (subst (λ v. Waits l v p s false fed []) (sym u_is) (subst (λ k. Waits k unit p s false fed []) (sym l_is) w))
+    held_is some at_is read))
+
+pub ends_with : (limit : ℕ) (unit : LengthUnit) (pl ql : ReaderState) (facets others : List Facet) (fed : List ℕ) → pl ≡ ql → facets ≡ others
+    → EndsAt limit unit pl facets fed → EndsAt limit unit ql others fed
+ends_with limit unit pl ql facets others fed state_is facets_is e =
+    subst (λ v. EndsAt limit unit v others fed) state_is (subst (λ fs. EndsAt limit unit pl fs fed) facets_is e)
+
+-- the text ends at a stage
+pub ends_stage : (limit : ℕ) (unit : LengthUnit) (pl : ReaderState) (s : Stage) (facets others : List Facet) (fed : List ℕ)
+    → (pl ≡ state.Word s) ⊎ (pl ≡ state.Line s) → facets ≡ others → EndsAt limit unit pl facets fed → EndsAt limit unit (state.Word s) others fed
+ends_stage limit unit pl s facets others fed (inl state_is) facets_is e =
+    ends_with limit unit pl (state.Word s) facets others fed state_is facets_is e
+ends_stage limit unit pl s facets others fed (inr state_is) facets_is e =
+    ends_with limit unit pl (state.Line s) facets others fed state_is facets_is e
+
+-- a reader that did not stop at a fault has the unit of the text
+pub unit_known : (limit : ℕ) (unit : LengthUnit) (p : TextReader) (pl : ReaderState) (text part : List ℕ) → IsReadingAt limit unit p pl text part
+    → ((f : StlFault) → pl ≡ state.Stopped f → ⊥) → p.unit ≡ unit
+unit_known limit unit p (state.Word s) text part is going = is.unit_is
+unit_known limit unit p (state.Line s) text part is going = is.0.unit_is
+unit_known limit unit p (state.Stopped f) text part is going = absurd (going f refl)
+
+-- The facets so far are taken off the reader.
+
+within_form : (limit count : ℕ) (s : Stage) (solids : List (List Facet)) (added : List Facet) → IsForm limit s solids added count → count ≤ limit
+within_form limit count (stage.Between true) solids added form = form.2
+within_form limit count (stage.Between false) solids added form = form.2
+within_form limit count stage.Facets solids added form = form
+within_form limit count (stage.Inside words t) solids added form = omega (arith, form.1)
+
+pub within_limit : (limit : ℕ) (unit : LengthUnit) (s : Stage) (facets : List Facet) (text after : List ℕ) → Stands limit unit s facets text after
+    → length facets ≤ limit
+within_limit limit unit s facets text after st = within_form limit (length facets) s st.solids st.added st.form
+
+-- a reader that keeps the same but for the part of the limit that is left
+same_whole : (limit : ℕ) (unit : LengthUnit) (p q : TextReader) (s : Stage) (in_line : Bool) (text part : List ℕ) → Waits limit unit p s in_line text part
+    → (length p.facets ≤ p.limit → q.limit ≡ p.limit) → q.unit ≡ p.unit → q.count ≡ p.count → q.held ≡ p.held → q.facets ≡ p.facets
+    → Waits limit unit q s in_line text part
+same_whole limit unit p q s in_line text part w limit_is unit_is count_is held_is facets_is =
+    let few : length p.facets ≤ limit = within_limit limit unit s p.facets (text ++ []) (w.after []) (w.stands []) in
+    record {
+      limit_is = limit_is (omega (arith, few, w.limit_is)) ∙ w.limit_is;
+      unit_is = unit_is ∙ w.unit_is;
+      count_is = count_is ∙ w.count_is;
+      at_hand = w.at_hand;
+      within = omega (arith, ap length held_is, w.within);
+      clear = ap (list_all is_black) held_is ∙ w.clear;
+      after = w.after;
+      stands = λ more. subst (λ fs. Stands limit unit s fs (text ++ more) (w.after more)) (sym facets_is) (w.stands more);
+      sees = λ more. subst (λ h. Sees in_line (w.after more) (h ++ (part ++ more))) (sym held_is) (w.sees more);
+    }
+
+pub taken_off : (limit : ℕ) (unit : LengthUnit) (p q : TextReader) (pl : ReaderState) (text part : List ℕ) → IsReadingAt limit unit p pl text part
+    → (length p.facets ≤ p.limit → q.limit ≡ p.limit) → q.unit ≡ p.unit → q.count ≡ p.count → q.held ≡ p.held → q.facets ≡ p.facets
+    → IsReadingAt limit unit q pl text part
+taken_off limit unit p q (state.Word s) text part is limit_is unit_is count_is held_is facets_is =
+    same_whole limit unit p q s false text part is limit_is unit_is count_is held_is facets_is
+taken_off limit unit p q (state.Line s) text part is limit_is unit_is count_is held_is facets_is =
+    (same_whole limit unit p q s true text part is.0 limit_is unit_is count_is held_is facets_is, held_is ∙ is.1)
+taken_off limit unit p q (state.Stopped f) text part is limit_is unit_is count_is held_is facets_is = is

@@ -1,9 +1,0 @@
-use Rattle.std.proofs.Common.{length}
-use Rattle.stl_text.specs.Run.{IsFacetRun}
-use Rattle.stl_text.proofs.run.run_of.Given as goal
-
-abbrev pub invariant-run : goal.invariant-run
-invariant-run g l = IsFacetRun l.fn.unit l.fn.text l.facets.items l.from l.to
-
-abbrev pub decreases-run : goal.decreases-run
-decreases-run g l = length l.to

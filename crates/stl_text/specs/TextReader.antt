@@ -1,0 +1,93 @@
+-- The chunks of a text, which a `TextReader` is fed one after another: what it knows of the text so far, whatever follows.
+--     TextReader    what a reader of chunks keeps
+--     whole         it, with the facets that were taken off the reader
+--     IsReading     it has read a text up to a part that it has at hand
+--     ReadsOn       it goes on from one part of a text to the next
+--     IsAfter       it was fed these bytes
+--     StandsAt      where the reading of a text stands after a word
+--     EndsAt        where it stands at the end of the text
+use Rattle.std.specs.Prelude.{◌≡◌, ◌≢◌, ℕ, ◌+◌, ◌≤◌, Bool, true, false, not, List, [], ◌++◌, length}
+use Rattle.std.specs.List.{list_all}
+use Rattle.micro_num.specs.declared.unit.Unit.{Unit as LengthUnit}
+use Rattle.geometry.specs.Facet.{Facet}
+use Rattle.stl_text.specs.declared.stl_fault.StlFault.TheVariants as fault
+use Rattle.stl_text.specs.declared.stage.Stage.{Stage}
+use Rattle.stl_text.specs.declared.stage.ReaderState.{ReaderState}
+use Rattle.stl_text.specs.declared.stage.ReaderState.TheVariants as state
+use Rattle.stl_text.specs.Text.{after_space, after_word, after_line, is_white, IsFaultOf}
+use Rattle.stl_text.specs.Stage.{Stands}
+use Rattle.stl_text.specs.FacetRun.{IsRestOf}
+
+pub record TextReader : Type 0 where
+  pub limit : ℕ
+  pub unit : LengthUnit
+  pub count : ℕ
+  pub state : ReaderState
+  pub held : List ℕ
+  pub facets : List Facet
+
+-- what a reader would keep if these facets, the first of the text, had not been taken off it
+abbrev pub whole : List Facet → TextReader → TextReader
+whole taken p = record {
+  limit = length taken + p.limit;
+  unit = p.unit;
+  count = p.count;
+  state = p.state;
+  held = p.held;
+  facets = taken ++ p.facets;
+}
+
+-- what is left of a text, as a word or a rest of a line sees it
+abbrev pub Sees : Bool → List ℕ → List ℕ → Type 0
+Sees true after rest = after ≡ after_line rest
+Sees false after rest = after_space after ≡ after_space rest
+
+-- Whatever follows the text, the reader stands at a stage of it before the part at hand, which is a rest of the text. `held`
+-- is the front of a word that is not whole yet, and `count` the length of the text.
+pub record Waits (limit : ℕ) (unit : LengthUnit) (p : TextReader) (stage : Stage) (in_line : Bool) (text part : List ℕ) : Type 0 where
+  pub limit_is : p.limit ≡ limit
+  pub unit_is : p.unit ≡ unit
+  pub count_is : p.count ≡ length text
+  pub at_hand : IsRestOf text part
+  pub within : length p.held + length part ≤ length text
+  pub clear : list_all (λ byte. not (is_white byte)) p.held ≡ true
+  pub after : (more : List ℕ) → List ℕ
+  pub stands : (more : List ℕ) → Stands limit unit stage p.facets (text ++ more) (after more)
+  pub sees : (more : List ℕ) → Sees in_line (after more) (p.held ++ (part ++ more))
+
+abbrev pub IsReadingAt : ℕ → LengthUnit → TextReader → ReaderState → List ℕ → List ℕ → Type 0
+IsReadingAt limit unit p (state.Word stage) text part = Waits limit unit p stage false text part
+IsReadingAt limit unit p (state.Line stage) text part = Waits limit unit p stage true text part × (p.held ≡ [])
+IsReadingAt limit unit p (state.Stopped f) text part = f ≢ fault.Memory → (more : List ℕ) → IsFaultOf limit unit (text ++ more) f
+
+-- The reader has read a text up to its last part, which it has at hand, and these facets were taken off it. Where it
+-- stopped at a fault, the fault is that of the text, whatever follows it.
+abbrev pub IsReading : ℕ → LengthUnit → List Facet → TextReader → List ℕ → List ℕ → Type 0
+IsReading limit unit taken p text part = IsReadingAt limit unit (whole taken p) p.state text part
+
+-- the reader goes on from a part of a text to a part after it: what it had read up to the one, it has read up to the other
+abbrev pub ReadsOn : TextReader → List ℕ → TextReader → List ℕ → Type 0
+ReadsOn old part new rest = (limit : ℕ) (unit : LengthUnit) (taken : List Facet) (text : List ℕ)
+    → IsReading limit unit taken old text part → IsReading limit unit taken new text rest
+
+-- the reader was fed these bytes, and these facets were taken off it
+abbrev pub IsAfter : ℕ → LengthUnit → List Facet → TextReader → List ℕ → Type 0
+IsAfter limit unit taken p fed = IsReading limit unit taken p fed []
+
+abbrev pub at_line : Stage → ReaderState
+at_line stage = state.Line stage
+
+abbrev pub at_word : Stage → ReaderState
+at_word stage = state.Word stage
+
+-- where the reading of a text stands after a word
+abbrev pub StandsAt : ℕ → LengthUnit → ReaderState → List Facet → List ℕ → List ℕ → Type 0
+StandsAt limit unit (state.Word stage) facets text after = Stands limit unit stage facets text (after_word after)
+StandsAt limit unit (state.Line stage) facets text after = Stands limit unit stage facets text (after_line (after_word after))
+StandsAt limit unit (state.Stopped f) facets text after = f ≢ fault.Memory → IsFaultOf limit unit text f
+
+-- where the reading of a text stands at its end
+abbrev pub EndsAt : ℕ → LengthUnit → ReaderState → List Facet → List ℕ → Type 0
+EndsAt limit unit (state.Word stage) facets text = (after : List ℕ) × Stands limit unit stage facets text after × (after_space after ≡ [])
+EndsAt limit unit (state.Line stage) facets text = (after : List ℕ) × Stands limit unit stage facets text after × (after_space after ≡ [])
+EndsAt limit unit (state.Stopped f) facets text = f ≢ fault.Memory → IsFaultOf limit unit text f
