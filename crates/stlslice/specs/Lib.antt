@@ -5,3 +5,4 @@ pub mod Extent
 pub mod Transcript
 pub mod Loading
 pub mod Run
+pub mod Round
