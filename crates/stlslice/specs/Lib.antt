@@ -6,3 +6,4 @@ pub mod Transcript
 pub mod Loading
 pub mod Run
 pub mod WrittenPixels
+pub mod Round
