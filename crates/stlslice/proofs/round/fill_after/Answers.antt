@@ -13,6 +13,6 @@ returns-clause-taken g c =
     let new = g.I.Source.remaining c.fill.new.source in
     IfOk-weaker c.fill.result _ _
     (λ count taken start before.
-        subst (Consumes start new) (sym (ap (λ n. take (n + count) (front ++ rest)) (sym c.split_at_mut-rest.ensures.front_len) ∙ take-append-add front rest count))
-        (Consumes-trans start old new front (take count rest) (subst (Consumes start old) (sym c.split_at_mut-rest.ensures.front) before) taken))
+    subst (Consumes start new) (sym (ap (λ n. take (n + count) (front ++ rest)) (sym c.split_at_mut-rest.ensures.front_len) ∙ take-append-add front rest count))
+    (Consumes-trans start old new front (take count rest) (subst (Consumes start old) (sym c.split_at_mut-rest.ensures.front) before) taken))
     c.fill.ensures.taken
