@@ -3,7 +3,7 @@
 use super::answers::end_of;
 use super::meshes::Mesh::Facets;
 use super::meshes::{CUBE, mesh_text};
-use short_memory::{OneByteReader, SmallWriter};
+use short_memory::{InterruptedOnce, OneByteReader, SmallWriter};
 use std::io::ErrorKind;
 use std::sync::Wait;
 use std::thread::Threads;
@@ -260,4 +260,92 @@ fn readers_that_fail_behind_a_fault(rt: HostRuntime) {
     for calls in 0..=BROKEN.len() as u64 + 1 {
         assert!(rt; is_each_read_behind_a_fault(&rt, calls));
     }
+}
+
+/// Whether a run ends with a failed read where its reader, which gives one byte a call, is interrupted once and would go on:
+/// it reads no byte after that, and writes none.
+fn is_ended_by_a_read<R: Threads + Wait + Sync + AllocGlobal>(
+    rt: &R,
+    line: &str,
+    input: &str,
+    calls: u64,
+) -> bool {
+    let reader = OneByteReader {
+        bytes: input.as_bytes(),
+        calls: u64::MAX,
+        fault: ErrorKind::Other,
+    };
+    let mut source = Counted::new(InterruptedOnce {
+        inner: reader,
+        calls: Some(calls),
+    });
+    let mut sink = Counted::new(Vec::new(rt.alloc()));
+    let found = end_of(rt, rt.alloc(), line, &mut source, &mut sink);
+    let end = Err(RunFault::Read);
+    let left = source.inner().inner.bytes.len() as u64;
+    is_alike(found, source.failures(), sink.inner().as_slice(), end, b"")
+        && left == (input.len() as u64).saturating_sub(calls)
+}
+
+/// Whether a run of each kind of task ends so, where this call after others is interrupted.
+fn is_each_ended_by_a_read<R: Threads + Wait + Sync + AllocGlobal>(rt: &R, calls: u64) -> bool {
+    let Ok(cube) = mesh_text(rt.alloc(), Facets(CUBE)) else {
+        return false;
+    };
+    for row in &TEXTS {
+        if !is_ended_by_a_read(rt, row.0, cube.as_str(), calls) {
+            return false;
+        }
+    }
+    true
+}
+
+#[test]
+fn readers_that_are_interrupted_once(rt: HostRuntime) {
+    // the call after the 1483 bytes gives the end
+    for calls in [0, 1, 2, 700, 1482, 1483] {
+        assert!(rt; is_each_ended_by_a_read(&rt, calls));
+    }
+}
+
+/// The first number of calls before the one that is interrupted with which a run does not end by a failed write: the calls
+/// take one byte each, the last one is the flush, and no byte goes out after the one that failed.
+fn first_other_interruption<R: Threads + Wait + Sync + AllocGlobal>(
+    rt: &R,
+    row: &Row<'_>,
+) -> Option<usize> {
+    let (line, text) = *row;
+    for calls in 0..=text.len() {
+        let written = calls as u64;
+        let mut sink = Counted::new(InterruptedOnce {
+            inner: SmallWriter::new(rt.alloc(), text.len(), 1, None, true),
+            calls: Some(written),
+        });
+        let found = end_by_cube(rt, line, &mut sink);
+        let failures = sink.failures();
+        let taken = sink.inner().inner.taken.as_slice();
+        let end = Err(RunFault::Write { written });
+        if !is_alike(found, failures, taken, end, &text[..calls]) {
+            return Some(calls);
+        }
+    }
+    None
+}
+
+/// `Ok`, or the number of the first row for which a run goes on after some interruption.
+fn all_interrupted<R: Threads + Wait + Sync + AllocGlobal>(
+    rt: &R,
+    rows: &[Row<'_>],
+) -> Result<(), usize> {
+    for (n, row) in rows.iter().enumerate() {
+        if first_other_interruption(rt, row).is_some() {
+            return Err(n);
+        }
+    }
+    Ok(())
+}
+
+#[test]
+fn writers_that_are_interrupted_once(rt: HostRuntime) -> Result<(), usize> {
+    all_interrupted(&rt, &TEXTS)
 }
