@@ -9,6 +9,8 @@ mod book;
 #[cfg(test)]
 mod byte_writers;
 #[cfg(test)]
+mod chunks;
+#[cfg(test)]
 mod claims;
 #[cfg(test)]
 mod contours;
@@ -31,8 +33,6 @@ mod number_texts;
 #[cfg(test)]
 mod outlines;
 #[cfg(test)]
-mod pieces;
-#[cfg(test)]
 mod plane_segments;
 #[cfg(test)]
 mod pool;
@@ -45,7 +45,7 @@ mod refused_rises;
 #[cfg(test)]
 mod refused_welds;
 #[cfg(test)]
-mod session_pieces;
+mod session_chunks;
 #[cfg(test)]
 mod sessions;
 #[cfg(test)]

@@ -1,4 +1,4 @@
-//! Texts that are long enough to be read in parts, whole or in two pieces: several workers answer what one does.
+//! Texts that are long enough to be read in parts, whole or in two chunks: several workers answer what one does.
 ghost use Rattle.std.specs.Prelude.{◌≤◌};
 ghost use Rattle.geometry.specs.declared.limits.TheConstants.{FACET_LIMIT};
 
@@ -17,13 +17,13 @@ const TWO_AND_MOST: [u32; 2] = [2, 64];
 // The least length of a text that is read in two parts, in bytes.
 const LEAST_OF_TWO_PARTS: usize = 65_536;
 
-// The least length of the texts here, in bytes: each half is longer than the shortest piece that is read in parts.
+// The least length of the texts here, in bytes: each half is longer than the shortest chunk that is read in parts.
 const LONG: usize = 131_074;
 
 // Where a text is broken: in its first line, and in each of several parts.
 const BREAKS: [usize; 8] = [9, 20_011, 40_002, 60_700, 70_001, 80_003, 110_004, 140_005];
 
-// The first of the cuts of a text in two pieces, and their number, which is the length of the longest facet and more.
+// The first of the cuts of a text in two chunks, and their number, which is the length of the longest facet and more.
 const FIRST_CUT: usize = 66_000;
 
 const CUTS: usize = 120;
@@ -67,19 +67,19 @@ pub(crate) fn are_same<A: Allocator, B: Allocator>(
     }
 }
 
-// The answer to a text that is fed in two pieces.
+// The answer to a text that is fed in two chunks.
 fn in_two<R: Threads + Sync, A: Allocator + Copy + Send + Sync>(
     rt: &R,
     alloc: A,
-    pieces: (&[u8], &[u8]),
+    chunks: (&[u8], &[u8]),
     limit: u32,
     workers: u32,
 ) -> Result<Vec<Facet, A>, StlFault>
     requires { limit ≤ FACET_LIMIT }
 {
     let mut reader = TextReader::new(alloc, limit, Unit::Millimetre);
-    reader.feed_by(rt, pieces.0, workers);
-    reader.feed_by(rt, pieces.1, workers);
+    reader.feed_by(rt, chunks.0, workers);
+    reader.feed_by(rt, chunks.1, workers);
     reader.finish()
 }
 
@@ -207,8 +207,8 @@ fn a_facet_cut_at_each_byte(rt: HostRuntime) -> Result<(), Fail> {
     assert!(rt; one.is_ok());
     for cut in FIRST_CUT..FIRST_CUT + CUTS {
         for workers in TWO_AND_MOST {
-            let pieces = text.split_at(cut.min(text.len()));
-            let many = in_two(&rt, rt.alloc(), pieces, FACET_LIMIT, workers);
+            let chunks = text.split_at(cut.min(text.len()));
+            let many = in_two(&rt, rt.alloc(), chunks, FACET_LIMIT, workers);
             assert!(rt; are_same(&one, &many));
         }
     }
@@ -309,8 +309,8 @@ fn each_allocation_of_a_reading_fails_in_turn(rt: HostRuntime) -> Result<(), Fai
     let one = read_stl_at_most(rt.alloc(), &text, FACET_LIMIT, Unit::Millimetre);
     for turn in 1..400 {
         let memory = ShortMemory::new(rt.alloc(), turn);
-        let pieces = text.split_at(text.len() / 2);
-        let many = in_two(&rt, &memory, pieces, FACET_LIMIT, 3);
+        let chunks = text.split_at(text.len() / 2);
+        let many = in_two(&rt, &memory, chunks, FACET_LIMIT, 3);
         let same = are_same(&one, &many);
         if !memory.has_refused() {
             assert!(rt; turn > 10);

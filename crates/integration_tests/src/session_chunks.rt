@@ -1,4 +1,4 @@
-//! Sessions of texts that are fed in pieces: the answer is that of the whole text, however it is cut.
+//! Sessions of texts that are fed in chunks: the answer is that of the whole text, however it is cut.
 ghost use Rattle.std.specs.Prelude.{◌<◌};
 
 use crate::meshes::{BOX, CORNERS, CUBE, CUBE_AND_FLAT, OCTAHEDRON, Part, SHEET, TWO_CUBES};
@@ -9,8 +9,8 @@ use short_memory::ShortMemory;
 use std::alloc::{Allocator, Global};
 use std::test::Fail;
 
-// The session of a text that is fed in pieces of this size.
-fn in_pieces<A: Allocator + Copy + Send + Sync>(
+// The session of a text that is fed in chunks of this size.
+fn in_chunks<A: Allocator + Copy + Send + Sync>(
     alloc: A,
     text: &[u8],
     setup: &Setup,
@@ -19,8 +19,8 @@ fn in_pieces<A: Allocator + Copy + Send + Sync>(
     requires { 0 < size }
 {
     let mut reader = SessionReader::new(alloc, setup);
-    for piece in text.chunks(size) {
-        reader.feed(piece);
+    for chunk in text.chunks(size) {
+        reader.feed(chunk);
     }
     reader.finish()
 }
@@ -36,11 +36,11 @@ fn are_same(one: &Session<Global>, other: &Session<Global>) -> Option<bool> {
     )
 }
 
-// Whether the answer to a text is the same in pieces of 1 to 17 bytes, and in one piece.
+// Whether the answer to a text is the same in chunks of 1 to 17 bytes, and in one chunk.
 fn is_chopped_well(alloc: Global, text: &[u8], setup: &Setup) -> Option<bool> {
     let whole = Session::open(alloc, text, setup);
     for size in [1, 2, 3, 5, 7, 11, 13, 17, usize::MAX] {
-        let same = match (&in_pieces(alloc, text, setup, size), &whole) {
+        let same = match (&in_chunks(alloc, text, setup, size), &whole) {
             (Ok(found), Ok(told)) => are_same(found, told)?,
             (Err(found), Err(told)) => found == told,
             _ => false,
@@ -53,7 +53,7 @@ fn is_chopped_well(alloc: Global, text: &[u8], setup: &Setup) -> Option<bool> {
 }
 
 #[test]
-fn meshes_in_pieces(rt: HostRuntime) -> Result<(), Fail> {
+fn meshes_in_chunks(rt: HostRuntime) -> Result<(), Fail> {
     let open_box: &[Part] = &[(CORNERS, &BOX[1..])];
     for parts in [
         CUBE,
@@ -76,14 +76,14 @@ fn meshes_in_pieces(rt: HostRuntime) -> Result<(), Fail> {
 
 // The step goes before the text, and the text before the mesh.
 #[test]
-fn faults_in_pieces(rt: HostRuntime) -> Result<(), Fail> {
+fn faults_in_chunks(rt: HostRuntime) -> Result<(), Fail> {
     let alloc = rt.alloc();
     let setup = fitted(1, Rule::NonZero);
     let none = Setup { pitch: 0, ..setup };
     let misread = b"solid\nendloop";
     assert_eq!(rt; is_chopped_well(alloc, misread, &setup), Some(true));
     assert_eq!(rt; is_chopped_well(alloc, misread, &none), Some(true));
-    assert!(rt; in_pieces(alloc, misread, &none, 4).err() == Some(SessionFault::Step));
+    assert!(rt; in_chunks(alloc, misread, &none, 4).err() == Some(SessionFault::Step));
     Ok(())
 }
 
@@ -93,7 +93,7 @@ fn refused(alloc: Global, text: &[u8]) -> Option<u32> {
     let mut told = 0u32;
     for turn in 1..2000u64 {
         let memory = ShortMemory::new(alloc, turn);
-        let found = in_pieces(&memory, text, &fitted(1, Rule::NonZero), 7);
+        let found = in_chunks(&memory, text, &fitted(1, Rule::NonZero), 7);
         let facets = found.map(|session| session.facet_count());
         if !memory.has_refused() {
             return (facets == Ok(24)).then_some(told);

@@ -1,4 +1,4 @@
-//! Texts that are fed in pieces: the answer is that of the whole text, however it is cut.
+//! Texts that are fed in chunks: the answer is that of the whole text, however it is cut.
 ghost use Rattle.std.specs.Prelude.{◌<◌};
 
 use crate::stl_texts::{Text, cube_file, worked_texts};
@@ -17,20 +17,20 @@ const TWO: &[u8] = b" solid endfacet facet\r\n\x0bfacet normal nan facet 1e9\tou
     vertex 0 0 0\nvertex 1.5 -2 3e1 vertex 1e-3 2E1 +.5\n\n endloop endfacet FACET normal a b c outer\nloop vertex\n1\n2\n3\n\
     vertex 4 5 6 vertex 7 8 9 endloop endfacet endsolid facet normal\n\rsolid\nendsolid";
 
-// The answer to a text that is fed in two pieces.
+// The answer to a text that is fed in two chunks.
 fn in_two<R: Threads + Sync>(
     rt: &R,
     mut reader: TextReader<Global>,
-    pieces: (&[u8], &[u8]),
+    chunks: (&[u8], &[u8]),
     workers: u32,
 ) -> Result<Vec<Facet>, StlFault> {
-    reader.feed_by(rt, pieces.0, workers);
-    reader.feed_by(rt, pieces.1, workers);
+    reader.feed_by(rt, chunks.0, workers);
+    reader.feed_by(rt, chunks.1, workers);
     reader.finish()
 }
 
-// The answer to a text that is fed in pieces of this size.
-fn in_pieces<R: Threads + Sync>(
+// The answer to a text that is fed in chunks of this size.
+fn in_chunks<R: Threads + Sync>(
     rt: &R,
     mut reader: TextReader<Global>,
     text: &[u8],
@@ -39,13 +39,13 @@ fn in_pieces<R: Threads + Sync>(
 ) -> Result<Vec<Facet>, StlFault>
     requires { 0 < size }
 {
-    for piece in text.chunks(size) {
-        reader.feed_by(rt, piece, workers);
+    for chunk in text.chunks(size) {
+        reader.feed_by(rt, chunk, workers);
     }
     reader.finish()
 }
 
-// The answer to a text that is fed in pieces of this size, where the facets are taken off the reader after each piece.
+// The answer to a text that is fed in chunks of this size, where the facets are taken off the reader after each chunk.
 fn taken_off(
     alloc: Global,
     mut reader: TextReader<Global>,
@@ -56,8 +56,8 @@ fn taken_off(
 {
     let mut facets = Vec::new(alloc);
     let mut next = Vec::new(alloc);
-    for piece in text.chunks(size) {
-        reader.feed(piece);
+    for chunk in text.chunks(size) {
+        reader.feed(chunk);
         reader.take_facets(&mut next);
         facets.extend_from_slice(&next)?;
     }
@@ -66,12 +66,12 @@ fn taken_off(
     Ok(facets)
 }
 
-// Whether the answer to a text is that of the whole in pieces of 1 to 17 bytes, with its facets taken off the reader or
+// Whether the answer to a text is that of the whole in chunks of 1 to 17 bytes, with its facets taken off the reader or
 // not.
 fn is_chopped_well<R: Threads + Sync>(rt: &R, alloc: Global, text: Text<'_>, workers: u32) -> bool {
     let whole = text.whole(alloc);
     for size in 1..=17 {
-        let found = in_pieces(rt, text.reader(alloc), text.bytes, size, workers);
+        let found = in_chunks(rt, text.reader(alloc), text.bytes, size, workers);
         if !are_same(&found, &whole) {
             return false;
         }
@@ -83,7 +83,7 @@ fn is_chopped_well<R: Threads + Sync>(rt: &R, alloc: Global, text: Text<'_>, wor
     true
 }
 
-// Whether the answer to a text is that of the whole for each cut in two, and in pieces of 1 to 17 bytes.
+// Whether the answer to a text is that of the whole for each cut in two, and in chunks of 1 to 17 bytes.
 fn is_cut_well<R: Threads + Sync>(rt: &R, alloc: Global, text: Text<'_>, workers: u32) -> bool {
     let whole = text.whole(alloc);
     for cut in 0..=text.bytes.len() {
@@ -119,26 +119,26 @@ fn limited(bytes: &[u8]) -> Text<'_> {
 }
 
 #[test]
-fn worked_texts_in_pieces_by_one_worker(rt: HostRuntime) -> Result<(), Fail> {
+fn worked_texts_in_chunks_by_one_worker(rt: HostRuntime) -> Result<(), Fail> {
     assert_eq!(rt; first_cut_badly(&rt, rt.alloc(), 1)?, None);
     Ok(())
 }
 
 #[test]
-fn worked_texts_in_pieces_by_two_workers(rt: HostRuntime) -> Result<(), Fail> {
+fn worked_texts_in_chunks_by_two_workers(rt: HostRuntime) -> Result<(), Fail> {
     assert_eq!(rt; first_cut_badly(&rt, rt.alloc(), 2)?, None);
     Ok(())
 }
 
 #[test]
-fn worked_texts_in_pieces_by_64_workers(rt: HostRuntime) -> Result<(), Fail> {
+fn worked_texts_in_chunks_by_64_workers(rt: HostRuntime) -> Result<(), Fail> {
     assert_eq!(rt; first_cut_badly(&rt, rt.alloc(), 64)?, None);
     Ok(())
 }
 
 // The thirteenth facet is the last that the limit permits.
 #[test]
-fn one_facet_too_many_in_pieces(rt: HostRuntime) -> Result<(), Fail> {
+fn one_facet_too_many_in_chunks(rt: HostRuntime) -> Result<(), Fail> {
     let mut bytes = cube_file(rt.alloc())?;
     bytes.extend_from_slice(TWO)?;
     let text = limited(bytes.as_slice());
@@ -162,7 +162,7 @@ fn facets_are_taken_once(rt: HostRuntime) -> Result<(), Fail> {
 }
 
 #[test]
-fn each_beginning_in_pieces(rt: HostRuntime) -> Result<(), Fail> {
+fn each_beginning_in_chunks(rt: HostRuntime) -> Result<(), Fail> {
     for len in 0..=TWO.len() {
         assert!(rt; is_cut_well(&rt, rt.alloc(), limited(&TWO[..len]), 2));
     }
@@ -179,7 +179,7 @@ fn spoiled(alloc: Global, at: usize, byte: u8) -> Result<Vec<u8>, AllocError> {
 }
 
 #[test]
-fn each_byte_spoiled_in_pieces(rt: HostRuntime) -> Result<(), Fail> {
+fn each_byte_spoiled_in_chunks(rt: HostRuntime) -> Result<(), Fail> {
     for at in 0..TWO.len() {
         for byte in [b'x', b'\n'] {
             let text = spoiled(rt.alloc(), at, byte)?;
@@ -194,8 +194,8 @@ fn each_allocation_of_a_reader_fails_in_turn(rt: HostRuntime) -> Result<(), Fail
     for turn in 1..100 {
         let memory = ShortMemory::new(rt.alloc(), turn);
         let mut reader = TextReader::new(&memory, u32::from(LIMIT), Unit::Millimetre);
-        for piece in TWO.chunks(3) {
-            reader.feed(piece);
+        for chunk in TWO.chunks(3) {
+            reader.feed(chunk);
         }
         let fault = reader.finish().err();
         if !memory.has_refused() {
