@@ -64,8 +64,8 @@ def texts(part):
                fault(b"expected facet or endsolid at byte 11"))
 
 
-def pieces(text, length):
-    """The text with a filling of this length, in pieces."""
+def chunks(text, length):
+    """The text with a filling of this length, in chunks."""
     yield text.front
     whole = text.fill * min(length, 4 * MB)
     for _ in range(length // len(whole) if whole else 0):
@@ -89,8 +89,8 @@ def run(program, text, length):
     start = time.perf_counter()
     with subprocess.Popen([program, *text.words], stdin=subprocess.PIPE, stdout=subprocess.PIPE,
                           stderr=subprocess.PIPE) as child:
-        for piece in pieces(text, length):
-            child.stdin.write(piece)
+        for chunk in chunks(text, length):
+            child.stdin.write(chunk)
         child.stdin.flush()
         memory = most_memory(child)
         child.stdin.close()
