@@ -216,16 +216,16 @@ fn weld_and_fill<A: Allocator + Copy + Send + Sync, I: Source>(
     welder: &mut Welder<A>,
     facets: &[Facet],
     source: &mut I,
-    next: &mut Round<A>,
+    round: &mut Round<A>,
     is_more: bool,
 ) -> Result<bool, RunFault>
     ensures welded { OnOk result (HasWelded facets.now welder.old welder.new) }
-    ensures filled { IsFilled I.remaining I.Failures.failure_count source.old source.new is_more next.new.bytes result }
+    ensures filled { IsFilled I.remaining I.Failures.failure_count source.old source.new is_more round.new.bytes result }
 {
-    next.clear();
+    round.clear();
     weld_next(welder, facets)?;
     if is_more {
-        next.fill(source)
+        round.fill(source)
     } else {
         Ok(false)
     }
