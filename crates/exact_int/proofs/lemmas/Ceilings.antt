@@ -14,9 +14,9 @@ less n s r x y z e b l f g = omega (arith, ints)
 next : (x y : ℤ) → x <ℤ y → (x +ℤ pos 1) ≤ℤ y
 next x y h = omega (arith, ints)
 
--- by any q and r with n = q*d + r: where r is above 0 and below d, the quotient is one more than q
-pub ceiling-above : (n d q r : ℤ) → pos 0 <ℤ d → q *ℤ d +ℤ r ≡ n → pos 0 <ℤ r → r <ℤ d → (k : ℤ) → ((q +ℤ pos 1) ≤ℤ k) ↔ (n ≤ℤ (k *ℤ d))
-ceiling-above n d q r h e p b k = (
+-- by a quotient q and a remainder r, with n = q*d + r
+up : (n d q r : ℤ) → pos 0 <ℤ d → q *ℤ d +ℤ r ≡ n → pos 0 <ℤ r → r <ℤ d → (k : ℤ) → ((q +ℤ pos 1) ≤ℤ k) ↔ (n ≤ℤ (k *ℤ d))
+up n d q r h e p b k = (
   λ l. above n (q *ℤ d) r d (d *ℤ (q +ℤ pos 1)) (d *ℤ k) (k *ℤ d) e b (mul_le_left d (q +ℤ pos 1) k (weak d h) l) (*ℤ_comm d k) (identity (d ∷ q ∷ []) (search reads depth 40) refl),
   λ l. next q k (lt_of_mul_left d q k (weak d h) (less n (q *ℤ d) r (d *ℤ q) (d *ℤ k) (k *ℤ d) e p l (*ℤ_comm d q) (*ℤ_comm d k))),
 )
@@ -30,9 +30,8 @@ less' n s r d x y z e b l f g = omega (arith, ints)
 prior : (x y : ℤ) → (x -ℤ pos 1) <ℤ y → x ≤ℤ y
 prior x y h = omega (arith, ints)
 
--- where r is at most 0 and above -d, the quotient is q
-pub ceiling-at : (n d q r : ℤ) → pos 0 <ℤ d → q *ℤ d +ℤ r ≡ n → r ≤ℤ pos 0 → neg_ℤ d <ℤ r → (k : ℤ) → (q ≤ℤ k) ↔ (n ≤ℤ (k *ℤ d))
-ceiling-at n d q r h e p b k = (
+same : (n d q r : ℤ) → pos 0 <ℤ d → q *ℤ d +ℤ r ≡ n → r ≤ℤ pos 0 → neg_ℤ d <ℤ r → (k : ℤ) → (q ≤ℤ k) ↔ (n ≤ℤ (k *ℤ d))
+same n d q r h e p b k = (
   λ l. above' n (q *ℤ d) r (d *ℤ q) (d *ℤ k) (k *ℤ d) e p (mul_le_left d q k (weak d h) l) (*ℤ_comm d k) (*ℤ_comm d q),
   λ l. prior q k (lt_of_mul_left d (q -ℤ pos 1) k (weak d h) (less' n (q *ℤ d) r d (d *ℤ (q -ℤ pos 1)) (d *ℤ k) (k *ℤ d) e b l (identity (d ∷ q ∷ []) (search reads depth 40) refl) (*ℤ_comm d k))),
 )
@@ -44,10 +43,7 @@ abs_positive : (d : ℤ) → pos 0 <ℤ d → 0 < unsigned_abs d
 abs_positive d h = omega (arith, ints)
 
 pub ceiling-up : (n d : ℤ) → pos 0 <ℤ d → pos 0 <ℤ int_rem n d → (k : ℤ) → ((int_div n d +ℤ pos 1) ≤ℤ k) ↔ (n ≤ℤ (k *ℤ d))
-ceiling-up n d h p = ceiling-above n d (int_div n d) (int_rem n d) h (quot-rem n d) p (rem_between (int_rem n d) d (rem_below n d (abs_positive d h)) h).0
+ceiling-up n d h p = up n d (int_div n d) (int_rem n d) h (quot-rem n d) p (rem_between (int_rem n d) d (rem_below n d (abs_positive d h)) h).0
 
 pub ceiling-same : (n d : ℤ) → pos 0 <ℤ d → int_rem n d ≤ℤ pos 0 → (k : ℤ) → (int_div n d ≤ℤ k) ↔ (n ≤ℤ (k *ℤ d))
-ceiling-same n d h p = ceiling-at n d (int_div n d) (int_rem n d) h (quot-rem n d) p (rem_between (int_rem n d) d (rem_below n d (abs_positive d h)) h).1
-
-pub given_back : (p n : ℤ) → p +ℤ (n -ℤ p) ≡ n
-given_back p n = omega (arith, ints)
+ceiling-same n d h p = same n d (int_div n d) (int_rem n d) h (quot-rem n d) p (rem_between (int_rem n d) d (rem_below n d (abs_positive d h)) h).1

@@ -87,7 +87,3 @@ is_at_most m {z} s e = record { at_most = below (unsigned_abs z) s.bound m s.ok 
 -- equal numbers have the same bounds
 pub at_most_by : {m : ℕ} {a : ℤ} (b : ℤ) → a ≡ b → IsAtMost m b → IsAtMost m a
 at_most_by {m} b e h = subst (IsAtMost m) (sym e) h
-
--- a number of 64 bits
-pub in_64 : (z : ℤ) → FitsSigned w64 z → IsAtMost (2 ^ 63) z
-in_64 z h = record { at_most = omega (arith, ints, h) }
