@@ -6,4 +6,3 @@ pub mod Transcript
 pub mod Loading
 pub mod Run
 pub mod WrittenPixels
-pub mod Round

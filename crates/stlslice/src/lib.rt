@@ -18,7 +18,6 @@
 mod extent;
 mod laws;
 mod loading;
-mod round;
 mod run_fault;
 mod running;
 mod write;

@@ -14,7 +14,6 @@ ghost use Rattle.stlslice.specs.Transcript.{transcript};
 ghost use Rattle.stlslice.specs.declared.run_fault.RunFault.TheVariants.{Memory, Read};
 
 use crate::extent::Extent;
-use crate::round::Round;
 use crate::run_fault::RunFault;
 use geometry::{FACET_LIMIT, Facet};
 use mesh_weld::{Solid, Welder};
@@ -28,11 +27,8 @@ use stl_text::TextReader;
 /// The number of bytes for each worker, where several read at the same time.
 const WORKER_LEN: usize = 1 << 20;
 
-/// The greatest number of bytes of a round.
+/// The greatest number of bytes that a round waits for. Its last window may reach beyond them.
 const ROUND_LIMIT: usize = 1 << 23;
-
-/// From this number of workers on, one fills the next round while another one welds.
-const FILLER_FROM: u32 = 4;
 
 /// The length of the window that is filled from the source and then handed to the reader, in bytes.
 const WINDOW_LEN: usize = 65_536;
@@ -100,8 +96,9 @@ pub(crate) fn read_solid_by<R: Threads + Sync, A: Allocator + Copy + Send + Sync
     }
     let mut reader = TextReader::new(alloc, FACET_LIMIT, unit);
     let mut welder = Welder::new(alloc);
-    let mut round = Round::with_room(alloc, round_len(workers))?;
-    let mut next = Round::with_room(alloc, round_len(workers))?;
+    let room = round_len(workers).saturating_add(WINDOW_LEN);
+    let mut round = Vec::with_capacity(alloc, room)?;
+    let mut next = Vec::with_capacity(alloc, room)?;
     let mut facets = Vec::new(alloc);
     let mut is_more = true;
     for _ in 0..u64::MAX {
@@ -109,7 +106,7 @@ pub(crate) fn read_solid_by<R: Threads + Sync, A: Allocator + Copy + Send + Sync
             rt,
             workers,
             &mut reader,
-            round.bytes(),
+            round.as_slice(),
             &mut welder,
             facets.as_slice(),
             source,
@@ -165,8 +162,8 @@ fn weld_last<A: Allocator + Copy + Send + Sync>(
 
 /// Feeds a reader with a round. Meanwhile the facets of the round before are welded and, where the source has more
 /// (`is_more`), the next round is filled. Answers whether the source has more after the next round. Of up to `workers` workers
-/// one welds and one fills, or where they are few one does both; the others read. Where there is nothing to weld or to fill, all
-/// of them read.
+/// one welds and fills, on the thread that calls, and the others read. Where there is nothing to weld or to fill, all of them
+/// read.
 fn read_and_weld<R: Threads + Sync, A: Allocator + Copy + Send + Sync, I: Source>(
     rt: &R,
     workers: u32,
@@ -175,87 +172,73 @@ fn read_and_weld<R: Threads + Sync, A: Allocator + Copy + Send + Sync, I: Source
     welder: &mut Welder<A>,
     facets: &[Facet],
     source: &mut I,
-    next: &mut Round<A>,
+    next: &mut Vec<u8, A>,
     is_more: bool,
 ) -> Result<bool, RunFault>
     ensures fed { (unit : LengthUnit) (taken : List Facet) (fed : List ℕ) → IsAfter FACET_LIMIT unit taken reader.old fed
         → IsAfter FACET_LIMIT unit taken reader.new (fed ++ round.now) }
     ensures welded { OnOk result (HasWelded facets.now welder.old welder.new) }
-    ensures filled { IsFilled I.remaining I.Failures.failure_count source.old source.new is_more next.new.bytes result }
+    ensures filled { IsFilled I.remaining I.Failures.failure_count source.old source.new is_more next.new.items result }
 {
-    let is_apart = is_more && workers >= FILLER_FROM;
-    let readers = reader_count(workers, is_apart, is_more || !facets.is_empty());
-    if !is_apart {
-        let ((), filled) = join_mut(
-            rt,
-            &mut || reader.feed_by(rt, round, readers),
-            &mut || weld_and_fill(welder, facets, source, next, is_more),
-        );
-        return filled;
-    }
-    let (welded, filled) = join_mut(
+    let readers = if is_more || !facets.is_empty() {
+        workers.saturating_sub(1)
+    } else {
+        workers
+    };
+    let ((), filled) = join_mut(
         rt,
-        &mut || weld_next(welder, facets),
-        &mut || read_and_fill(rt, readers, reader, round, source, next),
+        &mut || reader.feed_by(rt, round, readers),
+        &mut || weld_and_fill(welder, facets, source, next, round_len(workers), is_more),
     );
-    // a failed read is told before want of memory
-    let is_next = filled?;
-    welded?;
-    Ok(is_next)
+    filled
 }
 
-/// How many of the workers read a round: all but the one that welds or fills (`is_other`), or but the two that do so apart
-/// (`is_apart`).
-fn reader_count(workers: u32, is_apart: bool, is_other: bool) -> u32 {
-    workers.saturating_sub(u32::from(is_other) + u32::from(is_apart))
-}
-
-/// Adds facets to a welder, and then fills a round from a source, or leaves it empty where the source has no more (`is_more`).
+/// Adds facets to a welder, and fills a round from a source, or leaves it empty where the source has no more (`is_more`).
 /// Answers whether the source has more after the round.
 fn weld_and_fill<A: Allocator + Copy + Send + Sync, I: Source>(
     welder: &mut Welder<A>,
     facets: &[Facet],
     source: &mut I,
-    round: &mut Round<A>,
+    round: &mut Vec<u8, A>,
+    len: usize,
     is_more: bool,
 ) -> Result<bool, RunFault>
     ensures welded { OnOk result (HasWelded facets.now welder.old welder.new) }
-    ensures filled { IsFilled I.remaining I.Failures.failure_count source.old source.new is_more round.new.bytes result }
+    ensures filled { IsFilled I.remaining I.Failures.failure_count source.old source.new is_more round.new.items result }
 {
     round.clear();
     weld_next(welder, facets)?;
     if is_more {
-        round.fill(source)
+        fill_round(source, round, len)
     } else {
         Ok(false)
     }
 }
 
-/// Feeds a reader with a round, by up to `readers` workers, and meanwhile fills the next one on the thread that calls. Answers
-/// whether the source has more after the next round.
-fn read_and_fill<R: Threads + Sync, A: Allocator + Copy + Send + Sync, I: Source>(
-    rt: &R,
-    readers: u32,
-    reader: &mut TextReader<A>,
-    round: &[u8],
-    source: &mut I,
-    next: &mut Round<A>,
-) -> Result<bool, RunFault>
-    ensures fed { (unit : LengthUnit) (taken : List Facet) (fed : List ℕ) → IsAfter FACET_LIMIT unit taken reader.old fed
-        → IsAfter FACET_LIMIT unit taken reader.new (fed ++ round.now) }
-    ensures filled { IsFilled I.remaining I.Failures.failure_count source.old source.new true next.new.bytes result }
-{
-    let ((), filled) = join_mut(
-        rt,
-        &mut || reader.feed_by(rt, round, readers),
-        &mut || next.fill(source),
-    );
-    filled
-}
-
-/// The number of bytes of a round of these workers.
+/// The number of bytes that a round of these workers waits for.
 fn round_len(workers: u32) -> usize {
     WORKER_LEN.saturating_mul(workers as usize).min(ROUND_LIMIT)
+}
+
+/// Adds what a source has next to a round, which is empty before, until it has `len` bytes: `false` at the end of the source.
+fn fill_round<A: Allocator, I: Source>(
+    source: &mut I,
+    round: &mut Vec<u8, A>,
+    len: usize,
+) -> Result<bool, RunFault>
+    requires { round.old.items ≡ [] }
+    ensures filled { IsFilled I.remaining I.Failures.failure_count source.old source.new true round.new.items result }
+    ensures more { result ≡ Ok true → len ≤ vec_len round.new }
+{
+    let mut window = [0; WINDOW_LEN];
+    'round: while round.len() < len {
+        let count = fill(source, &mut window)?;
+        if count == 0 {
+            return Ok(false);
+        }
+        round.extend_from_slice(&window[..count])?;
+    }
+    Ok(true)
 }
 
 /// Adds facets to a welder. A text with more of them than the limit is a fault, so these need not be welded.
@@ -321,7 +304,7 @@ fn next_facets<A: Allocator, I: Source>(
 }
 
 /// Fills the front of a window from a source: answers how many bytes came, which is 0 only at its end.
-pub(crate) fn fill<I: Source>(source: &mut I, window: &mut [u8]) -> Result<usize, RunFault>
+fn fill<I: Source>(source: &mut I, window: &mut [u8]) -> Result<usize, RunFault>
     requires { 0 < length window.old }
     ensures len { length window.new ≡ length window.old }
     ensures within { IfOk result (λ count. count ≤ length window.old) }
