@@ -3,7 +3,7 @@
 --     IsInside        which sums of signed crossings fill a pixel, rule by rule
 --     IsClosed        a loop comes back to the node that it starts from
 --     IsPromised      what a layer of that job has: closed loops, just the filled pixels, and their number
-use Rattle.std.specs.Prelude.{◌≡◌, ◌≢◌, ◌↔◌, ◌<◌, ◌<ℤ◌, ◌%◌, ℕ, ℤ, pos, nat_abs, IsTrue, List, [], ◌∷◌, count_by, sum_by}
+use Rattle.std.specs.Prelude.{◌≡◌, ◌≢◌, ◌↔◌, ◌<◌, ◌<ℤ◌, ◌%◌, ℕ, ℤ, pos, nat_abs, Bool, IsTrue, List, [], ◌∷◌, count_by, sum_by}
 use Rattle.std.specs.List.{AllByRecursion}
 use Rattle.geometry.specs.Facet.{Facet}
 use Rattle.geometry.specs.Winding.{ray}
@@ -14,7 +14,6 @@ use Rattle.contour.specs.Segment.{segments}
 use Rattle.contour.specs.Loops.{AreLoops}
 use Rattle.raster.specs.declared.rule.Rule.{Rule}
 use Rattle.raster.specs.declared.rule.Rule.TheVariants.{EvenOdd, NonZero, Positive}
-use Rattle.raster.specs.declared.span.Span.{Span}
 use Rattle.raster.specs.Grid.{Grid, centre, plane}
 use Rattle.raster.specs.Span.{AreSpans, covers}
 use Rattle.raster.specs.Filler.{below}
@@ -41,9 +40,9 @@ abbrev pub IsClosed : List Segment → Type 0
 IsClosed [] = ⊥
 IsClosed (s ∷ rest) = EndsAt s.from (s ∷ rest)
 
--- how many of the grid's pixels lie in a span
-abbrev pub pixel_count : Grid → List Span → ℕ
-pixel_count grid spans = sum_by (λ j. count_by (λ i. covers spans i j) (below grid.columns)) (below grid.rows)
+-- how many of the grid's pixels, each by column and row, are 1
+abbrev pub pixel_count : Grid → (ℕ → ℕ → Bool) → ℕ
+pixel_count grid pixel = sum_by (λ j. count_by (λ i. pixel i j) (below grid.columns)) (below grid.rows)
 
 -- Layer k of the mesh of these facets, in a grid, by a rule.
 pub record IsPromised (facets : List Facet) (grid : Grid) (rule : Rule) (k : ℕ) (layer : Layer) : Type 0 where
@@ -58,4 +57,4 @@ pub record IsPromised (facets : List Facet) (grid : Grid) (rule : Rule) (k : ℕ
   pub filled : (i j : ℕ) → i < grid.columns → j < grid.rows
       → IsTrue (covers layer.spans i j) ↔ IsInside rule (ray facets (centre grid i j k))
   -- its area is the number of its filled pixels
-  pub area : layer.area ≡ pixel_count grid layer.spans
+  pub area : layer.area ≡ pixel_count grid (covers layer.spans)

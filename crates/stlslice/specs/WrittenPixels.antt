@@ -1,8 +1,7 @@
 -- What slicing writes, in terms of all facets that were read, degenerate ones among them.
---     pixel_area        how many of a layer's pixels are 1
 --     text_of_pixels    the images of all layers, or the report on them, by their pixels
 --     IsSlicedFrom      how a text follows from the input: by the rays of its facets
-use Rattle.std.specs.Prelude.{◌≡◌, ◌↔◌, ℕ, Bool, IsTrue, List, ◌++◌, Ok, Option, count_by, flat_map, length, sum_by}
+use Rattle.std.specs.Prelude.{◌≡◌, ◌↔◌, ℕ, Bool, IsTrue, List, ◌++◌, Ok, Option, flat_map, length, sum_by}
 use Rattle.micro_num.specs.declared.unit.Unit.{Unit as LengthUnit}
 use Rattle.stl_text.specs.Text.{Reads}
 use Rattle.geometry.specs.Facet.{Facet}
@@ -16,22 +15,19 @@ use Rattle.raster.specs.Filler.{below}
 use Rattle.raster.specs.Grid.{Grid, centre, plane}
 use Rattle.raster.specs.Image.{image_of_pixels}
 use Rattle.raster.specs.declared.rule.Rule.{Rule}
-use Rattle.build_book.specs.Promise.{IsInside}
+use Rattle.build_book.specs.Promise.{IsInside, pixel_count}
 use Rattle.task_words.specs.declared.task.Given.{Given}
 use Rattle.stlslice.specs.Outcome.{grid_for}
 use Rattle.stlslice.specs.SlicedText.{line_of_layer, output_of, total_line}
 use Rattle.stlslice.specs.declared.write.Output.{Output}
 use Rattle.stlslice.specs.declared.write.Output.TheVariants as output
 
-abbrev pub pixel_area : Grid → (ℕ → ℕ → Bool) → ℕ
-pixel_area grid pixel = sum_by (λ j. count_by (λ i. pixel i j) (below grid.columns)) (below grid.rows)
-
 -- `pixel k i j` tells whether the pixel of column i and row j is 1 in layer k. The loops are those of these facets.
 abbrev pub text_of_pixels : Output → Grid → List Facet → (ℕ → ℕ → ℕ → Bool) → List ℕ
 text_of_pixels output.Images grid facets pixel = flat_map (λ k. image_of_pixels grid.columns grid.rows (pixel k)) (below grid.layers)
 text_of_pixels output.Report grid facets pixel =
-    flat_map (λ k. line_of_layer k (length (loops (segments facets (plane grid k)))) (pixel_area grid (pixel k))) (below grid.layers)
-    ++ total_line (sum_by (λ k. pixel_area grid (pixel k)) (below grid.layers))
+    flat_map (λ k. line_of_layer k (length (loops (segments facets (plane grid k)))) (pixel_count grid (pixel k))) (below grid.layers)
+    ++ total_line (sum_by (λ k. pixel_count grid (pixel k)) (below grid.layers))
 
 pub record IsSlicedFrom (unit : LengthUnit) (pitch layer : ℕ) (rule : Rule) (report : Bool) (given : Option Given)
     (input text : List ℕ) : Type 0 where

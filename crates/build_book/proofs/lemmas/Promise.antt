@@ -17,8 +17,10 @@ use Rattle.contour.specs.Loops.{Closes, IsCycle, follower, rank_at_end}
 use Rattle.contour.proofs.lemmas.Unique.{loops-are}
 use Rattle.raster.specs.declared.rule.Rule.{Rule}
 use Rattle.raster.specs.declared.rule.Rule.TheVariants.{EvenOdd, NonZero, Positive}
+use Rattle.raster.specs.declared.span.Span.{Span}
 use Rattle.raster.specs.Grid.{Grid, centre, plane}
 use Rattle.raster.specs.Rule.{is_inside}
+use Rattle.raster.specs.Span.{covers}
 use Rattle.build_book.specs.Job.{Job}
 use Rattle.build_book.specs.Layer.{Layer, IsLawful, AreLawfulFrom}
 use Rattle.build_book.specs.Build.{IsComplete}
@@ -99,7 +101,7 @@ promised_once facets grid rule k a b p q =
       number = (p.number ∙ sym q.number) i;
       loops = loops_are i;
       spans = spans_are i;
-      area = (p.area ∙ ap (pixel_count grid) spans_are ∙ sym q.area) i;
+      area = (p.area ∙ ap (λ (spans : List Span). pixel_count grid (covers spans)) spans_are ∙ sym q.area) i;
     }
 
 -- ---- all layers

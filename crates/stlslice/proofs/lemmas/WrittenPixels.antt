@@ -15,13 +15,13 @@ use Rattle.raster.specs.Image.{image_of_pixels}
 use Rattle.raster.specs.Rule.{is_inside}
 use Rattle.raster.specs.declared.grid.GridFault.{GridFault}
 use Rattle.raster.specs.declared.rule.Rule.{Rule}
-use Rattle.build_book.specs.Promise.{IsInside}
+use Rattle.build_book.specs.Promise.{IsInside, pixel_count}
 use Rattle.build_book.proofs.lemmas.Promise.{inside_decides}
 use Rattle.task_words.specs.declared.task.Given.{Given}
 use Rattle.task_words.specs.declared.task.Task.TheVariants as task
 use Rattle.stlslice.specs.Outcome.{IsOutcome, boxed, closed, grid_for, misread, open_mesh, sliced, with_grid}
 use Rattle.stlslice.specs.SlicedText.{line_of_layer, output_of, sliced_text, total_line}
-use Rattle.stlslice.specs.WrittenPixels.{IsSlicedFrom, pixel_area, text_of_pixels}
+use Rattle.stlslice.specs.WrittenPixels.{IsSlicedFrom, text_of_pixels}
 use Rattle.stlslice.specs.declared.write.Output.{Output}
 use Rattle.stlslice.specs.declared.write.Output.TheVariants as output
 
@@ -38,8 +38,8 @@ same_text : (out : Output) (facets : List Facet) (grid : Grid) (rule : Rule) (pi
 same_text output.Images facets grid rule pixel same =
     λ n. flat_map (λ k. image_of_pixels grid.columns grid.rows (λ i j. same i j k n)) (below grid.layers)
 same_text output.Report facets grid rule pixel same =
-    λ n. flat_map (λ k. line_of_layer k (length (loops (segments facets (plane grid k)))) (pixel_area grid (λ i j. same i j k n))) (below grid.layers)
-    ++ total_line (sum_by (λ k. pixel_area grid (λ i j. same i j k n)) (below grid.layers))
+    λ n. flat_map (λ k. line_of_layer k (length (loops (segments facets (plane grid k)))) (pixel_count grid (λ i j. same i j k n))) (below grid.layers)
+    ++ total_line (sum_by (λ k. pixel_count grid (λ i j. same i j k n)) (below grid.layers))
 
 pub sliced_from : (unit : LengthUnit) (pitch layer : ℕ) (rule : Rule) (workers : ℕ) (report : Bool) (given : Option Given) (input text : List ℕ)
     → IsOutcome (task.Slice unit pitch layer rule workers report given) input (Ok text)
