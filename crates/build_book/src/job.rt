@@ -69,8 +69,8 @@ impl<A: Allocator> Job<A> {
         self.grid == other.grid && self.rule == other.rule
     }
 
-    /// The number of stripes, at most `MOST_STRIPES`. Stripe s consists of the `STRIPE_LAYERS` layers from `STRIPE_LAYERS * s` on, as
-    /// far as the grid has them.
+    /// The number of stripes, at most `MOST_STRIPES`. Stripe s consists of the `STRIPE_LAYERS` layers from
+    /// `STRIPE_LAYERS * s` on, as far as the grid has them.
     pub fn stripes(&self) -> u64
         ensures value { result ≡ stripe_count self.now.grid }
         ensures few { result ≤ MOST_STRIPES }

@@ -43,6 +43,7 @@ impl<A: Allocator + Copy + Send + Sync> ActiveFacets<A> {
         Ok(active)
     }
 
+    /// Takes all facets away.
     fn clear(&mut self)
         ensures numbers { self.new.numbers.items ≡ [] }
         ensures tops { self.new.tops.items ≡ [] }
@@ -51,6 +52,7 @@ impl<A: Allocator + Copy + Send + Sync> ActiveFacets<A> {
         self.tops.clear();
     }
 
+    /// Appends a facet with its top, in micrometres.
     fn push(&mut self, number: u32, top: i32) -> Result<(), AllocError>
         ensures numbers { OnOk result (self.new.numbers.items ≡ self.old.numbers.items ++ number ∷ []) }
         ensures tops { OnOk result (self.new.tops.items ≡ self.old.tops.items ++ top ∷ []) }

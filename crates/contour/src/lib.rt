@@ -1,7 +1,7 @@
 //! Where horizontal planes cut a closed mesh: the segments of a plane, the closed loops that they make, and a sweep
 //! that finds the segments of rising planes without a look at every facet.
 //!
-//! ```ignore
+//! ```text
 //! let mut sweep = Sweep::start(alloc, &solid, heights[0])?;
 //! let mut linker = Linker::new(alloc, &solid)?;
 //! for z2 in heights {

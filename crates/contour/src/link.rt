@@ -112,6 +112,7 @@ struct Links<A: Allocator> {
 }
 
 impl<A: Allocator> Links<A> {
+    /// No links. It allocates no memory.
     fn new(alloc: A) -> Links<A>
     where
         A: Copy,
@@ -154,6 +155,7 @@ struct SegmentEdges<A: Allocator> {
 }
 
 impl<A: Allocator> SegmentEdges<A> {
+    /// Replaces the numbers by those of these segments.
     fn fill(&mut self, s: &Solid<A>, list: &[Segment]) -> Result<(), AllocError>
         requires { All (λ t. t.facet < length s.now.facets) list.now }
         ensures { OnOk result (AreSegmentEdges s.now.facets list.now self.new.starts.items self.new.finishes.items) }

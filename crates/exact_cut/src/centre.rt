@@ -1,4 +1,4 @@
-//! The points that rays start from: centres of pixels, half a pitch beyond a mesh at most.
+//! The points that rays start from: the centres of voxels, whose coordinates lie within `CENTRE_LIMIT` of 0.
 ghost use Rattle.std.specs.Prelude.{◌≡◌, ◌↔◌, IfSome, IsSome, IsTrue};
 ghost use Rattle.exact_int.specs.Bounds.{IsAtMost};
 ghost use Rattle.geometry.specs.Point.{IsCentre, Point};
@@ -8,7 +8,7 @@ use exact_int::is_at_most;
 use geometry::CENTRE_LIMIT;
 use std::marker::Model;
 
-/// A point in half-micrometres from which a ray starts, as the centre of a pixel. Each coordinate lies within
+/// A point in half-micrometres from which a ray starts, as the centre of a voxel. Each coordinate lies within
 /// `CENTRE_LIMIT` of 0.
 #[derive(Clone, Copy, Debug, PartialEq, Eq)]
 pub struct Centre {

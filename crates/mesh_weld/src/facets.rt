@@ -50,6 +50,7 @@ pub(crate) fn has_distinct_corners(facet: &Facet) -> bool
     !(is_same(first, second) || is_same(second, third) || is_same(third, first))
 }
 
+/// Whether two points are the same.
 fn is_same(first: Point, second: Point) -> bool
     ensures { result ≡ same first second }
 {

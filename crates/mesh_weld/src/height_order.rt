@@ -58,6 +58,7 @@ struct Heights<A: Allocator> {
     greatest_rise: u32,
 }
 
+/// The keys of the facets whose corners have the numbers among the points, and their greatest rise.
 fn list_heights<A: Allocator + Copy>(
     alloc: A,
     points: &[Point],
@@ -115,6 +116,7 @@ fn rise(facet: &Facet) -> u32
     highest(facet).abs_diff(lowest(facet))
 }
 
+/// Sorts keys in place, the least first.
 fn sort_heights<A: Allocator>(keys: &mut Vec<HeightKey, A>)
     ensures permuted { IsPermutation keys.old.items keys.new.items }
     ensures ascending { IsNonDecreasing keys.new.items }

@@ -1,6 +1,6 @@
 //! Closed meshes: facets welded at equal corners, where as many half-edges run from any point to another as back.
 //!
-//! ```
+//! ```text
 //! let solid = weld(alloc, facets)?;
 //! let lowest_first = solid.by_height();
 //! let (along_x, along_y) = probe(&solid, &centre);

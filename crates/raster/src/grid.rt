@@ -125,7 +125,7 @@ impl Grid {
         })
     }
 
-    /// The corner of the least voxel that has the least coordinates, in micrometres.
+    /// The grid's least corner, in micrometres.
     pub fn origin(&self) -> Point
         ensures { result ≡ self.now.origin }
     {

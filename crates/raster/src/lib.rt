@@ -2,7 +2,7 @@
 //!
 //! For a welded solid `s`, a layer number `k`, and the segments `list` in which the plane of that layer cuts the solid:
 //!
-//! ```ignore
+//! ```text
 //! let g = Grid::fit(&s, 50, 100)?;                              // pitch 50, layer height 100 micrometres
 //! let spans = fill(alloc, &s, &g, Rule::NonZero, k, list)?;     // the filled pixels of layer k
 //! let pixels = area(spans.as_slice());                          // their number

@@ -124,7 +124,8 @@ fn after_bytes<'t>(text: &'t [u8], bytes: &[u8]) -> Option<&'t [u8]>
     if front == bytes { Some(rest) } else { None }
 }
 
-/// The text after its first word, if it has one.
+/// The text after its first word, if it has one. It is out of line: few words of a normal are longer than 16 bytes, or have
+/// more than one blank before them.
 #[cold]
 #[inline(never)]
 fn after_any_word(bytes: &[u8]) -> Option<&[u8]>
@@ -265,7 +266,7 @@ fn facet_by_layout<'t>(
     ensures some { IfSome result (λ found. 0 < length found.1.now) }
     ensures shorter { IfSome result (λ found. length found.1.now < length bytes.now) }
 {
-    // No call takes this reader by reference, unless it is inlined, so that its place in the text stays in registers.
+    // No call takes this reader by reference, unless it is inlined, so that the rest of its text stays in registers.
     let mut reader = Reader::new(bytes, unit);
     reader.skip(layout.opening)?;
     reader.near_normal()?;

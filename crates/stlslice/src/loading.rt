@@ -68,6 +68,7 @@ pub(crate) fn read_solid<A: Allocator + Copy + Send + Sync, I: Source>(
     let mut reader = TextReader::new(alloc, FACET_LIMIT, unit);
     let mut welder = Welder::new(alloc);
     let mut window = [0; WINDOW_LEN];
+    // the bound shows that the loop ends; no input is so long
     for _ in 0..u64::MAX {
         let is_more = next_facets(source, &mut window, &mut reader, &mut fresh)?;
         weld_next(&mut welder, fresh.as_slice())?;
@@ -75,6 +76,7 @@ pub(crate) fn read_solid<A: Allocator + Copy + Send + Sync, I: Source>(
             return weld_end(reader, welder);
         }
     }
+    // never reached
     Err(RunFault::Memory)
 }
 
@@ -101,6 +103,7 @@ pub(crate) fn read_solid_by<R: Threads + Sync, A: Allocator + Copy + Send + Sync
     let mut next = Vec::with_capacity(alloc, room)?;
     let mut facets = Vec::new(alloc);
     let mut is_more = true;
+    // the bound shows that the loop ends; no input is so long
     for _ in 0..u64::MAX {
         let is_next = read_and_weld(
             rt,
@@ -121,6 +124,7 @@ pub(crate) fn read_solid_by<R: Threads + Sync, A: Allocator + Copy + Send + Sync
         swap(&mut round, &mut next);
         is_more = is_next;
     }
+    // never reached
     Err(RunFault::Memory)
 }
 
@@ -269,6 +273,7 @@ pub(crate) fn read_extent<A: Allocator + Copy + Send + Sync, I: Source>(
     let mut extent = Extent::none();
     let mut facets = Vec::new(alloc);
     let mut window = [0; WINDOW_LEN];
+    // the bound shows that the loop ends; no input is so long
     for _ in 0..u64::MAX {
         let is_more = next_facets(source, &mut window, &mut reader, &mut facets)?;
         extent = extent.with(facets.as_slice());
@@ -277,6 +282,7 @@ pub(crate) fn read_extent<A: Allocator + Copy + Send + Sync, I: Source>(
             return Ok(extent.with(&last));
         }
     }
+    // never reached
     Err(RunFault::Memory)
 }
 
