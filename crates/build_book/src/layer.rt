@@ -7,7 +7,8 @@ use raster::Span;
 use std::alloc::Allocator;
 use std::marker::Model;
 
-/// One layer: its number, its loops, its spans of filled pixels, and its area, which is their number.
+/// One layer: its number, its loops, its spans, and its area in pixels. What these are is said where a layer is answered:
+/// by `lawful` of `Book::layer`, `Build::layer` and `Piece::layers`.
 #[derive(Drop)]
 pub struct Layer<A: Allocator> {
     number: u32,
@@ -51,14 +52,14 @@ impl<A: Allocator> Layer<A> {
         &self.loops
     }
 
-    /// Its spans of filled pixels, in the order of rows, then columns.
+    /// Its spans.
     pub fn spans(&self) -> &[Span]
         ensures { result.now ≡ self.now.spans }
     {
         self.spans.as_slice()
     }
 
-    /// The number of its filled pixels.
+    /// Its area, in pixels.
     pub fn area(&self) -> u64
         ensures { result ≡ self.now.area }
     {

@@ -48,8 +48,7 @@ impl<A: Allocator> Loops<A> {
         self.ends.len()
     }
 
-    /// The loop with this number, starting with the segment whose facet has the least number; `None` where there is no
-    /// such loop.
+    /// The loop with this number; `None` where there is no such loop.
     pub fn get(&self, number: usize) -> Option<&[Segment]>
         ensures { option_map (λ part. part.now) result ≡ slice_get self.now number }
     {

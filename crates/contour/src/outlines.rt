@@ -17,8 +17,8 @@ use std::marker::Model;
 /// nearest half-micrometre, halves upward. A segment ends where the next one of its loop starts, and the last one where
 /// the first starts, whose point is not repeated.
 ///
-/// The inside of a mesh whose facets face outward lies on the left of each segment: seen from above, a loop around it
-/// runs counterclockwise, and one around a hollow clockwise. Rounding may move two points of a loop into one.
+/// The inside of a mesh whose facets face outward lies on the left of each segment, so that a loop around it runs
+/// counterclockwise, seen from above. No clause says so; tests do. Rounding may move two points of a loop into one.
 #[derive(Drop)]
 pub struct Outlines<A: Allocator> {
     points: Vec<PlanePoint, A>,

@@ -72,7 +72,8 @@ pub trait Sink: Failures {
 }
 
 /// A source over any reader, and a sink over any writer. It counts the calls that answered an error. A writer that takes
-/// 0 bytes of a chunk that is not empty counts as failed.
+/// 0 bytes of a chunk that is not empty counts as failed. That each call is tried once, and that just the failed ones are
+/// counted, no clause says; tests do.
 #[derive(Drop)]
 pub struct Counted<T> {
     inner: T,

@@ -50,8 +50,7 @@ impl Model for Pass {
 
 impl<A: Allocator + Copy> Claims<A> {
     /// Claims to the numbers below `stripes`, which is at most `STRIPE_LIMIT`, and as many passes as `passes` says, 1 to
-    /// `PASS_LIMIT`, none of which has drawn. `Err` comes only where an allocation failed; the memory that was taken before
-    /// is then freed.
+    /// `PASS_LIMIT`, none of which has drawn. `Err` comes only where an allocation failed.
     pub fn open(
         alloc: A,
         stripes: u64,

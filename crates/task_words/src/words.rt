@@ -23,7 +23,8 @@ use stripe_claims::PASS_LIMIT;
 /// The first of these faults is answered: `Refused` where the words are not of the command's form, or ask for help or the
 /// version; `BadRule`, `BadUnit`, `BadGrid`, `BadProbe` where the text of that option names no rule, unit, grid or voxel;
 /// and, unless the task is the box, `Missing` where the pitch is not given, then where the layer height is not. `Memory`
-/// comes only where an allocation failed, and a failed allocation is never answered as `Refused`.
+/// comes only where an allocation failed, and a failed allocation is never answered as `Refused`. That a task is in range,
+/// and that `Refused` is no want of memory, is proved; which task the words stand for and which fault comes first, tests say.
 pub fn read_words(alloc: Global, words: &[String]) -> Result<Task, WordFault>
     ensures range { IfOk result IsInRange }
     ensures refused { IfErr result IsNoMemoryRefusal }
