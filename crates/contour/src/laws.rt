@@ -2,7 +2,7 @@
 ghost use Rattle.contour.specs.Laws.{ClosedMeshesHaveLoops, CycleWindsCancel, LoopsAreOne, NodesAreOrdered, OutlinesJoin, StartsAreCuts};
 
 /// States what holds of the segments of every plane: a line along x in the plane crosses the facets of a loop upward as
-/// often as downward; a closed mesh has loops at every height, and only one list of them; in loops of facets with distinct
+/// often as downward; the segments of a closed mesh at any height make loops, and in one way only; in loops of facets with distinct
 /// corners each node's `low` is below its `high`; in their outlines a segment starts where the plane cuts an edge, to the
 /// nearest half-micrometre, and ends where its follower starts. It does nothing at run time.
 pub fn hold_loop_laws()

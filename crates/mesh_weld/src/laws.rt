@@ -5,7 +5,10 @@ ghost use Rattle.geometry.specs.Point.{Point};
 ghost use Rattle.mesh_weld.specs.Balance.{HasOpenEdge, IsBalanced, IsLeastOpen};
 ghost use Rattle.mesh_weld.specs.Laws.{AmountsCancel, DegenerateFacetsAreMissed, KeptAreClosed, KeptRaysAreAll, RayFromTheLeft, RaysAgree, StepsKeepRays, WindsAlongYCancel, WindsCancel};
 
-/// States what holds of every closed mesh. A crate that calls it can use its clauses; it does nothing at run time.
+/// States what holds of every mesh. Over closed facets an amount that changes its sign with the direction of an edge sums to
+/// 0, and so do the winds; the sum of the crossings from the left is minus the ray; rays along x and y agree where no facet
+/// touches the centre; a step past no facet keeps a ray. Degenerate facets change no ray, and without them a closed mesh is
+/// closed. A crate that calls it can use its clauses; it does nothing at run time.
 pub fn hold_mesh_laws()
     ensures amounts { AmountsCancel }
     ensures winds { WindsCancel }

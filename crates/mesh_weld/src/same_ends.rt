@@ -17,6 +17,7 @@ pub(crate) struct SameEnds {
 }
 
 impl SameEnds {
+    /// A run with no half-edge.
     pub(crate) const NONE: SameEnds = SameEnds {
         low: 0,
         high: 0,

@@ -1,5 +1,5 @@
-//! The grammar of a facet, each rule a method of the reader. And what stands whole at the front of a text: a facet, or the end
-//! of one solid and the beginning of the next.
+//! The grammar of a facet, each rule a method of the reader. It also reads what stands whole at the front of a text: a facet,
+//! or the end of one solid and the beginning of the next.
 ghost use Rattle.std.specs.Prelude.{◌≡◌, ◌<◌, [], ◌∷◌, IfSome, Some, length};
 ghost use Rattle.micro_num.specs.declared.unit.Unit.{Unit as LengthUnit};
 ghost use Rattle.stl_text.specs.Layout.{separator_tokens};

@@ -146,7 +146,7 @@ fn after_any_coordinate(bytes: &[u8], unit: Unit) -> Option<(i32, &[u8])>
     after_coordinate(bytes, unit)
 }
 
-/// The number of bytes above 32 at the front of a text, of which none is white space, or `LANES` if there are more.
+/// The number of bytes at the front of a text that are above a blank (32), so not white space, or `LANES` if there are more.
 #[inline(always)]
 fn black_len(bytes: &[u8]) -> usize
     requires { LANES ≤ length bytes.now }

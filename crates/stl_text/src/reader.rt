@@ -9,7 +9,7 @@ use micro_num::Unit;
 use std::marker::Model;
 
 /// A text that is read from left to right, word by word. Where another word stands than the one that is wanted, it says no
-/// more than that: what is wrong there, [`TextReader`](crate::TextReader) finds.
+/// more than that; [`TextReader`](crate::TextReader) finds what is wrong there.
 #[derive(Drop)]
 pub(crate) struct Reader<'t> {
     /// The part of the text that is not read yet.

@@ -45,7 +45,7 @@ pub(crate) fn skip_space(bytes: &[u8]) -> &[u8]
     bytes.split_at(n).1
 }
 
-/// The text after the white space at the front, of which one byte at most is skipped.
+/// The text after at most one byte of white space at its front.
 #[inline(always)]
 pub(crate) fn skip_blank(bytes: &[u8]) -> &[u8]
     ensures { after_space result.now ≡ after_space bytes.now }

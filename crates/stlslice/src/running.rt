@@ -29,7 +29,7 @@ use task_words::{Given, Task};
 ///
 /// Unless it ends with a failed read or for want of memory, all was read. Where it succeeds, just the text of the outcome
 /// was written and flushed. A fault of the input is its outcome, and where the outcome is a fault, no other fault of the
-/// input comes; the other faults come of a device or of memory. After a fault of the output the first `written` bytes of
+/// input comes; the other faults come from a device or from memory. After a fault of the output the first `written` bytes of
 /// the outcome went out, after any other fault nothing did. Each call of a device is tried once, so an interruption is a
 /// fault too. No call has failed unless the run ends with that device's fault, and then just one has. An allocation can fail
 /// at each step before the first byte is written.

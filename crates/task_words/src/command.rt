@@ -4,7 +4,7 @@ use geometry::STEP_LIMIT;
 use std::alloc::{AllocError, Global};
 use stripe_claims::PASS_LIMIT;
 
-/// The ids of the options, which are also their long names.
+// The ids of the options, which are also their long names.
 pub(crate) const PITCH: &str = "pitch";
 
 pub(crate) const LAYER: &str = "layer";
