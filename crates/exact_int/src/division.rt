@@ -15,8 +15,8 @@ pub fn ceil_div_64(n: i64, d: i64) -> i64
     requires { pos 0 <ℤ d }
     ensures { (q : ℤ) → (result ≤ℤ q) ↔ (n ≤ℤ (q *ℤ d)) }
 {
-    let q = n / d;
-    if n % d <= 0 { q } else { q + 1 }
+    let quotient = n / d;
+    if n % d > 0 { quotient + 1 } else { quotient }
 }
 
 /// What [`ceil_div`] answers, in less time where both numbers fit 64 bits: a division of these takes a fraction of the time

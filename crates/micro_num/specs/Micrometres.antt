@@ -9,7 +9,7 @@ use Rattle.micro_num.specs.declared.num_fault.NumFault.{NumFault}
 use Rattle.micro_num.specs.declared.num_fault.NumFault.TheVariants.{NotNumber, TooLong, OutOfRange}
 use Rattle.micro_num.specs.Numeral.{Sign, unsigned, plus, minus, Exponent, Numeral, fraction_digits, mantissa_digits, numeral_of}
 use Rattle.geometry.specs.declared.limits.TheConstants.{COORDINATE_LIMIT}
-use Rattle.micro_num.specs.declared.limits.TheConstants.{WORD_LIMIT}
+use Rattle.micro_num.specs.declared.limits.TheConstants.{INCH_FACTOR, WORD_LIMIT}
 
 -- the value of a row of decimal digits
 abbrev pub digits_value : List ℕ → ℕ
@@ -34,10 +34,10 @@ unfoldable pub magnitude : ℕ → ℤ → ℕ
 magnitude m (pos k) = m * 10 ^ k
 magnitude m (negsuc k) = rounded_quotient m (suc k)
 
--- A millimetre is 1,000 micrometres, and an inch is 254 times 100.
+-- A millimetre is 1,000 micrometres, and an inch is INCH_FACTOR times 100.
 abbrev pub unit_factor : LengthUnit → ℕ
 unit_factor Millimetre = 1
-unit_factor Inch = 254
+unit_factor Inch = INCH_FACTOR
 
 abbrev pub unit_power : LengthUnit → ℕ
 unit_power Millimetre = 3

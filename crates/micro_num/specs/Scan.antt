@@ -3,7 +3,7 @@
 --     text_magnitude            the coordinate that such a text stands for, or its fault
 --     IsLeading                 the value of the leading digits of a number, and how many digits were dropped
 --     IsMantissa                the digits of a number, with their leading digits
---     IsCarry                   what dropped digits add to 254 times the leading ones
+--     IsCarry                   what dropped digits add to INCH_FACTOR times the leading ones
 --     IsCapped                  the same number, or both are beyond the limit of coordinates
 --     IsCut                     the leading digits times the factor of a unit
 --     IsNear                    the same exponent, or both far beyond those of coordinates, on the same side
@@ -19,7 +19,7 @@ use Rattle.micro_num.specs.declared.num_fault.NumFault.TheVariants.{NotNumber, O
 use Rattle.micro_num.specs.Numeral.{Sign, unsigned, Exponent, Numeral, IsNumeral, is_point, is_exponent_mark, exponent_text, numeral_text, from_first, exponent_of, mantissa_digits, are_digits, is_exponent}
 use Rattle.micro_num.specs.Micrometres.{digits_value, exponent_value, magnitude, unit_factor, power_of}
 use Rattle.geometry.specs.declared.limits.TheConstants.{COORDINATE_LIMIT}
-use Rattle.micro_num.specs.declared.limits.TheConstants.{LEADING_LIMIT, LEADING_ROOM, SCALE_LIMIT, WORD_LIMIT}
+use Rattle.micro_num.specs.declared.limits.TheConstants.{INCH_FACTOR, LEADING_LIMIT, LEADING_ROOM, SCALE_LIMIT, WORD_LIMIT}
 
 abbrev pub is_other : ℕ → Bool
 is_other byte = not (is_ascii_digit byte)
@@ -78,12 +78,12 @@ pub record IsMantissa (value dropped : ℕ) (whole fraction : List ℕ) : Type 0
   pub few : dropped ≤ length whole + length fraction
   pub within : length whole + length fraction ≤ WORD_LIMIT
 
--- carry is the whole part of 254 times the decimal fraction whose `count` digits are those of n
+-- carry is the whole part of INCH_FACTOR times the decimal fraction whose `count` digits are those of n
 pub record IsCarry (carry count n : ℕ) : Type 0 where
-  pub low : carry * 10 ^ count ≤ 254 * n
-  pub high : 254 * n < (carry + 1) * 10 ^ count
+  pub low : carry * 10 ^ count ≤ INCH_FACTOR * n
+  pub high : INCH_FACTOR * n < (carry + 1) * 10 ^ count
 
--- IsLeading for a value in a unit, which may be 254 times as large
+-- IsLeading for a value in a unit, which may be INCH_FACTOR times as large
 pub record IsCut (value dropped n : ℕ) : Type 0 where
   pub low : value * 10 ^ dropped ≤ n
   pub high : n < (value + 1) * 10 ^ dropped

@@ -25,7 +25,7 @@ mod mantissa;
 mod num_fault;
 mod reading;
 mod scaling;
-mod short;
+mod short_number;
 mod unit;
 
 pub use exact_int::ceil_div;

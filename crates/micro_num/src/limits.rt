@@ -20,8 +20,17 @@ pub(crate) const FEW_DIGITS: usize = 10;
 /// is at least this long.
 pub(crate) const SHORT_ROOM: usize = 3 * FEW_DIGITS + 2;
 
-/// What the dropped digits add to 254 times the leading ones is below this.
+/// An inch is this many times 100 micrometres.
+pub(crate) const INCH_FACTOR: u64 = 254;
+
+/// What the dropped digits add to `INCH_FACTOR` times the leading ones is below this.
 pub(crate) const CARRY_LIMIT: u64 = 10_000;
 
 /// The leading digits times the factor of a unit, with what the dropped digits add, are below this.
-pub(crate) const SCALE_LIMIT: u64 = 254 * LEADING_LIMIT + CARRY_LIMIT;
+pub(crate) const SCALE_LIMIT: u64 = INCH_FACTOR * LEADING_LIMIT + CARRY_LIMIT;
+
+/// Ten to a power below this fits 64 bits.
+pub(crate) const POWER_COUNT: u64 = 20;
+
+/// Ten to a higher power than this is above `COORDINATE_LIMIT`.
+pub(crate) const COORDINATE_POWER: u64 = 8;

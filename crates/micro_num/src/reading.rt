@@ -11,7 +11,7 @@ use crate::limits::{SHORT_ROOM, WORD_LIMIT};
 use crate::mantissa::{exponent_front, read_mantissa, split_sign};
 use crate::num_fault::NumFault;
 use crate::scaling::{magnitude_in, signed_coordinate};
-use crate::short::short_front;
+use crate::short_number::short_front;
 use crate::unit::Unit;
 use geometry::COORDINATE_LIMIT;
 

@@ -2,10 +2,11 @@
 ghost use Rattle.std.specs.Prelude.{◌≡◌, ◌≤◌, ◌<◌, ◌+◌, ◌*◌, ◌^◌, ◌++◌, ◌+ℤ◌, ◌-ℤ◌, if◌then◌else◌, length, ℕ, ℤ, neg_ℤ, pos, unsigned_abs, IfSome, MatchOption};
 ghost use Rattle.micro_num.specs.Micrometres.{digits_value, magnitude, rounded_quotient, unit_factor, unit_power};
 ghost use Rattle.micro_num.specs.Scan.{IsCapped, IsCarry, IsCut, IsMantissa, IsNear, digits_after};
-ghost use Rattle.micro_num.specs.declared.limits.TheConstants.{CARRY_LIMIT, LEADING_LIMIT, SCALE_LIMIT};
+ghost use Rattle.micro_num.specs.declared.limits.TheConstants.{CARRY_LIMIT, INCH_FACTOR, LEADING_LIMIT, POWER_COUNT, SCALE_LIMIT};
 ghost use Rattle.geometry.specs.declared.limits.TheConstants.{COORDINATE_LIMIT};
 
 use crate::digits::LeadingDigits;
+use crate::limits::{COORDINATE_POWER, INCH_FACTOR, POWER_COUNT};
 use crate::mantissa::Mantissa;
 use crate::unit::Unit;
 use geometry::COORDINATE_LIMIT;
@@ -23,7 +24,7 @@ const QUADRILLION: u64 = 1_000_000_000_000_000;
 const QUINTILLION: u64 = 1_000_000_000_000_000_000;
 
 /// The powers of ten that 64 bits hold.
-static POWERS: [u64; 20] = [
+static POWERS: [u64; POWER_COUNT as usize] = [
     1,
     10,
     100,
@@ -49,7 +50,7 @@ static POWERS: [u64; 20] = [
 /// Ten to the power `power`.
 #[inline(always)]
 fn power_of_ten(power: u64) -> u64
-    requires { power < 20 }
+    requires { power < POWER_COUNT }
     ensures { result ≡ 10 ^ power }
 {
     POWERS[power as usize]
@@ -80,8 +81,8 @@ fn shrunk(value: u64, power: u64) -> u64
         divided(value, THOUSAND)
     } else if power == 4 {
         divided(value, 10 * THOUSAND)
-    } else if power > 19 {
-        // each value here is less than half of ten to the power 20
+    } else if power >= POWER_COUNT {
+        // each value here is less than half of ten to that power
         0
     } else {
         divided(value, power_of_ten(power))
@@ -95,7 +96,7 @@ fn grown(value: u64, power: u64) -> u64
 {
     if value == 0 {
         0
-    } else if power > 9 || value > COORDINATE_LIMIT {
+    } else if power > COORDINATE_POWER || value > COORDINATE_LIMIT {
         COORDINATE_LIMIT + 1
     } else {
         value * power_of_ten(power)
@@ -116,7 +117,7 @@ fn scaled(value: u64, power: i64) -> u64
     }
 }
 
-/// The whole part of 254 times the decimal fraction with these digits, to which the digits after them carry `after`.
+/// The whole part of `INCH_FACTOR` times the decimal fraction with these digits, to which the digits after them carry `after`.
 fn carried(digits: &[u8], after: u64) -> u64
     requires { after < CARRY_LIMIT }
     ensures carry { (count n : ℕ) → IsCarry after count n
@@ -126,25 +127,25 @@ fn carried(digits: &[u8], after: u64) -> u64
     let mut carry = after;
     for index in 0..digits.len() {
         let digit = digits[digits.len() - 1 - index].saturating_sub(b'0');
-        carry = (254 * u64::from(digit) + carry) / 10;
+        carry = (INCH_FACTOR * u64::from(digit) + carry) / 10;
     }
     carry
 }
 
-/// 254 times the leading digits, with what the dropped digits carry into the product.
+/// `INCH_FACTOR` times the leading digits, with what the dropped digits carry into the product.
 #[cold]
 #[inline(never)]
 fn in_inches(leading: LeadingDigits, whole: &[u8], fraction: &[u8]) -> u64
     requires { IsMantissa leading.value leading.dropped whole.now fraction.now }
     ensures times { IsCarry result leading.dropped (digits_value (whole.now ++ fraction.now)) }
     ensures small { result < SCALE_LIMIT }
-    ensures long { 254 * leading.value ≤ result }
+    ensures long { INCH_FACTOR * leading.value ≤ result }
 {
     let dropped = leading.dropped as usize;
     let in_fraction = dropped.min(fraction.len());
     let (_, last) = fraction.split_at(fraction.len() - in_fraction);
     let (_, before) = whole.split_at(whole.len() - (dropped - in_fraction));
-    254 * leading.value + carried(before, carried(last, 0))
+    INCH_FACTOR * leading.value + carried(before, carried(last, 0))
 }
 
 /// The leading digits times the factor of the unit, with what the dropped digits carry into the product.
@@ -157,7 +158,7 @@ fn in_unit(mantissa: &Mantissa<'_>, unit: Unit) -> u64
 {
     match unit {
         Unit::Millimetre => mantissa.leading.value,
-        Unit::Inch if mantissa.leading.dropped == 0 => 254 * mantissa.leading.value,
+        Unit::Inch if mantissa.leading.dropped == 0 => INCH_FACTOR * mantissa.leading.value,
         Unit::Inch => in_inches(mantissa.leading, mantissa.whole, mantissa.fraction),
     }
 }

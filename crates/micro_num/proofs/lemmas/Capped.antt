@@ -9,7 +9,7 @@ use Rattle.micro_num.specs.Scan.{IsCapped, IsNear}
 use Rattle.micro_num.proofs.lemmas.Powers.{rounded_quotient-cut, cut_above, power_suc}
 use Rattle.micro_num.proofs.lemmas.Magnitude.{rounded_quotient-small}
 use Rattle.geometry.specs.declared.limits.TheConstants.{COORDINATE_LIMIT}
-use Rattle.micro_num.specs.declared.limits.TheConstants.{LEADING_ROOM}
+use Rattle.micro_num.specs.declared.limits.TheConstants.{COORDINATE_POWER, LEADING_ROOM}
 
 pub IsCapped-same : (a b : ℕ) → a ≡ b → IsCapped a b
 IsCapped-same a b e = record { within = λ h. sym e; beyond = λ h. omega arith }
@@ -27,9 +27,9 @@ IsCapped-next a b c p q = by_cases (cases_lt COORDINATE_LIMIT a)
         IsCapped-same a c (sym (q.within (omega arith) ∙ e))
 
 -- a number that is not 0, with a high exponent
-pub grown_far : (m k : ℕ) → 0 < m → (9 ≤ k) ⊎ (COORDINATE_LIMIT < m) → COORDINATE_LIMIT < m * 10 ^ k
+pub grown_far : (m k : ℕ) → 0 < m → (COORDINATE_POWER < k) ⊎ (COORDINATE_LIMIT < m) → COORDINATE_LIMIT < m * 10 ^ k
 grown_far m k some (inl far) =
-    let high : 10 ^ 9 ≤ 10 ^ k = pow-le-pow_right {n = 10} (lit≤ tt) {i = 9} {j = k} far in
+    let high : 10 ^ suc COORDINATE_POWER ≤ 10 ^ k = pow-le-pow_right {n = 10} (lit≤ tt) {i = suc COORDINATE_POWER} {j = k} far in
     omega (arith, mul-le-mul_right (10 ^ k) some)
 grown_far m k some (inr far) = omega (arith, mul-le-mul_left m (one-le-pow k 10 (lit≤ tt)))
 

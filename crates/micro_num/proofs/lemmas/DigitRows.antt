@@ -10,7 +10,7 @@ use Rattle.std.proofs.Math.Nat.{pow-succ', mul-le-mul_right, lt_of_mul-lt-mul_ri
 use Rattle.std.proofs.Math.Seq.{drop-cons}
 use Rattle.micro_num.specs.Scan.{IsLeading, IsCarry, digits_after}
 use Rattle.micro_num.proofs.lemmas.Grammar.{bounds}
-use Rattle.micro_num.specs.declared.limits.TheConstants.{LEADING_ROOM}
+use Rattle.micro_num.specs.declared.limits.TheConstants.{INCH_FACTOR, LEADING_ROOM}
 
 digits_after-more : (n : ℕ) (ds : List ℕ) → digits_after n ds ≡ n * 10 ^ length ds + digits_after 0 ds
 digits_after-more n [] = omega arith
@@ -38,12 +38,12 @@ digits_below (d ∷ ds) h =
     omega (arith, digits_after-cons d ds, digits_below ds parts.1, pow-succ' 10 (length ds), mul-le-mul_right (10 ^ length ds) nine)
 
 -- One more digit before those whose carry is known.
-pub IsCarry_more : (c t n e : ℕ) → IsCarry c t n → IsCarry ((254 * e + c) / 10) (suc t) (e * 10 ^ t + n)
+pub IsCarry_more : (c t n e : ℕ) → IsCarry c t n → IsCarry ((INCH_FACTOR * e + c) / 10) (suc t) (e * 10 ^ t + n)
 IsCarry_more c t n e h =
     let p : ℕ = 10 ^ t in
-    let q : ℕ = (254 * e + c) / 10 in
-    let low : 10 * q ≤ 254 * e + c = omega arith in
-    let high : 254 * e + c + 1 ≤ 10 * (q + 1) = omega arith in
+    let q : ℕ = (INCH_FACTOR * e + c) / 10 in
+    let low : 10 * q ≤ INCH_FACTOR * e + c = omega arith in
+    let high : INCH_FACTOR * e + c + 1 ≤ 10 * (q + 1) = omega arith in
     let next : 10 ^ suc t ≡ 10 * p = pow-succ' 10 t in
     let lower : q * 10 ^ suc t ≡ q * (10 * p) = ap (λ r. q * r) next in
     let upper : (q + 1) * 10 ^ suc t ≡ (q + 1) * (10 * p) = ap (λ r. (q + 1) * r) next in
@@ -58,7 +58,7 @@ IsCarry-none = record { low = omega arith; high = omega arith }
 -- the list with one more digit, taken from its end
 pub IsCarry_step : (ds : List ℕ) (i c count n : ℕ) → i < length ds
     → IsCarry c (i + count) (digits_after 0 (drop (length ds - i) ds) * 10 ^ count + n)
-    → IsCarry ((254 * (get_or ds (length ds - 1 - i) 0 - 48) + c) / 10) (i + 1 + count) (digits_after 0 (drop (length ds - (i + 1)) ds) * 10 ^ count + n)
+    → IsCarry ((INCH_FACTOR * (get_or ds (length ds - 1 - i) 0 - 48) + c) / 10) (i + 1 + count) (digits_after 0 (drop (length ds - (i + 1)) ds) * 10 ^ count + n)
 IsCarry_step ds i c count n inside h =
     let at : ℕ = length ds - 1 - i in
     let e : ℕ = get_or ds at 0 - 48 in
@@ -75,14 +75,14 @@ IsCarry_step ds i c count n inside h =
     let whole : e * 10 ^ (i + count) + (digits_after 0 rest * 10 ^ count + n) ≡ digits_after 0 (drop (length ds - (i + 1)) ds) * 10 ^ count + n =
     omega (arith, ap (λ v. v * 10 ^ count) value) in
     let many : suc (i + count) ≡ i + 1 + count = omega arith in
-    subst (λ m. IsCarry ((254 * e + c) / 10) (i + 1 + count) m) whole
-    (subst (λ k. IsCarry ((254 * e + c) / 10) k (e * 10 ^ (i + count) + (digits_after 0 rest * 10 ^ count + n))) many
+    subst (λ m. IsCarry ((INCH_FACTOR * e + c) / 10) (i + 1 + count) m) whole
+    (subst (λ k. IsCarry ((INCH_FACTOR * e + c) / 10) k (e * 10 ^ (i + count) + (digits_after 0 rest * 10 ^ count + n))) many
     (IsCarry_more c (i + count) (digits_after 0 rest * 10 ^ count + n) e h))
 
--- 254 times the leading digits, with the carry of the others, is 254 times the number
+-- INCH_FACTOR times the leading digits, with the carry of the others, is INCH_FACTOR times the number
 pub IsCarry-all : (xs ys : List ℕ) (v c : ℕ) → IsLeading v (length ys) (digits_after 0 (xs ++ ys))
     → list_all is_ascii_digit ys ≡ true → IsCarry c (length ys) (digits_after 0 ys)
-    → IsCarry (254 * v + c) (length ys) (digits_after 0 (xs ++ ys))
+    → IsCarry (INCH_FACTOR * v + c) (length ys) (digits_after 0 (xs ++ ys))
 IsCarry-all xs ys v c leading digits carry =
     let p : ℕ = 10 ^ length ys in
     let x : ℕ = digits_after 0 xs in

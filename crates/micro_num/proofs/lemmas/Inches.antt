@@ -9,7 +9,7 @@ use Rattle.std.proofs.lemmas.Bool.{and_parts, cases_lt}
 use Rattle.std.proofs.Math.Nat.{pow-le-pow_right}
 use Rattle.micro_num.specs.declared.unit.Unit.{Unit as LengthUnit}
 use Rattle.micro_num.specs.declared.unit.Unit.TheVariants.{Millimetre, Inch}
-use Rattle.micro_num.specs.declared.limits.TheConstants.{WORD_LIMIT}
+use Rattle.micro_num.specs.declared.limits.TheConstants.{INCH_FACTOR, WORD_LIMIT}
 use Rattle.micro_num.specs.Micrometres.{unit_factor, unit_power}
 use Rattle.micro_num.specs.Scan.{IsLeading, IsCarry, digits_after}
 use Rattle.micro_num.proofs.lemmas.Powers.{power_suc}
@@ -56,7 +56,7 @@ module _ (w f : List ℕ) (j b : ℕ) (is : b ≡ min j (length f)) (few : j ≤
       → ((count n : ℕ) → IsCarry 0 count n → IsCarry c (length (drop (length f - b) f) + count) (digits_after 0 (drop (length f - b) f) * 10 ^ count + n))
       → ((count n : ℕ) → IsCarry c count n
       → IsCarry e (length (drop (length w - (j - b)) w) + count) (digits_after 0 (drop (length w - (j - b)) w) * 10 ^ count + n))
-      → IsCarry (254 * v + e) j (digits_after 0 (w ++ f))
+      → IsCarry (INCH_FACTOR * v + e) j (digits_after 0 (w ++ f))
   unfolding last before
   carried_twice v c e leading digits one two =
       let ys : List ℕ = before ++ last in
@@ -70,8 +70,8 @@ module _ (w f : List ℕ) (j b : ℕ) (is : b ≡ min j (length f)) (few : j ≤
       let carry : IsCarry e (length ys) (digits_after 0 ys) = subst (λ n. IsCarry e (length ys) n) value (subst (λ k. IsCarry e k (digits_after 0 before * 10 ^ length last + digits_after 0 last)) all (two (length last) (digits_after 0 last) onto)) in
       let digits' : list_all is_ascii_digit ys ≡ true = (and_parts (list_all is_ascii_digit xs) (list_all is_ascii_digit ys) (sym (list_all-append is_ascii_digit xs ys) ∙ ap (list_all is_ascii_digit) (sym parted.1) ∙ digits)).1 in
       let leading' : IsLeading v (length ys) (digits_after 0 (xs ++ ys)) = subst (λ k. IsLeading v k (digits_after 0 (xs ++ ys))) (sym size) (subst (λ l. IsLeading v j (digits_after 0 l)) parted.1 leading) in
-      subst (λ l. IsCarry (254 * v + e) j (digits_after 0 l)) (sym parted.1)
-      (subst (λ k. IsCarry (254 * v + e) k (digits_after 0 (xs ++ ys))) size (IsCarry-all xs ys v e leading' digits' carry))
+      subst (λ l. IsCarry (INCH_FACTOR * v + e) j (digits_after 0 l)) (sym parted.1)
+      (subst (λ k. IsCarry (INCH_FACTOR * v + e) k (digits_after 0 (xs ++ ys))) size (IsCarry-all xs ys v e leading' digits' carry))
 
 pub power_small : (unit : LengthUnit) → unit_power unit ≤ 3
 power_small Millimetre = lit≤ tt

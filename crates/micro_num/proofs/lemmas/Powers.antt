@@ -3,6 +3,7 @@ use Rattle.std.proofs.Common.{◌≡◌, ℕ, zero, suc, ◌+◌, ◌*◌, ◌-�
 use Rattle.std.proofs.Math.Nat.{pow-succ', pow-le-pow_right, one-le-pow, mul-le-mul_right, mul-le-mul_left, div-mul-le_self, lt-div-mul-add, div-eq_of_lt-le}
 use Rattle.std.proofs.lemmas.Nat.{pow-add, le-div}
 use Rattle.micro_num.specs.Micrometres.{rounded_quotient}
+use Rattle.micro_num.specs.declared.limits.TheConstants.{POWER_COUNT}
 
 -- the first n powers of ten, each times p
 abbrev tens : ℕ → ℕ → List ℕ
@@ -14,9 +15,9 @@ get_or-tens zero p k h = absurd (omega arith)
 get_or-tens (suc n) p zero h = omega arith
 get_or-tens (suc n) p (suc k) h = get_or-tens n (10 * p) k (omega arith) ∙ omega (arith, ap (λ x. p * x) (pow-succ' 10 k))
 
-pub table_is : (k : ℕ) → k < 20
-    → get_or (tens 20 1) k 0 ≡ 10 ^ k
-table_is k h = get_or-tens 20 1 k h ∙ omega arith
+pub table_is : (k : ℕ) → k < POWER_COUNT
+    → get_or (tens POWER_COUNT 1) k 0 ≡ 10 ^ k
+table_is k h = get_or-tens POWER_COUNT 1 k h ∙ omega arith
 
 pub power_above : (k : ℕ) → 0 < 10 ^ k
 power_above k = one-le-pow k 10 (lit≤ tt)

@@ -4,8 +4,8 @@ use mir.Syntax.{w64}
 use Rattle.exact_int.proofs.lemmas.Ceilings.{ceiling-up, ceiling-same}
 use Rattle.exact_int.proofs.division.ceil_div_64.Goals as goal
 
-pub returns-else-n-d-le0 : goal.returns-else-n-d-le0
-returns-else-n-d-le0 c =
+pub returns-then-n-d-gt0 : goal.returns-then-n-d-gt0
+returns-then-n-d-gt0 c =
     let n = c.args.n in
     let d = c.args.d in
     let q = quot_is w64 n d c.ranges.n c.ranges.d (quot_fits w64 n d c.ranges.n c.requires) in
@@ -14,8 +14,8 @@ returns-else-n-d-le0 c =
     let big : pos 0 <ℤ int_rem n d = rw (← r) (omega (arith, ints)) in
     λ k. rw (to_z-of_z w64 _ more, q) (ceiling-up n d c.requires big k)
 
-pub returns-then-n-d-le0 : goal.returns-then-n-d-le0
-returns-then-n-d-le0 c =
+pub returns-else-n-d-gt0 : goal.returns-else-n-d-gt0
+returns-else-n-d-gt0 c =
     let n = c.args.n in
     let d = c.args.d in
     let q = quot_is w64 n d c.ranges.n c.ranges.d (quot_fits w64 n d c.ranges.n c.requires) in

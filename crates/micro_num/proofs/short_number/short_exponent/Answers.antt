@@ -5,8 +5,8 @@ use Rattle.micro_num.specs.Scan.{IsExponentFront, IsLeading, IsNear, digits_afte
 use Rattle.micro_num.specs.Numeral.{sign_of, is_exponent_mark}
 use Rattle.micro_num.proofs.lemmas.LeadingDigits.{IsLeading-none}
 use Rattle.micro_num.proofs.lemmas.Exponents.{marked_rest, front_exponent, IsNear-minus, IsNear-plus, mark_69, mark_101}
-use Rattle.micro_num.proofs.short.short_exponent.Goals.{else-mark-ne101-via-then-mark-ne101+else-mark-ne69, else-mark-ne101-via-else-mark-ne101, then-negative, else-negative}
-use Rattle.micro_num.proofs.short.short_exponent.Goals as goal
+use Rattle.micro_num.proofs.short_number.short_exponent.Goals.{else-mark-ne101-via-then-mark-ne101+else-mark-ne69, else-mark-ne101-via-else-mark-ne101, then-negative, else-negative}
+use Rattle.micro_num.proofs.short_number.short_exponent.Goals as goal
 use Rattle.micro_num.specs.declared.limits.TheConstants.{LEADING_LIMIT}
 
 is_mark : (c : goal.Joined-negative) → is_exponent_mark c.in-Some.mark.now ≡ true

@@ -5,7 +5,7 @@ use Rattle.micro_num.specs.Micrometres.{exponent_value}
 use Rattle.micro_num.specs.Scan.{IsExponentFront, IsNear}
 use Rattle.micro_num.proofs.lemmas.Scanning.{scanned_digits, after_met}
 use Rattle.micro_num.proofs.lemmas.Coordinates.{met_front}
-use Rattle.micro_num.proofs.short.short_magnitude.Goals as goal
+use Rattle.micro_num.proofs.short_number.short_magnitude.Goals as goal
 
 pub magnitude_in-requires-clause-mantissa : goal.magnitude_in-requires-clause-mantissa
 magnitude_in-requires-clause-mantissa c =

@@ -5,7 +5,7 @@ use Rattle.std.proofs.Math.Seq.{take-length}
 use Rattle.micro_num.specs.Numeral.{sign_of, after_sign}
 use Rattle.micro_num.specs.Scan.{IsNumberFront}
 use Rattle.micro_num.proofs.lemmas.Coordinates.{front_coordinate, found_pair, reads_number, turned-by}
-use Rattle.micro_num.proofs.short.short_front.Goals as goal
+use Rattle.micro_num.proofs.short_number.short_front.Goals as goal
 
 pub returns-clause-exact : goal.returns-clause-exact
 returns-clause-exact c =
