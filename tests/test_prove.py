@@ -1,7 +1,8 @@
 #!/usr/bin/env python3
-"""What make does before rt run: libraries side by side, each behind those that it stands on; an end with status 1
-where one isn't proved or the quick pass has something to mend; and nothing at all where the toolchain's library is
-another than expected. It is tried with a library that stands in for the toolchain's."""
+"""What make does before rt run: libraries side by side, each behind those that it stands on, and those beside the longest
+chain at a lower priority; an end with status 1 where one isn't proved or the quick pass has something to mend; and
+nothing at all where the toolchain's library is another than expected. It is tried with a library that stands in for the
+toolchain's."""
 
 import os
 import sys
@@ -38,7 +39,7 @@ class Crate:
     def build_rlib(self, flags, anew):
         for what in ("begins", "ends"):
             with mutex, open(LOG, "a") as file:
-                print(self.name, what, *flags, file=file)
+                print(self.name, what, *flags, "nice", os.getpriority(os.PRIO_PROCESS, 0), file=file)
             time.sleep(0.1 * (what == "begins"))
         return int(self.name == os.environ["FAILS"])
 
@@ -84,8 +85,11 @@ def main():
         at = {line: k for k, line in enumerate(log)}
         names = {line.split()[0]: line for line in log if " begins" in line}
         same("libraries", sorted(names), ["high", "low", "middle", "other", "side"])
-        flags = {name: line.split(" begins")[1].strip() for name, line in names.items()}
-        same("jobs", [flags["low"], flags["middle"], flags["high"], flags["side"]], ["", "", "", "--jobs 1"])
+        flags = {name: line.split(" begins ")[1].split("nice ")[0] for name, line in names.items()}
+        same("jobs", [flags[name] for name in ("low", "middle", "high", "side")], ["", "", "", "--jobs 1 "])
+        niceness = {name: int(line.split()[-1]) for name, line in names.items()}
+        same("priority of the chain", [niceness[name] for name in ("low", "middle", "high")], [os.nice(0)] * 3)
+        same("priority beside it", [niceness[name] for name in ("side", "other")], [min(os.nice(0) + 10, 19)] * 2)
         for above, below in (("middle", "low"), ("high", "middle"), ("high", "side")):
             ends = next(k for line, k in at.items() if line.startswith(f"{below} ends"))
             holds(f"{above} begins behind {below}", at[names[above]] > ends)
@@ -93,7 +97,7 @@ def main():
         running = [0]
         for line in log:
             running.append(running[-1] + (1 if " begins" in line else -1))
-        same("most at once", max(running), 2)
+        same("most at once", max(running), 3)
 
         status, log, said = prove(fails="middle")
         holds("a library that isn't proved is named", status == 1 and "middle is not proved" in said)

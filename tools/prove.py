@@ -6,8 +6,9 @@
 FOLDER is the program's crate. `rt run` there proves the libraries one after another; `rt all check --jobs N` proves
 N at a time, but gives each one job, and most of these crates stand on one another. This calls the toolchain's own
 library, as both of them do: of the libraries that can be built, the one with the longest chain of others above it
-chooses its jobs as under `rt run`, and those beside it get one job each, where processors and memory allow. The quick
-pass over all sources, with which `rt run` begins, goes on beside the first proofs. `rt run` takes what is built here as
+chooses its jobs as under `rt run`. The whole takes as long as that chain, so those beside it, one for each two
+processors where memory allows, get one job each and the time that it leaves: theirs is a lower priority. The quick pass
+over all sources, with which `rt run` begins, goes on beside the first proofs. `rt run` takes what is built here as
 built, by its own stamps, and builds the rest itself. So where the toolchain's library is another than expected, this
 says so and leaves all to `rt run`.
 """
@@ -21,6 +22,9 @@ import tempfile
 from concurrent.futures import FIRST_COMPLETED, ThreadPoolExecutor, wait
 
 sys.dont_write_bytecode = True
+
+# How far the priority of what runs beside the longest chain is lowered.
+NICENESS = 10
 
 
 def toolchain():
@@ -74,8 +78,10 @@ def prove(rtlib, folder):
     left = program.below()
     held = rtlib.lock([*left, program])
     chain, done, running, first = heights(left), [], {}, None
-    beside = rtlib.cores() // 4
-    with ThreadPoolExecutor(2 + beside) as pool:
+    beside = rtlib.cores() // 2
+    # a thread's priority is its own, and what it starts has the same
+    spare = ThreadPoolExecutor(max(beside, 1), initializer=os.nice, initargs=(NICENESS,))
+    with ThreadPoolExecutor(2) as pool, spare:
         reading = pool.submit(read, program)
         while left or running:
             if reading.done() and not reading.result():
@@ -83,13 +89,13 @@ def prove(rtlib, folder):
             ready = [it for it in left if all(dep in done for dep in it.deps)]
             for crate in sorted(ready, key=lambda it: -chain[it]):
                 if first is None:
-                    first, flags = crate, []
+                    first, run = crate, pool.submit(built, crate, [], True)
                 elif len(running) <= beside and rtlib.fits(crate.need()):
-                    flags = ["--jobs", "1"]
+                    run = spare.submit(built, crate, ["--jobs", "1"], False)
                 else:
                     break
                 left.remove(crate)
-                running[pool.submit(built, crate, flags, crate is first)] = crate
+                running[run] = crate
             for it in wait(running, return_when=FIRST_COMPLETED).done:
                 crate = running.pop(it)
                 first = None if crate is first else first
