@@ -131,14 +131,14 @@ fn slice_layers<A: Allocator + Copy + Send + Sync>(
     let mut layers = Vec::with_capacity(alloc, (end - first) as usize)?;
     layers.push(slice_layer(job, first, sweep, linker, filler)?)?;
     for k in first + 1..end {
-        rise(job, k, sweep)?;
+        step_up(job, k, sweep)?;
         layers.push(slice_layer(job, k, sweep, linker, filler)?)?;
     }
     Ok(layers)
 }
 
 /// Raises a sweep from the plane of the layer below to that of layer k.
-fn rise<A: Allocator + Copy + Send + Sync>(
+fn step_up<A: Allocator + Copy + Send + Sync>(
     job: &Job<A>,
     k: u32,
     sweep: &mut Sweep<'_, A>,

@@ -262,25 +262,25 @@ moved_stripe job other s t xs ys same at equal stripe =
     subst (λ w. IsStripe w s ys) same (subst (λ n. IsStripe other n ys) at (subst (λ l. IsStripe other t l) (sym equal) stripe))
 
 pub stripe_taken : (job : Job) (s first end : ℕ) (ps : List (Option Layer)) → IsLawfulBook (record { job = job; places = ps })
-    → first ≡ 8 * s → end ≡ 8 * s + stripe_length job.grid s
-    → ((k : ℕ) → k < 8 * s → k < length ps → IsTaken ps k) → ((k : ℕ) → first ≤ k → k < end → IsTaken ps k)
-    → (k : ℕ) → k < 8 * (s + 1) → k < length ps → IsTaken ps k
-stripe_taken job s first end ps lawful at last below here k near low = by_order (leb_tells (suc k) (8 * s))
+    → first ≡ STRIPE_LAYERS * s → end ≡ STRIPE_LAYERS * s + stripe_length job.grid s
+    → ((k : ℕ) → k < STRIPE_LAYERS * s → k < length ps → IsTaken ps k) → ((k : ℕ) → first ≤ k → k < end → IsTaken ps k)
+    → (k : ℕ) → k < STRIPE_LAYERS * (s + 1) → k < length ps → IsTaken ps k
+stripe_taken job s first end ps lawful at last below here k near low = by_order (leb_tells (suc k) (STRIPE_LAYERS * s))
   where
-    by_order : ((nat_le (suc k) (8 * s) ≡ true) × (suc k ≤ 8 * s)) ⊎ ((nat_le (suc k) (8 * s) ≡ false) × (8 * s < suc k)) → IsTaken ps k
+    by_order : ((nat_le (suc k) (STRIPE_LAYERS * s) ≡ true) × (suc k ≤ STRIPE_LAYERS * s)) ⊎ ((nat_le (suc k) (STRIPE_LAYERS * s) ≡ false) × (STRIPE_LAYERS * s < suc k)) → IsTaken ps k
     by_order (inl x) = below k x.1 low
     by_order (inr x) = here k (omega (arith, at, x.1)) (omega (arith, last, x.1, near, low, lawful.one_each))
 
 pub stripe_lawful : (job : Job) (s first : ℕ) (ys : List Layer) (ps new : List (Option Layer)) → IsLawfulBook (record { job = job; places = ps })
-    → first ≡ 8 * s → IsStripe job s ys → new ≡ filled first ys ps → IsLawfulBook (record { job = job; places = new })
+    → first ≡ STRIPE_LAYERS * s → IsStripe job s ys → new ≡ filled first ys ps → IsLawfulBook (record { job = job; places = new })
 stripe_lawful job s first ys ps new lawful at stripe is =
     subst (λ l. IsLawfulBook (record { job = job; places = l })) (sym is)
     (lawful_book job first ys ps lawful (subst (λ n. AreLawfulFrom job n ys) (sym at) stripe.lawful))
 
 pub stripe_filled : (job : Job) (s first : ℕ) (ys : List Layer) (ps new : List (Option Layer)) → IsLawfulBook (record { job = job; places = ps })
-    → first ≡ 8 * s → IsStripe job s ys → new ≡ filled first ys ps
-    → ((k : ℕ) → k < 8 * s → k < length ps → IsTaken ps k)
-    → (k : ℕ) → k < 8 * (s + 1) → k < length new → IsTaken new k
+    → first ≡ STRIPE_LAYERS * s → IsStripe job s ys → new ≡ filled first ys ps
+    → ((k : ℕ) → k < STRIPE_LAYERS * s → k < length ps → IsTaken ps k)
+    → (k : ℕ) → k < STRIPE_LAYERS * (s + 1) → k < length new → IsTaken new k
 stripe_filled job s first ys ps new lawful at stripe is below k near low =
     let long : length new ≡ length ps = ap length is ∙ length-filled first ys ps in
     let early : k < length ps = omega (arith, low, long) in
@@ -294,22 +294,22 @@ few_layers job ps lawful n is few = omega (arith, count_by-le-length is_some ps,
 
 -- free places of a stripe are those of its layers
 pub stripe_free : (job : Job) (s first end : ℕ) (ys : List Layer) (ps qs : List (Option Layer)) → IsStripe job s ys
-    → first ≡ 8 * s → end ≡ 8 * s + stripe_length job.grid s → ps ≡ qs → AreFree ps first end
-    → (k : ℕ) → 8 * s ≤ k → k < 8 * s + length ys → slice_get qs k ≡ Some None
+    → first ≡ STRIPE_LAYERS * s → end ≡ STRIPE_LAYERS * s + stripe_length job.grid s → ps ≡ qs → AreFree ps first end
+    → (k : ℕ) → STRIPE_LAYERS * s ≤ k → k < STRIPE_LAYERS * s + length ys → slice_get qs k ≡ Some None
 stripe_free job s first end ys ps qs stripe at last same free k low high =
     subst (λ l. slice_get l k ≡ Some None) same (free k (omega (arith, low, at)) (omega (arith, high, last, stripe.whole)))
 
 -- where a stripe's places were free, its layers stand in them
 pub stripe_filed : (job : Job) (s first end : ℕ) (ys zs : List Layer) (ps qs new : List (Option Layer))
-    → IsLawfulBook (record { job = job; places = ps }) → IsStripe job s ys → first ≡ 8 * s → end ≡ 8 * s + stripe_length job.grid s
+    → IsLawfulBook (record { job = job; places = ps }) → IsStripe job s ys → first ≡ STRIPE_LAYERS * s → end ≡ STRIPE_LAYERS * s + stripe_length job.grid s
     → new ≡ filled first ys ps → AreFree ps first end → ys ≡ zs → ps ≡ qs
-    → new ≡ take (8 * s) qs ++ map Some zs ++ drop (8 * s + length zs) qs
+    → new ≡ take (STRIPE_LAYERS * s) qs ++ map Some zs ++ drop (STRIPE_LAYERS * s + length zs) qs
 stripe_filed job s first end ys zs ps qs new lawful stripe at last is free same equal =
     is ∙ ap (λ n. filled n ys ps) at
-    ∙ filled-is (8 * s) (8 * s + length ys) ys ps refl (omega (arith, stripe.whole, lawful.one_each))
+    ∙ filled-is (STRIPE_LAYERS * s) (STRIPE_LAYERS * s + length ys) ys ps refl (omega (arith, stripe.whole, lawful.one_each))
     (stripe_free job s first end ys ps ps stripe at last refl free)
-    ∙ ap (λ l. take (8 * s) ps ++ map Some l ++ drop (8 * s + length l) ps) same
-    ∙ ap (λ l. take (8 * s) l ++ map Some zs ++ drop (8 * s + length zs) l) equal
+    ∙ ap (λ l. take (STRIPE_LAYERS * s) ps ++ map Some l ++ drop (STRIPE_LAYERS * s + length l) ps) same
+    ∙ ap (λ l. take (STRIPE_LAYERS * s) l ++ map Some zs ++ drop (STRIPE_LAYERS * s + length zs) l) equal
 
 -- the places of a stripe are in the list, and its layers fit there
 pub below_end : (first end : ℕ) → first < end → end ≤ LAYER_LIMIT → Fits w64 first
@@ -322,8 +322,8 @@ pub end_within : (job : Job) (end : ℕ) (ps : List (Option Layer)) → IsLawful
 end_within job end ps lawful within = omega (arith, within, lawful.one_each)
 
 pub stripe_fits : (job : Job) (s first end : ℕ) (ys : List Layer) (ps : List (Option Layer)) → IsLawfulBook (record { job = job; places = ps })
-    → first ≡ 8 * s → end ≡ 8 * s + stripe_length job.grid s → end ≤ job.grid.layers → IsStripe job s ys → first + length ys ≤ length ps
+    → first ≡ STRIPE_LAYERS * s → end ≡ STRIPE_LAYERS * s + stripe_length job.grid s → end ≤ job.grid.layers → IsStripe job s ys → first + length ys ≤ length ps
 stripe_fits job s first end ys ps lawful at last within stripe = omega (arith, at, last, within, stripe.whole, lawful.one_each)
 
-pub stripe_few : (job : Job) (s : ℕ) (ys : List Layer) → IsStripe job s ys → length ys ≤ 8
+pub stripe_few : (job : Job) (s : ℕ) (ys : List Layer) → IsStripe job s ys → length ys ≤ STRIPE_LAYERS
 stripe_few job s ys stripe = omega (arith, stripe.whole)

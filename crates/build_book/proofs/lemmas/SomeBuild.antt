@@ -33,29 +33,30 @@ record AreNumbers {X : Type 0} (key : X → ℕ) (xs : List X) (numbers : List �
   shared : (s t : ℕ) (d : X) → s < length xs → t < length xs → (get_or numbers s 0 ≡ get_or numbers t 0) ↔ (key (get_or xs s d) ≡ key (get_or xs t d))
 
 module _ {X : Type 0} (key : X → ℕ) where
-  -- an element with this key, or none has it
-  abbrev Found : ℕ → List X → Type 0
-  Found k xs = (t : ℕ) × (t < length xs) × ((d : X) → key (get_or xs t d) ≡ k)
+  -- an element has this key
+  abbrev HasKey : ℕ → List X → Type 0
+  HasKey k xs = (t : ℕ) × (t < length xs) × ((d : X) → key (get_or xs t d) ≡ k)
 
-  abbrev NoneFound : ℕ → List X → Type 0
-  NoneFound k xs = (t : ℕ) (d : X) → t < length xs → key (get_or xs t d) ≡ k → ⊥
+  -- no element has it
+  abbrev LacksKey : ℕ → List X → Type 0
+  LacksKey k xs = (t : ℕ) (d : X) → t < length xs → key (get_or xs t d) ≡ k → ⊥
 
-  find_key : (k : ℕ) (xs : List X) → Found k xs ⊎ NoneFound k xs
+  find_key : (k : ℕ) (xs : List X) → HasKey k xs ⊎ LacksKey k xs
   find_key k [] = inr (λ t d low e. omega (arith, low))
   find_key k (x ∷ xs) = by_head (eqb_tells (key x) k) (find_key k xs)
     where
-      not_here : (key x ≡ k → ⊥) → NoneFound k xs → NoneFound k (x ∷ xs)
+      not_here : (key x ≡ k → ⊥) → LacksKey k xs → LacksKey k (x ∷ xs)
       not_here other none zero d low e = other e
       not_here other none (suc t) d low e = none t d (omega (arith, low)) e
 
       by_head : (((key x == k) ≡ true) × (key x ≡ k)) ⊎ (((key x == k) ≡ false) × (key x ≢ k))
-          → Found k xs ⊎ NoneFound k xs → Found k (x ∷ xs) ⊎ NoneFound k (x ∷ xs)
+          → HasKey k xs ⊎ LacksKey k xs → HasKey k (x ∷ xs) ⊎ LacksKey k (x ∷ xs)
       by_head (inl same) rest = inl (zero, omega arith, λ d. same.1)
       by_head (inr other) (inl found) = let low : found.0 < length xs = found.1 in inl (suc found.0, omega (arith, low), found.2)
       by_head (inr other) (inr none) = inr (not_here other.1 none)
 
   -- one more element, with the key of another
-  known_key : (x : X) (xs : List X) (numbers : List ℕ) (count : ℕ) → AreNumbers key xs numbers count → (found : Found (key x) xs)
+  known_key : (x : X) (xs : List X) (numbers : List ℕ) (count : ℕ) → AreNumbers key xs numbers count → (found : HasKey (key x) xs)
       → AreNumbers key (x ∷ xs) (get_or numbers found.0 0 ∷ numbers) count
   known_key x xs numbers count are found = record {
     each = ap suc are.each;
@@ -81,7 +82,7 @@ module _ {X : Type 0} (key : X → ℕ) where
       shared (suc s) (suc t) d l m = are.shared s t d (omega (arith, l)) (omega (arith, m))
 
   -- one more element, with a key that no other has
-  new_key : (x : X) (xs : List X) (numbers : List ℕ) (count : ℕ) → AreNumbers key xs numbers count → NoneFound (key x) xs
+  new_key : (x : X) (xs : List X) (numbers : List ℕ) (count : ℕ) → AreNumbers key xs numbers count → LacksKey (key x) xs
       → AreNumbers key (x ∷ xs) (count ∷ numbers) (suc count)
   new_key x xs numbers count are none = record {
     each = ap suc are.each;
@@ -113,10 +114,11 @@ module _ {X : Type 0} (key : X → ℕ) where
           (λ e. absurd (omega (arith, low, e)), λ e. absurd (none s d (omega (arith, l)) e))
       shared (suc s) (suc t) d l m = are.shared s t d (omega (arith, l)) (omega (arith, m))
 
-  abbrev Numbered : List X → Type 0
-  Numbered xs = (numbers : List ℕ) × (count : ℕ) × AreNumbers key xs numbers count
+  -- numbers for the elements, and how many different ones
+  abbrev Numbering : List X → Type 0
+  Numbering xs = (numbers : List ℕ) × (count : ℕ) × AreNumbers key xs numbers count
 
-  number_all : (xs : List X) → Numbered xs
+  number_all : (xs : List X) → Numbering xs
   number_all [] = (
     [],
     0,
@@ -129,7 +131,7 @@ module _ {X : Type 0} (key : X → ℕ) where
   )
   number_all (x ∷ xs) = by_key (number_all xs) (find_key (key x) xs)
     where
-      by_key : Numbered xs → Found (key x) xs ⊎ NoneFound (key x) xs → Numbered (x ∷ xs)
+      by_key : Numbering xs → HasKey (key x) xs ⊎ LacksKey (key x) xs → Numbering (x ∷ xs)
       by_key n (inl found) = (get_or n.0 found.0 0 ∷ n.0, n.1, known_key x xs n.0 n.1 n.2 found)
       by_key n (inr none) = (n.1 ∷ n.0, suc n.1, new_key x xs n.0 n.1 n.2 none)
 
@@ -144,7 +146,7 @@ few_vertices facets few = omega (arith, length-in_order (flat_map corners facets
 
 loops_closed : (facets : List Facet) → length facets ≤ FACET_LIMIT → IsBalanced facets → (z : ℤ) → AreLoops (segments facets z) (loops (segments facets z))
 loops_closed facets few balanced z =
-    let n : Numbered pair_key (half_edges_from 0 (triples facets)) = number_all pair_key (half_edges_from 0 (triples facets)) in
+    let n : Numbering pair_key (half_edges_from 0 (triples facets)) = number_all pair_key (half_edges_from 0 (triples facets)) in
     let pairs : ArePairNumbers (half_edges_from 0 (triples facets)) n.0 n.1 =
     record { each_half_edge = n.2.each; below = n.2.below; used = n.2.used; shared = n.2.shared } in
     loops_close facets (threes n.0) n.1 (edge_numbers facets (few_vertices facets few) n.0 n.1 pairs) balanced z

@@ -1,6 +1,7 @@
 use Rattle.std.proofs.Common.{◌≡◌, ◌+◌, ◌^◌, ◌<◌, ◌≤◌, length, arith, rules, length-set, ◌∙◌, ap, sym}
 use Rattle.std.specs.Prelude.{get_or}
 use Rattle.build_book.specs.Places.{filled, or_layer}
+use Rattle.build_book.specs.declared.limits.TheConstants.{STRIPE_LAYERS}
 use Rattle.build_book.proofs.lemmas.Places.{filled_step, filled_empty, front_step, count_step, room_here, room_after, few_front, length_step, one_if_free, one_or_none, one_at_most, length-filled}
 use Rattle.build_book.proofs.places.fill_gaps.Goals as goal
 
@@ -25,7 +26,7 @@ pub overflow_add-made : goal.overflow_add-made
 overflow_add-made g c =
     let one : c.from-made.result ≡ one_if_free c.index-places-at.result =
     one_or_none _ _ _ _ c.index-places-at.is c.from-made.ensures c.fill_gap.ensures.made in
-    let few : length c.loop-layer.yielded ≤ 8 = few_front _ _ _ 8 c.loop-layer.invariant.front
+    let few : length c.loop-layer.yielded ≤ STRIPE_LAYERS = few_front _ _ _ STRIPE_LAYERS c.loop-layer.invariant.front
     (omega (arith, c.requires.few, ap length c.into_iter-layer-iterator.ensures.into_iter_gives.0)) in
     let fits : c.loop-layer.made + c.from-made.result < 2 ^ 32 =
     omega (arith, one, one_at_most c.index-places-at.result, few, c.loop-layer.invariant.few) in

@@ -2,20 +2,21 @@ use Rattle.std.proofs.Common.{◌≡◌, ◌∙◌, ◌+◌, ◌*◌, length, sy
 use Rattle.build_book.specs.Job.{Job, stripe_length}
 use Rattle.build_book.specs.Places.{AreFree, IsTaken}
 use Rattle.build_book.specs.Book.{Book}
+use Rattle.build_book.specs.declared.limits.TheConstants.{STRIPE_LAYERS}
 use Rattle.build_book.proofs.lemmas.Places.{none_before}
 use Rattle.build_book.proofs.book.Book.fault_of.Goals as goal
 use Rattle.build_book.proofs.book.Book.fault_of.Goals.{After-first_taken}
 
-first_place : (g : _) (c : After-first_taken g) → c.layer_range-first.result.0 ≡ 8 * c.args.piece.now.stripe
-first_place g c = c.layer_range-first.ensures.first ∙ ap (λ n. 8 * n) c.stripe.ensures
+first_place : (g : _) (c : After-first_taken g) → c.layer_range-first.result.0 ≡ STRIPE_LAYERS * c.args.piece.now.stripe
+first_place g c = c.layer_range-first.ensures.first ∙ ap (λ n. STRIPE_LAYERS * n) c.stripe.ensures
 
-last_place : (g : _) (c : After-first_taken g) → c.layer_range-first.result.1 ≡ 8 * c.args.piece.now.stripe + length c.args.piece.now.layers
+last_place : (g : _) (c : After-first_taken g) → c.layer_range-first.result.1 ≡ STRIPE_LAYERS * c.args.piece.now.stripe + length c.args.piece.now.layers
 last_place g c =
     c.layer_range-first.ensures.end
-    ∙ ap (λ n. 8 * n + stripe_length c.self.inside.job.now.grid n) c.stripe.ensures
-    ∙ ap (λ (w : Job). 8 * c.args.piece.now.stripe + stripe_length w.grid c.args.piece.now.stripe)
+    ∙ ap (λ n. STRIPE_LAYERS * n + stripe_length c.self.inside.job.now.grid n) c.stripe.ensures
+    ∙ ap (λ (w : Job). STRIPE_LAYERS * c.args.piece.now.stripe + stripe_length w.grid c.args.piece.now.stripe)
     (ap (λ (s : Book). s.job) c.self.view_is ∙ sym c.requires)
-    ∙ ap (λ n. 8 * c.args.piece.now.stripe + n) (sym c.layers-layers.ensures.lawful.whole)
+    ∙ ap (λ n. STRIPE_LAYERS * c.args.piece.now.stripe + n) (sym c.layers-layers.ensures.lawful.whole)
 
 same_places : (g : _) (c : After-first_taken g) → c.as_slice-places.result.now ≡ c.args.self.now.places
 same_places g c = c.as_slice-places.ensures.value ∙ ap (λ (s : Book). s.places) c.self.view_is

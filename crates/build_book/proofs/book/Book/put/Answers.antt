@@ -4,6 +4,7 @@ use Rattle.std.proofs.lemmas.List.{with_items_is}
 use Rattle.build_book.specs.Job.{stripe_length}
 use Rattle.build_book.specs.Piece.{IsStripe}
 use Rattle.build_book.specs.Places.{filled, AreFree}
+use Rattle.build_book.specs.declared.limits.TheConstants.{STRIPE_LAYERS}
 use Rattle.build_book.proofs.lemmas.Places.{moved_stripe, stripe_lawful, stripe_filed, length-filled}
 use Rattle.build_book.proofs.book.Book.put.Goals as goal
 use Rattle.build_book.proofs.book.Book.put.Goals.{After-fill_gaps}
@@ -14,8 +15,8 @@ same_job g c = c.requires.job ∙ sym (ap (λ s. s.job) c.self.view_is)
 piece_stripe : (g : _) (c : After-fill_gaps g) → IsStripe c.self.inside.job.now c.args.piece.stripe c.into_layers.result.items
 piece_stripe g c = moved_stripe _ _ _ _ _ _ (same_job g c) refl c.into_layers.ensures c.layers-layers.ensures.lawful
 
-first_place : (g : _) (c : After-fill_gaps g) → c.layer_range-first.result.0 ≡ 8 * c.args.piece.stripe
-first_place g c = c.layer_range-first.ensures.first ∙ ap (λ n. 8 * n) c.stripe.ensures
+first_place : (g : _) (c : After-fill_gaps g) → c.layer_range-first.result.0 ≡ STRIPE_LAYERS * c.args.piece.stripe
+first_place g c = c.layer_range-first.ensures.first ∙ ap (λ n. STRIPE_LAYERS * n) c.stripe.ensures
 
 filed_places : (g : _) (c : After-fill_gaps g) → c.fill_gaps.new.places ≡ filled c.layer_range-first.result.0 c.into_layers.result.items c.self.inside.places.items
 filed_places g c = c.fill_gaps.ensures.places ∙ ap (filled c.layer_range-first.result.0 c.into_layers.result.items) c.as_mut_slice-places.ensures.value
@@ -33,7 +34,7 @@ invariant_of-self g c =
     (filed_places g d))
 
 free_places : (g : _) (c : After-fill_gaps g)
-    → AreFree c.self.inside.places.items c.layer_range-first.result.0 (8 * c.args.piece.stripe + stripe_length c.self.inside.job.now.grid c.args.piece.stripe)
+    → AreFree c.self.inside.places.items c.layer_range-first.result.0 (STRIPE_LAYERS * c.args.piece.stripe + stripe_length c.self.inside.job.now.grid c.args.piece.stripe)
 free_places g c k low high =
     subst (λ l. slice_get l k ≡ Some None) (sym (ap (λ s. s.places) c.self.view_is))
     (c.requires.free k (
@@ -49,7 +50,7 @@ returns g c =
       free = c.requires.free;
       job = ap (λ s. s.job) d.self.view_is;
       places = whole_places g d
-          ∙ stripe_filed d.self.inside.job.now d.args.piece.stripe d.layer_range-first.result.0 (8 * d.args.piece.stripe + stripe_length d.self.inside.job.now.grid d.args.piece.stripe) _ _ _ _
+          ∙ stripe_filed d.self.inside.job.now d.args.piece.stripe d.layer_range-first.result.0 (STRIPE_LAYERS * d.args.piece.stripe + stripe_length d.self.inside.job.now.grid d.args.piece.stripe) _ _ _ _
           _ d.self.invariant (piece_stripe g d) (first_place g d) refl (filed_places g d) (free_places g d)
           d.into_layers.ensures (ap (λ s. s.places) d.self.view_is);
     }
