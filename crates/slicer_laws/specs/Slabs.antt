@@ -1,5 +1,5 @@
 -- The laws of a grid cut between two layers, into its first layers and those above: images, planes and areas stay.
-use Rattle.std.specs.Prelude.{◌≡◌, ◌↔◌, ℕ, ◌+◌, ◌-◌, ◌*◌, ◌≤◌, ◌<◌, List, ◌++◌, pos, ◌+ℤ◌, ◌≤ℤ◌}
+use Rattle.std.specs.Prelude.{◌≡◌, ◌↔◌, ℕ, ◌+◌, ◌-◌, ◌*◌, ◌≤◌, ◌<◌, List, ◌++◌, pos, ◌≤ℤ◌}
 use Rattle.geometry.specs.Point.{Point}
 use Rattle.geometry.specs.Facet.{Facet}
 use Rattle.geometry.specs.declared.limits.TheConstants.{COORDINATE_LIMIT}
@@ -7,9 +7,11 @@ use Rattle.raster.specs.declared.rule.Rule.{Rule}
 use Rattle.raster.specs.Grid.{Grid, IsGrid, grid_with, plane}
 use Rattle.raster.specs.Filler.{area_of}
 use Rattle.raster.specs.Image.{images}
+use Rattle.slicer_laws.specs.Moves.{moved}
 
-abbrev pub raised : ℕ → Point → Point
-raised height p = record { x = p.x; y = p.y; z = p.z +ℤ pos height }
+-- the way straight up, by this many micrometres
+abbrev pub upward : ℕ → Point
+upward height = record { x = pos 0; y = pos 0; z = pos height }
 
 abbrev pub first_layers : ℕ → Grid → Grid
 first_layers m g = grid_with g.origin g.pitch g.layer_height g.columns g.rows m
@@ -17,7 +19,7 @@ first_layers m g = grid_with g.origin g.pitch g.layer_height g.columns g.rows m
 -- the layers from the m-th on: the origin lies m layers higher
 abbrev pub layers_from : ℕ → Grid → Grid
 layers_from m g =
-    grid_with (raised (m * g.layer_height) g.origin) g.pitch g.layer_height g.columns g.rows (g.layers - m)
+    grid_with (moved (upward (m * g.layer_height)) g.origin) g.pitch g.layer_height g.columns g.rows (g.layers - m)
 
 -- the images of both parts are those of the whole
 abbrev pub SlabsJoin : Type 0
