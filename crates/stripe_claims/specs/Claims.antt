@@ -7,7 +7,7 @@ use lib.ListN.{get_elem?}
 use Rattle.stripe_claims.specs.declared.machine.Plan.{Plan}
 use Rattle.stripe_claims.specs.declared.machine.Hand.{Hand}
 use Rattle.stripe_claims.specs.declared.limits.TheConstants.{PASS_LIMIT, STRIPE_LIMIT}
-use Rattle.stripe_claims.specs.Machine.{times, beyond, moment, Reached}
+use Rattle.stripe_claims.specs.Machine.{times, beyond, moment, IsReachable}
 
 -- how many numbers are given out, how many passes were opened, and a name that no other claims have
 pub record Claims : Type 0 where
@@ -67,12 +67,12 @@ pub record HasTogether (hands : List Hand) (passes : List Pass) : Type 0 where
 -- Steps of the machine lead to this word, with all that these passes found in one hand, if there are any passes.
 pub record IsEnd (claims : Claims) (passes : List Pass) (word : ℕ) : Type 0 where
   pub hands : List Hand
-  pub reached : Reached (plan_of claims) (moment word hands)
+  pub reached : IsReachable (plan_of claims) (moment word hands)
   pub joined : 0 < length passes → HasTogether hands passes
 
 -- Steps of the machine lead to this word, with this hand among its hands.
 pub record HasReached (claims : Claims) (hand : Hand) (word : ℕ) : Type 0 where
   pub hands : List Hand
-  pub reached : Reached (plan_of claims) (moment word hands)
+  pub reached : IsReachable (plan_of claims) (moment word hands)
   pub id : ℕ
   pub there : get_elem? hands id ≡ some hand

@@ -1,12 +1,12 @@
 -- The claims machine: several passes draw numbers from one word. A pass has the list of the numbers that it found there.
 -- A hand stands for one pass or for several: `open` cuts the first hand, which stands for all passes, into passes, and
 -- `close` joins hands again.
---     IsDraw      one pass draws: it finds the word, which grows by one
---     IsSplit     a hand that has found nothing is cut in two
---     IsJoin      one hand takes over all of another
---     Reached     a moment that any such steps lead to
---     IsKept      the rule of the table in which the claims lie: its word and its views are a moment that is reached
---     IsFair      what holds at every moment that is reached
+--     IsDraw       one pass draws: it finds the word, which grows by one
+--     IsSplit      a hand that has found nothing is cut in two
+--     IsJoin       one hand takes over all of another
+--     IsReachable  a moment that any such steps lead to
+--     IsKept       the rule of the table in which the claims lie: its word and its views are a moment that is reached
+--     IsFair       what holds at every moment that is reached
 use Rattle.std.specs.Prelude.{◌≡◌, ◌≢◌, ℕ, ◌+◌, ◌-◌, ◌<◌, ◌≤◌, Bool, List, [], ◌∷◌, ◌++◌, length, filter, All, sum_by, flat_map, slice_set, ◌==◌, nat_lt, nat_le, if◌then◌else◌}
 use mathlib.Core.Option.{some}
 use lib.ListN.{get_elem?}
@@ -88,15 +88,15 @@ pub data Step (plan : Plan) (before after : Moment) : Type 0 where
   join : (id other : ℕ) (mine theirs : Hand) → IsJoin before id other mine theirs after → Step plan before after
 
 -- any steps from the start lead there
-pub data Reached : Plan → Moment → Type 0 where
-  first : (plan : Plan) → Reached plan (start plan)
-  next : (plan : Plan) (before after : Moment) → Reached plan before → Step plan before after → Reached plan after
+pub data IsReachable : Plan → Moment → Type 0 where
+  first : (plan : Plan) → IsReachable plan (start plan)
+  next : (plan : Plan) (before after : Moment) → IsReachable plan before → Step plan before after → IsReachable plan after
 
 -- The rule of the table: its one word, and the views of its seats, are a moment that steps of the machine lead to.
 pub record IsKept (plan : Plan) (s : State (Unit {0}) Hand) : Type 0 where
   pub word : ℕ
   pub one_word : s.words ≡ word ∷ []
-  pub reached : Reached plan (moment word s.views)
+  pub reached : IsReachable plan (moment word s.views)
 
 -- What a draw tells the one who draws: the word was found, which is above all that the hand had found, and was appended.
 abbrev pub Appends : TableStep (Unit {0}) → Me (Unit {0}) Hand → ℕ → Me (Unit {0}) Hand → Type 0

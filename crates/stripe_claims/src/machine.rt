@@ -6,15 +6,15 @@ use std::collections::LinkedList;
 /// The number of stripes that are to be claimed, and the number of passes that were opened.
 #[derive(Drop)]
 pub(crate) struct Plan {
-    pub stripes: u64,
-    pub passes: u64,
+    pub(crate) stripes: u64,
+    pub(crate) passes: u64,
 }
 
 /// A hand: the number of passes for which a seat of the table stands, and the numbers that they found. It is what proofs
 /// know of a seat; no value of this type is ever made.
 pub(crate) struct Hand {
-    pub stands_for: u64,
-    pub found: LinkedList<u64>,
+    pub(crate) stands_for: u64,
+    pub(crate) found: LinkedList<u64>,
 }
 
 /// The rule: the word and all hands together are a state of the machine (a `Moment`) that its steps can reach.

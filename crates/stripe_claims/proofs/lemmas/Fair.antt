@@ -8,7 +8,7 @@ use lib.ListN.{get_elem?}
 use Rattle.atomic_table.proofs.Lists.{at_set, at_snoc}
 use Rattle.stripe_claims.specs.declared.machine.Hand.{Hand}
 use Rattle.stripe_claims.specs.declared.machine.Plan.{Plan}
-use Rattle.stripe_claims.specs.Machine.{one_if, times, once_below, beyond, hand, all_found, Moment, start, IsDraw, IsSplit, IsJoin, both_hands, nobody, Step, Step.draw, Step.split, Step.join, Reached, Reached.first, Reached.next, IsFair, NeverTwice, EndsLast}
+use Rattle.stripe_claims.specs.Machine.{one_if, times, once_below, beyond, hand, all_found, Moment, start, IsDraw, IsSplit, IsJoin, both_hands, nobody, Step, Step.draw, Step.split, Step.join, IsReachable, IsReachable.first, IsReachable.next, IsFair, NeverTwice, EndsLast}
 use Rattle.stripe_claims.proofs.lemmas.Counts.{sum_by-two-le, once_at_most, once_when, beyond_below, sum_by-set, sum_by-one-le, sum_by-all, length-all, below-all, once_more, sum_by-below}
 
 -- a fact of each hand, after one has changed
@@ -170,11 +170,11 @@ fair_step plan m after fair (draw id mine d) = fair_draw plan m after id mine fa
 fair_step plan m after fair (split id left moved whole d) = fair_split plan m after id left moved whole fair d
 fair_step plan m after fair (join id other mine theirs d) = fair_join plan m after id other mine theirs fair d
 
-pub always_fair : (plan : Plan) (m : Moment) → Reached plan m → IsFair plan m
+pub always_fair : (plan : Plan) (m : Moment) → IsReachable plan m → IsFair plan m
 always_fair plan m (first p) = fair_start p
 always_fair plan m (next p before after reached s) = fair_step p before after (always_fair p before reached) s
 
-pub most_drawn : (plan : Plan) (m : Moment) → Reached plan m → m.word ≤ plan.stripes + plan.passes
+pub most_drawn : (plan : Plan) (m : Moment) → IsReachable plan m → m.word ≤ plan.stripes + plan.passes
 most_drawn plan m reached =
     let fair = always_fair plan m reached in
     let l = sum_by-below (λ (h : Hand). beyond plan.stripes h.found) (λ (h : Hand). h.stands_for) m.hands fair.few_beyond in
@@ -184,7 +184,7 @@ most_drawn plan m reached =
     omega arith
 
 -- what a hand has found is below the word
-pub found_below : (plan : Plan) (m : Moment) (id : ℕ) (h : Hand) → Reached plan m → get_elem? m.hands id ≡ some h → All (λ y. y < m.word) h.found
+pub found_below : (plan : Plan) (m : Moment) (id : ℕ) (h : Hand) → IsReachable plan m → get_elem? m.hands id ≡ some h → All (λ y. y < m.word) h.found
 found_below plan m id h reached at =
     let fair = always_fair plan m reached in
     below-all m.word h.found
@@ -194,7 +194,7 @@ found_below plan m id h reached at =
     let once = fair.each_once x in
     omega arith)
 
-pub never_twice : (plan : Plan) (m : Moment) → Reached plan m → NeverTwice m
+pub never_twice : (plan : Plan) (m : Moment) → IsReachable plan m → NeverTwice m
 never_twice plan m reached = (
   λ i h x at.
       let f : Hand → ℕ = λ k. times x k.found in
@@ -212,7 +212,7 @@ never_twice plan m reached = (
       omega arith,
 )
 
-pub ends_last : (plan : Plan) (m : Moment) → Reached plan m → EndsLast plan m
+pub ends_last : (plan : Plan) (m : Moment) → IsReachable plan m → EndsLast plan m
 ends_last plan m reached id h at some_beyond x lt =
     let past : plan.stripes < m.word = beyond_below plan.stripes m.word h.found (found_below plan m id h reached at) some_beyond in
     (always_fair plan m reached).each_once x ∙ once_when x m.word (omega arith)

@@ -7,14 +7,14 @@ use Rattle.atomic_table.specs.Table.{State, Step as TableStep, Me, keeps, openin
 use Rattle.atomic_table.proofs.Lists.{at_set}
 use Rattle.stripe_claims.specs.declared.machine.Hand.{Hand}
 use Rattle.stripe_claims.specs.declared.machine.Plan.{Plan}
-use Rattle.stripe_claims.specs.Machine.{one_if, times, once_below, IsEachOnce, beyond, hand, Moment, moment, Step.draw, Step.split, Step.join, Reached, Reached.first, Reached.next, IsKept, Appends, one_less, new_pass, both_hands, nobody}
+use Rattle.stripe_claims.specs.Machine.{one_if, times, once_below, IsEachOnce, beyond, hand, Moment, moment, Step.draw, Step.split, Step.join, IsReachable, IsReachable.first, IsReachable.next, IsKept, Appends, one_less, new_pass, both_hands, nobody}
 use Rattle.stripe_claims.specs.Claims.{Claims, Pass, IsOwned, plan_of, IsEnd, HasReached}
 use Rattle.stripe_claims.proofs.lemmas.Counts.{sum_by-one-le, sum_by-only, sum_by-all, length-all}
 use Rattle.stripe_claims.proofs.lemmas.Fair.{always_fair, most_drawn, found_below}
 
 -- the machine after a draw by hand `id`
-drawn : (plan : Plan) (hands : List Hand) (word id : ℕ) (h : Hand) → 0 < h.stands_for → beyond plan.stripes h.found ≡ 0 → Reached plan (moment word hands) → get_elem? hands id ≡ some h
-    → Reached plan (moment (word + 1) (set hands id (hand h.stands_for (h.found ++ word ∷ []))))
+drawn : (plan : Plan) (hands : List Hand) (word id : ℕ) (h : Hand) → 0 < h.stands_for → beyond plan.stripes h.found ≡ 0 → IsReachable plan (moment word hands) → get_elem? hands id ≡ some h
+    → IsReachable plan (moment (word + 1) (set hands id (hand h.stands_for (h.found ++ word ∷ []))))
 drawn plan hands word id h stands goes_on reached at =
     let after = moment (word + 1) (set hands id (hand h.stands_for (h.found ++ word ∷ []))) in
     next plan (moment word hands) after reached (draw id h (record { there = at; stands = stands; goes_on = goes_on; becomes = refl }))
@@ -25,7 +25,7 @@ draws plan slots id me st room stands goes_on s kept _ at _ =
     let h = me.0 in
     let w = slice_index s.words 0 in
     let is : kept.word ≡ w = sym (ap (λ ws. slice_index ws 0) kept.one_word) in
-    let now : Reached plan (moment w s.views) = subst (λ n. Reached plan (moment n s.views)) is kept.reached in
+    let now : IsReachable plan (moment w s.views) = subst (λ n. IsReachable plan (moment n s.views)) is kept.reached in
     let most = most_drawn plan (moment w s.views) now in
     let grown : w + 1 ≡ (w + 1) % 2 ^ 64 = sym (mod-eq_of_lt (omega arith)) in (
       hand h.stands_for (h.found ++ w ∷ []),
@@ -34,7 +34,7 @@ draws plan slots id me st room stands goes_on s kept _ at _ =
       record {
         word = (w + 1) % 2 ^ 64;
         one_word = ap (λ ws. set ws 0 ((w + 1) % 2 ^ 64)) kept.one_word;
-        reached = subst (λ n. Reached plan (moment n (set s.views id (hand h.stands_for (h.found ++ w ∷ []))))) grown (drawn plan s.views w id h stands goes_on now at);
+        reached = subst (λ n. IsReachable plan (moment n (set s.views id (hand h.stands_for (h.found ++ w ∷ []))))) grown (drawn plan s.views w id h stands goes_on now at);
       },
       (refl, found_below plan (moment w s.views) id h now at),
     )
@@ -82,7 +82,7 @@ pub record Closed (plan : Plan) (h : Hand) (word : ℕ) : Type 0 where
   pub whole : h.stands_for ≡ plan.passes → IsEachOnce word h.found
   pub all : h.stands_for ≡ plan.passes → length h.found ≡ word
 
-closed_moment : (plan : Plan) (m : Moment) (id : ℕ) (h : Hand) → Reached plan m → get_elem? m.hands id ≡ some h → Closed plan h m.word
+closed_moment : (plan : Plan) (m : Moment) (id : ℕ) (h : Hand) → IsReachable plan m → get_elem? m.hands id ≡ some h → Closed plan h m.word
 closed_moment plan m id h reached at =
     let fair = always_fair plan m reached in
     let stands : Hand → ℕ = λ k. k.stands_for in
@@ -112,8 +112,8 @@ word_at : (words : List ℕ) (w n : ℕ) → words ≡ w ∷ [] → get_elem? wo
 word_at words w n is at = some-injective w n (ap (λ ws. get_elem? ws 0) (sym is) ∙ at)
 
 -- the word in the memory that is left is the word of the last moment
-last_word : (plan : Plan) (s : State (Unit {0}) Hand) (kept : IsKept plan s) (words : List ℕ) (n : ℕ) → s.words ≡ words → get_elem? words 0 ≡ some n → Reached plan (moment n s.views)
-last_word plan s kept words n same at = subst (λ w. Reached plan (moment w s.views)) (word_at words kept.word n (sym same ∙ kept.one_word) at) kept.reached
+last_word : (plan : Plan) (s : State (Unit {0}) Hand) (kept : IsKept plan s) (words : List ℕ) (n : ℕ) → s.words ≡ words → get_elem? words 0 ≡ some n → IsReachable plan (moment n s.views)
+last_word plan s kept words n same at = subst (λ w. IsReachable plan (moment w s.views)) (word_at words kept.word n (sym same ∙ kept.one_word) at) kept.reached
 
 -- a plan is what the claims show of it
 plan_is : (plan : Plan) (claims : Claims) → plan.stripes ≡ claims.stripes → plan.passes ≡ claims.passes → plan ≡ plan_of claims
@@ -127,7 +127,7 @@ closes plan claims id h words slots n stripes passes final at =
     let s = final.0 in
     record {
       hands = s.views;
-      reached = subst (λ p. Reached p (moment n s.views)) (plan_is plan claims stripes passes) (last_word plan s final.1.0 words n final.2 at);
+      reached = subst (λ p. IsReachable p (moment n s.views)) (plan_is plan claims stripes passes) (last_word plan s final.1.0 words n final.2 at);
       id = id;
       there = final.1.1;
     }
@@ -141,7 +141,7 @@ closes_alone plan claims words slots n stripes passes final at =
     let s = final.0 in
     record {
       hands = s.views;
-      reached = subst (λ p. Reached p (moment n s.views)) (plan_is plan claims stripes passes) (last_word plan s final.1 words n final.2 at);
+      reached = subst (λ p. IsReachable p (moment n s.views)) (plan_is plan claims stripes passes) (last_word plan s final.1 words n final.2 at);
       joined = λ some. absurd (omega arith);
     }
 
