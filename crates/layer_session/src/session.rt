@@ -11,7 +11,7 @@ ghost use Rattle.raster.specs.Grid.{plane};
 ghost use Rattle.raster.specs.Image.{image_limit};
 ghost use Rattle.stl_text.specs.Text.{Reads};
 ghost use Rattle.layer_session.specs.Answers.{IsLayerFault, IsStripeFault, image_of, outside, probed, stripe_images};
-ghost use Rattle.layer_session.specs.Session.{IsOpenFault, IsSessionOf, Session as Opened};
+ghost use Rattle.layer_session.specs.Session.{IsOpenFault, IsSessionOf, Session as SessionModel};
 ghost use Rattle.layer_session.specs.Setup.{IsInRange};
 ghost use Rattle.layer_session.specs.declared.session_fault.SessionFault.TheVariants.{Memory, Step};
 
@@ -55,7 +55,7 @@ impl<A: Allocator + Copy + Send + Sync> Session<A> {
         ensures found { IfOk result (IsSessionOf setup.now bytes.now) }
         ensures fault { IfErr result (IsOpenFault setup.now bytes.now) }
         ensures step { (IsInRange setup.now → ⊥) → result ≡ Err Step }
-        ensures only { (session : Opened) → IsSessionOf setup.now bytes.now session
+        ensures only { (session : SessionModel) → IsSessionOf setup.now bytes.now session
             → IfErr result (λ fault. fault ≡ Memory) }
     {
         if !setup.is_in_range() {
@@ -77,7 +77,7 @@ impl<A: Allocator + Copy + Send + Sync> Session<A> {
             → IfOk result (IsSessionOf setup.now bytes) }
         ensures fault { (bytes : List ℕ) → Reads FACET_LIMIT setup.now.unit bytes facets.items
             → IfErr result (IsOpenFault setup.now bytes) }
-        ensures only { (bytes : List ℕ) (session : Opened) → Reads FACET_LIMIT setup.now.unit bytes facets.items
+        ensures only { (bytes : List ℕ) (session : SessionModel) → Reads FACET_LIMIT setup.now.unit bytes facets.items
             → IsSessionOf setup.now bytes session → IfErr result (λ fault. fault ≡ Memory) }
     {
         let facet_count = facets.len();
@@ -167,7 +167,7 @@ impl<A: Allocator + Copy + Send + Sync> Session<A> {
         ensures within { OnOk result (k < self.now.job.grid.layers) }
         ensures fault { IfErr result (IsLayerFault self.now.job.grid k) }
     {
-        self.has_layer(k)?;
+        self.check_layer(k)?;
         Ok(layer_image(self.alloc, &self.job, k)?)
     }
 
@@ -196,7 +196,7 @@ impl<A: Allocator + Copy + Send + Sync> Session<A> {
         ensures within { OnOk result (k < self.now.job.grid.layers) }
         ensures fault { IfErr result (IsLayerFault self.now.job.grid k) }
     {
-        self.has_layer(k)?;
+        self.check_layer(k)?;
         Ok(layer_area(self.alloc, &self.job, k)?)
     }
 
@@ -212,7 +212,7 @@ impl<A: Allocator + Copy + Send + Sync> Session<A> {
         ensures within { OnOk result (k < self.now.job.grid.layers) }
         ensures fault { IfErr result (IsLayerFault self.now.job.grid k) }
     {
-        self.has_layer(k)?;
+        self.check_layer(k)?;
         Ok(layer_loops(self.alloc, &self.job, k)?)
     }
 
@@ -227,7 +227,7 @@ impl<A: Allocator + Copy + Send + Sync> Session<A> {
         ensures within { OnOk result (k < self.now.job.grid.layers) }
         ensures fault { IfErr result (IsLayerFault self.now.job.grid k) }
     {
-        self.has_layer(k)?;
+        self.check_layer(k)?;
         Ok(layer_outlines(self.alloc, &self.job, k)?)
     }
 
@@ -244,8 +244,8 @@ impl<A: Allocator + Copy + Send + Sync> Session<A> {
         }
     }
 
-    /// Whether the grid has a layer k: if not, the fault.
-    fn has_layer(&self, k: u32) -> Result<(), SessionFault>
+    /// Refuses a layer k that the grid does not have.
+    fn check_layer(&self, k: u32) -> Result<(), SessionFault>
         ensures ok { OnOk result (k < self.now.job.grid.layers) }
         ensures err { IfErr result (λ fault. (fault ≡ outside self.now.job.grid) × (self.now.job.grid.layers ≤ k)) }
     {

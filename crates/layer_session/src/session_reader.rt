@@ -1,10 +1,10 @@
 //! Opening a text that arrives in chunks.
 ghost use Rattle.std.specs.Prelude.{◌≡◌, ◌++◌, [], Err, IfErr, IfOk, List, ℕ};
 ghost use Rattle.layer_session.specs.SessionReader.{IsFed};
-ghost use Rattle.layer_session.specs.Session.{IsOpenFault, IsSessionOf, Session as Opened};
+ghost use Rattle.layer_session.specs.Session.{IsOpenFault, IsSessionOf, Session as SessionModel};
 ghost use Rattle.layer_session.specs.Setup.{IsInRange};
 ghost use Rattle.layer_session.specs.declared.session_fault.SessionFault.TheVariants.{Memory, Step};
-ghost use Rattle.layer_session.specs.declared.setup.Setup.{Setup as OpenedWith};
+ghost use Rattle.layer_session.specs.declared.setup.Setup.{Setup};
 
 use crate::session::Session;
 use crate::session_fault::SessionFault;
@@ -48,7 +48,7 @@ impl<A: Allocator + Copy + Send + Sync> SessionReader<A> {
 
     /// Reads the next chunk of the text. Where it is cut from the next does not matter.
     pub fn feed(&mut self, chunk: &[u8])
-        ensures { (setup : OpenedWith) (fed : List ℕ) → IsFed setup self.old fed → IsFed setup self.new (fed ++ chunk.now) }
+        ensures { (setup : Setup) (fed : List ℕ) → IsFed setup self.old fed → IsFed setup self.new (fed ++ chunk.now) }
     {
         self.reader.feed(chunk);
     }
@@ -59,10 +59,10 @@ impl<A: Allocator + Copy + Send + Sync> SessionReader<A> {
     /// Those of [`Session::open`], in the same order. `Memory` comes only where an allocation failed, at this call or
     /// while the text was read, or past `usize::MAX` bytes.
     pub fn finish(self) -> Result<Session<A>, SessionFault>
-        ensures found { (setup : OpenedWith) (fed : List ℕ) → IsFed setup self fed → IfOk result (IsSessionOf setup fed) }
-        ensures fault { (setup : OpenedWith) (fed : List ℕ) → IsFed setup self fed → IfErr result (IsOpenFault setup fed) }
-        ensures step { (setup : OpenedWith) (fed : List ℕ) → IsFed setup self fed → (IsInRange setup → ⊥) → result ≡ Err Step }
-        ensures only { (setup : OpenedWith) (fed : List ℕ) → IsFed setup self fed → (session : Opened)
+        ensures found { (setup : Setup) (fed : List ℕ) → IsFed setup self fed → IfOk result (IsSessionOf setup fed) }
+        ensures fault { (setup : Setup) (fed : List ℕ) → IsFed setup self fed → IfErr result (IsOpenFault setup fed) }
+        ensures step { (setup : Setup) (fed : List ℕ) → IsFed setup self fed → (IsInRange setup → ⊥) → result ≡ Err Step }
+        ensures only { (setup : Setup) (fed : List ℕ) → IsFed setup self fed → (session : SessionModel)
             → IsSessionOf setup fed session → IfErr result (λ fault. fault ≡ Memory) }
     {
         let SessionReader {
