@@ -14,7 +14,7 @@ pub(crate) fn first_free_turn<C: Count>(alloc: Global, turns: u64, usual: usize)
     for turn in 1..turns {
         let memory = ShortMemory::new(alloc, turn);
         let found = C::count(&memory);
-        if !memory.has_refused() {
+        if !memory.has_failed() {
             return (found == Some(usual)).then_some(turn);
         }
         if found.is_some() {
@@ -38,7 +38,7 @@ pub(crate) fn refusals<R: Retry>(alloc: Global, turns: u64) -> Option<u32> {
     for turn in 1..turns {
         let memory = ShortMemory::new(alloc, turn);
         let found = R::tried(&memory);
-        if !memory.has_refused() {
+        if !memory.has_failed() {
             return (found == Some((false, true))).then_some(refused);
         }
         match found {

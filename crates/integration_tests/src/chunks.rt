@@ -198,7 +198,7 @@ fn each_allocation_of_a_reader_fails_in_turn(rt: HostRuntime) -> Result<(), Fail
             reader.feed(chunk);
         }
         let fault = reader.finish().err();
-        if !memory.has_refused() {
+        if !memory.has_failed() {
             assert!(rt; turn > 2);
             assert!(rt; fault == None);
             return Ok(());

@@ -134,7 +134,7 @@ fn refused(alloc: Global) -> Option<(u32, u32)> {
         let found = open(&memory, TWO_CUBES, &fitted(2, Rule::NonZero)).and_then(|session| counts(
             &session,
         ));
-        if !memory.has_refused() {
+        if !memory.has_failed() {
             return (found == Ok((2, 16))).then_some((told, tried));
         }
         if found == Err(SessionFault::Memory) {

@@ -232,7 +232,7 @@ fn refuse_each<R: Threads + Wait + Sync>(rt: &R, alloc: Global, workers: u32) ->
     for turn in 1..ALLOCATIONS {
         let memory = ShortMemory::new(alloc, turn);
         let built = column_in(rt, &memory, workers);
-        if !memory.has_refused() {
+        if !memory.has_failed() {
             return (built == Ok((true, 0))).then_some(made_up);
         }
         match built {

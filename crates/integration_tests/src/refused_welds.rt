@@ -42,7 +42,7 @@ fn refused(alloc: Global, mesh: &Mesh<'_>, usual: Outcome) -> Option<u32> {
     for turn in 1..200u64 {
         let memory = ShortMemory::new(alloc, turn);
         let found = outcome(&memory, mesh);
-        if !memory.has_refused() {
+        if !memory.has_failed() {
             return (found == Some(usual)).then_some(refused);
         }
         match found {

@@ -95,7 +95,7 @@ fn refused(alloc: Global, text: &[u8]) -> Option<u32> {
         let memory = ShortMemory::new(alloc, turn);
         let found = in_chunks(&memory, text, &fitted(1, Rule::NonZero), 7);
         let facets = found.map(|session| session.facet_count());
-        if !memory.has_refused() {
+        if !memory.has_failed() {
             return (facets == Ok(24)).then_some(told);
         }
         if facets != Err(SessionFault::Memory) {

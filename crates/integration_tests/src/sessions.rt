@@ -315,7 +315,7 @@ fn refused(alloc: Global) -> Option<(u32, u32)> {
     for turn in 1..2000u64 {
         let memory = ShortMemory::new(alloc, turn);
         let found = answers(&memory);
-        if !memory.has_refused() {
+        if !memory.has_failed() {
             return (found == Ok(usual)).then_some((told, tried));
         }
         if found == Err(SessionFault::Memory) {

@@ -370,7 +370,7 @@ fn each_allocation_fails_in_turn(rt: HostRuntime) -> Result<(), Fail> {
     for turn in 1..100 {
         let memory = ShortMemory::new(rt.alloc(), turn);
         let fault = read_stl(&memory, file.as_slice(), Unit::Millimetre).err();
-        if !memory.has_refused() {
+        if !memory.has_failed() {
             assert!(rt; turn > 1);
             assert_eq!(rt; fault, None);
             return Ok(());

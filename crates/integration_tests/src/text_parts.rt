@@ -312,7 +312,7 @@ fn each_allocation_of_a_reading_fails_in_turn(rt: HostRuntime) -> Result<(), Fai
         let chunks = text.split_at(text.len() / 2);
         let many = in_two(&rt, &memory, chunks, FACET_LIMIT, 3);
         let same = are_same(&one, &many);
-        if !memory.has_refused() {
+        if !memory.has_failed() {
             assert!(rt; turn > 10);
             assert!(rt; same);
             return Ok(());

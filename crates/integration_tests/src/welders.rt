@@ -150,7 +150,7 @@ fn a_welder_is_empty_after_a_refusal(rt: HostRuntime) -> Result<(), Fail> {
     let mut welder = Welder::new(&memory);
     assert!(rt; welder.count() <= ROOM);
     assert!(rt; facets.len() <= ROOM);
-    assert!(rt; welder.add(facets.as_slice()).is_err() && memory.has_refused());
+    assert!(rt; welder.add(facets.as_slice()).is_err() && memory.has_failed());
     assert_eq!(rt; welder.count(), 0);
     Ok(())
 }

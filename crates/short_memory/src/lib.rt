@@ -8,7 +8,7 @@
 //! for number in 1..200 {
 //!     let memory = ShortMemory::new(alloc, number);
 //!     let answer = call(&memory);
-//!     if !memory.has_refused() {
+//!     if !memory.has_failed() {
 //!         return answer; // the call made fewer allocations than `number`, so none failed
 //!     }
 //! }
@@ -41,7 +41,7 @@ impl<B: Allocator> ShortMemory<B> {
     }
 
     /// Whether the allocation that fails was reached, where its number is 1 to 2^63.
-    pub fn has_refused(&self) -> bool {
+    pub fn has_failed(&self) -> bool {
         self.left.load(SeqCst).wrapping_sub(1) > u64::MAX / 2
     }
 }
@@ -54,7 +54,7 @@ impl<B: Allocator> Drop for ShortMemory<B> {
 
 // Counts one allocation, and answers whether it is the one that fails. The count is atomic, so the answer is `true` once,
 // in one thread.
-fn is_refused(left: &AtomicU64) -> bool {
+fn fails(left: &AtomicU64) -> bool {
     left.fetch_sub(1, SeqCst) == 1
 }
 
@@ -62,7 +62,7 @@ unsafe impl<B: Allocator> Allocator for ShortMemory<B> {
     ghost dealloc_token = { λ heap ty ptr. B.dealloc_token heap.inner ty ptr };
 
     fn allocate(&self, size: usize, align: usize) -> Result<*mut u8, AllocError> {
-        if is_refused(&self.left) {
+        if fails(&self.left) {
             return Err(AllocError);
         }
         self.inner.allocate(size, align)

@@ -1,11 +1,11 @@
-//! A box as its pointer.
+//! A `Box` as its pointer, by which C can keep it.
 ghost use Rattle.std.specs.Prelude.{◌≡◌};
 ghost use Rattle.std.specs.Box.Ownership.{box_owns};
 
 use std::alloc::Allocator;
 use std::marker::Model;
 
-/// A box that was taken apart.
+/// A `Box` that was taken apart.
 pub(crate) struct BoxParts<T, A: Allocator> {
     pub(crate) at: *mut T,
     pub(crate) alloc: A,
@@ -17,7 +17,7 @@ impl<T, A: Allocator> Model for BoxParts<T, A> {
 }
 
 impl<T: Drop, A: Allocator> BoxParts<T, A> {
-    /// Takes a box apart.
+    /// Takes a `Box` apart.
     pub(crate) fn of(value: Box<T, A>) -> BoxParts<T, A>
         ensures { result.value ≡ value.value }
     {
@@ -25,7 +25,7 @@ impl<T: Drop, A: Allocator> BoxParts<T, A> {
         BoxParts { at, alloc }
     }
 
-    /// The box again.
+    /// The `Box` again.
     pub(crate) fn into_box(self) -> Box<T, A>
         ensures { result.value ≡ self.value }
     {

@@ -24,7 +24,7 @@
 //! z, and stripes, which are eight layers each, from the lowest up.
 #![tactic(auto)]
 
-mod asking;
+mod answers;
 mod box_parts;
 mod buffers;
 mod handle;
@@ -45,7 +45,7 @@ ghost use Rattle.stlslice_c.specs.Loops.{AreAsBefore, IsLoops};
 ghost use Rattle.stlslice_c.specs.Status.{status_text};
 ghost use Rattle.stlslice_c.specs.declared.status.TheConstants.{NOT_OPEN};
 
-use asking::{put_area, put_mask, put_probe, put_stripe};
+use answers::{put_area, put_mask, put_probe, put_stripe};
 pub use handle::Handle;
 use lines::{put_fault, put_status};
 pub use loops::LoopPoint;

@@ -1,6 +1,6 @@
 //! An open mesh as a pointer that C keeps, or none.
 ghost use Rattle.std.specs.Prelude.{◌≡◌, None, Option, Some, is_some, true};
-ghost use Rattle.layer_session.specs.Session.{Session as Opened};
+ghost use Rattle.layer_session.specs.Session.{Session as SessionModel};
 
 use crate::box_parts::BoxParts;
 use layer_session::Session;
@@ -12,7 +12,7 @@ use std::marker::Model;
 #[derive(Drop)]
 pub struct MeshPointer {
     at: *mut u8,
-    pub ghost session: { Option Opened },
+    pub ghost session: { Option SessionModel },
 }
 
 impl Model for MeshPointer {
@@ -33,7 +33,7 @@ impl MeshPointer {
         }
     }
 
-    /// The mesh of a box that was taken apart.
+    /// The mesh of a `Box` that was taken apart.
     pub(crate) fn of(parts: BoxParts<Session<Global>, Global>) -> MeshPointer
         ensures { result.session ≡ Some parts.value }
     {
@@ -41,7 +41,7 @@ impl MeshPointer {
         MeshPointer { at: at as *mut u8 }
     }
 
-    /// The box again, taken apart.
+    /// The `Box` again, taken apart.
     pub(crate) fn into_parts(self, alloc: Global) -> BoxParts<Session<Global>, Global>
         requires { is_some self.session ≡ true }
         ensures { self.session ≡ Some result.value }

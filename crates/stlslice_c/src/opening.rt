@@ -1,4 +1,4 @@
-//! What is read of a text.
+//! Reading a text: its bounding box, or its session.
 ghost use Rattle.std.specs.Prelude.{◌≡◌, Err, IfErr, IfOk, List, length};
 ghost use Rattle.geometry.specs.Facet.{Facet};
 ghost use Rattle.geometry.specs.declared.limits.TheConstants.{FACET_LIMIT};

@@ -1,7 +1,7 @@
 //! Each call once, with values from outside: a tetrahedron of 4 mm, sliced at 1 mm. Then each allocation of the calls that
 //! allocate, refused in turn: the status is that of memory, nothing else changes, and the next try succeeds. The exports take
 //! the heap alone, so this calls the functions that they are made of.
-use crate::asking::{put_area, put_mask, put_stripe};
+use crate::answers::{put_area, put_mask, put_stripe};
 use crate::handle::Handle;
 use crate::lines::put_fault;
 use crate::loops::{LoopPoint, put_loops};
@@ -224,7 +224,7 @@ fn refusals<C: Call>(alloc: Global) -> Option<u32> {
         match open(&memory, TETRAHEDRON, &setup) {
             Ok(session) => {
                 let found = C::called(&memory, &session);
-                if !memory.has_refused() {
+                if !memory.has_failed() {
                     return (found == (DONE, true)).then_some(refused);
                 }
                 if found != (MEMORY, true) || C::called(&memory, &session) != (DONE, true) {
@@ -232,7 +232,7 @@ fn refusals<C: Call>(alloc: Global) -> Option<u32> {
                 }
                 refused = refused.saturating_add(1);
             }
-            Err(SessionFault::Memory) if memory.has_refused() => {}
+            Err(SessionFault::Memory) if memory.has_failed() => {}
             Err(_) => return None,
         }
     }
@@ -254,8 +254,8 @@ fn refused_boxes(alloc: Global) -> Option<u64> {
     for turn in 1..TURNS {
         let memory = ShortMemory::new(alloc, turn);
         match read_corners(&memory, TETRAHEDRON, Unit::Millimetre) {
-            Ok(told) if !memory.has_refused() => return (told.facets == 4).then_some(turn - 1),
-            Err(SessionFault::Memory) if memory.has_refused() => {}
+            Ok(told) if !memory.has_failed() => return (told.facets == 4).then_some(turn - 1),
+            Err(SessionFault::Memory) if memory.has_failed() => {}
             _ => return None,
         }
     }
