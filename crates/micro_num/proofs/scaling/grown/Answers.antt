@@ -1,4 +1,4 @@
-use Rattle.std.proofs.Common.{arith, ◌<◌, ◌≤◌, ◌⊎◌, inl, inr}
+use Rattle.std.proofs.Common.{arith, ◌<◌, ◌⊎◌, inl, inr}
 use Rattle.micro_num.proofs.lemmas.Capped.{IsCapped_beyond, grown_far}
 use Rattle.micro_num.proofs.scaling.grown.Goals as goal
 use Rattle.micro_num.specs.declared.limits.TheConstants.{COORDINATE_POWER}
