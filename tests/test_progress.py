@@ -37,7 +37,7 @@ def nothing_else_changes():
 
 
 def lines_elsewhere(words, last):
-    """Without a terminal: a line for each tenth, of counts that rise to the whole in each stage."""
+    """Without a terminal: a line for each tenth, of counts that rise to the whole in each phase."""
     told = run(words + ["--progress"])
     found = []
     for line in told.stderr.decode().splitlines():
@@ -45,13 +45,13 @@ def lines_elsewhere(words, last):
         holds(f"a line of progress: {line}", shown)
         found.append((shown[1], int(shown[2]), int(shown[3]), int(shown[4])))
     name = " ".join(words)
-    stages = [stage for stage, _ in last]
-    holds(f"stages in their order by {name}", [it[0] for it in found] == sorted((it[0] for it in found), key=stages.index))
-    for stage, total in last:
-        steps = [it for it in found if it[0] == stage]
-        holds(f"at most ten lines on {stage} by {name}", 0 < len(steps) <= 10)
-        holds(f"counts on {stage} rise by {name}", all(a[2] < b[2] and a[1] // 10 < b[1] // 10 for a, b in zip(steps, steps[1:])))
-        same(f"{stage} ends with the whole by {name}", steps[-1][1:], (100, total, total))
+    phases = [phase for phase, _ in last]
+    holds(f"phases in their order by {name}", [it[0] for it in found] == sorted((it[0] for it in found), key=phases.index))
+    for phase, total in last:
+        steps = [it for it in found if it[0] == phase]
+        holds(f"at most ten lines on {phase} by {name}", 0 < len(steps) <= 10)
+        holds(f"counts on {phase} rise by {name}", all(a[2] < b[2] and a[1] // 10 < b[1] // 10 for a, b in zip(steps, steps[1:])))
+        same(f"{phase} ends with the whole by {name}", steps[-1][1:], (100, total, total))
 
 
 def line_on_a_terminal(words, below, output=os.devnull):

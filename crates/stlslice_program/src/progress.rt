@@ -9,18 +9,18 @@ use stlslice::{Gate, Piece, Task, image_len};
 
 /// What a run does with the layers.
 #[derive(Clone, Copy, PartialEq, Eq)]
-pub(crate) enum Stage {
+pub(crate) enum Phase {
     Slicing,
     Writing,
 }
 
-/// How far a stage is: in layers while slicing, in bytes while writing.
+/// How far a phase is: in layers while slicing, in bytes while writing.
 #[derive(Clone, Copy)]
 pub(crate) struct Bar {
-    pub(crate) stage: Stage,
+    pub(crate) phase: Phase,
     pub(crate) done: u64,
     pub(crate) total: u64,
-    /// When the stage began. `None` before that, and where the clock cannot be read.
+    /// When the phase began. `None` before that, and where the clock cannot be read.
     pub(crate) begun: Option<Instant>,
 }
 
@@ -31,7 +31,7 @@ impl Bar {
         done.checked_div(self.total).unwrap_or(0)
     }
 
-    /// The seconds that the stage will still take at its rate so far.
+    /// The seconds that the phase will still take at its rate so far.
     fn seconds_left(&self, now: Instant) -> Option<u64> {
         let millis = now.duration_since(self.begun?).as_millis();
         let left = u128::from(self.total.saturating_sub(self.done));
@@ -80,14 +80,14 @@ impl BarText {
     }
 
     fn fmt_counts<W: fmt::Write>(&self, f: &mut Formatter<W>) -> fmt::Result {
-        let (stage, unit) = match self.bar.stage {
-            Stage::Slicing => ("slicing", "layers"),
-            Stage::Writing => ("writing", "bytes"),
+        let (phase, unit) = match self.bar.phase {
+            Phase::Slicing => ("slicing", "layers"),
+            Phase::Writing => ("writing", "bytes"),
         };
         let percent = self.bar.steps_done(100);
         let done = self.bar.done;
         let total = self.bar.total;
-        write!(f, "{stage} {percent} %, {done} of {total} {unit}")?;
+        write!(f, "{phase} {percent} %, {done} of {total} {unit}")?;
         match self.seconds_left {
             Some(seconds) => write!(f, ", {seconds} s left"),
             None => Ok(()),
@@ -120,7 +120,7 @@ impl<'r, R: Clock + Eprint + Wait> Progress<'r, R> {
     /// The progress of a task that has not begun.
     pub(crate) fn new(rt: &'r R, task: &Task, is_terminal: bool) -> Progress<'r, R> {
         let bar = Bar {
-            stage: Stage::Slicing,
+            phase: Phase::Slicing,
             done: 0,
             total: 0,
             begun: None,
@@ -150,7 +150,7 @@ impl<'r, R: Clock + Eprint + Wait> Progress<'r, R> {
         Instant::now(self.rt).ok()
     }
 
-    /// Adds layers or bytes to the stage's bar, and shows it where that is a step on.
+    /// Adds layers or bytes to the phase's bar, and shows it where that is a step on.
     fn advance(&self, state: &mut State, count: u64) {
         let steps = if self.is_terminal { 100 } else { 10 };
         let before = state.bar.steps_done(steps);
@@ -174,12 +174,12 @@ impl<'r, R: Clock + Eprint + Wait> Progress<'r, R> {
         });
     }
 
-    /// Begins the stage of writing, where it has not begun.
+    /// Begins the phase of writing, where it has not begun.
     fn begin_writing(&self) {
         let mut state = self.state.lock(self.rt);
-        if state.bar.stage == Stage::Slicing {
+        if state.bar.phase == Phase::Slicing {
             state.bar = Bar {
-                stage: Stage::Writing,
+                phase: Phase::Writing,
                 done: 0,
                 total: state.image_bytes,
                 begun: self.now(),

@@ -16,13 +16,13 @@ type Usual<'a> = (Result<(), RunFault>, &'a [u8]);
 fn is_free(
     end: Option<Result<(), RunFault>>,
     text: &[u8],
-    has_refused: bool,
+    has_failed: bool,
     usual: &Usual<'_>,
 ) -> Option<bool> {
     if end == Some(usual.0) && text == usual.1 {
-        return Some(!has_refused);
+        return Some(!has_failed);
     }
-    if has_refused && end == Some(Err(RunFault::Memory)) && text.is_empty() {
+    if has_failed && end == Some(Err(RunFault::Memory)) && text.is_empty() {
         return Some(false);
     }
     None
@@ -39,7 +39,7 @@ fn is_free_turn<R: Threads + Wait + Sync + AllocGlobal>(
 ) -> Option<bool> {
     let memory = ShortMemory::new(rt.alloc(), turn);
     let (end, text) = outcome(rt, &memory, line, input);
-    is_free(end, text.as_slice(), memory.has_refused(), usual)
+    is_free(end, text.as_slice(), memory.has_failed(), usual)
 }
 
 /// Fails each allocation in turn until none is left to fail, and answers the first turn at which none failed. 0 where a

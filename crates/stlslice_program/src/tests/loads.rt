@@ -88,11 +88,11 @@ fn first_free_turn(alloc: Global, text: &str) -> Option<u64> {
         let memory = ShortMemory::new(alloc, turn);
         match facts_of(&memory, text) {
             Ok((kept, dropped, _)) => {
-                let is_whole = (kept, dropped) == (12, 1) && !memory.has_refused();
+                let is_whole = (kept, dropped) == (12, 1) && !memory.has_failed();
                 return is_whole.then_some(turn);
             }
             Err(fault) => {
-                if fault != RunFault::Memory || !memory.has_refused() {
+                if fault != RunFault::Memory || !memory.has_failed() {
                     return None;
                 }
             }

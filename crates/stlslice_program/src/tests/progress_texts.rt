@@ -1,5 +1,5 @@
 //! The texts that progress is shown by, on a terminal and elsewhere: no clause speaks of a `Display`.
-use crate::progress::{Bar, BarText, Stage};
+use crate::progress::{Bar, BarText, Phase};
 use std::alloc::Global;
 
 /// What is shown, and its text.
@@ -9,7 +9,7 @@ const TEXTS: [Row; 4] = [
     (
         BarText {
             bar: Bar {
-                stage: Stage::Slicing,
+                phase: Phase::Slicing,
                 done: 9,
                 total: 20,
                 begun: None,
@@ -22,7 +22,7 @@ const TEXTS: [Row; 4] = [
     (
         BarText {
             bar: Bar {
-                stage: Stage::Writing,
+                phase: Phase::Writing,
                 done: 5_402_640,
                 total: 5_402_640,
                 begun: None,
@@ -35,7 +35,7 @@ const TEXTS: [Row; 4] = [
     (
         BarText {
             bar: Bar {
-                stage: Stage::Writing,
+                phase: Phase::Writing,
                 done: 540_263,
                 total: 5_402_640,
                 begun: None,
@@ -48,7 +48,7 @@ const TEXTS: [Row; 4] = [
     (
         BarText {
             bar: Bar {
-                stage: Stage::Slicing,
+                phase: Phase::Slicing,
                 done: 0,
                 total: 0,
                 begun: None,
