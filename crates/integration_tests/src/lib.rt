@@ -27,6 +27,8 @@ mod images;
 #[cfg(test)]
 mod jobs;
 #[cfg(test)]
+mod many_facets;
+#[cfg(test)]
 mod meshes;
 #[cfg(test)]
 mod number_texts;

@@ -9,13 +9,14 @@ use mesh_weld::{Solid, WeldFault, Welder};
 use short_memory::ShortMemory;
 use std::alloc::{Allocator, Global};
 use std::test::Fail;
+use std::thread::Threads;
 use stl_text::Facet;
 
 // More facets than the tests add.
 const ROOM: usize = 10_000;
 
-// What a welder answers that gets the facets in lists of this many, the last one perhaps shorter.
-fn fed<A: Allocator + Copy + Send + Sync>(
+/// What a welder answers that gets the facets in lists of this many, the last one perhaps shorter.
+pub(crate) fn fed<A: Allocator + Copy + Send + Sync>(
     alloc: A,
     facets: &[Facet],
     size: usize,
@@ -36,8 +37,25 @@ fn fed<A: Allocator + Copy + Send + Sync>(
     welder.finish()
 }
 
-// Whether two welds answer the same: the same fault, or the same solid.
-fn agree(one: &Result<Solid<Global>, WeldFault>, two: &Result<Solid<Global>, WeldFault>) -> bool {
+/// What a welder answers that gets all facets at once, and is finished by several threads.
+pub(crate) fn fed_by<R: Threads + Sync, A: Allocator + Copy + Send + Sync>(
+    rt: &R,
+    alloc: A,
+    facets: &[Facet],
+) -> Result<Solid<A>, WeldFault> {
+    let mut welder = Welder::new(alloc);
+    if welder.count() > ROOM || facets.len() > ROOM {
+        return Err(WeldFault::Memory);
+    }
+    welder.add(facets)?;
+    welder.finish_by(rt)
+}
+
+/// Whether two welds answer the same: the same fault, or the same solid.
+pub(crate) fn agree(
+    one: &Result<Solid<Global>, WeldFault>,
+    two: &Result<Solid<Global>, WeldFault>,
+) -> bool {
     match (one, two) {
         (Ok(solid), Ok(other)) => {
             solid.same(other)

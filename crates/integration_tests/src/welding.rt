@@ -9,11 +9,11 @@ use std::alloc::{AllocError, Allocator, Global};
 use std::test::Fail;
 use stl_text::{Facet, Point};
 
-// How many facets were kept and dropped, and how many vertices and edges there are.
-type Counts = (usize, u32, usize, u32);
+/// How many facets were kept and dropped, and how many vertices and edges there are.
+pub(crate) type Counts = (usize, u32, usize, u32);
 
-// The counts of a solid; `None` where an allocation failed.
-fn counts(welded: Result<Solid<Global>, WeldFault>) -> Option<Counts> {
+/// The counts of a solid; `None` where an allocation failed.
+pub(crate) fn counts(welded: Result<Solid<Global>, WeldFault>) -> Option<Counts> {
     let solid = welded.ok()?;
     Some((
         solid.count(),
@@ -52,8 +52,10 @@ fn place(point: Point) -> [i32; 3] {
     [point.x(), point.y(), point.z()]
 }
 
-// The open edge of facets that are not closed: from where to where, and how many there are there and back.
-fn open_edge(welded: Result<Solid<Global>, WeldFault>) -> Option<([i32; 3], [i32; 3], u32, u32)> {
+/// The open edge of facets that are not closed: from where to where, and how many there are there and back.
+pub(crate) fn open_edge(
+    welded: Result<Solid<Global>, WeldFault>,
+) -> Option<([i32; 3], [i32; 3], u32, u32)> {
     let fault = welded.err()?;
     match fault {
         WeldFault::Open {
@@ -122,8 +124,8 @@ fn each_allocation_fails_in_turn(rt: HostRuntime) -> Result<(), Fail> {
     Ok(())
 }
 
-// One of 48 by 48 points that lie in rings both ways.
-fn ring_point(row: u32, column: u32) -> Option<Point>
+/// One of 48 by 48 points that lie in rings both ways.
+pub(crate) fn ring_point(row: u32, column: u32) -> Option<Point>
     requires row { row ≤ 48 }
     requires column { column ≤ 48 }
 {

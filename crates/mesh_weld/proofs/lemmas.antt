@@ -8,7 +8,8 @@ pub mod Ranks
 pub mod Listing
 pub mod HalfEdges
 pub mod Placing
-pub mod Runs
+pub mod Balances
+pub mod EdgeChains
 pub mod HeightOrder
 pub mod Transfer
 pub mod Numbered

@@ -4,6 +4,7 @@ pub mod EdgeNumbers
 pub mod Corners
 pub mod HalfEdge
 pub mod SameEnds
+pub mod EdgeChains
 pub mod PointOrder
 pub mod CornerIds
 pub mod Welder

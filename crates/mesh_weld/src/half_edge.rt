@@ -8,9 +8,9 @@ use std::alloc::Allocator;
 /// A half-edge by the numbers of its ends, with its slot: its number among the half-edges of all facets, three a facet.
 #[derive(Clone, Copy)]
 pub(crate) struct HalfEdge {
-    pub from: u32,
-    pub to: u32,
-    pub slot: u32,
+    pub(crate) from: u32,
+    pub(crate) to: u32,
+    pub(crate) slot: u32,
 }
 
 impl HalfEdge {
@@ -25,6 +25,6 @@ impl HalfEdge {
 /// The number of each half-edge's edge, one for both directions, and the count of these numbers.
 #[derive(Drop)]
 pub(crate) struct EdgeNumbering<A: Allocator> {
-    pub numbers: Vec<u32, A>,
-    pub count: u32,
+    pub(crate) numbers: Vec<u32, A>,
+    pub(crate) count: u32,
 }

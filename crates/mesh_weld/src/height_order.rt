@@ -18,8 +18,8 @@ use std::alloc::{AllocError, Allocator};
 /// rise.
 #[derive(Drop)]
 pub(crate) struct HeightOrder<A: Allocator> {
-    pub order: Vec<u32, A>,
-    pub greatest_rise: u32,
+    pub(crate) order: Vec<u32, A>,
+    pub(crate) greatest_rise: u32,
 }
 
 /// The order by height of the facets whose corners have the numbers among the points.

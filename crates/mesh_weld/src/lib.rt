@@ -16,8 +16,8 @@
 //!
 //! Points are in micrometres, centres of rays in half-micrometres.
 //!
-//! Corners are named by hashes as facets come. Corners and edges are then numbered by hashes in large meshes (`by_hash`),
-//! and otherwise by sorts (`by_sort`).
+//! Corners are named by hashes as facets come. In large meshes the points are then put in order by groups, and the edges
+//! are numbered by chains (`by_hash`); otherwise sorts do both (`by_sort`).
 #![tactic(auto)]
 
 mod by_hash;
@@ -26,6 +26,7 @@ mod facets;
 mod half_edge;
 mod height_order;
 mod laws;
+mod numbering;
 mod packing;
 mod probing;
 mod same_ends;

@@ -1,19 +1,18 @@
-//! Runs of half-edges with the same two ends. Both ways of numbering tell by them whether the half-edges balance.
+//! Runs of half-edges with the same two ends. The sorts tell by them whether the half-edges balance.
 ghost use Rattle.std.specs.Prelude.{◌≡◌, ◌↔◌, ◌<◌, ◌*◌, ◌+◌, ◌-◌, ◌^◌, IsTrue, min, max};
 ghost use Rattle.mesh_weld.specs.SameEnds.{started, counted};
 ghost use Rattle.mesh_weld.specs.declared.packing.TheConstants.{HALF_WORD};
 
 use crate::half_edge::HalfEdge;
-use crate::packing::packed;
 
 /// A run of half-edges with the same two ends in a sorted list: the numbers of those from the lesser end to the greater
 /// one, and of those back.
 #[derive(Clone, Copy)]
 pub(crate) struct SameEnds {
-    pub low: u32,
-    pub high: u32,
-    pub there: u32,
-    pub back: u32,
+    pub(crate) low: u32,
+    pub(crate) high: u32,
+    pub(crate) there: u32,
+    pub(crate) back: u32,
 }
 
 impl SameEnds {
@@ -34,13 +33,6 @@ impl SameEnds {
             high: half_edge.from.max(half_edge.to),
             ..SameEnds::NONE
         }
-    }
-
-    /// The key that a half-edge with these ends has.
-    pub(crate) fn pair(&self) -> u64
-        ensures { result ≡ self.now.low * HALF_WORD + self.now.high }
-    {
-        packed(self.low, self.high)
     }
 
     /// Whether a half-edge has the run's ends.

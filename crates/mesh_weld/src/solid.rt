@@ -30,17 +30,6 @@ pub struct Solid<A: Allocator> {
     pub(crate) dropped: u32,
 }
 
-/// What both ways of numbering give: a solid's vertices, the numbers of its facets' corners and edges, the order of its
-/// facets by height, and their greatest rise.
-#[derive(Drop)]
-pub(crate) struct Numbering<A: Allocator> {
-    pub points: Vec<Point, A>,
-    pub numbers: Vec<[u32; 3], A>,
-    /// Three numbers for each facet, one facet after the other.
-    pub edges: EdgeNumbering<A>,
-    pub heights: HeightOrder<A>,
-}
-
 impl<A: Allocator> Model for Solid<A> {
     ghost use Rattle.geometry.specs.declared.limits.TheConstants.{FACET_LIMIT};
     ghost use Rattle.std.specs.Prelude.{◌≤◌, length};

@@ -8,12 +8,13 @@ ghost use Rattle.mesh_weld.specs.Welding.{IsWeldOf};
 ghost use Rattle.geometry.specs.declared.limits.TheConstants.{FACET_LIMIT};
 
 use crate::by_hash::{
-    BLOCK, CornerTable, Grouping, NONE, facet_ids, group_facets, group_facets_by, named_numbering,
+    BLOCK, CornerTable, Grouping, NONE, facet_ids, group_facets, group_facets_by,
 };
 use crate::facets::has_distinct_corners;
 use crate::half_edge::EdgeNumbering;
 use crate::height_order::HeightOrder;
-use crate::solid::{Numbering, Solid};
+use crate::numbering::{Numbering, named_numbering};
+use crate::solid::Solid;
 use crate::weld_fault::WeldFault;
 use geometry::{Facet, Point};
 use std::alloc::{AllocError, Allocator};
@@ -75,7 +76,7 @@ impl<A: Allocator + Copy + Send + Sync> Welder<A> {
         requires { length self.old.kept + length self.old.degenerate + length facets.now ≤ FACET_LIMIT }
         ensures added { OnOk result (self.new ≡ with_facets self.old facets.now) }
         ensures whole { (before : List Facet) → self.old ≡ welder_of before → OnOk result (self.new ≡ welder_of (before ++ facets.now)) }
-        ensures refused { OnErr result (self.new ≡ welder_of []) }
+        ensures failed { OnErr result (self.new ≡ welder_of []) }
     {
         let mut guesses = [[NONE; 3]; BLOCK];
         for at in 0..facets.len() {
@@ -138,7 +139,7 @@ impl<A: Allocator + Copy + Send + Sync> Welder<A> {
         named.into_solid(found)
     }
 
-    /// The same as [`Welder::finish`], where several threads work at the same time. It takes up to 12 bytes a facet more.
+    /// The same as [`Welder::finish`], where several threads work at the same time. It takes up to 24 bytes a facet more.
     pub fn finish_by<R: Threads + Sync>(self, rt: &R) -> Result<Solid<A>, WeldFault>
         ensures { IsWeldOf self result }
     {

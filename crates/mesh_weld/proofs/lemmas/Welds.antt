@@ -103,8 +103,8 @@ only_memory fs (fault.Open from to there back) h balanced = absurd (h.differ (h.
 only_memory fs fault.Memory h balanced = refl
 
 -- a failed allocation, whatever the facets
-pub refused_weld : (w : Welder) → IsWeldOf w (Err fault.Memory)
-refused_weld w = record {
+pub failed_weld : (w : Welder) → IsWeldOf w (Err fault.Memory)
+failed_weld w = record {
   kept = λ facets e. tt;
   closed = λ facets e. tt;
   ray = λ facets e. tt;

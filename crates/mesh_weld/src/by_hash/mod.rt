@@ -1,19 +1,13 @@
-//! The numbering of a solid by hashes and groups: several times as fast as the sorts of `by_sort` on large meshes.
+//! The numbering of a solid by hashes, chains and groups: several times as fast as the sorts of `by_sort` on large meshes.
 //!
-//! Its results are checked, so its steps need not be trusted. A hash table gives the corners ids as the facets come, and
-//! compares each with the point of its id. A counting sort by groups of x brings the points into order, and one by lesser
-//! ends brings the half-edges into order. No contract speaks of a hash or a group: that would take long proofs, and is not
-//! needed. A pass after each step checks its result: that the points ascend, which no point with two ids does, that the
-//! pairs of ends ascend, and that each slot is numbered once. The contracts rest on these checks alone. Where one fails,
-//! as where chains in the table grow too long or half-edges do not balance, `by_sort` does the work again.
-ghost use Rattle.std.specs.Prelude.{◌≡◌, ◌≤◌, ◌<◌, IfErr, IfOk, IfSome, length, map};
-ghost use Rattle.std.specs.List.{All};
-ghost use Rattle.mesh_weld.specs.CornerIds.{ranks_of};
+//! A hash table gives the corners ids as the facets come, and compares each with the point of its id. Chains by lesser ends
+//! number the edges. A counting sort by groups of x brings the points into order. No contract speaks of a hash or a group:
+//! that would take long proofs, and is not needed, since a pass checks that the points ascend, which no point with two ids
+//! does. Where that check fails, where chains, in the table or of edges, grow too long, or where the half-edges do not
+//! balance, `by_sort` does the work again.
+ghost use Rattle.std.specs.Prelude.{◌≤◌, IfOk, IfSome, length};
 ghost use Rattle.mesh_weld.specs.Grouping.{AreEdgesOf, AreOrdersOf};
-ghost use Rattle.mesh_weld.specs.Numbering.{IsNumberingOf};
-ghost use Rattle.mesh_weld.specs.Solid.{facets_by};
-ghost use Rattle.mesh_weld.specs.Welder.{AreBelow, AreNamed};
-ghost use Rattle.mesh_weld.specs.Welding.{IsKeptFault};
+ghost use Rattle.mesh_weld.specs.Welder.{AreBelow};
 ghost use Rattle.geometry.specs.declared.limits.TheConstants.{FACET_LIMIT};
 
 mod corner_table;
@@ -22,16 +16,13 @@ mod histogram;
 mod point_order;
 
 pub(crate) use crate::by_hash::corner_table::{BLOCK, CornerTable, facet_ids};
-use crate::by_hash::edges::grouped_numbers;
+use crate::by_hash::edges::chained_numbers;
 pub(crate) use crate::by_hash::histogram::NONE;
-use crate::by_hash::point_order::{PointOrder, rank_points};
-use crate::by_sort::sorted_numbering;
-use crate::facets::list_facets;
+pub(crate) use crate::by_hash::point_order::PointOrder;
+use crate::by_hash::point_order::rank_points;
 use crate::half_edge::EdgeNumbering;
 use crate::height_order::{HeightOrder, order_by_height};
-use crate::solid::Numbering;
-use crate::weld_fault::WeldFault;
-use geometry::{Facet, Point};
+use geometry::Point;
 use std::alloc::{AllocError, Allocator};
 use std::thread::{Threads, join};
 
@@ -41,15 +32,15 @@ const LEAST_HASHED: usize = 4096;
 /// The result of grouping facets that are given by ids: the numbers of their edges, and the orders of points and facets.
 #[derive(Drop)]
 pub(crate) struct Grouping<A: Allocator> {
-    pub edges: EdgeNumbering<A>,
-    pub orders: Orders<A>,
+    pub(crate) edges: EdgeNumbering<A>,
+    pub(crate) orders: Orders<A>,
 }
 
 /// The points in their order, and the facets by height.
 #[derive(Drop)]
 pub(crate) struct Orders<A: Allocator> {
-    pub points: PointOrder<A>,
-    pub heights: HeightOrder<A>,
+    pub(crate) points: PointOrder<A>,
+    pub(crate) heights: HeightOrder<A>,
 }
 
 /// Groups the half-edges and the points of facets that are given by ids among points, the half-edges first, since they
@@ -68,7 +59,7 @@ pub(crate) fn group_facets<A: Allocator + Copy>(
     if ids.len() < LEAST_HASHED {
         return Ok(None);
     }
-    let Some(edges) = grouped_numbers(alloc, ids, points.len())? else {
+    let Some(edges) = chained_numbers(alloc, ids, points.len())? else {
         return Ok(None);
     };
     let Some(orders) = orders_of(alloc, points, ids)? else {
@@ -77,7 +68,8 @@ pub(crate) fn group_facets<A: Allocator + Copy>(
     Ok(Some(Grouping { edges, orders }))
 }
 
-/// The same as [`group_facets`], by two threads at the same time: the edges, which take the longest, on the one that calls.
+/// The same as [`group_facets`], by three threads at the same time: the edges, which take the longest, on the one that
+/// calls.
 pub(crate) fn group_facets_by<R: Threads + Sync, A: Allocator + Copy + Send + Sync>(
     rt: &R,
     alloc: A,
@@ -92,16 +84,25 @@ pub(crate) fn group_facets_by<R: Threads + Sync, A: Allocator + Copy + Send + Sy
     if ids.len() < LEAST_HASHED {
         return Ok(None);
     }
-    let (orders, edges) = join(
+    let (heights, (ranked, edges)) = join(
         rt,
-        || orders_of(alloc, points, ids),
-        || grouped_numbers(alloc, ids, points.len()),
+        || order_by_height(alloc, points, ids),
+        ||
+            requires { length ids.now ≤ FACET_LIMIT }
+        {
+            join(
+                rt,
+                || rank_points(alloc, points),
+                || chained_numbers(alloc, ids, points.len()),
+            )
+        },
     );
-    let Some(edges) = edges? else {
+    let (Some(points), Some(edges)) = (ranked?, edges?) else {
         return Ok(None);
     };
-    let Some(orders) = orders? else {
-        return Ok(None);
+    let orders = Orders {
+        points,
+        heights: heights?,
     };
     Ok(Some(Grouping { edges, orders }))
 }
@@ -122,92 +123,4 @@ fn orders_of<A: Allocator + Copy>(
         return Ok(None);
     };
     Ok(Some(Orders { points, heights }))
-}
-
-/// The numbering of the kept facets, which are given by ids, if their half-edges balance: from their grouping where there
-/// is one, else by sorts.
-pub(crate) fn named_numbering<A: Allocator + Copy>(
-    alloc: A,
-    points: Vec<Point, A>,
-    ids: Vec<[u32; 3], A>,
-    degenerate: &[Facet],
-    found: Option<Grouping<A>>,
-) -> Result<Numbering<A>, WeldFault>
-    requires named { AreNamed points.items ids.items }
-    requires kept { length ids.items ≤ FACET_LIMIT }
-    requires degenerate { length degenerate.now ≤ FACET_LIMIT }
-    requires edges { IfSome found (λ own. AreEdgesOf ids.items own.edges.numbers.items own.edges.count) }
-    requires orders { IfSome found (λ own. AreOrdersOf points.items ids.items own.orders.points.points.items own.orders.points.ranks.items own.orders.heights.order.items own.orders.heights.greatest_rise) }
-    ensures numbering { IfOk result (λ n. IsNumberingOf (facets_by points.items ids.items) n.points.items n.numbers.items n.edges.numbers.items n.edges.count n.heights.order.items n.heights.greatest_rise) }
-    ensures open { IfErr result (IsKeptFault (facets_by points.items ids.items) degenerate.now) }
-{
-    match found {
-        Some(found) => Ok(numbered(points, ids, found)),
-        None => numbering_by_sorts(alloc, points, ids, degenerate),
-    }
-}
-
-/// The numbering of facets that are given by ids, from their grouping.
-fn numbered<A: Allocator>(
-    points: Vec<Point, A>,
-    mut ids: Vec<[u32; 3], A>,
-    found: Grouping<A>,
-) -> Numbering<A>
-    requires named { AreNamed points.items ids.items }
-    requires edges { AreEdgesOf ids.items found.edges.numbers.items found.edges.count }
-    requires orders { AreOrdersOf points.items ids.items found.orders.points.points.items found.orders.points.ranks.items found.orders.heights.order.items found.orders.heights.greatest_rise }
-    ensures { IsNumberingOf (facets_by points.items ids.items) result.points.items result.numbers.items result.edges.numbers.items result.edges.count result.heights.order.items result.heights.greatest_rise }
-{
-    drop(points);
-    let Grouping {
-        edges,
-        orders: Orders {
-            points: PointOrder {
-                points: ordered,
-                ranks,
-            },
-            heights,
-        },
-    } = found;
-    renumber(&mut ids, ranks.as_slice());
-    Numbering {
-        points: ordered,
-        numbers: ids,
-        edges,
-        heights,
-    }
-}
-
-/// Puts the rank of each id in its place.
-fn renumber<A: Allocator>(ids: &mut Vec<[u32; 3], A>, ranks: &[u32])
-    requires { All (All (λ id. id < length ranks.now)) ids.old.items }
-    ensures { ids.new.items ≡ map (ranks_of ranks.now) ids.old.items }
-{
-    for at in 0..ids.len() {
-        let [first, second, third] = ids[at];
-        ids[at] = [
-            ranks[first as usize],
-            ranks[second as usize],
-            ranks[third as usize],
-        ];
-    }
-}
-
-/// The numbering of facets by sorts, from a list of them.
-fn numbering_by_sorts<A: Allocator + Copy>(
-    alloc: A,
-    points: Vec<Point, A>,
-    numbers: Vec<[u32; 3], A>,
-    degenerate: &[Facet],
-) -> Result<Numbering<A>, WeldFault>
-    requires below { AreBelow points.items numbers.items }
-    requires kept { length numbers.items ≤ FACET_LIMIT }
-    requires degenerate { length degenerate.now ≤ FACET_LIMIT }
-    ensures numbering { IfOk result (λ n. IsNumberingOf (facets_by points.items numbers.items) n.points.items n.numbers.items n.edges.numbers.items n.edges.count n.heights.order.items n.heights.greatest_rise) }
-    ensures open { IfErr result (IsKeptFault (facets_by points.items numbers.items) degenerate.now) }
-{
-    let kept = list_facets(alloc, points.as_slice(), numbers.as_slice())?;
-    drop(points);
-    drop(numbers);
-    sorted_numbering(alloc, kept.as_slice(), degenerate)
 }

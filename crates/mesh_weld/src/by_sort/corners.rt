@@ -13,8 +13,8 @@ use std::alloc::{AllocError, Allocator};
 /// A corner with its slot: its number among the corners of all facets, three a facet.
 #[derive(Clone, Copy)]
 pub(crate) struct CornerEntry {
-    pub point: Point,
-    pub slot: u32,
+    pub(crate) point: Point,
+    pub(crate) slot: u32,
 }
 
 /// The corners of the facets, in their order.
@@ -55,8 +55,8 @@ fn sort_corners<A: Allocator>(list: &mut Vec<CornerEntry, A>)
 /// The distinct corners of facets in ascending order, and for each corner its number among them.
 #[derive(Drop)]
 pub(crate) struct CornerNumbers<A: Allocator> {
-    pub points: Vec<Point, A>,
-    pub numbers: Vec<u32, A>,
+    pub(crate) points: Vec<Point, A>,
+    pub(crate) numbers: Vec<u32, A>,
 }
 
 /// Numbers the distinct points of sorted corners from 0 up, and gives each corner the number of its point.

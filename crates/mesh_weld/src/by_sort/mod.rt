@@ -16,7 +16,7 @@ use crate::by_sort::edges::{least_uneven, number_sorted, sorted_half_edges};
 use crate::facets::open_edge;
 use crate::half_edge::EdgeNumbering;
 use crate::height_order::order_by_height;
-use crate::solid::Numbering;
+use crate::numbering::Numbering;
 use crate::weld_fault::WeldFault;
 use geometry::{Facet, Point};
 use std::alloc::Allocator;

@@ -1,7 +1,7 @@
 use Rattle.std.proofs.Common.{arith}
 use Rattle.std.proofs.lemmas.List.Edits.{map_over_more}
 use Rattle.mesh_weld.specs.CornerIds.{ranks_of}
-use Rattle.mesh_weld.proofs.by_hash.renumber.Goals as goal
+use Rattle.mesh_weld.proofs.numbering.renumber.Goals as goal
 
 pub loop-at-preserved : goal.loop-at-preserved
 loop-at-preserved g c =

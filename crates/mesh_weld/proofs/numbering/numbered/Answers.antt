@@ -3,9 +3,9 @@ use Rattle.mesh_weld.specs.CornerIds.{AreIds, ranks_of}
 use Rattle.mesh_weld.specs.Solid.{facets_by, triples}
 use Rattle.mesh_weld.proofs.lemmas.EdgeNumbering.{edges_by_ids, closed_by_ids}
 use Rattle.mesh_weld.proofs.lemmas.Naming.{found_in_order, ids_are, renumbered}
-use Rattle.mesh_weld.proofs.by_hash.numbered.Given.{Over}
-use Rattle.mesh_weld.proofs.by_hash.numbered.Goals.{After-renumber}
-use Rattle.mesh_weld.proofs.by_hash.numbered.Goals as goal
+use Rattle.mesh_weld.proofs.numbering.numbered.Given.{Over}
+use Rattle.mesh_weld.proofs.numbering.numbered.Goals.{After-renumber}
+use Rattle.mesh_weld.proofs.numbering.numbered.Goals as goal
 
 -- the ranks of the ids are the numbers of the corners
 numbers_are : (g : Over) (c : After-renumber g) → c.renumber.new.ids.items ≡ triples (facets_by c.args.points.items c.args.ids.items)

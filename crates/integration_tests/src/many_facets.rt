@@ -1,0 +1,146 @@
+//! Meshes of so many facets that they are welded by hashes, with edges of many half-edges and vertices of many facets.
+ghost use Rattle.std.specs.Prelude.{◌≤◌, ◌<◌, ◌+◌};
+
+use crate::allocations::{Count, first_free_turn};
+use crate::meshes::welded;
+use crate::welders::{agree, fed, fed_by};
+use crate::welding::{counts, open_edge, ring_point, rings};
+use mesh_weld::{Solid, WeldFault};
+use short_memory::ShortMemory;
+use std::alloc::{AllocError, Allocator, Global};
+use std::test::Fail;
+use std::thread::Threads;
+use stl_text::{Facet, Point};
+
+// Puts the facet of three corners, each of which is in range, after the others.
+fn push_facet<A: Allocator>(
+    list: &mut Vec<Facet, A>,
+    corners: [Option<Point>; 3],
+) -> Result<(), AllocError> {
+    let [Some(first), Some(second), Some(third)] = corners else {
+        return Err(AllocError);
+    };
+    list.push(Facet::of(first, second, third))?;
+    Ok(())
+}
+
+// The rings, and a tetrahedron that has one edge with them.
+fn rings_and_tetrahedron<A: Allocator + Copy>(alloc: A) -> Result<Vec<Facet, A>, AllocError> {
+    let mut list = rings(alloc, 4608)?;
+    let (a, b) = (ring_point(0, 0), ring_point(1, 0));
+    let (c, d) = (Point::new(100, 100, 100), Point::new(100, 0, 100));
+    push_facet(&mut list, [a, b, c])?;
+    push_facet(&mut list, [b, a, d])?;
+    push_facet(&mut list, [a, c, d])?;
+    push_facet(&mut list, [b, d, c])?;
+    Ok(list)
+}
+
+#[test]
+fn an_edge_of_four_half_edges(rt: HostRuntime) -> Result<(), Fail> {
+    let facets = rings_and_tetrahedron(rt.alloc())?;
+    assert_eq!(rt; counts(welded(rt.alloc(), facets)), Some((4612, 0, 2306, 6917)));
+    Ok(())
+}
+
+// The rings, of which the first facet comes twice.
+fn rings_and_a_copy<A: Allocator + Copy>(alloc: A) -> Result<Vec<Facet, A>, AllocError> {
+    let mut list = rings(alloc, 4608)?;
+    push_facet(
+        &mut list,
+        [ring_point(0, 0), ring_point(1, 0), ring_point(1, 1)],
+    )?;
+    Ok(list)
+}
+
+#[test]
+fn an_edge_of_three_half_edges(rt: HostRuntime) -> Result<(), Fail> {
+    let facets = rings_and_a_copy(rt.alloc())?;
+    let open = open_edge(welded(rt.alloc(), facets));
+    assert_eq!(rt; open, Some(([0, 0, 0], [5, 0, 1], 2, 1)));
+    Ok(())
+}
+
+// A point of the fan's rim.
+fn rim_point(number: u32) -> Option<Point> {
+    let number = number % 2100;
+    Point::new((number % 50) as i32, (number / 50) as i32, 1)
+}
+
+// A rim of 2,100 points, each joined to two others: far more facets at these than edges are looked at in a chain.
+fn fan<A: Allocator + Copy>(alloc: A) -> Result<Vec<Facet, A>, AllocError> {
+    let mut list = Vec::new(alloc);
+    for number in 0..2100 {
+        let (one, next) = (rim_point(number), rim_point(number + 1));
+        push_facet(&mut list, [Point::new(0, 0, 0), next, one])?;
+        push_facet(&mut list, [Point::new(0, 0, 2), one, next])?;
+    }
+    Ok(list)
+}
+
+#[test]
+fn vertices_of_many_facets(rt: HostRuntime) -> Result<(), Fail> {
+    let facets = fan(rt.alloc())?;
+    assert_eq!(rt; counts(welded(rt.alloc(), facets)), Some((4200, 0, 2102, 6300)));
+    Ok(())
+}
+
+// The rings, and between them and one edge a book of 200 pages: all their fronts, and then as many of their backs.
+fn rings_and_book<A: Allocator + Copy>(alloc: A, backs: u32) -> Result<Vec<Facet, A>, AllocError>
+    requires { backs ≤ 200 }
+{
+    let mut list = rings(alloc, 4608)?;
+    let (low, high) = (Point::new(100, 0, 0), Point::new(100, 0, 1));
+    for page in 0..200 {
+        push_facet(&mut list, [ring_point(page / 48, page % 48), low, high])?;
+    }
+    for page in 0..backs {
+        push_facet(&mut list, [ring_point(page / 48, page % 48), high, low])?;
+    }
+    Ok(list)
+}
+
+#[test]
+fn an_edge_of_400_half_edges(rt: HostRuntime) -> Result<(), Fail> {
+    let facets = rings_and_book(rt.alloc(), 200)?;
+    assert_eq!(rt; counts(welded(rt.alloc(), facets)), Some((5008, 0, 2306, 7313)));
+    let facets = rings_and_book(rt.alloc(), 0)?;
+    let open = open_edge(welded(rt.alloc(), facets));
+    assert_eq!(rt; open, Some(([0, 0, 0], [100, 0, 0], 1, 0)));
+    Ok(())
+}
+
+// Whether several threads weld the facets as one does.
+fn is_welded_alike<R: Threads + Sync>(rt: &R, alloc: Global, facets: &[Facet]) -> bool {
+    agree(&fed(alloc, facets, 1000), &fed_by(rt, alloc, facets))
+}
+
+#[test]
+fn by_threads(rt: HostRuntime) -> Result<(), Fail> {
+    for count in [12, 4095, 4607, 4608] {
+        let facets = rings(rt.alloc(), count)?;
+        assert!(rt; is_welded_alike(&rt, rt.alloc(), facets.as_slice()));
+    }
+    let facets = rings_and_tetrahedron(rt.alloc())?;
+    assert!(rt; is_welded_alike(&rt, rt.alloc(), facets.as_slice()));
+    let facets = fan(rt.alloc())?;
+    assert!(rt; is_welded_alike(&rt, rt.alloc(), facets.as_slice()));
+    Ok(())
+}
+
+// The facets of the fan, whose edges are numbered by sorts at last.
+struct KeptOfFan;
+
+impl Count for KeptOfFan {
+    fn count(memory: &ShortMemory<Global>) -> Option<usize> {
+        let facets = fan(memory).ok()?;
+        let solid = fed(memory, facets.as_slice(), 1000).ok()?;
+        Some(solid.count())
+    }
+}
+
+#[test]
+fn each_allocation_fails_in_turn(rt: HostRuntime) -> Result<(), Fail> {
+    assert!(rt; first_free_turn::<KeptOfFan>(rt.alloc(), 100, 4200) > Some(30));
+    Ok(())
+}

@@ -1,0 +1,118 @@
+//! The numbering of a solid: by hashes and chains where these serve, and otherwise by sorts.
+ghost use Rattle.std.specs.Prelude.{◌≡◌, ◌≤◌, ◌<◌, IfErr, IfOk, IfSome, length, map};
+ghost use Rattle.std.specs.List.{All};
+ghost use Rattle.mesh_weld.specs.CornerIds.{ranks_of};
+ghost use Rattle.mesh_weld.specs.Grouping.{AreEdgesOf, AreOrdersOf};
+ghost use Rattle.mesh_weld.specs.Numbering.{IsNumberingOf};
+ghost use Rattle.mesh_weld.specs.Solid.{facets_by};
+ghost use Rattle.mesh_weld.specs.Welder.{AreBelow, AreNamed};
+ghost use Rattle.mesh_weld.specs.Welding.{IsKeptFault};
+ghost use Rattle.geometry.specs.declared.limits.TheConstants.{FACET_LIMIT};
+
+use crate::by_hash::{Grouping, Orders, PointOrder};
+use crate::by_sort::sorted_numbering;
+use crate::facets::list_facets;
+use crate::half_edge::EdgeNumbering;
+use crate::height_order::HeightOrder;
+use crate::weld_fault::WeldFault;
+use geometry::{Facet, Point};
+use std::alloc::Allocator;
+
+/// What both ways of numbering give: a solid's vertices, the numbers of its facets' corners and edges, the order of its
+/// facets by height, and their greatest rise.
+#[derive(Drop)]
+pub(crate) struct Numbering<A: Allocator> {
+    pub(crate) points: Vec<Point, A>,
+    pub(crate) numbers: Vec<[u32; 3], A>,
+    /// Three numbers for each facet, one facet after the other.
+    pub(crate) edges: EdgeNumbering<A>,
+    pub(crate) heights: HeightOrder<A>,
+}
+
+/// The numbering of the kept facets, which are given by ids, if their half-edges balance: from their grouping where there
+/// is one, else by sorts.
+pub(crate) fn named_numbering<A: Allocator + Copy>(
+    alloc: A,
+    points: Vec<Point, A>,
+    ids: Vec<[u32; 3], A>,
+    degenerate: &[Facet],
+    found: Option<Grouping<A>>,
+) -> Result<Numbering<A>, WeldFault>
+    requires named { AreNamed points.items ids.items }
+    requires kept { length ids.items ≤ FACET_LIMIT }
+    requires degenerate { length degenerate.now ≤ FACET_LIMIT }
+    requires edges { IfSome found (λ own. AreEdgesOf ids.items own.edges.numbers.items own.edges.count) }
+    requires orders { IfSome found (λ own. AreOrdersOf points.items ids.items own.orders.points.points.items own.orders.points.ranks.items own.orders.heights.order.items own.orders.heights.greatest_rise) }
+    ensures numbering { IfOk result (λ n. IsNumberingOf (facets_by points.items ids.items) n.points.items n.numbers.items n.edges.numbers.items n.edges.count n.heights.order.items n.heights.greatest_rise) }
+    ensures open { IfErr result (IsKeptFault (facets_by points.items ids.items) degenerate.now) }
+{
+    match found {
+        Some(found) => Ok(numbered(points, ids, found)),
+        None => numbering_by_sorts(alloc, points, ids, degenerate),
+    }
+}
+
+/// The numbering of facets that are given by ids, from their grouping.
+fn numbered<A: Allocator>(
+    points: Vec<Point, A>,
+    mut ids: Vec<[u32; 3], A>,
+    found: Grouping<A>,
+) -> Numbering<A>
+    requires named { AreNamed points.items ids.items }
+    requires edges { AreEdgesOf ids.items found.edges.numbers.items found.edges.count }
+    requires orders { AreOrdersOf points.items ids.items found.orders.points.points.items found.orders.points.ranks.items found.orders.heights.order.items found.orders.heights.greatest_rise }
+    ensures { IsNumberingOf (facets_by points.items ids.items) result.points.items result.numbers.items result.edges.numbers.items result.edges.count result.heights.order.items result.heights.greatest_rise }
+{
+    drop(points);
+    let Grouping {
+        edges,
+        orders: Orders {
+            points: PointOrder {
+                points: ordered,
+                ranks,
+            },
+            heights,
+        },
+    } = found;
+    renumber(&mut ids, ranks.as_slice());
+    Numbering {
+        points: ordered,
+        numbers: ids,
+        edges,
+        heights,
+    }
+}
+
+/// Puts the rank of each id in its place.
+fn renumber<A: Allocator>(ids: &mut Vec<[u32; 3], A>, ranks: &[u32])
+    requires { All (All (λ id. id < length ranks.now)) ids.old.items }
+    ensures { ids.new.items ≡ map (ranks_of ranks.now) ids.old.items }
+{
+    for at in 0..ids.len() {
+        let [first, second, third] = ids[at];
+        ids[at] = [
+            ranks[first as usize],
+            ranks[second as usize],
+            ranks[third as usize],
+        ];
+    }
+}
+
+/// The numbering of facets by sorts, from a list of them.
+fn numbering_by_sorts<A: Allocator + Copy>(
+    alloc: A,
+    points: Vec<Point, A>,
+    numbers: Vec<[u32; 3], A>,
+    degenerate: &[Facet],
+) -> Result<Numbering<A>, WeldFault>
+    requires below { AreBelow points.items numbers.items }
+    requires kept { length numbers.items ≤ FACET_LIMIT }
+    requires degenerate { length degenerate.now ≤ FACET_LIMIT }
+    ensures numbering { IfOk result (λ n. IsNumberingOf (facets_by points.items numbers.items) n.points.items n.numbers.items n.edges.numbers.items n.edges.count n.heights.order.items n.heights.greatest_rise) }
+    ensures open { IfErr result (IsKeptFault (facets_by points.items numbers.items) degenerate.now) }
+{
+    let kept = list_facets(alloc, points.as_slice(), numbers.as_slice())?;
+    drop(points);
+    drop(numbers);
+    sorted_numbering(alloc, kept.as_slice(), degenerate)
+}
