@@ -86,8 +86,20 @@ fn wide_image(alloc: Global) -> Result<Vec<u8>, AllocError> {
 /// The length of the image of wide rows, in bytes.
 const WIDE_LEN: usize = 40_972;
 
-/// The length of the chunks in which an image goes out, in bytes.
+/// The length of the image's header, in bytes.
+const HEADER_LEN: usize = 12;
+
+/// The number of bytes of a row.
+const ROW_LEN: usize = 2048;
+
+/// The greatest length of a chunk in which an image goes out, in bytes.
 const CHUNK_LEN: usize = 16_384;
+
+/// Where the first chunk ends: after the header and seven rows, since an eighth would go beyond `CHUNK_LEN`.
+const FIRST_END: usize = HEADER_LEN + 7 * ROW_LEN;
+
+/// Where the second chunk ends: it has eight rows, as many as fit.
+const SECOND_END: usize = FIRST_END + 8 * ROW_LEN;
 
 #[test]
 fn an_image_beyond_one_chunk(rt: HostRuntime) -> Result<(), Fail> {
@@ -96,10 +108,13 @@ fn an_image_beyond_one_chunk(rt: HostRuntime) -> Result<(), Fail> {
     assert_eq!(rt; bytes.len(), WIDE_LEN);
     for room in [
         0,
-        CHUNK_LEN - 1,
+        FIRST_END - 1,
+        FIRST_END,
+        FIRST_END + 1,
         CHUNK_LEN,
-        CHUNK_LEN + 1,
-        2 * CHUNK_LEN,
+        SECOND_END - 1,
+        SECOND_END,
+        SECOND_END + 1,
         WIDE_LEN - 1,
         WIDE_LEN,
         WIDE_LEN + 1,
