@@ -39,7 +39,10 @@ fn rings_and_tetrahedron<A: Allocator + Copy>(alloc: A) -> Result<Vec<Facet, A>,
 #[test]
 fn an_edge_of_four_half_edges(rt: HostRuntime) -> Result<(), Fail> {
     let facets = rings_and_tetrahedron(rt.alloc())?;
-    assert_eq!(rt; counts(welded(rt.alloc(), facets)), Some((4612, 0, 2306, 6917)));
+    assert_eq!(rt;
+        counts(welded(rt.alloc(), facets)),
+        Some((4612, 0, 2306, 6917))
+    );
     Ok(())
 }
 
@@ -81,7 +84,10 @@ fn fan<A: Allocator + Copy>(alloc: A) -> Result<Vec<Facet, A>, AllocError> {
 #[test]
 fn vertices_of_many_facets(rt: HostRuntime) -> Result<(), Fail> {
     let facets = fan(rt.alloc())?;
-    assert_eq!(rt; counts(welded(rt.alloc(), facets)), Some((4200, 0, 2102, 6300)));
+    assert_eq!(rt;
+        counts(welded(rt.alloc(), facets)),
+        Some((4200, 0, 2102, 6300))
+    );
     Ok(())
 }
 
@@ -103,7 +109,10 @@ fn rings_and_book<A: Allocator + Copy>(alloc: A, backs: u32) -> Result<Vec<Facet
 #[test]
 fn an_edge_of_400_half_edges(rt: HostRuntime) -> Result<(), Fail> {
     let facets = rings_and_book(rt.alloc(), 200)?;
-    assert_eq!(rt; counts(welded(rt.alloc(), facets)), Some((5008, 0, 2306, 7313)));
+    assert_eq!(rt;
+        counts(welded(rt.alloc(), facets)),
+        Some((5008, 0, 2306, 7313))
+    );
     let facets = rings_and_book(rt.alloc(), 0)?;
     let open = open_edge(welded(rt.alloc(), facets));
     assert_eq!(rt; open, Some(([0, 0, 0], [100, 0, 0], 1, 0)));

