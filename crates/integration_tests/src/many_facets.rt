@@ -70,7 +70,7 @@ fn rim_point(number: u32) -> Option<Point> {
     Point::new((number % 50) as i32, (number / 50) as i32, 1)
 }
 
-// A rim of 2,100 points, each joined to two others: far more facets at these than edges are looked at in a chain.
+// A rim of 2,100 points, each joined to two others: more facets at these than the steps along chains allow for.
 fn fan<A: Allocator + Copy>(alloc: A) -> Result<Vec<Facet, A>, AllocError> {
     let mut list = Vec::new(alloc);
     for number in 0..2100 {
