@@ -12,27 +12,25 @@ use std::test::Fail;
 use std::thread::Threads;
 use stl_text::{Facet, Point};
 
-// Puts the facet of three corners, each of which is in range, after the others.
-fn push_facet<A: Allocator>(
-    list: &mut Vec<Facet, A>,
-    corners: [Option<Point>; 3],
-) -> Result<(), AllocError> {
-    let [Some(first), Some(second), Some(third)] = corners else {
-        return Err(AllocError);
-    };
-    list.push(Facet::of(first, second, third))?;
-    Ok(())
+// A point that is in range.
+fn in_range(point: Option<Point>) -> Result<Point, AllocError> {
+    match point {
+        Some(point) => Ok(point),
+        None => Err(AllocError),
+    }
 }
 
 // The rings, and a tetrahedron that has one edge with them.
 fn rings_and_tetrahedron<A: Allocator + Copy>(alloc: A) -> Result<Vec<Facet, A>, AllocError> {
     let mut list = rings(alloc, 4608)?;
-    let (a, b) = (ring_point(0, 0), ring_point(1, 0));
-    let (c, d) = (Point::new(100, 100, 100), Point::new(100, 0, 100));
-    push_facet(&mut list, [a, b, c])?;
-    push_facet(&mut list, [b, a, d])?;
-    push_facet(&mut list, [a, c, d])?;
-    push_facet(&mut list, [b, d, c])?;
+    let a = in_range(ring_point(0, 0))?;
+    let b = in_range(ring_point(1, 0))?;
+    let c = in_range(Point::new(100, 100, 100))?;
+    let d = in_range(Point::new(100, 0, 100))?;
+    list.push(Facet::of(a, b, c))?;
+    list.push(Facet::of(b, a, d))?;
+    list.push(Facet::of(a, c, d))?;
+    list.push(Facet::of(b, d, c))?;
     Ok(list)
 }
 
@@ -49,10 +47,10 @@ fn an_edge_of_four_half_edges(rt: HostRuntime) -> Result<(), Fail> {
 // The rings, of which the first facet comes twice.
 fn rings_and_a_copy<A: Allocator + Copy>(alloc: A) -> Result<Vec<Facet, A>, AllocError> {
     let mut list = rings(alloc, 4608)?;
-    push_facet(
-        &mut list,
-        [ring_point(0, 0), ring_point(1, 0), ring_point(1, 1)],
-    )?;
+    let a = in_range(ring_point(0, 0))?;
+    let b = in_range(ring_point(1, 0))?;
+    let c = in_range(ring_point(1, 1))?;
+    list.push(Facet::of(a, b, c))?;
     Ok(list)
 }
 
@@ -73,10 +71,13 @@ fn rim_point(number: u32) -> Option<Point> {
 // A rim of 2,100 points, each joined to two others: more facets at these than the steps along chains allow for.
 fn fan<A: Allocator + Copy>(alloc: A) -> Result<Vec<Facet, A>, AllocError> {
     let mut list = Vec::new(alloc);
+    let low = in_range(Point::new(0, 0, 0))?;
+    let high = in_range(Point::new(0, 0, 2))?;
     for number in 0..2100 {
-        let (one, next) = (rim_point(number), rim_point(number + 1));
-        push_facet(&mut list, [Point::new(0, 0, 0), next, one])?;
-        push_facet(&mut list, [Point::new(0, 0, 2), one, next])?;
+        let one = in_range(rim_point(number))?;
+        let next = in_range(rim_point(number + 1))?;
+        list.push(Facet::of(low, next, one))?;
+        list.push(Facet::of(high, one, next))?;
     }
     Ok(list)
 }
@@ -96,12 +97,15 @@ fn rings_and_book<A: Allocator + Copy>(alloc: A, backs: u32) -> Result<Vec<Facet
     requires { backs ≤ 200 }
 {
     let mut list = rings(alloc, 4608)?;
-    let (low, high) = (Point::new(100, 0, 0), Point::new(100, 0, 1));
+    let low = in_range(Point::new(100, 0, 0))?;
+    let high = in_range(Point::new(100, 0, 1))?;
     for page in 0..200 {
-        push_facet(&mut list, [ring_point(page / 48, page % 48), low, high])?;
+        let far = in_range(ring_point(page / 48, page % 48))?;
+        list.push(Facet::of(far, low, high))?;
     }
     for page in 0..backs {
-        push_facet(&mut list, [ring_point(page / 48, page % 48), high, low])?;
+        let far = in_range(ring_point(page / 48, page % 48))?;
+        list.push(Facet::of(far, high, low))?;
     }
     Ok(list)
 }
