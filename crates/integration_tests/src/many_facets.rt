@@ -1,4 +1,4 @@
-//! Meshes of so many facets that they are welded by hashes, with edges of many half-edges and vertices of many facets.
+//! Meshes with enough facets to be welded by hashes, with edges of many half-edges and vertices of many facets.
 ghost use Rattle.std.specs.Prelude.{◌≤◌, ◌<◌, ◌+◌};
 
 use crate::allocations::{Count, first_free_turn};
