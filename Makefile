@@ -37,7 +37,7 @@ ZSH_COMPLETION = $(SHARE)/zsh/site-functions/_stlslice
 FISH_COMPLETION = $(SHARE)/fish/vendor_completions.d/stlslice.fish
 DOCS = $(SHARE)/doc/stlslice
 
-MISSING = rt is missing: the Rattle toolchain, rattle-kit-13f, which proves and builds stlslice; put the folder bin/ \
+MISSING = rt is missing: the Rattle toolchain, rattle-kit-13, which proves and builds stlslice; put the folder bin/ \
 	of the kit on the PATH. A built stlslice itself needs only the C library (glibc 2.34 or later).
 NEEDS_RT = @command -v rt > /dev/null || { echo "$(MISSING)" >&2; exit 1; }
 

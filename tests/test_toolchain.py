@@ -22,7 +22,7 @@ def main():
             ran = room.run("make", "-s", target, f"PROGRAM={room.file('none')}", f"LIBRARY={room.file('none.so')}")
             lines = [it for it in ran.stderr.splitlines() if not it.startswith("make:")]
             same(f"make {target} says one line", (ran.returncode, ran.stdout, len(lines)), (2, "", 1))
-            for word in ("rt is missing", "rattle-kit-13f", f"glibc {told}"):
+            for word in ("rt is missing", "rattle-kit-13", f"glibc {told}"):
                 holds(f"make {target} tells of {word}", word in lines[0])
     with open(PROGRAM, "rb") as file:
         body = file.read()

@@ -26,7 +26,7 @@ pub(crate) const PROBE: &str = "probe";
 pub(crate) const PROGRESS: &str = "progress";
 
 /// What `--version` prints after the program's name: the version, and the toolchain that proved it.
-const VERSION: &str = "1.0.0 (proved with rattle-kit-13f logic dac8208d650f15bf)";
+const VERSION: &str = "1.0.0 (proved with rattle-kit-13 logic dac8208d650f15bf)";
 
 const ABOUT: &str = "Slices a closed triangle mesh into one image a layer.
 
