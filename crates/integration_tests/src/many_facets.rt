@@ -92,37 +92,6 @@ fn vertices_of_many_facets(rt: HostRuntime) -> Result<(), Fail> {
     Ok(())
 }
 
-// The rings, and between them and one edge a book of 200 pages: all their fronts, and then as many of their backs.
-fn rings_and_book<A: Allocator + Copy>(alloc: A, backs: u32) -> Result<Vec<Facet, A>, AllocError>
-    requires { backs ≤ 200 }
-{
-    let mut list = rings(alloc, 4608)?;
-    let low = in_range(Point::new(100, 0, 0))?;
-    let high = in_range(Point::new(100, 0, 1))?;
-    for page in 0..200 {
-        let far = in_range(ring_point(page / 48, page % 48))?;
-        list.push(Facet::of(far, low, high))?;
-    }
-    for page in 0..backs {
-        let far = in_range(ring_point(page / 48, page % 48))?;
-        list.push(Facet::of(far, high, low))?;
-    }
-    Ok(list)
-}
-
-#[test]
-fn an_edge_of_400_half_edges(rt: HostRuntime) -> Result<(), Fail> {
-    let facets = rings_and_book(rt.alloc(), 200)?;
-    assert_eq!(rt;
-        counts(welded(rt.alloc(), facets)),
-        Some((5008, 0, 2306, 7313))
-    );
-    let facets = rings_and_book(rt.alloc(), 0)?;
-    let open = open_edge(welded(rt.alloc(), facets));
-    assert_eq!(rt; open, Some(([0, 0, 0], [100, 0, 0], 1, 0)));
-    Ok(())
-}
-
 // Whether several threads weld the facets as one does.
 fn is_welded_alike<R: Threads + Sync>(rt: &R, alloc: Global, facets: &[Facet]) -> bool {
     agree(&fed(alloc, facets, 1000), &fed_by(rt, alloc, facets))
@@ -130,10 +99,6 @@ fn is_welded_alike<R: Threads + Sync>(rt: &R, alloc: Global, facets: &[Facet]) -
 
 #[test]
 fn by_threads(rt: HostRuntime) -> Result<(), Fail> {
-    for count in [12, 4095, 4607, 4608] {
-        let facets = rings(rt.alloc(), count)?;
-        assert!(rt; is_welded_alike(&rt, rt.alloc(), facets.as_slice()));
-    }
     let facets = rings_and_tetrahedron(rt.alloc())?;
     assert!(rt; is_welded_alike(&rt, rt.alloc(), facets.as_slice()));
     let facets = fan(rt.alloc())?;
