@@ -1,5 +1,5 @@
 pub mod Active
-pub mod Link
+pub mod Linker
 pub mod Loops
 pub mod Outlines
 pub mod Laws

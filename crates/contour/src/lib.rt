@@ -26,7 +26,7 @@
 
 mod active;
 mod laws;
-mod link;
+mod linker;
 mod loop_list;
 mod outlines;
 mod segment;
@@ -34,7 +34,7 @@ mod sweep;
 
 pub use exact_cut::PlanePoint;
 pub use laws::hold_loop_laws;
-pub use link::{Linker, loops};
+pub use linker::{Linker, loops};
 // The module is not called `loops`, since a module and a function of one name are refused.
 pub use loop_list::{Loops, loop_ray};
 pub use outlines::Outlines;

@@ -20,19 +20,19 @@ use exact_int::quick_ceil_div;
 /// position over the unit, rounded up.
 #[derive(Clone, Copy)]
 pub(crate) struct Dda {
-    pub unit: i128,
-    pub whole: i128,
-    pub remainder: i128,
-    pub increment: i128,
-    pub increment_remainder: i128,
+    pub(crate) unit: i128,
+    pub(crate) whole: i128,
+    pub(crate) remainder: i128,
+    pub(crate) increment: i128,
+    pub(crate) increment_remainder: i128,
 }
 
 /// A division that rounds up: the number is `quotient * unit - remainder`, and the remainder is at least 0 and below the
 /// unit.
 #[derive(Clone, Copy)]
 pub(crate) struct Division {
-    pub quotient: i128,
-    pub remainder: i128,
+    pub(crate) quotient: i128,
+    pub(crate) remainder: i128,
 }
 
 /// Divides a number by a unit, rounding up.

@@ -12,7 +12,7 @@ pub mod Balances
 pub mod EdgeChains
 pub mod HeightOrder
 pub mod Transfer
-pub mod Numbered
+pub mod FacetNumbers
 pub mod EdgeNumbering
 pub mod Naming
 pub mod Welds

@@ -1,7 +1,7 @@
 pub mod Areas
 pub mod Masks
 pub mod Packing
-pub mod Ordered
+pub mod SpanOrder
 pub mod Covered
 pub mod Decimals
 pub mod Sent

@@ -23,7 +23,7 @@ use Rattle.stl_text.specs.declared.stage.Stage.TheVariants as stage
 use Rattle.stl_text.specs.declared.stage.Step.{Step}
 use Rattle.stl_text.specs.declared.stage.Step.TheVariants as step
 use Rattle.stl_text.specs.declared.stage.TheConstants.{LAST_WORD}
-use Rattle.stl_text.specs.Text.{wanted as wanted_at, is_keyword, is_wanted, facet_keyword, Token, keyword_of, normal_part, coordinate, rest_of_line, facet_word, facet_tokens, solid_tokens, HasOneKeyword, begins_with, after_token, rest_after, first_word, after_space, after_word, after_line, facets_of}
+use Rattle.stl_text.specs.Text.{wanted as wanted_at, is_keyword, is_wanted, facet_keyword, Token, keyword_of, normal_word, coordinate, rest_of_line, facet_word, facet_tokens, solid_tokens, HasOneKeyword, begins_with, after_token, rest_after, first_word, after_space, after_word, after_line, facets_of}
 use Rattle.stl_text.specs.Reader.{facet_tail}
 
 -- a point with another coordinate
@@ -46,13 +46,13 @@ pub record Goes (words : ℕ) (token : Token) (t u : Facet) : Type 0 where
 -- what is wanted after this number of the words that follow `facet`
 abbrev pub IsWantedAt : ℕ → InnerWord → Type 0
 IsWantedAt words (inner.Keyword kind) = (kind ≢ Solid) × ((t : Facet) → Goes words (keyword_of kind) t t)
-IsWantedAt words inner.Part = (t : Facet) → Goes words normal_part t t
+IsWantedAt words inner.NormalWord = (t : Facet) → Goes words normal_word t t
 IsWantedAt words (inner.Number corner axis) = (t : Facet) (value : ℤ) → Goes words (coordinate value) t (with_number corner axis value t)
 
 -- a kind with one keyword, or no keyword
 abbrev pub IsPlain : InnerWord → Type 0
 IsPlain (inner.Keyword kind) = HasOneKeyword kind
-IsPlain inner.Part = Unit {0}
+IsPlain inner.NormalWord = Unit {0}
 IsPlain (inner.Number corner axis) = Unit {0}
 
 -- the text after t begins with the next token, and then the facet is u

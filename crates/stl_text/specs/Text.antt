@@ -89,7 +89,7 @@ HasOneKeyword kind = length (keywords kind) ≡ 1
 
 pub data Token : Type 0 where
   keyword : Word → List ℕ → Token
-  normal_part : Token
+  normal_word : Token
   coordinate : ℤ → Token
   rest_of_line : Token
 
@@ -107,7 +107,7 @@ abbrev pub vertex_tokens : Point → List Token
 vertex_tokens p = keyword_of Vertex ∷ coordinate p.x ∷ coordinate p.y ∷ coordinate p.z ∷ []
 
 abbrev pub normal_tokens : List Token
-normal_tokens = keyword_of Normal ∷ normal_part ∷ normal_part ∷ normal_part ∷ []
+normal_tokens = keyword_of Normal ∷ normal_word ∷ normal_word ∷ normal_word ∷ []
 
 abbrev pub loop_tokens : Facet → List Token
 loop_tokens t =
@@ -131,14 +131,14 @@ is_read_as z word unit = elim (coordinate_of unit word) [ Ok x ↦ int_eq x z | 
 -- whether a text begins with the token
 abbrev pub begins_with : LengthUnit → Token → List ℕ → Bool
 begins_with unit (keyword wanted text) bytes = is_keyword text (first_word bytes)
-begins_with unit normal_part bytes = nat_lt 0 (length (first_word bytes))
+begins_with unit normal_word bytes = nat_lt 0 (length (first_word bytes))
 begins_with unit (coordinate z) bytes = is_read_as z (first_word bytes) unit
 begins_with unit rest_of_line bytes = true
 
 abbrev pub after_token : Token → List ℕ → List ℕ
 after_token rest_of_line bytes = after_line bytes
 after_token (keyword wanted text) bytes = after_word bytes
-after_token normal_part bytes = after_word bytes
+after_token normal_word bytes = after_word bytes
 after_token (coordinate z) bytes = after_word bytes
 
 -- the rest of the text after the tokens, if the text begins with them
@@ -164,13 +164,13 @@ pub record Reads (limit : ℕ) (unit : LengthUnit) (bytes : List ℕ) (facets : 
 -- What is wanted where a token has to come, as a fault names it. A word of a normal counts as a number.
 abbrev pub wanted : Token → Option Word
 wanted (keyword word text) = Some word
-wanted normal_part = Some Number
+wanted normal_word = Some Number
 wanted (coordinate z) = Some Number
 wanted rest_of_line = None
 
 abbrev pub is_facet_word : Token → Bool
 is_facet_word (keyword wanted text) = is_keyword text facet_keyword
-is_facet_word normal_part = false
+is_facet_word normal_word = false
 is_facet_word (coordinate z) = false
 is_facet_word rest_of_line = false
 

@@ -15,7 +15,7 @@ use Rattle.micro_num.specs.declared.unit.Unit.{Unit as LengthUnit}
 use Rattle.micro_num.specs.Micrometres.{coordinate_of}
 use Rattle.geometry.specs.Facet.{Facet}
 use Rattle.stl_text.specs.declared.word.Word.TheVariants.{Solid}
-use Rattle.stl_text.specs.Text.{Token, keyword, keyword_text, end_keyword, normal_part, coordinate, rest_of_line, facet_tokens, facets_of, is_white, is_line_end}
+use Rattle.stl_text.specs.Text.{Token, keyword, keyword_text, end_keyword, normal_word, coordinate, rest_of_line, facet_tokens, facets_of, is_white, is_line_end}
 
 abbrev pub are_white : List ℕ → Bool
 are_white bytes = list_all is_white bytes
@@ -39,7 +39,7 @@ is_spaced_word s = is_word s.text && (nat_lt 0 (length s.space) && are_white s.s
 -- the word stands for the token: a keyword in any case
 abbrev pub IsWordOf : LengthUnit → Token → List ℕ → Type 0
 IsWordOf unit (keyword wanted text) word = str_to_ascii_lowercase word ≡ text
-IsWordOf unit normal_part word = Unit {0}
+IsWordOf unit normal_word word = Unit {0}
 IsWordOf unit (coordinate z) word = coordinate_of unit word ≡ Ok z
 IsWordOf unit rest_of_line word = ⊥
 

@@ -5,7 +5,7 @@ ghost use Rattle.micro_num.specs.declared.unit.Unit.{Unit as LengthUnit};
 ghost use Rattle.stl_text.specs.Layout.{separator_tokens};
 ghost use Rattle.stl_text.specs.FacetRun.{next_solid};
 ghost use Rattle.stl_text.specs.Reader.{Spells};
-ghost use Rattle.stl_text.specs.Text.{coordinate, facet_tokens, normal_part, rest_after};
+ghost use Rattle.stl_text.specs.Text.{coordinate, facet_tokens, normal_word, rest_after};
 
 use crate::reader::Reader;
 use crate::scanning::{after_keyword, skip_line};
@@ -52,12 +52,12 @@ impl<'t> Reader<'t> {
 
     /// Reads the three words of a normal, if they stand here.
     #[inline(always)]
-    pub(crate) fn normal_parts(&mut self) -> Option<()>
-        ensures { IfSome result (λ _. Spells (normal_part ∷ normal_part ∷ normal_part ∷ []) self.old self.new) }
+    pub(crate) fn normal_words(&mut self) -> Option<()>
+        ensures { IfSome result (λ _. Spells (normal_word ∷ normal_word ∷ normal_word ∷ []) self.old self.new) }
     {
-        self.normal_part()?;
-        self.normal_part()?;
-        self.normal_part()
+        self.normal_word()?;
+        self.normal_word()?;
+        self.normal_word()
     }
 
     /// Reads the three coordinates of a vertex, if they stand here.
@@ -79,7 +79,7 @@ impl<'t> Reader<'t> {
         ensures { IfSome result (λ t. Spells (facet_tokens t) self.old self.new) }
     {
         self.separator(Separator::Opening)?;
-        self.normal_parts()?;
+        self.normal_words()?;
         self.separator(Separator::First)?;
         let a = self.point()?;
         self.separator(Separator::Next)?;

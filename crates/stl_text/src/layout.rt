@@ -5,14 +5,16 @@ ghost use Rattle.std.specs.List.{list_all};
 ghost use Rattle.micro_num.specs.Micrometres.{coordinate_of};
 ghost use Rattle.stl_text.specs.Layout.{IsClosing, IsSeparator, Skips, separator_tokens};
 ghost use Rattle.stl_text.specs.Reader.{Spells};
-ghost use Rattle.stl_text.specs.Text.{Token, after_space, after_word, coordinate, facet_tokens, first_word, is_white, normal_part, rest_after};
+ghost use Rattle.stl_text.specs.Text.{Token, after_space, after_word, coordinate, facet_tokens, first_word, is_white, normal_word, rest_after};
 ghost use Rattle.stl_text.specs.declared.grammar.Separator.TheVariants.{Closing};
 
 use crate::grammar::{Separator, facet_by_words};
 use crate::reader::Reader;
-use crate::scanning::{after_coordinate, ends_word, skip_blank, skip_space, split_word};
+use crate::scanning::{
+    after_coordinate, after_front, ends_word, skip_blank, skip_space, split_word,
+};
 use geometry::{Facet, Point};
-use micro_num::{Unit, read_front};
+use micro_num::Unit;
 use std::marker::Model;
 use std::simd::prelude::*;
 
@@ -62,20 +64,20 @@ impl<'t> Reader<'t> {
         Some(())
     }
 
-    /// Like `normal_parts`, and faster where the words stand one blank apart.
+    /// Like `normal_words`, and faster where the words stand one blank apart.
     #[inline(always)]
     fn near_normal(&mut self) -> Option<()>
-        ensures { IfSome result (λ _. Spells (normal_part ∷ normal_part ∷ normal_part ∷ []) self.old self.new) }
+        ensures { IfSome result (λ _. Spells (normal_word ∷ normal_word ∷ normal_word ∷ []) self.old self.new) }
     {
-        self.near_part()?;
-        self.near_part()?;
-        self.near_part()
+        self.near_word()?;
+        self.near_word()?;
+        self.near_word()
     }
 
-    /// Like `normal_part`, and faster where the word is short and at most one blank stands before it.
+    /// Like `normal_word`, and faster where the word is short and at most one blank stands before it.
     #[inline(always)]
-    fn near_part(&mut self) -> Option<()>
-        ensures { IfSome result (λ _. Spells (normal_part ∷ []) self.old self.new) }
+    fn near_word(&mut self) -> Option<()>
+        ensures { IfSome result (λ _. Spells (normal_word ∷ []) self.old self.new) }
     {
         self.rest = match after_short_word(skip_blank(self.rest)) {
             Some(rest) => rest,
@@ -148,9 +150,9 @@ fn after_any_coordinate(bytes: &[u8], unit: Unit) -> Option<(i32, &[u8])>
 
 /// The number of bytes at the front of a text that are above a blank (32), so not white space, or `LANES` if there are more.
 #[inline(always)]
-fn black_len(bytes: &[u8]) -> usize
+fn front_len(bytes: &[u8]) -> usize
     requires { LANES ≤ length bytes.now }
-    ensures black { list_all (λ byte. not (is_white byte)) (take result bytes.now) ≡ true }
+    ensures clear { list_all (λ byte. not (is_white byte)) (take result bytes.now) ≡ true }
     ensures within { result ≤ LANES }
 {
     let low = u8x16::from_slice(bytes)
@@ -172,26 +174,10 @@ fn after_short_word(bytes: &[u8]) -> Option<&[u8]>
     if bytes.len() < LANES {
         return None;
     }
-    let count = black_len(bytes);
+    let count = front_len(bytes);
     let (_, rest) = bytes.split_at(count);
     if count > 0 && ends_word(rest) {
         Some(rest)
-    } else {
-        None
-    }
-}
-
-/// The coordinate that the word at the front of a text stands for, and the text after the word. `None` says nothing about
-/// the text.
-#[inline(always)]
-fn after_front(bytes: &[u8], unit: Unit) -> Option<(i32, &[u8])>
-    ensures read { IfSome result (λ found. coordinate_of unit (first_word bytes.now) ≡ Ok found.0) }
-    ensures rest { IfSome result (λ found. found.1.now ≡ after_word bytes.now) }
-{
-    let (z, count) = read_front(bytes, unit)?;
-    let (_, rest) = bytes.split_at(count);
-    if ends_word(rest) {
-        Some((z, rest))
     } else {
         None
     }
@@ -233,7 +219,7 @@ impl<'t> Layout<'t> {
         let opening = separator_at(text, Separator::Opening)?;
         let mut reader = Reader::new(text, Unit::Millimetre);
         reader.separator(Separator::Opening)?;
-        reader.normal_parts()?;
+        reader.normal_words()?;
         let first = separator_at(reader.rest, Separator::First)?;
         reader.separator(Separator::First)?;
         reader.point()?;

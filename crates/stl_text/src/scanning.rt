@@ -130,6 +130,24 @@ pub(crate) fn after_keyword<'t>(bytes: &'t [u8], text: &[u8]) -> Option<&'t [u8]
     }
 }
 
+/// The coordinate that the word at the front of a text stands for, and the text after the word. `None` says nothing about
+/// the text.
+#[inline(always)]
+pub(crate) fn after_front(bytes: &[u8], unit: Unit) -> Option<(i32, &[u8])>
+    ensures front { IfSome result (λ found. after_space bytes.now ≡ bytes.now) }
+    ensures read { IfSome result (λ found. coordinate_of unit (first_word bytes.now) ≡ Ok found.0) }
+    ensures rest { IfSome result (λ found. found.1.now ≡ after_word bytes.now) }
+    ensures within { IfSome result (λ found. length found.1.now ≤ length bytes.now) }
+{
+    let (z, count) = read_front(bytes, unit)?;
+    let (_, rest) = bytes.split_at(count);
+    if ends_word(rest) {
+        Some((z, rest))
+    } else {
+        None
+    }
+}
+
 /// The coordinate that the first word stands for, and the text after the word. `None` says nothing about the text.
 #[inline(always)]
 pub(crate) fn after_coordinate(bytes: &[u8], unit: Unit) -> Option<(i32, &[u8])>
@@ -137,12 +155,6 @@ pub(crate) fn after_coordinate(bytes: &[u8], unit: Unit) -> Option<(i32, &[u8])>
     ensures rest { IfSome result (λ found. found.1.now ≡ after_word bytes.now) }
     ensures within { IfSome result (λ found. length found.1.now ≤ length bytes.now) }
 {
-    let front = skip_space(bytes);
-    let (z, count) = read_front(front, unit)?;
-    let (_, rest) = front.split_at(count);
-    if ends_word(rest) {
-        Some((z, rest))
-    } else {
-        None
-    }
+    let (z, rest) = after_front(skip_space(bytes), unit)?;
+    Some((z, rest))
 }

@@ -36,7 +36,7 @@ pub(crate) enum InnerWord {
     /// The one keyword of this kind.
     Keyword(Word),
     /// A word of a normal.
-    Part,
+    NormalWord,
     /// This coordinate of this corner.
     Number(FacetCorner, Axis),
 }
@@ -132,9 +132,9 @@ fn wanted_after(words: usize) -> InnerWord
 {
     match words {
         0 => InnerWord::Keyword(Word::Normal),
-        1 => InnerWord::Part,
-        2 => InnerWord::Part,
-        3 => InnerWord::Part,
+        1 => InnerWord::NormalWord,
+        2 => InnerWord::NormalWord,
+        3 => InnerWord::NormalWord,
         4 => InnerWord::Keyword(Word::Outer),
         5 => InnerWord::Keyword(Word::Loop),
         6 => InnerWord::Keyword(Word::Vertex),
@@ -175,7 +175,7 @@ fn read_inside(
                 Err(StlFault::Expected { word: kind, at })
             }
         }
-        InnerWord::Part => Ok(facet),
+        InnerWord::NormalWord => Ok(facet),
         InnerWord::Number(corner, axis) => match read_micro(word, unit) {
             Ok(value) => Ok(put_in(facet, corner, axis, value)),
             Err(cause) => Err(StlFault::Number { cause, at }),
@@ -293,7 +293,7 @@ impl Stage {
             Stage::Facets => Word::FacetOrEnd,
             Stage::Inside { words, .. } => match wanted_after(words) {
                 InnerWord::Keyword(kind) => kind,
-                InnerWord::Part => Word::Number,
+                InnerWord::NormalWord => Word::Number,
                 InnerWord::Number(_, _) => Word::Number,
             },
         };

@@ -263,16 +263,15 @@ impl<A: Allocator> TextReader<A> {
             return chunk;
         }
         let (word, rest) = chunk.split_at(word_len(chunk));
-        let (_, none) = rest.split_at(rest.len());
         let ReaderState::Word(stage) = self.state else {
-            return none;
+            return &[];
         };
         if let Err(fault) = hold(&mut self.held, word) {
             self.state = ReaderState::Stopped(fault);
-            return none;
+            return &[];
         }
         if rest.is_empty() {
-            return none;
+            return rest;
         }
         self.read_held(stage, rest.len());
         rest
@@ -287,7 +286,7 @@ impl<A: Allocator> TextReader<A> {
         ensures shorter { length result.now < length part.now }
     {
         match self.state {
-            ReaderState::Stopped(_) => part.split_at(part.len()).1,
+            ReaderState::Stopped(_) => &[],
             ReaderState::Line(stage) => self.line(stage, part),
             ReaderState::Word(stage) => {
                 if matches!(stage, Stage::Facets) {
@@ -337,8 +336,7 @@ impl<A: Allocator> TextReader<A> {
         let rest = found.1;
         if let Err(fault) = add(&mut self.facets, found.0) {
             self.state = ReaderState::Stopped(fault);
-            let (_, none) = rest.split_at(rest.len());
-            return Some(none);
+            return Some(&[]);
         }
         Some(rest)
     }

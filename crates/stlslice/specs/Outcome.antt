@@ -24,15 +24,15 @@ use Rattle.stlslice.specs.declared.run_fault.RunFault.{RunFault}
 use Rattle.stlslice.specs.declared.run_fault.RunFault.TheVariants as fault
 use Rattle.geometry.specs.declared.limits.TheConstants.{FACET_LIMIT}
 
-abbrev pub position_text : Point → List ℕ
-position_text p = signed_decimal p.x ++ codes " " ++ signed_decimal p.y ++ codes " " ++ signed_decimal p.z
+abbrev pub point_text : Point → List ℕ
+point_text p = signed_decimal p.x ++ codes " " ++ signed_decimal p.y ++ codes " " ++ signed_decimal p.z
 
 -- the line of a count of facets, with the corners of their bounding box
 abbrev pub line_text : ℕ → Option (Point × Point) → List ℕ
 line_text count None = codes "facets " ++ (decimal count ++ codes "\n")
 line_text count (Some corners) =
     codes "facets " ++ (decimal count
-    ++ (codes " box " ++ (position_text corners.0 ++ (codes " " ++ (position_text corners.1 ++ codes "\n")))))
+    ++ (codes " box " ++ (point_text corners.0 ++ (codes " " ++ (point_text corners.1 ++ codes "\n")))))
 
 -- the box line, over all facets that were read
 abbrev pub box_text : List Facet → List ℕ

@@ -13,7 +13,7 @@ use crate::loading::{read_extent, read_solid, read_solid_by};
 use crate::run_fault::RunFault;
 use crate::write::box_line::box_line;
 use crate::write::flush::write_all;
-use crate::write::probe_line::probe_voxel;
+use crate::write::probe_line::probe_line;
 use crate::write::{Output, write_build};
 use build_book::Job;
 use layer_pool::{Gate, OpenGate, build};
@@ -139,7 +139,7 @@ fn run_probe<A: Allocator + Copy + Send + Sync, I: Source, O: Sink>(
     let (i, j, k) = voxel;
     let solid = read_solid(alloc, source, unit)?;
     let grid = grid_for(&solid, given, pitch, layer)?;
-    let line = probe_voxel(alloc, &solid, &grid, i, j, k)?;
+    let line = probe_line(alloc, &solid, &grid, i, j, k)?;
     write_all(sink, line.as_bytes())
 }
 

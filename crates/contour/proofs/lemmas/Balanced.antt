@@ -17,7 +17,7 @@ use Rattle.contour.specs.declared.segment.Node.{Node}
 use Rattle.contour.specs.declared.segment.Segment.{Segment}
 use Rattle.contour.specs.Segment.{between, both_of, height, is_downward, is_node, is_upward, node_of, segment_of, segments}
 use Rattle.geometry.specs.TieRule.{rises_through}
-use Rattle.contour.specs.Link.{edge_at_node, edge_of_facet, start_edge, finish_edge, AreSegmentEdges}
+use Rattle.contour.specs.Linker.{edge_at_node, edge_of_facet, start_edge, finish_edge, AreSegmentEdges}
 use Rattle.contour.proofs.lemmas.Counts.{AreEven, count-append}
 use Rattle.contour.proofs.lemmas.Cutting.{triples_at}
 use Rattle.contour.proofs.lemmas.Links.{AreFrom, edge_below, segments_ascend}

@@ -12,7 +12,7 @@ use Rattle.mesh_weld.specs.EdgeNumbers.{AreEdgeNumbers}
 use Rattle.contour.specs.declared.segment.Node.{Node}
 use Rattle.contour.specs.declared.segment.Segment.{Segment}
 use Rattle.contour.specs.Segment.{both_of, edge_node, is_downward, is_node, is_upward, node_of, segment_of, segments}
-use Rattle.contour.specs.Link.{AreSegmentEdges, edge_at_node, edge_of_facet, start_edge, finish_edge}
+use Rattle.contour.specs.Linker.{AreSegmentEdges, edge_at_node, edge_of_facet, start_edge, finish_edge}
 use Rattle.geometry.specs.declared.limits.TheConstants.{FACET_LIMIT}
 
 -- a segment from a facet has its number

@@ -5,8 +5,8 @@ use Rattle.std.specs.Prelude.{◌==◌}
 use Rattle.std.proofs.lemmas.List.{drop_more, get_or_default, get_or_past, get_or-drop, take_all}
 use Rattle.std.proofs.lemmas.List.Sums.{count_by_more_yes, count_by_more_no}
 use Rattle.std.proofs.lemmas.Bool.{eqb-true, eqb-false, eq-eqb, ne_eqb}
-use Rattle.contour.specs.Link.{ArePopped, HasFirsts, HasLeft, HasNexts, IsClear, slot_after, slots}
-use Rattle.contour.specs.declared.link.TheConstants.{NONE}
+use Rattle.contour.specs.Linker.{ArePopped, HasFirsts, HasLeft, HasNexts, IsClear, slot_after, slots}
+use Rattle.contour.specs.declared.linker.TheConstants.{NONE}
 use Rattle.contour.proofs.lemmas.Counts.{AreEven, times, times-own, times-other}
 use Rattle.geometry.specs.declared.limits.TheConstants.{FACET_LIMIT}
 

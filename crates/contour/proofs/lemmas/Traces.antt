@@ -8,7 +8,7 @@ use Rattle.std.proofs.lemmas.List.Folds.{list_all-append}
 use Rattle.contour.specs.declared.segment.Segment.{Segment}
 use Rattle.contour.specs.Segment.{segments}
 use Rattle.contour.specs.Loops.{AreEnds, AreLoops, IsCycle, count_of, first_facet, is_from_least, parts_from}
-use Rattle.contour.specs.Link.{AreLinks, IsTracedLoop, KeepsLoopsWhole, InFacetOrder, facet_of, is_visited, unvisited}
+use Rattle.contour.specs.Linker.{AreLinks, IsTracedLoop, KeepsLoopsWhole, InFacetOrder, facet_of, is_visited, unvisited}
 use Rattle.contour.proofs.lemmas.Counts.{count-append}
 use Rattle.geometry.specs.Facet.{Facet}
 use Rattle.contour.proofs.lemmas.Links.{AreFrom, segments_ascend}

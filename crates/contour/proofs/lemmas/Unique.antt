@@ -10,7 +10,7 @@ use Rattle.mesh_weld.proofs.lemmas.Edges.{count_by-cons}
 use Rattle.contour.specs.declared.segment.Segment.{Segment}
 use Rattle.contour.specs.Segment.{is_node, segments}
 use Rattle.contour.specs.Loops.{AreLoops, Closes, IsCycle, count_of, cycle, first_facet, follower, is_from_least, is_leader, loops, run_from, rank_at_end}
-use Rattle.contour.specs.Link.{no_segment}
+use Rattle.contour.specs.Linker.{no_segment}
 use Rattle.contour.proofs.lemmas.Counts.{count-append}
 use Rattle.contour.proofs.lemmas.Cycles.{NoneOf, onward, run-is}
 use Rattle.contour.proofs.lemmas.Links.{AreFrom, segments_ascend}

@@ -5,9 +5,9 @@ ghost use Rattle.exact_cut.specs.Bounds.{half_point_limit};
 /// A point of a mesh in half-micrometres.
 #[derive(Clone, Copy)]
 pub(crate) struct HalfPoint {
-    pub x: i64,
-    pub y: i64,
-    pub z: i64,
+    pub(crate) x: i64,
+    pub(crate) y: i64,
+    pub(crate) z: i64,
     ghost x_in: { IsAtMost half_point_limit x },
     ghost y_in: { IsAtMost half_point_limit y },
     ghost z_in: { IsAtMost half_point_limit z },

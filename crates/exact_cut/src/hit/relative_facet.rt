@@ -5,9 +5,9 @@ ghost use Rattle.exact_cut.specs.Bounds.{offset_limit};
 /// The vector from a centre to a corner, in half-micrometres.
 #[derive(Clone, Copy)]
 pub(crate) struct Offset {
-    pub x: i64,
-    pub y: i64,
-    pub z: i64,
+    pub(crate) x: i64,
+    pub(crate) y: i64,
+    pub(crate) z: i64,
     ghost x_in: { IsAtMost offset_limit x },
     ghost y_in: { IsAtMost offset_limit y },
     ghost z_in: { IsAtMost offset_limit z },
@@ -16,7 +16,7 @@ pub(crate) struct Offset {
 /// A facet in coordinates whose origin is a centre.
 #[derive(Clone, Copy)]
 pub(crate) struct RelativeFacet {
-    pub a: Offset,
-    pub b: Offset,
-    pub c: Offset,
+    pub(crate) a: Offset,
+    pub(crate) b: Offset,
+    pub(crate) c: Offset,
 }

@@ -12,9 +12,9 @@ use crate::cut::half_point::HalfPoint;
 /// Where an edge passes a height: the point `(x / d, y / d)` in half-micrometres.
 #[derive(Clone, Copy)]
 pub(crate) struct CutPoint {
-    pub x: i64,
-    pub y: i64,
-    pub d: i64,
+    pub(crate) x: i64,
+    pub(crate) y: i64,
+    pub(crate) d: i64,
     ghost x_in: { IsAtMost cut_numerator_limit x },
     ghost y_in: { IsAtMost cut_numerator_limit y },
     ghost d_in: { IsAtMost cut_denominator_limit d },

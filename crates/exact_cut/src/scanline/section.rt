@@ -18,8 +18,8 @@ use geometry::Facet;
 /// height.
 #[derive(Clone, Copy)]
 pub(crate) struct Section {
-    pub down: CutPoint,
-    pub up: CutPoint,
+    pub(crate) down: CutPoint,
+    pub(crate) up: CutPoint,
 }
 
 impl Section {

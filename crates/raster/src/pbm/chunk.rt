@@ -5,7 +5,7 @@ ghost use Rattle.std.specs.Io.KnownBytes.{Appends};
 ghost use Rattle.raster.specs.Devices.{AppendsFirst, Fails};
 ghost use Rattle.raster.specs.Image.{header, image_limit, row_bytes};
 ghost use Rattle.raster.specs.Rows.{are_within, crosses};
-ghost use Rattle.raster.specs.declared.pbm.chunk.TheConstants.{CHUNK_LEN};
+ghost use Rattle.raster.specs.declared.pbm.chunk.TheConstants.{CHUNK_LEN, HEADER_LIMIT};
 ghost use Rattle.geometry.specs.declared.limits.TheConstants.{COLUMN_LIMIT};
 
 use crate::devices::{Sink, WriteFault, put_all};
@@ -16,6 +16,10 @@ use std::marker::Model;
 
 /// The greatest number of bytes that one call of a sink is given: room for eight rows of the greatest width.
 const CHUNK_LEN: usize = 8 * (COLUMN_LIMIT as usize / 8);
+
+/// The greatest length of an image's header: `P4`, a line break, the width, a blank, the height and a line break, where each
+/// of both numbers has at most five digits.
+const HEADER_LIMIT: usize = 15;
 
 /// Bytes on their way to a sink. They lie on the stack, so that writing allocates no memory. All bytes of the free room
 /// after them are 0, so that a row is drawn by setting bits.
@@ -91,7 +95,7 @@ impl Chunk {
         requires width { width ≤ COLUMN_LIMIT }
         requires height { height ≤ COLUMN_LIMIT }
         ensures value { self.new ≡ header width height }
-        ensures short { length self.new ≤ 15 }
+        ensures short { length self.new ≤ HEADER_LIMIT }
     {
         self.push_all(b"P4\n");
         self.push_decimal(width);

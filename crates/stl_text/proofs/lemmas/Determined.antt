@@ -12,7 +12,7 @@ use Rattle.micro_num.specs.Micrometres.{coordinate_of}
 use Rattle.stl_text.specs.declared.word.Word.{Word}
 use Rattle.stl_text.specs.declared.word.Word.TheVariants.{Solid, FacetOrEnd, Normal, Outer, Loop, Vertex, Number, EndLoop, EndFacet}
 use Rattle.geometry.specs.Facet.{Facet}
-use Rattle.stl_text.specs.Text.{Token, keyword, normal_part, coordinate, rest_of_line, end_word, facet_tokens, solid_tokens, is_keyword, is_read_as, begins_with, after_token, rest_after, first_word, keyword_text, facet_keyword, end_keyword}
+use Rattle.stl_text.specs.Text.{Token, keyword, normal_word, coordinate, rest_of_line, end_word, facet_tokens, solid_tokens, is_keyword, is_read_as, begins_with, after_token, rest_after, first_word, keyword_text, facet_keyword, end_keyword}
 
 -- Slots are tokens without their values: a keyword, a word of a normal, a coordinate, a rest of a line.
 pub data Slot : Type 0 where
@@ -51,25 +51,25 @@ word_same v w h = sym (word_at-code v) ∙ ap word_at (eqb-true _ _ h) ∙ word_
 
 abbrev pub matches : Slot → Token → Bool
 matches (fixed w text) (keyword w' text') = (word_code w == word_code w') && bytes_eq text text'
-matches (fixed w text) normal_part = false
+matches (fixed w text) normal_word = false
 matches (fixed w text) (coordinate z) = false
 matches (fixed w text) rest_of_line = false
 matches any_word (keyword w' text') = false
-matches any_word normal_part = true
+matches any_word normal_word = true
 matches any_word (coordinate z) = false
 matches any_word rest_of_line = false
 matches any_coordinate (keyword w' text') = false
-matches any_coordinate normal_part = false
+matches any_coordinate normal_word = false
 matches any_coordinate (coordinate z) = true
 matches any_coordinate rest_of_line = false
 matches any_line (keyword w' text') = false
-matches any_line normal_part = false
+matches any_line normal_word = false
 matches any_line (coordinate z) = false
 matches any_line rest_of_line = true
 
 abbrev pub IsShape : Slot → Token → Type 0
 IsShape (fixed w text) p = p ≡ keyword w text
-IsShape any_word p = p ≡ normal_part
+IsShape any_word p = p ≡ normal_word
 IsShape any_coordinate p = (z : ℤ) × (p ≡ coordinate z)
 IsShape any_line p = p ≡ rest_of_line
 
@@ -79,19 +79,19 @@ shape-is (fixed w text) (keyword w' text') h =
     let word_is : w' ≡ w = sym (word_same w w' parts.0) in
     let text_is : text' ≡ text = sym ((bytes_eq-Decides text text').0 parts.1) in
     λ i. keyword (word_is i) (text_is i)
-shape-is (fixed w text) normal_part h = cc
+shape-is (fixed w text) normal_word h = cc
 shape-is (fixed w text) (coordinate z) h = cc
 shape-is (fixed w text) rest_of_line h = cc
 shape-is any_word (keyword w' text') h = cc
-shape-is any_word normal_part h = refl
+shape-is any_word normal_word h = refl
 shape-is any_word (coordinate z) h = cc
 shape-is any_word rest_of_line h = cc
 shape-is any_coordinate (keyword w' text') h = cc
-shape-is any_coordinate normal_part h = cc
+shape-is any_coordinate normal_word h = cc
 shape-is any_coordinate (coordinate z) h = (z, refl)
 shape-is any_coordinate rest_of_line h = cc
 shape-is any_line (keyword w' text') h = cc
-shape-is any_line normal_part h = cc
+shape-is any_line normal_word h = cc
 shape-is any_line (coordinate z) h = cc
 shape-is any_line rest_of_line h = refl
 

@@ -21,7 +21,7 @@ use Rattle.stl_text.specs.declared.stl_fault.StlFault.{StlFault}
 use Rattle.stl_text.specs.declared.stl_fault.StlFault.TheVariants as fault
 use Rattle.geometry.specs.Point.{Point}
 use Rattle.geometry.specs.Facet.{Facet, facet_with}
-use Rattle.stl_text.specs.Text.{Token, keyword, normal_part, coordinate, rest_of_line, facet_word, end_word, facet_tokens, solid_tokens, is_keyword, is_text_of, is_wanted, is_read_as, is_facet_word, wanted, begins_with, after_token, rest_after, first_word, after_word, after_line, after_space, is_white, is_line_end, facets_of, Reads, Wants, IsFaultOf, keyword_of, keyword_text, facet_keyword, end_keyword, facet_count}
+use Rattle.stl_text.specs.Text.{Token, keyword, normal_word, coordinate, rest_of_line, facet_word, end_word, facet_tokens, solid_tokens, is_keyword, is_text_of, is_wanted, is_read_as, is_facet_word, wanted, begins_with, after_token, rest_after, first_word, after_word, after_line, after_space, is_white, is_line_end, facets_of, Reads, Wants, IsFaultOf, keyword_of, keyword_text, facet_keyword, end_keyword, facet_count}
 use Rattle.stl_text.proofs.lemmas.Determined.{Slot, fixed, any_word, any_coordinate, any_line, facet_slots}
 use Rattle.stl_text.proofs.lemmas.OneReading.{then_on, rest-append}
 
@@ -37,7 +37,7 @@ others_of (z ∷ zs) = zs
 
 abbrev token_of : Slot → List ℤ → Token
 token_of (fixed w text) zs = keyword w text
-token_of any_word zs = normal_part
+token_of any_word zs = normal_word
 token_of any_coordinate zs = coordinate (first_of zs)
 token_of any_line zs = rest_of_line
 
@@ -223,7 +223,7 @@ after_line-le bytes = from_first-le is_line_end bytes
 
 after_token-le : (p : Token) (bytes : List ℕ) → length (after_token p bytes) ≤ length bytes
 after_token-le (keyword w text) bytes = after_word-le bytes
-after_token-le normal_part bytes = after_word-le bytes
+after_token-le normal_word bytes = after_word-le bytes
 after_token-le (coordinate z) bytes = after_word-le bytes
 after_token-le rest_of_line bytes = after_line-le bytes
 
@@ -254,14 +254,14 @@ no_word-space bytes e = by_front (after_space bytes) refl (front_is bytes) e
       where
         at_head : Front (after_space bs) → (w : Bool) → is_white b ≡ w → Front (after_space (b ∷ bs))
         at_head tail true white = rw white (rw one-add tail)
-        at_head tail false black = rw black black
+        at_head tail false clear = rw clear clear
 
     by_front : (bs : List ℕ) → after_space bytes ≡ bs → Front (after_space bytes) → first_word bytes ≡ [] → after_space bytes ≡ []
     by_front [] is front none = is
     by_front (a ∷ bs) is front none =
-        let black : is_white a ≡ false = subst Front is front in
+        let clear : is_white a ≡ false = subst Front is front in
         let word : before_first is_white (a ∷ bs) ≡ [] = ap (before_first is_white) (sym is) ∙ none in
-        absurd (some_word a bs black word)
+        absurd (some_word a bs clear word)
       where
         some_word : (x : ℕ) (xs : List ℕ) → is_white x ≡ false → before_first is_white (x ∷ xs) ≡ [] → ⊥
         some_word x xs dark h =
@@ -416,7 +416,7 @@ module _ (limit : ℕ) (unit : LengthUnit) (bytes : List ℕ) where
           unexpected solids front (keyword w text) more rest w cut few spelled (omega (arith, some)) refl plain.2
           (plain.0 (str_to_ascii_lowercase (first_word rest)) ∙ fails)
   stopped solids front any_word zs more rest cut few spelled fails plain =
-      ended solids front normal_part more rest Number cut few spelled fails refl (λ h. cc)
+      ended solids front normal_word more rest Number cut few spelled fails refl (λ h. cc)
   stopped solids front any_coordinate zs more rest cut few spelled fails plain = by_word (first_word rest) refl
     where
       by_word : (word : List ℕ) → first_word rest ≡ word → Outcome

@@ -9,7 +9,7 @@ use Rattle.micro_num.specs.declared.unit.Unit.{Unit as LengthUnit}
 use Rattle.geometry.specs.Facet.{Facet}
 use Rattle.stl_text.specs.FacetRun.{IsRestOf, IsFacetRun, StandsBefore, next_solid}
 use Rattle.stl_text.specs.Reader.{facet_tail}
-use Rattle.stl_text.specs.Text.{Token, keyword, normal_part, coordinate, rest_of_line, after_space, after_token, after_word, begins_with, end_keyword, facet_keyword, is_line_end, is_white, keyword_of, facet_tokens, rest_after}
+use Rattle.stl_text.specs.Text.{Token, keyword, normal_word, coordinate, rest_of_line, after_space, after_token, after_word, begins_with, end_keyword, facet_keyword, is_line_end, is_white, keyword_of, facet_tokens, rest_after}
 use Rattle.stl_text.specs.declared.word.Word.TheVariants.{FacetOrEnd, Solid}
 use Rattle.stl_text.proofs.lemmas.Locality.{seen_keyword, tokens-on}
 use Rattle.stl_text.proofs.lemmas.Stages.{facet_read, solid_passed}
@@ -68,7 +68,7 @@ after_word-rest bytes = record {
 after_token-rest : (p : Token) (bytes : List ℕ) → IsRestOf bytes (after_token p bytes)
 after_token-rest rest_of_line bytes = record { skipped = position_or_len is_line_end bytes; rest_is = refl }
 after_token-rest (keyword wanted text) bytes = after_word-rest bytes
-after_token-rest normal_part bytes = after_word-rest bytes
+after_token-rest normal_word bytes = after_word-rest bytes
 after_token-rest (coordinate z) bytes = after_word-rest bytes
 
 pub rest_after-rest : (unit : LengthUnit) (ps : List Token) (bytes rest : List ℕ) → rest_after unit ps bytes ≡ Some rest → IsRestOf bytes rest

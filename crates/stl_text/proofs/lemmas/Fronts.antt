@@ -19,8 +19,9 @@ use Rattle.stl_text.specs.Text.{after_space, is_white, is_keyword}
 use Rattle.stl_text.specs.Written.{IsApart}
 use Rattle.micro_num.specs.declared.limits.TheConstants.{WORD_LIMIT}
 
-abbrev is_black : ℕ → Bool
-is_black byte = not (is_white byte)
+-- a byte of a word
+abbrev pub is_clear : ℕ → Bool
+is_clear byte = not (is_white byte)
 
 module _ (front : List ℕ) (n : ℕ) (clear : list_all (λ byte. not (is_white byte)) (take n front) ≡ true) (apart : IsApart (drop n front)) where
   starts : (xs : List ℕ) → IsApart xs → Starts is_white xs
@@ -38,8 +39,8 @@ module _ (front : List ℕ) (n : ℕ) (clear : list_all (λ byte. not (is_white 
       ∙ from-is is_white (take n front) (drop n front) clear (starts (drop n front) apart)
 
 -- a byte above 32 is not white
-pub above_black : (c : ℕ) → 32 < c → is_black c ≡ true
-above_black c h = rw (ne_eqb c 32 (λ e. omega (arith, h, e)), lt-leb c 13 (omega arith)) (last (nat_le 9 c))
+pub above_clear : (c : ℕ) → 32 < c → is_clear c ≡ true
+above_clear c h = rw (ne_eqb c 32 (λ e. omega (arith, h, e)), lt-leb c 13 (omega arith)) (last (nat_le 9 c))
   where
     last : (b : Bool) → not (b && false) ≡ true
     last true = refl
@@ -47,84 +48,84 @@ above_black c h = rw (ne_eqb c 32 (λ e. omega (arith, h, e)), lt-leb c 13 (omeg
 
 -- Keywords.
 
-white_lower : (c : ℕ) → is_black (to_ascii_lowercase c) ≡ is_black c
+white_lower : (c : ℕ) → is_clear (to_ascii_lowercase c) ≡ is_clear c
 white_lower c = by_cases (cases_lt c 65) (cases_lt 90 c)
   where
-    by_cases : (c < 65) ⊎ (65 ≤ c) → (90 < c) ⊎ (c ≤ 90) → is_black (to_ascii_lowercase c) ≡ is_black c
-    by_cases (inl low) other = ap is_black ((lowercase_is c).1 low)
-    by_cases (inr some) (inl high) = ap is_black ((lowercase_is c).2 high)
+    by_cases : (c < 65) ⊎ (65 ≤ c) → (90 < c) ⊎ (c ≤ 90) → is_clear (to_ascii_lowercase c) ≡ is_clear c
+    by_cases (inl low) other = ap is_clear ((lowercase_is c).1 low)
+    by_cases (inr some) (inl high) = ap is_clear ((lowercase_is c).2 high)
     by_cases (inr some) (inr few) =
-        above_black (to_ascii_lowercase c) (omega (arith, (lowercase_is c).0 (some, few))) ∙ sym (above_black c (omega arith))
+        above_clear (to_ascii_lowercase c) (omega (arith, (lowercase_is c).0 (some, few))) ∙ sym (above_clear c (omega arith))
 
-lower_black : (word : List ℕ) → list_all is_black (str_to_ascii_lowercase word) ≡ list_all is_black word
-lower_black [] = refl
-lower_black (c ∷ cs) = λ i. white_lower c i && lower_black cs i
+lower_clear : (word : List ℕ) → list_all is_clear (str_to_ascii_lowercase word) ≡ list_all is_clear word
+lower_clear [] = refl
+lower_clear (c ∷ cs) = λ i. white_lower c i && lower_clear cs i
 
-pub keyword_black : (text word : List ℕ) → list_all is_black text ≡ true → is_keyword text word ≡ true → list_all is_black word ≡ true
-keyword_black text word clear is =
-    sym (lower_black word) ∙ ap (list_all is_black) ((bytes_eq-Decides (str_to_ascii_lowercase word) text).0 is) ∙ clear
+pub keyword_clear : (text word : List ℕ) → list_all is_clear text ≡ true → is_keyword text word ≡ true → list_all is_clear word ≡ true
+keyword_clear text word clear is =
+    sym (lower_clear word) ∙ ap (list_all is_clear) ((bytes_eq-Decides (str_to_ascii_lowercase word) text).0 is) ∙ clear
 
 -- Numbers.
 
-join : (xs ys : List ℕ) → list_all is_black xs ≡ true → list_all is_black ys ≡ true → list_all is_black (xs ++ ys) ≡ true
-join xs ys h k = list_all-append is_black xs ys ∙ rw h k
+join : (xs ys : List ℕ) → list_all is_clear xs ≡ true → list_all is_clear ys ≡ true → list_all is_clear (xs ++ ys) ≡ true
+join xs ys h k = list_all-append is_clear xs ys ∙ rw h k
 
-digits_black : (ds : List ℕ) → list_all is_ascii_digit ds ≡ true → list_all is_black ds ≡ true
-digits_black ds h = all-weaker is_ascii_digit is_black (λ d is. above_black d (omega (arith, (bounds d is).0))) ds h
+digits_clear : (ds : List ℕ) → list_all is_ascii_digit ds ≡ true → list_all is_clear ds ≡ true
+digits_clear ds h = all-weaker is_ascii_digit is_clear (λ d is. above_clear d (omega (arith, (bounds d is).0))) ds h
 
-sign_black : (s : Sign) → list_all is_black (sign_text s) ≡ true
-sign_black unsigned = refl
-sign_black plus = refl
-sign_black minus = refl
+sign_clear : (s : Sign) → list_all is_clear (sign_text s) ≡ true
+sign_clear unsigned = refl
+sign_clear plus = refl
+sign_clear minus = refl
 
-fraction_black : (fraction : Option (List ℕ)) → list_all is_ascii_digit (fraction_digits fraction) ≡ true → list_all is_black (fraction_text fraction) ≡ true
-fraction_black None h = refl
-fraction_black (Some ds) h = digits_black ds h
+fraction_clear : (fraction : Option (List ℕ)) → list_all is_ascii_digit (fraction_digits fraction) ≡ true → list_all is_clear (fraction_text fraction) ≡ true
+fraction_clear None h = refl
+fraction_clear (Some ds) h = digits_clear ds h
 
-mark_black : (mark : ℕ) → is_exponent_mark mark ≡ true → is_black mark ≡ true
-mark_black mark h = by_tests (mark == 69) (mark == 101) refl refl h
+mark_clear : (mark : ℕ) → is_exponent_mark mark ≡ true → is_clear mark ≡ true
+mark_clear mark h = by_tests (mark == 69) (mark == 101) refl refl h
   where
-    by_tests : (a b : Bool) → (mark == 69) ≡ a → (mark == 101) ≡ b → is_exponent_mark mark ≡ true → is_black mark ≡ true
-    by_tests true b is other h = above_black mark (omega (arith, eqb-true mark 69 is))
-    by_tests false true other is h = above_black mark (omega (arith, eqb-true mark 101 is))
+    by_tests : (a b : Bool) → (mark == 69) ≡ a → (mark == 101) ≡ b → is_exponent_mark mark ≡ true → is_clear mark ≡ true
+    by_tests true b is other h = above_clear mark (omega (arith, eqb-true mark 69 is))
+    by_tests false true other is h = above_clear mark (omega (arith, eqb-true mark 101 is))
     by_tests false false first second h = let h' = rw (first, second) at h in cc
 
-exponent_black : (exponent : Option Exponent) → is_exponent exponent ≡ true → list_all is_black (exponent_text exponent) ≡ true
-exponent_black None h = refl
-exponent_black (Some e) h =
+exponent_clear : (exponent : Option Exponent) → is_exponent exponent ≡ true → list_all is_clear (exponent_text exponent) ≡ true
+exponent_clear None h = refl
+exponent_clear (Some e) h =
     let parts = and_parts _ _ h in
     let digits = and_parts _ _ parts.1 in
-    rw (mark_black e.mark parts.0) (join (sign_text e.sign) e.digits (sign_black e.sign) (digits_black e.digits digits.1))
+    rw (mark_clear e.mark parts.0) (join (sign_text e.sign) e.digits (sign_clear e.sign) (digits_clear e.digits digits.1))
 
-numeral_black : (n : Numeral) → IsNumeral n → list_all is_black (numeral_text n) ≡ true
-numeral_black n is =
+numeral_clear : (n : Numeral) → IsNumeral n → list_all is_clear (numeral_text n) ≡ true
+numeral_clear n is =
     let digits = and_parts _ _ is.0 in
     let each = and_parts _ _ (sym (list_all-append is_ascii_digit n.whole (fraction_digits n.fraction)) ∙ digits.1) in
     join (sign_text n.sign ++ n.whole ++ fraction_text n.fraction) (exponent_text n.exponent)
     (join (sign_text n.sign ++ n.whole) (fraction_text n.fraction)
-    (join (sign_text n.sign) n.whole (sign_black n.sign) (digits_black n.whole each.0)) (fraction_black n.fraction each.1))
-    (exponent_black n.exponent is.1)
+    (join (sign_text n.sign) n.whole (sign_clear n.sign) (digits_clear n.whole each.0)) (fraction_clear n.fraction each.1))
+    (exponent_clear n.exponent is.1)
 
-pub coordinate_black : (unit : LengthUnit) (word : List ℕ) (z : ℤ) → coordinate_of unit word ≡ Ok z → list_all is_black word ≡ true
-coordinate_black unit word z e = by_length (nat_lt WORD_LIMIT (length word)) e
+pub coordinate_clear : (unit : LengthUnit) (word : List ℕ) (z : ℤ) → coordinate_of unit word ≡ Ok z → list_all is_clear word ≡ true
+coordinate_clear unit word z e = by_length (nat_lt WORD_LIMIT (length word)) e
   where
-    by_numeral : (n : Option Numeral) → numeral_of word ≡ n → numeral_coordinate unit n ≡ Ok z → list_all is_black word ≡ true
+    by_numeral : (n : Option Numeral) → numeral_of word ≡ n → numeral_coordinate unit n ≡ Ok z → list_all is_clear word ≡ true
     by_numeral None read h = cc
     by_numeral (Some n) read h =
         let is : IsNumeral n × (word ≡ numeral_text n) = numeral_of-is word n read in
-        ap (list_all is_black) is.1 ∙ numeral_black n is.0
+        ap (list_all is_clear) is.1 ∙ numeral_clear n is.0
 
-    by_length : (b : Bool) → (if b then Err TooLong else numeral_coordinate unit (numeral_of word)) ≡ Ok z → list_all is_black word ≡ true
+    by_length : (b : Bool) → (if b then Err TooLong else numeral_coordinate unit (numeral_of word)) ≡ Ok z → list_all is_clear word ≡ true
     by_length true h = cc
     by_length false h = by_numeral (numeral_of word) refl h
 
 -- A text that begins with a word has no white space at its front.
 
-pub black_front : (n : ℕ) (bytes : List ℕ) → 0 < n → list_all is_black (take n bytes) ≡ true → after_space bytes ≡ bytes
-black_front zero bytes some clear = absurd (omega (arith, some))
-black_front (suc n) [] some clear = refl
-black_front (suc n) (byte ∷ bytes) some clear = rw (not-true (is_white byte) (and_parts (not (is_white byte)) (list_all is_black (take n bytes)) clear).0) refl
+pub clear_front : (n : ℕ) (bytes : List ℕ) → 0 < n → list_all is_clear (take n bytes) ≡ true → after_space bytes ≡ bytes
+clear_front zero bytes some clear = absurd (omega (arith, some))
+clear_front (suc n) [] some clear = refl
+clear_front (suc n) (byte ∷ bytes) some clear = rw (not-true (is_white byte) (and_parts (not (is_white byte)) (list_all is_clear (take n bytes)) clear).0) refl
 
 pub coordinate_front : (unit : LengthUnit) (n : ℕ) (bytes : List ℕ) (z : ℤ) → coordinate_of unit (take n bytes) ≡ Ok z → after_space bytes ≡ bytes
 coordinate_front unit zero bytes z is = cc
-coordinate_front unit (suc n) bytes z is = black_front (suc n) bytes (omega arith) (coordinate_black unit (take (suc n) bytes) z is)
+coordinate_front unit (suc n) bytes z is = clear_front (suc n) bytes (omega arith) (coordinate_clear unit (take (suc n) bytes) z is)

@@ -7,7 +7,7 @@ use Rattle.std.specs.List.{list_all, prefix_len}
 use lib.Count.{count_trailing_zeros}
 use lib.Lanes.{mask_l, top, zip2}
 use Rattle.stl_text.specs.Text.{is_white}
-use Rattle.stl_text.proofs.lemmas.Fronts.{above_black}
+use Rattle.stl_text.proofs.lemmas.Fronts.{above_clear}
 
 abbrev is_low : ℕ → Bool
 is_low byte = leb byte 32
@@ -15,10 +15,10 @@ is_low byte = leb byte 32
 abbrev pub high_len : List ℕ → ℕ
 high_len bytes = prefix_len (λ byte. not (is_low byte)) (take 16 bytes)
 
-high_black : (k : ℕ) (bytes : List ℕ) → list_all (λ byte. not (is_white byte)) (take (prefix_len (λ byte. not (is_low byte)) (take k bytes)) bytes) ≡ true
-high_black zero bytes = refl
-high_black (suc k) [] = refl
-high_black (suc k) (byte ∷ bytes) = by_test (is_low byte) refl (high_black k bytes)
+high_clear : (k : ℕ) (bytes : List ℕ) → list_all (λ byte. not (is_white byte)) (take (prefix_len (λ byte. not (is_low byte)) (take k bytes)) bytes) ≡ true
+high_clear zero bytes = refl
+high_clear (suc k) [] = refl
+high_clear (suc k) (byte ∷ bytes) = by_test (is_low byte) refl (high_clear k bytes)
   where
     by_test : (b : Bool) → is_low byte ≡ b
         → list_all (λ byte. not (is_white byte)) (take (prefix_len (λ byte. not (is_low byte)) (take k bytes)) bytes) ≡ true
@@ -28,7 +28,7 @@ high_black (suc k) (byte ∷ bytes) = by_test (is_low byte) refl (high_black k b
         let len : prefix_len (λ byte. not (is_low byte)) (take (suc k) (byte ∷ bytes)) ≡ 1 + prefix_len (λ byte. not (is_low byte)) (take k bytes) = rw is refl in
         let more : prefix_len (λ byte. not (is_low byte)) (take (suc k) (byte ∷ bytes)) ≡ suc (prefix_len (λ byte. not (is_low byte)) (take k bytes)) = omega (arith, len) in
         subst (λ n. list_all (λ byte. not (is_white byte)) (take n (byte ∷ bytes)) ≡ true) (sym more)
-        (rw (above_black byte (leb-false byte 32 is)) rest)
+        (rw (above_clear byte (leb-false byte 32 is)) rest)
 
 -- the bits of the lanes up to 32
 abbrev pub low_mask : List ℕ → ℕ
@@ -44,7 +44,7 @@ module _ (bytes : List ℕ) (room : 16 ≤ length bytes) where
   pub none_low : low_mask bytes ≡ 0 → list_all (λ byte. not (is_white byte)) (take 16 bytes) ≡ true
   none_low none =
       let all : high_len bytes ≡ 16 = leading_from_mask_l is_low (take 16 bytes) (sym mask_is ∙ none) ∙ long in
-      subst (λ n. list_all (λ byte. not (is_white byte)) (take n bytes) ≡ true) all (high_black 16 bytes)
+      subst (λ n. list_all (λ byte. not (is_white byte)) (take n bytes) ≡ true) all (high_clear 16 bytes)
 
   lowest : 0 < low_mask bytes → count_trailing_zeros 64 (low_mask bytes) ≡ high_len bytes
   lowest some =
@@ -52,7 +52,7 @@ module _ (bytes : List ℕ) (room : 16 ≤ length bytes) where
       ∙ trailing_mask_l is_low 64 (take 16 bytes) (omega (arith, long)) (subst (λ m. 0 < m) mask_is some)
 
   pub some_low : 0 < low_mask bytes → list_all (λ byte. not (is_white byte)) (take (count_trailing_zeros 64 (low_mask bytes)) bytes) ≡ true
-  some_low some = subst (λ n. list_all (λ byte. not (is_white byte)) (take n bytes) ≡ true) (sym (lowest some)) (high_black 16 bytes)
+  some_low some = subst (λ n. list_all (λ byte. not (is_white byte)) (take n bytes) ≡ true) (sym (lowest some)) (high_clear 16 bytes)
 
   pub lowest_within : 0 < low_mask bytes → count_trailing_zeros 64 (low_mask bytes) ≤ 16
   lowest_within some = omega (arith, lowest some, long, prefix_len-le-length (λ byte. not (is_low byte)) (take 16 bytes))

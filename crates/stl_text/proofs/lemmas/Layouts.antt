@@ -12,7 +12,7 @@ use Rattle.stl_text.specs.FacetRun.{IsRestOf}
 use Rattle.stl_text.specs.Reader.{Reader, Spells, facet_tail, start}
 use Rattle.std.specs.List.{before_first}
 use Rattle.micro_num.specs.Numeral.{from_first}
-use Rattle.stl_text.specs.Text.{Token, keyword, normal_part, coordinate, rest_of_line, after_space, after_word, facet_keyword, facet_tokens, first_word, is_keyword, is_read_as, is_white, rest_after}
+use Rattle.stl_text.specs.Text.{Token, keyword, normal_word, coordinate, rest_of_line, after_space, after_word, facet_keyword, facet_tokens, first_word, is_keyword, is_read_as, is_white, rest_after}
 use Rattle.stl_text.proofs.lemmas.Locality.{space-over, tokens-on}
 use Rattle.stl_text.proofs.lemmas.FacetRuns.{rest_after-rest, same_rest}
 use Rattle.stl_text.proofs.lemmas.Either.{after_word-lt, rest-le}
@@ -21,7 +21,7 @@ use Rattle.stl_text.proofs.lemmas.Steps.{spelled-append, spells_then}
 -- whether a token is a word, and no rest of a line
 abbrev pub is_word_token : Token → Bool
 is_word_token (keyword kind text) = true
-is_word_token normal_part = true
+is_word_token normal_word = true
 is_word_token (coordinate z) = true
 is_word_token rest_of_line = false
 
@@ -30,7 +30,7 @@ word-space : (unit : LengthUnit) (t : Token) (tokens : List Token) (xs ys : List
     → rest_after unit (t ∷ tokens) xs ≡ rest_after unit (t ∷ tokens) ys
 word-space unit (keyword kind text) tokens xs ys is same =
     ap (λ front. if is_keyword text (before_first is_white front) then rest_after unit tokens (from_first is_white front) else None) same
-word-space unit normal_part tokens xs ys is same =
+word-space unit normal_word tokens xs ys is same =
     ap (λ front. if nat_lt 0 (length (before_first is_white front)) then rest_after unit tokens (from_first is_white front) else None) same
 word-space unit (coordinate z) tokens xs ys is same =
     ap (λ front. if is_read_as z (before_first is_white front) unit then rest_after unit tokens (from_first is_white front) else None) same
@@ -82,21 +82,21 @@ any_unit separator.Closing u v bytes = refl
 abbrev place_tokens : Point → List Token
 place_tokens p = coordinate p.x ∷ coordinate p.y ∷ coordinate p.z ∷ []
 
-abbrev normal_parts : List Token
-normal_parts = normal_part ∷ normal_part ∷ normal_part ∷ []
+abbrev normal_words : List Token
+normal_words = normal_word ∷ normal_word ∷ normal_word ∷ []
 
 pub by_words : (a b c : Point) {r0 r1 r2 r3 r4 r5 r6 r7 r8 r9 : Reader} → Spells (separator_tokens separator.Opening) r0 r1
-    → Spells normal_parts r1 r2 → Spells (separator_tokens separator.First) r2 r3 → Spells (place_tokens a) r3 r4
+    → Spells normal_words r1 r2 → Spells (separator_tokens separator.First) r2 r3 → Spells (place_tokens a) r3 r4
     → Spells (separator_tokens separator.Next) r4 r5 → Spells (place_tokens b) r5 r6 → Spells (separator_tokens separator.Next) r6 r7
     → Spells (place_tokens c) r7 r8 → Spells (separator_tokens separator.Closing) r8 r9 → Spells (facet_tokens (facet_with a b c)) r0 r9
 by_words a b c opening parts first at_a next at_b last at_c closing =
     let end = spells_then (place_tokens c) (separator_tokens separator.Closing) at_c closing in
     let from_b = spells_then (place_tokens b) _ at_b (spells_then (separator_tokens separator.Next) _ last end) in
     let from_a = spells_then (place_tokens a) _ at_a (spells_then (separator_tokens separator.Next) _ next from_b) in
-    let from_parts = spells_then normal_parts _ parts (spells_then (separator_tokens separator.First) _ first from_a) in
+    let from_parts = spells_then normal_words _ parts (spells_then (separator_tokens separator.First) _ first from_a) in
     spells_then (separator_tokens separator.Opening) _ opening from_parts
 
-pub in_layout : (a b c : Point) {r0 r1 r2 r3 r4 r5 r6 r7 r8 r9 : Reader} → Skips (separator_tokens separator.Opening) r0 r1 → Spells normal_parts r1 r2
+pub in_layout : (a b c : Point) {r0 r1 r2 r3 r4 r5 r6 r7 r8 r9 : Reader} → Skips (separator_tokens separator.Opening) r0 r1 → Spells normal_words r1 r2
     → Skips (separator_tokens separator.First) r2 r3 → Spells (place_tokens a) r3 r4 → Skips (separator_tokens separator.Next) r4 r5 → Spells (place_tokens b) r5 r6
     → Skips (separator_tokens separator.Next) r6 r7 → Spells (place_tokens c) r7 r8 → Spells (separator_tokens separator.Closing) r8 r9
     → Spells (facet_tokens (facet_with a b c)) r0 r9
@@ -104,7 +104,7 @@ in_layout a b c opening parts first at_a next at_b last at_c closing =
     let end = spells_then (place_tokens c) (separator_tokens separator.Closing) at_c closing in
     let from_b = spells_then (place_tokens b) _ at_b (skips_then (separator_tokens separator.Next) _ _ refl last end) in
     let from_a = spells_then (place_tokens a) _ at_a (skips_then (separator_tokens separator.Next) _ _ refl next from_b) in
-    let from_parts = spells_then normal_parts _ parts (skips_then (separator_tokens separator.First) _ _ refl first from_a) in
+    let from_parts = spells_then normal_words _ parts (skips_then (separator_tokens separator.First) _ _ refl first from_a) in
     skips_then (separator_tokens separator.Opening) _ _ refl opening from_parts
 
 -- what a reader at the start of a text has read

@@ -10,7 +10,7 @@ use Rattle.std.proofs.Math.Seq.{drop-append-add}
 use Rattle.micro_num.specs.declared.unit.Unit.{Unit as LengthUnit}
 use Rattle.micro_num.specs.Numeral.{from_first}
 use Rattle.micro_num.proofs.lemmas.Grammar.{Starts, before-is, from-is}
-use Rattle.stl_text.specs.Text.{Token, keyword, normal_part, coordinate, rest_of_line, begins_with, after_token, rest_after, first_word, after_space, after_word, after_line, is_keyword, is_read_as, is_white, is_line_end}
+use Rattle.stl_text.specs.Text.{Token, keyword, normal_word, coordinate, rest_of_line, begins_with, after_token, rest_after, first_word, after_space, after_word, after_line, is_keyword, is_read_as, is_white, is_line_end}
 use Rattle.stl_text.specs.declared.word.Word.{Word}
 use Rattle.stl_text.proofs.lemmas.Either.{rest-le}
 
@@ -75,13 +75,13 @@ past_word-on xs ys some =
 
 begins-on : (unit : LengthUnit) (t : Token) (xs ys : List ℕ) → 0 < length (after_token t xs) → begins_with unit t (xs ++ ys) ≡ begins_with unit t xs
 begins-on unit (keyword kind text) xs ys some = ap (is_keyword text) (word-on xs ys some)
-begins-on unit normal_part xs ys some = ap (λ w. nat_lt 0 (length w)) (word-on xs ys some)
+begins-on unit normal_word xs ys some = ap (λ w. nat_lt 0 (length w)) (word-on xs ys some)
 begins-on unit (coordinate z) xs ys some = ap (λ w. is_read_as z w unit) (word-on xs ys some)
 begins-on unit rest_of_line xs ys some = refl
 
 after-on : (t : Token) (xs ys : List ℕ) → 0 < length (after_token t xs) → after_token t (xs ++ ys) ≡ after_token t xs ++ ys
 after-on (keyword kind text) xs ys some = past_word-on xs ys some
-after-on normal_part xs ys some = past_word-on xs ys some
+after-on normal_word xs ys some = past_word-on xs ys some
 after-on (coordinate z) xs ys some = past_word-on xs ys some
 after-on rest_of_line xs ys some = line-on xs ys some
 
@@ -116,8 +116,8 @@ word-first [] rest some clear = absurd (omega (arith, some))
 word-first (b ∷ bs) rest some clear = by_test (is_white b) refl (and_parts _ _ clear).0
   where
     by_test : (w : Bool) → is_white b ≡ w → not (is_white b) ≡ true → after_space (b ∷ (bs ++ rest)) ≡ b ∷ (bs ++ rest)
-    by_test true white black = let wrong : false ≡ true = sym (ap not white) ∙ black in cc
-    by_test false white black = rw white refl
+    by_test true white clear = let wrong : false ≡ true = sym (ap not white) ∙ clear in cc
+    by_test false white clear = rw white refl
 
 -- a text that begins with white space, or is empty, goes on so
 pub starts-on : (xs ys : List ℕ) → Starts is_white xs → 0 < length xs → Starts is_white (xs ++ ys)

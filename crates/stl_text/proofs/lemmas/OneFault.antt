@@ -15,7 +15,7 @@ use Rattle.stl_text.specs.declared.word.Word.TheVariants.{Solid, FacetOrEnd, Nor
 use Rattle.stl_text.specs.declared.stl_fault.StlFault.{StlFault}
 use Rattle.stl_text.specs.declared.stl_fault.StlFault.TheVariants as fault
 use Rattle.geometry.specs.Facet.{Facet}
-use Rattle.stl_text.specs.Text.{Token, keyword, normal_part, coordinate, rest_of_line, facet_word, end_word, facet_tokens, solid_tokens, is_keyword, is_text_of, is_wanted, is_facet_word, wanted, begins_with, rest_after, first_word, after_space, is_white, facets_of, Reads, Wants, IsFaultOf, keyword_of, facet_keyword, facet_count}
+use Rattle.stl_text.specs.Text.{Token, keyword, normal_word, coordinate, rest_of_line, facet_word, end_word, facet_tokens, solid_tokens, is_keyword, is_text_of, is_wanted, is_facet_word, wanted, begins_with, rest_after, first_word, after_space, is_white, facets_of, Reads, Wants, IsFaultOf, keyword_of, facet_keyword, facet_count}
 use Rattle.stl_text.proofs.lemmas.Determined.{Slot, fixed, any_word, any_coordinate, any_line, facet_slots, State, Prefixes, Prefixes.longer, Prefixes.shorter, word_code, word_at, word_at-code, matches, outside, next, next_in, run, run-append, then-some, then_at, only, passed, shape-is, read-is, solid_slot, facet_slot, end_slot, solids-run, agree}
 use Rattle.stl_text.proofs.lemmas.OneReading.{GoesOn, goes_on, nothing_more}
 
@@ -23,7 +23,7 @@ use Rattle.stl_text.proofs.lemmas.OneReading.{GoesOn, goes_on, nothing_more}
 
 abbrev kind_of : Token → ℕ
 kind_of (keyword w text) = word_code w
-kind_of normal_part = 9
+kind_of normal_word = 9
 kind_of (coordinate z) = 10
 kind_of rest_of_line = 11
 
@@ -40,7 +40,7 @@ wanted-kind (keyword Vertex text) = refl
 wanted-kind (keyword Number text) = refl
 wanted-kind (keyword EndLoop text) = refl
 wanted-kind (keyword EndFacet text) = refl
-wanted-kind normal_part = refl
+wanted-kind normal_word = refl
 wanted-kind (coordinate z) = refl
 wanted-kind rest_of_line = refl
 
@@ -60,7 +60,7 @@ code_low EndFacet = lit≤ tt
 
 coordinate-kind : (p : Token) → kind_of p ≡ 10 → (z : ℤ) × (p ≡ coordinate z)
 coordinate-kind (keyword w text) h = absurd (omega (arith, h, code_low w))
-coordinate-kind normal_part h = absurd (omega (arith, h))
+coordinate-kind normal_word h = absurd (omega (arith, h))
 coordinate-kind (coordinate z) h = (z, refl)
 coordinate-kind rest_of_line h = absurd (omega (arith, h))
 
@@ -68,7 +68,7 @@ keyword-kind : (kind : Word) (p : Token) → kind_of p ≡ word_code kind → (t
 keyword-kind kind (keyword w text) h =
     let same : w ≡ kind = sym (word_at-code w) ∙ ap word_at h ∙ word_at-code kind in
     (text, λ i. keyword (same i) text)
-keyword-kind kind normal_part h = absurd (omega (arith, h, code_low kind))
+keyword-kind kind normal_word h = absurd (omega (arith, h, code_low kind))
 keyword-kind kind (coordinate z) h = absurd (omega (arith, h, code_low kind))
 keyword-kind kind rest_of_line h = absurd (omega (arith, h, code_low kind))
 
@@ -101,7 +101,7 @@ next_kind state p q t u h k = next_kind_in state.slots state.is_open p q t u h k
 
 abbrev is_sound : Token → Bool
 is_sound (keyword kind text) = is_text_of kind text && bytes_eq (str_to_ascii_lowercase text) text
-is_sound normal_part = true
+is_sound normal_word = true
 is_sound (coordinate z) = true
 is_sound rest_of_line = true
 
@@ -229,8 +229,8 @@ module _ (limit : ℕ) (unit : LengthUnit) (bytes : List ℕ) where
       let clash : false ≡ true =
       sym other ∙ ap (λ k. is_wanted k word) w_is ∙ ap (is_wanted w) stands ∙ fits in
       cc
-  unexpected_stops kind token normal_part word rest wants no_number other stands sound same begins =
-      let kind_is : ◌≡◌ {A = Option Word} (Some kind) (Some Number) = sym wants ∙ same_wanted token normal_part same in
+  unexpected_stops kind token normal_word word rest wants no_number other stands sound same begins =
+      let kind_is : ◌≡◌ {A = Option Word} (Some kind) (Some Number) = sym wants ∙ same_wanted token normal_word same in
       let number : kind ≡ Number = cc in
       no_number number
   unexpected_stops kind token (coordinate z) word rest wants no_number other stands sound same begins =
@@ -246,7 +246,7 @@ module _ (limit : ℕ) (unit : LengthUnit) (bytes : List ℕ) where
   ended_stops kind token (keyword w text) rest wants stands sound same begins =
       let fits : is_wanted w [] ≡ true = subst (λ word. is_wanted w word ≡ true) (sym stands) (wanted_word w text (first_word rest) sound begins) in
       no_word w fits
-  ended_stops kind token normal_part rest wants stands sound same begins =
+  ended_stops kind token normal_word rest wants stands sound same begins =
       let some : nat_lt 0 (length {A = ℕ} []) ≡ true = subst (λ word. nat_lt 0 (length word) ≡ true) (sym stands) begins in
       cc
   ended_stops kind token (coordinate z) rest wants stands sound same begins =

@@ -7,7 +7,7 @@ use Rattle.micro_num.specs.declared.unit.Unit.{Unit as LengthUnit}
 use Rattle.geometry.specs.Point.{Point}
 use Rattle.geometry.specs.Facet.{Facet}
 use Rattle.stl_text.specs.declared.word.Word.TheVariants.{Solid}
-use Rattle.stl_text.specs.Text.{Token, keyword, keyword_of, normal_part, coordinate, rest_of_line, facet_tokens, solid_tokens, is_keyword, begins_with, after_token, rest_after, first_word, after_space, is_white, end_word, facets_of, Reads, keyword_text}
+use Rattle.stl_text.specs.Text.{Token, keyword, keyword_of, normal_word, coordinate, rest_of_line, facet_tokens, solid_tokens, is_keyword, begins_with, after_token, rest_after, first_word, after_space, is_white, end_word, facets_of, Reads, keyword_text}
 use Rattle.stl_text.proofs.lemmas.Determined.{State, Prefixes, Prefixes.longer, Prefixes.shorter, outside, next, run, run-append, then-some, then_at, only, shape-is, solid_slot, solids-run, agree}
 
 -- The rest of a text after tokens, and after further tokens.
@@ -62,7 +62,7 @@ nothing_more unit p rest ended on =
 abbrev numbers_in : List Token → List ℤ
 numbers_in [] = []
 numbers_in (keyword kind text ∷ ps) = numbers_in ps
-numbers_in (normal_part ∷ ps) = numbers_in ps
+numbers_in (normal_word ∷ ps) = numbers_in ps
 numbers_in (coordinate z ∷ ps) = z ∷ numbers_in ps
 numbers_in (rest_of_line ∷ ps) = numbers_in ps
 

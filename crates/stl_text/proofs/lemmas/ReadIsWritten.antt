@@ -14,7 +14,7 @@ use Rattle.micro_num.proofs.lemmas.Grammar.{Starts, from_starts}
 use Rattle.stl_text.specs.declared.word.Word.{Word}
 use Rattle.stl_text.specs.declared.word.Word.TheVariants.{FacetOrEnd, Solid}
 use Rattle.geometry.specs.Facet.{Facet}
-use Rattle.stl_text.specs.Text.{Token, keyword, normal_part, coordinate, rest_of_line, facet_tokens, facets_of, solid_tokens, is_keyword, is_white, is_line_end, begins_with, after_space, first_word, after_word, after_line, after_token, rest_after, Reads, keyword_of, keyword_text, end_keyword}
+use Rattle.stl_text.specs.Text.{Token, keyword, normal_word, coordinate, rest_of_line, facet_tokens, facets_of, solid_tokens, is_keyword, is_white, is_line_end, begins_with, after_space, first_word, after_word, after_line, after_token, rest_after, Reads, keyword_of, keyword_text, end_keyword}
 use Rattle.stl_text.specs.Written.{Spaced, is_word, is_spaced_word, are_white, laid_out, IsWordOf, AreWordsOf, IsApart, IsRemark, IsLineBreak, IsEnd, WrittenSolid, AreWrittenSolids, Written}
 use Rattle.stl_text.proofs.lemmas.Determined.{read-is}
 use Rattle.stl_text.proofs.lemmas.OneReading.{then_on, rest-append}
@@ -65,7 +65,7 @@ gap_some (b ∷ bytes) starts some = rw starts (rw one-add (lt-ltb _ _ (omega ar
 
 abbrev is_for_word : Token → Bool
 is_for_word (keyword wanted text) = nat_lt 0 (length text)
-is_for_word normal_part = true
+is_for_word normal_word = true
 is_for_word (coordinate z) = true
 is_for_word rest_of_line = false
 
@@ -86,7 +86,7 @@ stands : (unit : LengthUnit) (p : Token) (bytes : List ℕ) → is_for_word p �
 stands unit (keyword wanted text) bytes word begins =
     let lower : str_to_ascii_lowercase (first_word bytes) ≡ text = lower-is text (first_word bytes) begins in
     record { some = sym (some-lower (first_word bytes)) ∙ ap (λ w. nat_lt 0 (length w)) lower ∙ word; is = lower; after = refl }
-stands unit normal_part bytes word begins = record { some = begins; is = tt; after = refl }
+stands unit normal_word bytes word begins = record { some = begins; is = tt; after = refl }
 stands unit (coordinate z) bytes word begins =
     let read : coordinate_of unit (first_word bytes) ≡ Ok z = read-is unit (first_word bytes) z begins in
     record { some = coordinate_some unit z (first_word bytes) read; is = read; after = refl }

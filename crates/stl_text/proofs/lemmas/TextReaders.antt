@@ -21,12 +21,10 @@ use Rattle.stl_text.specs.TextReader.{EndsAt, IsAfter, IsReading, IsReadingAt, T
 use Rattle.stl_text.specs.FacetRun.{IsFacetRun, IsRestOf, StandsBefore}
 use Rattle.stl_text.specs.declared.word.Word.TheVariants.{FacetOrEnd}
 use Rattle.stl_text.proofs.lemmas.Locality.{line-on, line-over, seen_keyword, space-on, space-over, starts-on, tokens-on, word-first, word_next}
+use Rattle.stl_text.proofs.lemmas.Fronts.{is_clear}
 use Rattle.stl_text.proofs.lemmas.FacetRuns.{added_rest, drop_rest, no_rest, rest_after-rest, rest_then, rest_within, same_rest, whole_rest}
 use Rattle.stl_text.proofs.lemmas.Stages.{facet_read}
 use Rattle.stl_text.proofs.lemmas.Either.{after_space-le, no_word-space}
-
-abbrev is_black : ℕ → Bool
-is_black byte = not (is_white byte)
 
 -- A reader before its first byte.
 
@@ -80,7 +78,7 @@ pub record Next (limit : ℕ) (unit : LengthUnit) (s : Stage) (facets : List Fac
   pub left : (more : List ℕ) → after_word (after more) ≡ rest ++ more
 
 pub next_word : (limit : ℕ) (unit : LengthUnit) (p : TextReader) (s : Stage) (text part word rest : List ℕ) (at : ℕ)
-    → Waits limit unit p s false text part → list_all is_black word ≡ true → 0 < length word → Starts is_white rest → 0 < length rest
+    → Waits limit unit p s false text part → list_all is_clear word ≡ true → 0 < length word → Starts is_white rest → 0 < length rest
     → ((more : List ℕ) → after_space (p.held ++ (part ++ more)) ≡ word ++ (rest ++ more)) → at + (length word + length rest) ≡ length text
     → Next limit unit s p.facets text word rest at
 next_word limit unit p s text part word rest at w clear some starts left_some spaced at_is = record {
@@ -115,7 +113,7 @@ moved limit unit q s (state.Word u) facets text word rest at n read limit_is uni
   count_is = count_is;
   at_hand = at_hand;
   within = omega (arith, ap length none, rest_within text rest at_hand);
-  clear = ap (list_all is_black) none;
+  clear = ap (list_all is_clear) none;
   after = λ more. after_word (n.after more);
   stands = λ more. read (text ++ more) (n.after more) (n.at_word more);
   sees = λ more. ap after_space (n.left more ∙ ap (λ h. h ++ (rest ++ more)) (sym none));
@@ -127,7 +125,7 @@ moved limit unit q s (state.Line u) facets text word rest at n read limit_is uni
     count_is = count_is;
     at_hand = at_hand;
     within = omega (arith, ap length none, rest_within text rest at_hand);
-    clear = ap (list_all is_black) none;
+    clear = ap (list_all is_clear) none;
     after = λ more. after_line (after_word (n.after more));
     stands = λ more. read (text ++ more) (n.after more) (n.at_word more);
     sees = λ more. ap after_line (n.left more ∙ ap (λ h. h ++ (rest ++ more)) (sym none));
@@ -182,7 +180,7 @@ line_ended limit unit p q s text part rest is limit_is unit_is count_is held_is 
       count_is = count_is ∙ is.0.count_is;
       at_hand = rest_then text part rest is.0.at_hand (drop_rest (position_or_len is_line_end part) part rest rest_is);
       within = omega (arith, is.0.within, ap length held_is, fewer);
-      clear = ap (list_all is_black) none;
+      clear = ap (list_all is_clear) none;
       after = is.0.after;
       stands = λ more. subst (λ fs. Stands limit unit s fs (text ++ more) (is.0.after more)) (sym facets_is) (is.0.stands more);
       sees = λ more. ap after_space
@@ -219,7 +217,7 @@ front_seen p part front more none front_is some =
 -- the front of a word is kept
 pub word_held : (limit : ℕ) (unit : LengthUnit) (p q : TextReader) (s : Stage) (text part word : List ℕ) → Waits limit unit p s false text part
     → q.limit ≡ p.limit → q.unit ≡ p.unit → q.count ≡ p.count → q.facets ≡ p.facets → q.held ≡ word
-    → list_all is_black word ≡ true → 0 < length word → length word ≤ length text
+    → list_all is_clear word ≡ true → 0 < length word → length word ≤ length text
     → ((more : List ℕ) → after_space (p.held ++ (part ++ more)) ≡ word ++ more) → Waits limit unit q s false text []
 word_held limit unit p q s text part word w limit_is unit_is count_is facets_is held_is clear some within seen = record {
   limit_is = limit_is ∙ w.limit_is;
@@ -227,7 +225,7 @@ word_held limit unit p q s text part word w limit_is unit_is count_is facets_is 
   count_is = count_is ∙ w.count_is;
   at_hand = no_rest text;
   within = omega (arith, ap length held_is, within);
-  clear = ap (list_all is_black) held_is ∙ clear;
+  clear = ap (list_all is_clear) held_is ∙ clear;
   after = w.after;
   stands = λ more. subst (λ fs. Stands limit unit s fs (text ++ more) (w.after more)) (sym facets_is) (w.stands more);
   sees = λ more. w.sees more ∙ seen more ∙ sym (word-first word more some clear) ∙ ap (λ h. after_space (h ++ more)) (sym held_is);
@@ -247,7 +245,7 @@ facet_passed limit unit p q t text part rest w none spelled some fewer room limi
       count_is = count_is ∙ w.count_is;
       at_hand = rest_then text part rest w.at_hand (rest_after-rest unit (facet_tokens t) part rest spelled);
       within = omega (arith, ap length held_is, w.within, fewer);
-      clear = ap (list_all is_black) empty;
+      clear = ap (list_all is_clear) empty;
       after = λ more. rest ++ more;
       stands = λ more. subst (λ fs. Stands limit unit stage.Facets fs (text ++ more) (rest ++ more)) (sym facets_is)
           (facet_read limit unit p.facets t (text ++ more) (w.after more) (rest ++ more) (w.stands more) room (read more));
@@ -277,7 +275,7 @@ run_passed limit unit p q facets fed chunk part from to w none run long room lim
       count_is = count_is ∙ w.count_is;
       at_hand = at_hand;
       within = omega (arith, ap length empty, rest_within (fed ++ chunk) to at_hand);
-      clear = ap (list_all is_black) empty;
+      clear = ap (list_all is_clear) empty;
       after = λ more. (passed more).after;
       stands = λ more. subst (λ fs. Stands limit unit stage.Facets fs ((fed ++ chunk) ++ more) (passed more).after) (sym facets_is) (passed more).stands;
       sees = λ more. (passed more).sees ∙ ap (λ h. after_space (h ++ (to ++ more))) (sym empty);
@@ -310,8 +308,8 @@ pub ended_at : (limit : ℕ) (unit : LengthUnit) (p : TextReader) (s : Stage) (p
     → EndsAt limit unit pl facets fed
 ended_at limit unit p s pl facets fed word at w held_is some at_is read = by_state pl (read fed (w.after []) at_word)
   where
-    clear : list_all is_black word ≡ true
-    clear = ap (list_all is_black) (sym held_is) ∙ w.clear
+    clear : list_all is_clear word ≡ true
+    clear = ap (list_all is_clear) (sym held_is) ∙ w.clear
 
     seen : after_space (w.after []) ≡ word ++ []
     seen = w.sees [] ∙ ap (λ h. after_space (h ++ [])) held_is ∙ word-first word [] some clear
@@ -357,13 +355,13 @@ ended_stopped limit unit p f fed is = λ no. subst (λ t. IsFaultOf limit unit t
 -- A part that is cut after its first word.
 
 pub record Cut (front word rest : List ℕ) : Type 0 where
-  pub clear : list_all is_black word ≡ true
+  pub clear : list_all is_clear word ≡ true
   pub whole : front ≡ word ++ rest
   pub starts : Starts is_white rest
 
 pub cut_at : (front word rest : List ℕ) (n : ℕ) → n ≡ position_or_len is_white front → word ≡ take n front → rest ≡ drop n front → Cut front word rest
 cut_at front word rest n n_is word_is rest_is = record {
-  clear = ap (list_all is_black) (word_is ∙ ap (λ k. take k front) n_is) ∙ front-clear is_white front;
+  clear = ap (list_all is_clear) (word_is ∙ ap (λ k. take k front) n_is) ∙ front-clear is_white front;
   whole = sym (take-append-drop n front) ∙ ap (λ w. w ++ drop n front) (sym word_is) ∙ ap (λ r. word ++ r) (sym rest_is);
   starts = subst (Starts is_white) (sym (rest_is ∙ ap (λ k. drop k front) n_is)) (from_starts is_white front);
 }
@@ -428,8 +426,8 @@ joined : (held word rest more part : List ℕ) → part ≡ word ++ rest → hel
 joined held word rest more part whole =
     ap (λ v. held ++ (v ++ more)) whole ∙ ap (λ v. held ++ v) (append_assoc word rest more) ∙ sym (append_assoc held word (rest ++ more))
 
-kept_clear : (held word : List ℕ) → list_all is_black held ≡ true → list_all is_black word ≡ true → list_all is_black (held ++ word) ≡ true
-kept_clear held word h k = list_all-append is_black held word ∙ rw h k
+kept_clear : (held word : List ℕ) → list_all is_clear held ≡ true → list_all is_clear word ≡ true → list_all is_clear (held ++ word) ≡ true
+kept_clear held word h k = list_all-append is_clear held word ∙ rw h k
 
 pub kept_word : (limit : ℕ) (unit : LengthUnit) (p : TextReader) (s : Stage) (text part kept word rest : List ℕ) (at n : ℕ)
     → Waits limit unit p s false text part → 0 < length p.held → n ≡ position_or_len is_white part → word ≡ take n part → rest ≡ drop n part
@@ -438,7 +436,7 @@ kept_word limit unit p s text part kept word rest at n w some n_is word_is rest_
     let cut : Cut part word rest = cut_at part word rest n n_is word_is rest_is in
     let lengths : length part ≡ length word + length rest = ap length cut.whole ∙ length-append word rest in
     let size : length kept ≡ length p.held + length word = ap length kept_is ∙ length-append p.held word in
-    let clear : list_all is_black kept ≡ true = ap (list_all is_black) kept_is ∙ kept_clear p.held word w.clear cut.clear in
+    let clear : list_all is_clear kept ≡ true = ap (list_all is_clear) kept_is ∙ kept_clear p.held word w.clear cut.clear in
     let kept_some : 0 < length kept = omega (arith, size, some) in
     next_word limit unit p s text part kept rest at w clear kept_some cut.starts left_some
     (λ more. ap after_space (joined p.held word rest more part cut.whole ∙ ap (λ k. k ++ (rest ++ more)) (sym kept_is))
@@ -455,7 +453,7 @@ kept_on limit unit p q s text part word rest last n w some n_is word_is rest_is 
     let same : part ≡ word = cut.whole ∙ ap (λ r. word ++ r) empty ∙ append-nil word in
     let kept : List ℕ = p.held ++ word in
     let size : length kept ≡ length p.held + length word = length-append p.held word in
-    let clear : list_all is_black kept ≡ true = kept_clear p.held word w.clear cut.clear in
+    let clear : list_all is_clear kept ≡ true = kept_clear p.held word w.clear cut.clear in
     let kept_some : 0 < length kept = omega (arith, size, some) in
     subst (λ r. Waits limit unit q s false text r) (sym last_is)
     (word_held limit unit p q s text part kept w limit_is unit_is count_is facets_is held_is clear kept_some
@@ -568,7 +566,7 @@ same_whole limit unit p q s in_line text part w limit_is unit_is count_is held_i
       count_is = count_is ∙ w.count_is;
       at_hand = w.at_hand;
       within = omega (arith, ap length held_is, w.within);
-      clear = ap (list_all is_black) held_is ∙ w.clear;
+      clear = ap (list_all is_clear) held_is ∙ w.clear;
       after = w.after;
       stands = λ more. subst (λ fs. Stands limit unit s fs (text ++ more) (w.after more)) (sym facets_is) (w.stands more);
       sees = λ more. subst (λ h. Sees in_line (w.after more) (h ++ (part ++ more))) (sym held_is) (w.sees more);

@@ -14,7 +14,7 @@ use Rattle.micro_num.specs.Numeral.{from_first}
 use Rattle.stl_text.specs.declared.word.Word.{Word}
 use Rattle.stl_text.specs.declared.word.Word.TheVariants.{FacetOrEnd, Solid}
 use Rattle.geometry.specs.Facet.{Facet}
-use Rattle.stl_text.specs.Text.{Token, keyword, normal_part, coordinate, rest_of_line, end_word, facet_tokens, solid_tokens, is_white, is_line_end, is_read_as, begins_with, after_space, first_word, after_word, after_token, rest_after, Reads, keyword_of, keyword_text, end_keyword}
+use Rattle.stl_text.specs.Text.{Token, keyword, normal_word, coordinate, rest_of_line, end_word, facet_tokens, solid_tokens, is_white, is_line_end, is_read_as, begins_with, after_space, first_word, after_word, after_token, rest_after, Reads, keyword_of, keyword_text, end_keyword}
 use Rattle.stl_text.specs.Written.{Spaced, is_word, are_white, laid_out, IsWordOf, AreWordsOf, IsApart, IsRemark, IsLineBreak, IsEnd, WrittenSolid, AreWrittenSolids, Written}
 use Rattle.micro_num.proofs.lemmas.Grammar.{Starts, before-is, from-is}
 use Rattle.stl_text.proofs.lemmas.Solids.{facets-more, tokens-more}
@@ -31,26 +31,26 @@ not_not : (b : Bool) → not b ≡ true → b ≡ false
 not_not true h = cc
 not_not false h = refl
 
-all_black : (word : List ℕ) → is_word word ≡ true → list_all (λ b. not (is_white b)) word ≡ true
-all_black word h = (and_parts _ _ h).1
+all_clear : (word : List ℕ) → is_word word ≡ true → list_all (λ b. not (is_white b)) word ≡ true
+all_clear word h = (and_parts _ _ h).1
 
 -- a word after white space, and the text after the word
 word_first : (word more : List ℕ) → is_word word ≡ true → after_space (word ++ more) ≡ word ++ more
 word_first [] more h = cc
 word_first (b ∷ word) more h =
-    let black : is_white b ≡ false = not_not (is_white b) (and_parts _ _ (all_black (b ∷ word) h)).0 in
-    rw black refl
+    let clear : is_white b ≡ false = not_not (is_white b) (and_parts _ _ (all_clear (b ∷ word) h)).0 in
+    rw clear refl
 
 record ReadsWord (space word more : List ℕ) : Type 0 where
   first : first_word (space ++ (word ++ more)) ≡ word
   after : after_word (space ++ (word ++ more)) ≡ more
 
 word_read : (space word more : List ℕ) → are_white space ≡ true → is_word word ≡ true → Starts is_white more → ReadsWord space word more
-word_read space word more white black apart =
-    let front : after_space (space ++ (word ++ more)) ≡ word ++ more = skip_white space (word ++ more) white ∙ word_first word more black in
+word_read space word more white clear apart =
+    let front : after_space (space ++ (word ++ more)) ≡ word ++ more = skip_white space (word ++ more) white ∙ word_first word more clear in
     record {
-      first = ap (before_first is_white) front ∙ before-is is_white word more (all_black word black) apart;
-      after = ap (from_first is_white) front ∙ from-is is_white word more (all_black word black) apart;
+      first = ap (before_first is_white) front ∙ before-is is_white word more (all_clear word clear) apart;
+      after = ap (from_first is_white) front ∙ from-is is_white word more (all_clear word clear) apart;
     }
 
 record ReadsToken (unit : LengthUnit) (p : Token) (bytes more : List ℕ) : Type 0 where
@@ -59,20 +59,20 @@ record ReadsToken (unit : LengthUnit) (p : Token) (bytes more : List ℕ) : Type
 
 token_read : (unit : LengthUnit) (p : Token) (space word more : List ℕ) → are_white space ≡ true → is_word word ≡ true → Starts is_white more
     → IsWordOf unit p word → ReadsToken unit p (space ++ (word ++ more)) more
-token_read unit (keyword wanted text) space word more white black apart is =
-    let read : ReadsWord space word more = word_read space word more white black apart in
+token_read unit (keyword wanted text) space word more white clear apart is =
+    let read : ReadsWord space word more = word_read space word more white clear apart in
     record { begins = (bytes_eq-Decides _ text).1 (ap str_to_ascii_lowercase read.first ∙ is); after = read.after }
-token_read unit normal_part space word more white black apart is =
-    let read : ReadsWord space word more = word_read space word more white black apart in
-    record { begins = ap (λ w. nat_lt 0 (length w)) read.first ∙ (and_parts _ _ black).0; after = read.after }
-token_read unit (coordinate z) space word more white black apart is =
-    let read : ReadsWord space word more = word_read space word more white black apart in
+token_read unit normal_word space word more white clear apart is =
+    let read : ReadsWord space word more = word_read space word more white clear apart in
+    record { begins = ap (λ w. nat_lt 0 (length w)) read.first ∙ (and_parts _ _ clear).0; after = read.after }
+token_read unit (coordinate z) space word more white clear apart is =
+    let read : ReadsWord space word more = word_read space word more white clear apart in
     record {
       begins = ap (λ w. is_read_as z w unit) read.first
           ∙ ap (λ o. elim o [ Ok x ↦ int_eq x z | Err cause ↦ false ]) is ∙ (Decides-int_eq z z).1 refl;
       after = read.after;
     }
-token_read unit rest_of_line space word more white black apart is = absurd is
+token_read unit rest_of_line space word more white clear apart is = absurd is
 
 step_on : (unit : LengthUnit) (p : Token) (ps : List Token) (bytes more last : List ℕ) → ReadsToken unit p bytes more
     → rest_after unit ps more ≡ Some last → rest_after unit (p ∷ ps) bytes ≡ Some last
@@ -113,21 +113,21 @@ words_read unit (p ∷ ps) (t ∷ words) space more are white =
 white-lower : (b : ℕ) → is_white (to_ascii_lowercase b) ≡ is_white b
 white-lower b = grind (arith, nat_tests)
 
-black-lower : (word : List ℕ) → list_all (λ b. not (is_white b)) (str_to_ascii_lowercase word) ≡ list_all (λ b. not (is_white b)) word
-black-lower [] = refl
-black-lower (b ∷ word) =
+clear-lower : (word : List ℕ) → list_all (λ b. not (is_white b)) (str_to_ascii_lowercase word) ≡ list_all (λ b. not (is_white b)) word
+clear-lower [] = refl
+clear-lower (b ∷ word) =
     ap (λ w. not w && list_all (λ x. not (is_white x)) (str_to_ascii_lowercase word)) (white-lower b)
-    ∙ ap (λ r. not (is_white b) && r) (black-lower word)
+    ∙ ap (λ r. not (is_white b) && r) (clear-lower word)
 
 pub some-lower : (word : List ℕ) → nat_lt 0 (length (str_to_ascii_lowercase word)) ≡ nat_lt 0 (length word)
 some-lower [] = refl
 some-lower (b ∷ word) = lt-ltb _ _ (omega arith) ∙ sym (lt-ltb _ _ (omega arith))
 
 keyword_is_word : (word text : List ℕ) → str_to_ascii_lowercase word ≡ text → is_word text ≡ true → is_word word ≡ true
-keyword_is_word word text is black =
+keyword_is_word word text is clear =
     ap (λ r. r && list_all (λ b. not (is_white b)) word) (sym (some-lower word))
-    ∙ ap (λ r. nat_lt 0 (length (str_to_ascii_lowercase word)) && r) (sym (black-lower word))
-    ∙ ap is_word is ∙ black
+    ∙ ap (λ r. nat_lt 0 (length (str_to_ascii_lowercase word)) && r) (sym (clear-lower word))
+    ∙ ap is_word is ∙ clear
 
 pub line_end_white : (b : ℕ) → is_line_end b ≡ true → is_white b ≡ true
 line_end_white b h = grind (arith, nat_tests)

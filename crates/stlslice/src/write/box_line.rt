@@ -1,6 +1,6 @@
 //! The output of `--box`: how many facets there are, and their bounding box.
 ghost use Rattle.std.specs.Prelude.{◌≡◌, IfOk, Some, string_bytes};
-ghost use Rattle.stlslice.specs.Outcome.{line_text, position_text};
+ghost use Rattle.stlslice.specs.Outcome.{line_text, point_text};
 
 use crate::extent::Extent;
 use geometry::Point;
@@ -30,7 +30,7 @@ pub(crate) fn box_line<A: Allocator + Copy + Send + Sync>(
 struct PointText(Point);
 
 impl Display for PointText {
-    ghost output = { λ text. Some (position_text text.0) };
+    ghost output = { λ text. Some (point_text text.0) };
 
     fn fmt<W: Write>(&self, f: &mut Formatter<W>) -> fmt::Result {
         let x = self.0.x();

@@ -10,7 +10,7 @@ use std::alloc::Allocator;
 
 /// The line on the signed crossings along x and y from the centre of a voxel. The fault is `Outside` where the grid has no
 /// such voxel.
-pub(crate) fn probe_voxel<A: Allocator + Copy + Send + Sync>(
+pub(crate) fn probe_line<A: Allocator + Copy + Send + Sync>(
     alloc: A,
     solid: &Solid<A>,
     grid: &Grid,

@@ -1,4 +1,4 @@
-use Rattle.contour.proofs.lemmas.Ended.{low_all_ended, low_started, low_word}
+use Rattle.contour.proofs.lemmas.Endings.{low_all_ended, low_started, low_word}
 use Rattle.contour.proofs.active.count_ended.Goals as goal
 
 pub returns-clause-started : goal.returns-clause-started

@@ -1,7 +1,7 @@
 use Rattle.std.proofs.Common.{◌+◌, ◌-◌, ◌/◌, ◌<◌, length, arith, to_z, of_z, w64}
 use Rattle.std.proofs.lemmas.List.Sums.{prefix_len-le-length}
 use Rattle.contour.specs.Active.{starts_by}
-use Rattle.contour.proofs.lemmas.Ended.{before_start, from_start}
+use Rattle.contour.proofs.lemmas.Endings.{before_start, from_start}
 use Rattle.contour.proofs.active.count_started.Goals as goal
 
 pub loop-low-init : goal.loop-low-init

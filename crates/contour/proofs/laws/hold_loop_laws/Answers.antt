@@ -1,8 +1,8 @@
 use Rattle.std.proofs.Common.{refl}
 use Rattle.contour.proofs.lemmas.LoopLaws.{loop_winds-cancel, loops-are_one}
 use Rattle.contour.proofs.lemmas.LoopsClose.{loops_close}
-use Rattle.contour.proofs.lemmas.OrderedLoops.{loops-ordered}
-use Rattle.contour.proofs.lemmas.Outlined.{outlines-join, starts-cut}
+use Rattle.contour.proofs.lemmas.LoopOrder.{loops-ordered}
+use Rattle.contour.proofs.lemmas.OutlinePoints.{outlines-join, starts-cut}
 use Rattle.contour.proofs.laws.hold_loop_laws.Goals as goal
 
 pub returns : goal.returns

@@ -1,5 +1,5 @@
 use Rattle.std.proofs.lemmas.Int.{to_z-of_z}
-use Rattle.contour.proofs.lemmas.Outlined.{start-none, start-some}
+use Rattle.contour.proofs.lemmas.OutlinePoints.{start-none, start-some}
 use Rattle.contour.proofs.outlines.start_of.Goals as goal
 
 pub returns-in-Some : goal.returns-in-Some

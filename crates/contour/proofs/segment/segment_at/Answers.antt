@@ -1,7 +1,7 @@
 use Rattle.std.proofs.Common.{[], ap, get_or, refl, arith}
 use Rattle.std.proofs.lemmas.Int.{to_z-of_z}
 use Rattle.contour.proofs.lemmas.Cutting.{segment_at-some, segment_at-none, between-by_cut, none-only}
-use Rattle.contour.proofs.lemmas.Ordered.{edge_node-ordered}
+use Rattle.contour.proofs.lemmas.NodeOrder.{edge_node-ordered}
 use Rattle.contour.proofs.segment.segment_at.Goals as goal
 
 pub returns-clause-ordered : goal.returns-clause-ordered

@@ -1,9 +1,9 @@
 use Rattle.std.proofs.Common.{◌∙◌, ap, sym, subst, arith}
 use Rattle.std.specs.Prelude.{All}
 use Rattle.std.proofs.lemmas.Int.{to_z-of_z}
-use Rattle.contour.proofs.lemmas.Numbered.{segments_to-some, segments_to-none}
+use Rattle.contour.proofs.lemmas.Positions.{segments_to-some, segments_to-none}
 use Rattle.contour.specs.Segment.{HasOrderedNodes}
-use Rattle.contour.proofs.lemmas.Ordered.{ordered-more}
+use Rattle.contour.proofs.lemmas.NodeOrder.{ordered-more}
 use Rattle.contour.proofs.segment.segments.Goals as goal
 use Rattle.contour.proofs.segment.segments.Goals.{in-Some+in_ok-push, in_default}
 

@@ -1,7 +1,7 @@
 use Rattle.std.proofs.Common.{◌≡◌}
 use Rattle.std.specs.Prelude.{All}
 use Rattle.contour.specs.Segment.{HasOrderedNodes}
-use Rattle.contour.proofs.lemmas.Numbered.{segments_to}
+use Rattle.contour.proofs.lemmas.Positions.{segments_to}
 use Rattle.contour.proofs.segment.segments.Given as goal
 
 abbrev pub invariant-loop-facet : goal.invariant-loop-facet

@@ -5,7 +5,7 @@ use Rattle.geometry.specs.Facet.{corners}
 use Rattle.mesh_weld.specs.Numbering.{threes}
 use Rattle.mesh_weld.specs.Solid.{IsByHeight, IsGreatestRise, facets_by, vertices, number_of, triples}
 use Rattle.mesh_weld.proofs.lemmas.EdgeNumbering.{triples-by_number, edge_numbers}
-use Rattle.mesh_weld.proofs.lemmas.Numbered.{numbered_again, numbered_below}
+use Rattle.mesh_weld.proofs.lemmas.FacetNumbers.{numbered_again, numbered_below}
 use Rattle.mesh_weld.proofs.lemmas.Welds.{few_vertices}
 use Rattle.mesh_weld.proofs.by_sort.sorted_numbering.Given.{Over}
 use Rattle.mesh_weld.proofs.by_sort.sorted_numbering.Goals.{In_ok-numbers}

@@ -4,7 +4,7 @@ use Rattle.std.specs.List.{list_all, before_first}
 use Rattle.micro_num.specs.Numeral.{from_first}
 use Rattle.stl_text.specs.Text.{is_keyword, is_white}
 use Rattle.stl_text.specs.Written.{IsApart}
-use Rattle.stl_text.proofs.lemmas.Fronts.{keyword_black, word_is, rest_is}
+use Rattle.stl_text.proofs.lemmas.Fronts.{keyword_clear, word_is, rest_is}
 use Rattle.stl_text.proofs.scanning.after_keyword.Goals as goal
 
 pub returns-then-is_keyword-clause-keyword : goal.returns-then-is_keyword-clause-keyword
@@ -13,7 +13,7 @@ returns-then-is_keyword-clause-keyword c =
     let text : List ℕ = c.args.text.now in
     let n : ℕ = length text in
     let is : is_keyword text (take n front) ≡ true = ap (is_keyword text) (sym c.split_at.ensures.front) ∙ sym c.is_keyword.ensures ∙ c.if-is_keyword.true in
-    let clear : list_all (λ byte. not (is_white byte)) (take n front) ≡ true = keyword_black text (take n front) c.requires.word is in
+    let clear : list_all (λ byte. not (is_white byte)) (take n front) ≡ true = keyword_clear text (take n front) c.requires.word is in
     let apart : IsApart (drop n front) = subst IsApart c.split_at.ensures.back (c.ends_word.ensures.0 c.if-ends_word.true) in
     ap (λ t. is_keyword text (before_first is_white t)) (sym c.skip_space-front.ensures) ∙ ap (is_keyword text) (word_is front n clear apart) ∙ is
 
@@ -23,6 +23,6 @@ returns-then-is_keyword-clause-rest c =
     let text : List ℕ = c.args.text.now in
     let n : ℕ = length text in
     let is : is_keyword text (take n front) ≡ true = ap (is_keyword text) (sym c.split_at.ensures.front) ∙ sym c.is_keyword.ensures ∙ c.if-is_keyword.true in
-    let clear : list_all (λ byte. not (is_white byte)) (take n front) ≡ true = keyword_black text (take n front) c.requires.word is in
+    let clear : list_all (λ byte. not (is_white byte)) (take n front) ≡ true = keyword_clear text (take n front) c.requires.word is in
     let apart : IsApart (drop n front) = subst IsApart c.split_at.ensures.back (c.ends_word.ensures.0 c.if-ends_word.true) in
     c.split_at.ensures.back ∙ sym (rest_is front n clear apart) ∙ ap (from_first is_white) c.skip_space-front.ensures

@@ -2,7 +2,7 @@ use Rattle.std.proofs.Common.{◌≡◌, false, FitsSigned, pos, rules, w32, ref
 use Rattle.std.specs.Prelude.{Err}
 use Rattle.std.proofs.lemmas.Int.{to_z-of_z}
 use Rattle.micro_num.specs.Micrometres.{coordinate_of}
-use Rattle.stl_text.specs.Text.{coordinate, first_word, is_keyword, is_wanted, keyword_of, keyword_text, normal_part}
+use Rattle.stl_text.specs.Text.{coordinate, first_word, is_keyword, is_wanted, keyword_of, keyword_text, normal_word}
 use Rattle.stl_text.specs.Stage.{with_number}
 use Rattle.stl_text.proofs.lemmas.Steps.{NamesKeyword, coordinate-within-bits, names_keyword}
 use Rattle.stl_text.proofs.lemmas.Stages.{some_word, reads_as, reads_number}
@@ -43,9 +43,9 @@ returns-else-is_keyword-clause-fault c = λ few after word_is some.
       other = λ e. cc;
     }
 
-pub returns-in-Part-clause-read : goal.returns-in-Part-clause-read
-returns-in-Part-clause-read c = λ few after word_is some.
-    record { token = normal_part; goes = c.in-Part.ensures.wanted few c.args.facet; begins = reads_as after c.args.word.now word_is some; one_word = refl }
+pub returns-in-NormalWord-clause-read : goal.returns-in-NormalWord-clause-read
+returns-in-NormalWord-clause-read c = λ few after word_is some.
+    record { token = normal_word; goes = c.in-NormalWord.ensures.wanted few c.args.facet; begins = reads_as after c.args.word.now word_is some; one_word = refl }
 
 pub put_in-requires : goal.put_in-requires
 put_in-requires c = coordinate-within-bits c.args.unit c.args.word.now c.in-Ok.value (sym c.read_micro.ensures.exact ∙ c.in-Ok.is)

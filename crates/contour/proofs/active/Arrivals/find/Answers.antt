@@ -2,7 +2,7 @@ use Rattle.std.proofs.Common.{◌≡◌, ◌∙◌, ◌+◌, ap, arith, to_z, of
 use Rattle.std.proofs.lemmas.Int.{to_z-of_z}
 use Rattle.std.proofs.lemmas.List.Sums.{prefix_len-le-length}
 use Rattle.contour.specs.Active.{ends_above, starts_by}
-use Rattle.contour.proofs.lemmas.Ended.{counted_on, found_on}
+use Rattle.contour.proofs.lemmas.Endings.{counted_on, found_on}
 use Rattle.contour.proofs.active.Arrivals.find.Goals as goal
 
 pub split_at-requires : goal.split_at-requires

@@ -2,7 +2,7 @@ use Rattle.std.proofs.Common.{◌∙◌, ap, map, sym}
 use Rattle.std.proofs.lemmas.Int.{to_z-of_z}
 use Rattle.contour.specs.Loops.{parts_from}
 use Rattle.contour.specs.Outlines.{outline, start_point}
-use Rattle.contour.proofs.lemmas.Outlined.{flat_within, parts-map}
+use Rattle.contour.proofs.lemmas.OutlinePoints.{flat_within, parts-map}
 use Rattle.contour.proofs.outlines.Outlines.of.Goals as goal
 
 pub start_points-requires-clause-list : goal.start_points-requires-clause-list

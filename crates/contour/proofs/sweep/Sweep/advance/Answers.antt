@@ -4,7 +4,7 @@ use Rattle.std.proofs.lemmas.Int.{to_z-of_z}
 use Rattle.mesh_weld.specs.Solid.{is_lower}
 use Rattle.contour.specs.Active.{top_of}
 use Rattle.contour.specs.Sweep.{Sweep}
-use Rattle.contour.proofs.lemmas.Ended.{ordered_rest}
+use Rattle.contour.proofs.lemmas.Endings.{ordered_rest}
 use Rattle.contour.proofs.lemmas.Sweeps.{rest_in, found_in, on-error, passed_within, step-fits, swept_next}
 use Rattle.contour.proofs.sweep.Sweep.advance.Goals as goal
 

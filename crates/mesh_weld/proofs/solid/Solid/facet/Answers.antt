@@ -6,7 +6,7 @@ use Rattle.std.specs.Prelude.{slice_get}
 use Rattle.geometry.specs.Facet.{Facet}
 use Rattle.mesh_weld.specs.Solid.{Solid, facet_by, facets_by, is_kept}
 use Rattle.mesh_weld.proofs.lemmas.Degenerate.{kept-distinct}
-use Rattle.mesh_weld.proofs.lemmas.Numbered.{numbered_below}
+use Rattle.mesh_weld.proofs.lemmas.FacetNumbers.{numbered_below}
 use Rattle.mesh_weld.proofs.solid.Solid.facet.Given.{Over}
 use Rattle.mesh_weld.proofs.solid.Solid.facet.Goals.{After-index, After-facet_by}
 use Rattle.mesh_weld.proofs.solid.Solid.facet.Goals as goal

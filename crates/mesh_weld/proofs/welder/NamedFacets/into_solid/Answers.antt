@@ -9,7 +9,7 @@ use Rattle.mesh_weld.specs.Welder.{Welder}
 use Rattle.mesh_weld.specs.Solid.{facet_by, facets_by, number_of, solid_of, vertices}
 use Rattle.mesh_weld.specs.Welding.{IsKeptFault}
 use Rattle.mesh_weld.proofs.lemmas.Degenerate.{balanced_by_kept, kept_ray}
-use Rattle.mesh_weld.proofs.lemmas.Numbered.{numbered_again}
+use Rattle.mesh_weld.proofs.lemmas.FacetNumbers.{numbered_again}
 use Rattle.mesh_weld.proofs.lemmas.Welds.{degenerate_count, kept_weld_fault}
 use Rattle.mesh_weld.proofs.welder.NamedFacets.into_solid.Given.{Over}
 use Rattle.mesh_weld.proofs.welder.NamedFacets.into_solid.Goals.{In_ok-points}

@@ -3,7 +3,7 @@ use Rattle.std.proofs.lemmas.List.{take_all}
 use Rattle.raster.specs.declared.span.Span.{Span}
 use Rattle.raster.specs.Rows.{crosses}
 use Rattle.raster.proofs.lemmas.Packing.{indicator, row-is}
-use Rattle.raster.proofs.lemmas.Ordered.{within-crosses}
+use Rattle.raster.proofs.lemmas.SpanOrder.{within-crosses}
 use Rattle.raster.proofs.pbm.rows.draw_row.Goals as goal
 
 pub returns : goal.returns

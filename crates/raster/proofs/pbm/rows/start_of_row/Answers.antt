@@ -1,4 +1,4 @@
-use Rattle.raster.proofs.lemmas.Ordered.{split-here}
+use Rattle.raster.proofs.lemmas.SpanOrder.{split-here}
 use Rattle.raster.proofs.pbm.rows.start_of_row.Goals as goal
 
 pub returns-else-spans-start-clause-split : goal.returns-else-spans-start-clause-split

@@ -2,7 +2,7 @@ use Rattle.std.proofs.Common.{◌≡◌, pos, refl, ◌∙◌, ap, subst}
 use Rattle.stl_text.specs.declared.stl_fault.StlFault.TheVariants.{Ended}
 use Rattle.stl_text.specs.declared.word.Word.TheVariants.{FacetOrEnd, Number, Solid}
 use Rattle.stl_text.specs.declared.stage.Stage.TheVariants.{Between}
-use Rattle.stl_text.specs.Text.{coordinate, keyword_of, normal_part}
+use Rattle.stl_text.specs.Text.{coordinate, keyword_of, normal_word}
 use Rattle.stl_text.specs.Stage.{Stands, inside, with_number}
 use Rattle.stl_text.proofs.lemmas.Stages.{ended_first, ended_word, stuck_facets, stuck_inside}
 use Rattle.stl_text.proofs.stage.Stage.end.Goals as goal
@@ -29,13 +29,13 @@ returns-in-Keyword-clause-fault c = λ limit unit facets text after s e.
     (λ before. (refl, ended_word after e))
     (λ h. let same : kind ≡ Solid = cc in absurd (wants.0 same))
 
-pub returns-in-Part-clause-fault : goal.returns-in-Part-clause-fault
-returns-in-Part-clause-fault c = λ limit unit facets text after s e.
+pub returns-in-NormalWord-clause-fault : goal.returns-in-NormalWord-clause-fault
+returns-in-NormalWord-clause-fault c = λ limit unit facets text after s e.
     let words = c.in-Inside.words in
     let t = c.in-Inside.facet in
     let stands : Stands limit unit (inside words t) facets text after =
     subst (λ v. Stands limit unit v facets text after) c.in-Inside.is s in
-    stuck_inside limit unit words facets t t normal_part text after (Ended Number) stands (c.in-Part.ensures.wanted stands.form.0 t)
+    stuck_inside limit unit words facets t t normal_word text after (Ended Number) stands (c.in-NormalWord.ensures.wanted stands.form.0 t)
     (λ before. (refl, ended_word after e)) (λ h. cc)
 
 pub returns-in-Number-clause-fault : goal.returns-in-Number-clause-fault

@@ -13,14 +13,14 @@ returns-then-is_empty-2-clause-read g c = λ limit unit taken text is.
     let q : TextReader = record { limit = length taken + i.limit; unit = i.unit; count = i.count; state = i.state; held = c.hold.new.held.items; facets = taken ++ i.facets.items } in
     let chunk = c.args.chunk.now in
     let rest = c.split_at.result.1.now in
-    let last = c.split_at-2.result.1.now in
+    let none = empty-list rest (sym c.is_empty-2.ensures ∙ c.if-is_empty-2.true) in
     let stage = c.in-Word.stage in
     let here : IsReadingAt limit unit p i.state text chunk = subst (λ r. IsReading limit unit taken r text chunk) (sym c.self.view_is) is in
     let w : Waits limit unit p stage false text chunk = subst (λ pl. IsReadingAt limit unit p pl text chunk) c.in-Word.is here in
     let some : 0 < length i.held.items = omega (arith, i.held.ok.0, eqb-false _ 0 (sym c.is_empty.ensures ∙ c.if-is_empty.false)) in
-    subst (λ pl. IsReadingAt limit unit q pl text last) (sym c.in-Word.is)
-    (kept_on limit unit p q stage text chunk c.split_at.result.0.now rest last c.word_len.result w some c.word_len.ensures.len c.split_at.ensures.front
-    c.split_at.ensures.back (empty-list rest (sym c.is_empty-2.ensures ∙ c.if-is_empty-2.true)) (nil-of-length last (omega (arith, c.split_at-2.ensures.back_len)))
+    subst (λ pl. IsReadingAt limit unit q pl text rest) (sym c.in-Word.is)
+    (kept_on limit unit p q stage text chunk c.split_at.result.0.now rest rest c.word_len.result w some c.word_len.ensures.len c.split_at.ensures.front
+    c.split_at.ensures.back none none
     refl refl refl refl c.in_default-hold.ensures.held)
 
 pub returns-clause-read : goal.returns-clause-read

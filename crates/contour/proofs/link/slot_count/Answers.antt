@@ -1,8 +1,0 @@
-use Rattle.std.proofs.Common.{◌≤◌, length, arith}
-use Rattle.contour.proofs.lemmas.Links.{segments_few}
-use Rattle.contour.proofs.link.slot_count.Goals as goal
-
-pub returns-clause-count : goal.returns-clause-count
-returns-clause-count g c =
-    let few : length c.args.list.now ≤ length c.args.s.now.facets = segments_few c.args.s.now.facets c.args.list.now c.requires in
-    grind (arith, few)

@@ -1,5 +1,0 @@
-use Rattle.contour.proofs.lemmas.Traces.{AreTraced}
-use Rattle.contour.proofs.link.trace_loops.Given as goal
-
-abbrev pub invariant-loop-first : goal.invariant-loop-first
-invariant-loop-first g l = AreTraced l.list l.next l.first l.visited.items l.flat.items l.ends.items

@@ -1,0 +1,111 @@
+-- How segments are linked: by the numbers of the edges where they start and end, and by slots, their positions in the
+-- plane's list. The segments that start at an edge form a linked list: `heads` has its first slot, `after` the next one.
+use Rattle.std.specs.Prelude.{◌≡◌, ℕ, ◌+◌, ◌<◌, ◌≤◌, ◌==◌, List, [], ◌∷◌, length, map, slice_index, slice_index_or, count_by, take, drop, Bool, true, false, nat_le, Some, if◌then◌else◌}
+use Rattle.std.specs.List.{list_all}
+use Rattle.geometry.specs.Facet.{Facet}
+use Rattle.mesh_weld.specs.EdgeNumbers.{AreEdgeNumbers}
+use Rattle.mesh_weld.specs.Solid.{triples}
+use Rattle.contour.specs.declared.segment.Node.{Node}
+use Rattle.contour.specs.declared.segment.Segment.{Segment}
+use Rattle.contour.specs.declared.linker.TheConstants.{NONE}
+use Rattle.contour.specs.Segment.{edge_node, is_node}
+use Rattle.contour.specs.Loops.{IsCycle, count_of, first_facet, follower}
+
+-- of a facet by the numbers of its corners and of its edges, the number of the edge that is this node
+abbrev pub edge_at_node : List ℕ → List ℕ → Node → ℕ
+edge_at_node corners edges node =
+    if is_node (edge_node corners 0) node then slice_index edges 0
+    else (if is_node (edge_node corners 1) node then slice_index edges 1 else slice_index edges 2)
+
+abbrev pub edge_of_facet : List Facet → List (List ℕ) → ℕ → Node → ℕ
+edge_of_facet facets numbers facet node =
+    edge_at_node (slice_index_or (triples facets) facet []) (slice_index_or numbers facet []) node
+
+abbrev pub start_edge : List Facet → List (List ℕ) → Segment → ℕ
+start_edge facets numbers t = edge_of_facet facets numbers t.facet t.from
+
+abbrev pub finish_edge : List Facet → List (List ℕ) → Segment → ℕ
+finish_edge facets numbers t = edge_of_facet facets numbers t.facet t.to
+
+-- the numbers of the edges where segments start and where they end
+pub record AreSegmentEdges (facets : List Facet) (list : List Segment) (starts finishes : List ℕ) : Type 0 where
+  pub numbers : List (List ℕ)
+  pub count : ℕ
+  pub numbered : AreEdgeNumbers facets numbers count
+  pub starts_are : starts ≡ map (start_edge facets numbers) list
+  pub finishes_are : finishes ≡ map (finish_edge facets numbers) list
+
+-- the slots of an edge: where a list of edges has it, the first slot being n
+abbrev pub slots : ℕ → ℕ → List ℕ → List ℕ
+slots n e [] = []
+slots n e (x ∷ xs) = if x == e then n ∷ slots (n + 1) e xs else slots (n + 1) e xs
+
+-- each linked list is empty
+abbrev pub IsClear : List ℕ → Type 0
+IsClear heads = (e : ℕ) → slice_index_or heads e NONE ≡ NONE
+
+-- each edge has as its head its first slot among the starts from the n-th on
+abbrev pub HasFirsts : List ℕ → ℕ → List ℕ → Type 0
+HasFirsts heads n starts = (e : ℕ) → slice_index_or heads e NONE ≡ slice_index_or (slots n e (drop n starts)) 0 NONE
+
+-- each slot from the n-th on has the next slot of its edge
+abbrev pub HasNexts : List ℕ → ℕ → List ℕ → Type 0
+HasNexts after n starts =
+    (j : ℕ) → n ≤ j → j < length starts
+    → slice_index_or after j NONE ≡ slice_index_or (slots (j + 1) (slice_index starts j) (drop (j + 1) starts)) 0 NONE
+
+-- the slot of the k-th start at an edge, where k of the first n segments end there
+abbrev pub slot_after : List ℕ → List ℕ → ℕ → ℕ → ℕ
+slot_after starts finishes n e = slice_index_or (slots 0 e starts) (count_by (λ f. f == e) (take n finishes)) NONE
+
+-- each edge has as its head the first slot that is left after the first n pops
+abbrev pub HasLeft : List ℕ → List ℕ → List ℕ → ℕ → Type 0
+HasLeft heads starts finishes n = (e : ℕ) → slice_index_or heads e NONE ≡ slot_after starts finishes n e
+
+-- the first n segments have the slots that they popped
+abbrev pub ArePopped : List ℕ → List ℕ → List ℕ → ℕ → Type 0
+ArePopped next starts finishes n =
+    (j : ℕ) → j < n → slice_index_or next j NONE ≡ slot_after starts finishes j (slice_index finishes j)
+
+-- each segment has the slot of its follower, and no two have the same
+pub record AreLinks (list : List Segment) (next : List ℕ) : Type 0 where
+  pub size : length next ≡ length list
+  pub within : (j : ℕ) → j < length list → slice_index_or next j NONE < length list
+  pub follows : (j : ℕ) (d : Segment) → j < length list
+      → follower list (slice_index_or list j d) ≡ Some (slice_index_or list (slice_index_or next j NONE) d)
+  pub one : (i j : ℕ) → i < length list → j < length list → slice_index_or next i NONE ≡ slice_index_or next j NONE → i ≡ j
+
+abbrev pub no_segment : Segment
+no_segment = record { facet = 0; from = record { low = 0; high = 0 }; to = record { low = 0; high = 0 } }
+
+abbrev pub facet_of : List Segment → ℕ → ℕ
+facet_of list j = (slice_index_or list j no_segment).facet
+
+-- later segments are of later facets
+abbrev pub InFacetOrder : List Segment → Type 0
+InFacetOrder list = (i j : ℕ) → i < j → j < length list → facet_of list i < facet_of list j
+
+-- the slot has been visited; a slot beyond the flags counts as visited
+abbrev pub is_visited : List Bool → ℕ → Bool
+is_visited visited j = slice_index_or visited j true
+
+-- the segments whose slots have not been visited
+abbrev pub unvisited : List Bool → List Segment → List Segment
+unvisited [] list = list
+unvisited (b ∷ visited) [] = []
+unvisited (b ∷ visited) (x ∷ list) = if b then unvisited visited list else x ∷ unvisited visited list
+
+-- no loop has been visited in part: where a slot is not visited, its follower is not
+abbrev pub KeepsLoopsWhole : List Segment → List ℕ → List Bool → Type 0
+KeepsLoopsWhole list next visited =
+    (j : ℕ) → j < length list → is_visited visited j ≡ false → is_visited visited (slice_index_or next j NONE) ≡ false
+
+-- the whole loop from the slot `first` has been visited, and nothing else
+pub record IsTracedLoop (list : List Segment) (next : List ℕ) (first : ℕ) (before after : List Bool) (part : List Segment) : Type 0 where
+  pub cycle : IsCycle list part
+  pub head : first_facet part ≡ facet_of list first
+  pub least : list_all (λ t. nat_le (facet_of list first) t.facet) part ≡ true
+  pub once : (n : ℕ) → count_of n part + count_of n (unvisited after list) ≡ count_of n (unvisited before list)
+  pub whole : KeepsLoopsWhole list next after
+  pub kept : (j : ℕ) → is_visited before j ≡ true → is_visited after j ≡ true
+  pub done : is_visited after first ≡ true

@@ -1,0 +1,312 @@
+//! Linking finds the loops of a plane's segments in time linear in their number. The segments that start at an edge
+//! form a linked list: `heads[e]` is the slot (the position in the plane's list) of the first one that starts at the
+//! edge `e`, `after[i]` the slot of the next one at the same edge as slot `i`, and [`NONE`] the end of a list. Each
+//! segment takes the head of the list of the edge where it ends: that is its follower, whose slot is kept in `next`.
+//! Then the loops are traced from follower to follower, with a flag for each slot that was visited.
+ghost use Rattle.std.specs.Prelude.{◌++◌, true, false, ◌≡◌, ◌<◌, ◌≤◌, ℕ, ℤ, All, List, IfOk, OnOk, length, slice_index_or};
+ghost use Rattle.exact_int.specs.Bounds.{IsAtMost};
+ghost use Rattle.mesh_weld.specs.Balance.{IsBalanced};
+ghost use Rattle.mesh_weld.specs.EdgeNumbers.{AreEdgeNumbers};
+ghost use Rattle.contour.specs.Segment.{HasOrderedNodes, segments};
+ghost use Rattle.contour.specs.Loops.{AreLoops, loops};
+ghost use Rattle.contour.specs.Linker.{AreLinks, AreSegmentEdges, ArePopped, HasFirsts, HasLeft, HasNexts, InFacetOrder, IsClear, IsTracedLoop, KeepsLoopsWhole, edge_at_node, is_visited};
+ghost use Rattle.contour.specs.declared.linker.TheConstants.{NONE};
+ghost use Rattle.geometry.specs.declared.limits.TheConstants.{CENTRE_LIMIT, FACET_LIMIT};
+
+use crate::loop_list::Loops;
+use crate::segment::{Node, Segment};
+use mesh_weld::Solid;
+use std::alloc::{AllocError, Allocator};
+use std::marker::Model;
+
+/// The slot of no segment.
+const NONE: u32 = u32::MAX;
+
+/// Links the segments of planes to loops. Between two planes no edge has a first segment in `heads`; all other lists
+/// are filled anew for each plane, and kept for their memory alone.
+#[derive(Drop)]
+pub struct Linker<A: Allocator> {
+    alloc: A,
+    heads: Vec<u32, A>,
+    links: Links<A>,
+    visited: Vec<bool, A>,
+    ends: Vec<usize, A>,
+}
+
+impl<A: Allocator> Model for Linker<A> {
+    ghost use Rattle.contour.specs.Linker.{IsClear};
+
+    ghost Value = { Unit {0} };
+
+    ghost view = { λ l. tt };
+
+    ghost invariant = { λ l. IsClear l.heads.items };
+}
+
+impl<A: Allocator + Copy + Send + Sync> Linker<A> {
+    /// A linker for the planes of a mesh. `Err` comes only where an allocation failed.
+    pub fn new(alloc: A, s: &Solid<A>) -> Result<Linker<A>, AllocError> {
+        Ok(Linker {
+            alloc,
+            heads: vec![in alloc; NONE; s.edge_count() as usize]?,
+            links: Links::new(alloc),
+            visited: Vec::new(alloc),
+            ends: Vec::new(alloc),
+        })
+    }
+
+    /// The loops of the segments of one plane; `list` is the mesh's segments at some height. Each loop is a closed cycle:
+    /// each segment ends at the node where the next one starts, and the last one ends where the first starts. Each segment
+    /// stands in exactly one loop, and of each node `low` is below `high`. `Err` comes only where an allocation failed, and
+    /// the linker can link the next plane in either case.
+    pub fn loops(&mut self, s: &Solid<A>, list: &[Segment]) -> Result<Loops<A>, AllocError>
+        requires { (z : ℤ) × (list.now ≡ segments s.now.facets z) }
+        ensures closed { IfOk result (AreLoops list.now) }
+        ensures loops { IfOk result (λ found. found ≡ loops list.now) }
+        ensures ordered { IfOk result (All (All HasOrderedNodes)) }
+    {
+        // wakes the invariant: the corners of each kept facet are distinct
+        let _facets = s.count();
+        make_room(self.alloc, &mut self.heads, s)?;
+        self.links.fill(s, list, self.heads.as_mut_slice())?;
+        let next = self.links.next.as_slice();
+        trace_loops(self.alloc, list, next, &mut self.visited, &mut self.ends)
+    }
+}
+
+/// Makes room for the edges of a mesh.
+fn make_room<A: Allocator + Copy + Send + Sync>(
+    alloc: A,
+    heads: &mut Vec<u32, A>,
+    s: &Solid<A>,
+) -> Result<(), AllocError>
+    requires { IsClear heads.old.items }
+    ensures room { OnOk result ((numbers : List (List ℕ)) (count : ℕ) → AreEdgeNumbers s.now.facets numbers count
+        → count ≤ length heads.new.items) }
+    ensures clear { IsClear heads.new.items }
+{
+    let count = s.edge_count() as usize;
+    if heads.len() < count {
+        *heads = vec![in alloc; NONE; count]?;
+    }
+    Ok(())
+}
+
+/// The number of segments. There is at most one for each kept facet, so that slots fit `u32`.
+fn slot_count<A: Allocator>(s: &Solid<A>, list: &[Segment]) -> u32
+    requires { (z : ℤ) × (list.now ≡ segments s.now.facets z) }
+    ensures count { result ≡ length list.now }
+    ensures limit { result ≤ FACET_LIMIT }
+    ensures closed { IsBalanced s.now.facets }
+{
+    list.len().min(s.count()) as u32
+}
+
+/// The links of a plane's segments: `next` has for each the slot of its follower, `after` the slot of the next
+/// segment that starts at the same edge.
+#[derive(Drop)]
+struct Links<A: Allocator> {
+    edges: SegmentEdges<A>,
+    after: Vec<u32, A>,
+    next: Vec<u32, A>,
+}
+
+impl<A: Allocator> Links<A> {
+    /// No links. It allocates no memory.
+    fn new(alloc: A) -> Links<A>
+    where
+        A: Copy,
+    {
+        Links {
+            edges: SegmentEdges {
+                starts: Vec::new(alloc),
+                finishes: Vec::new(alloc),
+            },
+            after: Vec::new(alloc),
+            next: Vec::new(alloc),
+        }
+    }
+
+    /// Links the segments of a plane: at each node the n-th that ends there is followed by the n-th that starts
+    /// there.
+    fn fill(&mut self, s: &Solid<A>, list: &[Segment], heads: &mut [u32]) -> Result<(), AllocError>
+        requires list { (z : ℤ) × (list.now ≡ segments s.now.facets z) }
+        requires room { (numbers : List (List ℕ)) (count : ℕ) → AreEdgeNumbers s.now.facets numbers count → count ≤ length heads.old }
+        requires clear { IsClear heads.old }
+        ensures links { OnOk result (AreLinks list.now self.new.next.items) }
+        ensures clear { IsClear heads.new }
+    {
+        self.edges.fill(s, list)?;
+        let count = slot_count(s, list) as usize;
+        self.after.resize(count, NONE)?;
+        self.next.resize(count, NONE)?;
+        let after = self.after.as_mut_slice();
+        push_starts(heads, &self.edges, after);
+        pop_starts(heads, &self.edges, after, self.next.as_mut_slice());
+        Ok(())
+    }
+}
+
+/// The numbers of the edges where each segment starts and where it ends.
+#[derive(Drop)]
+struct SegmentEdges<A: Allocator> {
+    starts: Vec<u32, A>,
+    finishes: Vec<u32, A>,
+}
+
+impl<A: Allocator> SegmentEdges<A> {
+    /// Replaces the numbers by those of these segments.
+    fn fill(&mut self, s: &Solid<A>, list: &[Segment]) -> Result<(), AllocError>
+        requires { All (λ t. t.facet < length s.now.facets) list.now }
+        ensures { OnOk result (AreSegmentEdges s.now.facets list.now self.new.starts.items self.new.finishes.items) }
+    {
+        let corners = s.triples();
+        let numbers = s.edge_numbers();
+        self.starts.clear();
+        self.finishes.clear();
+        for t in list {
+            let facet = t.facet as usize;
+            let start = edge_at(&corners[facet], &numbers[facet], t.from);
+            let finish = edge_at(&corners[facet], &numbers[facet], t.to);
+            self.starts.push(start)?;
+            self.finishes.push(finish)?;
+        }
+        Ok(())
+    }
+}
+
+/// The number of a facet's edge that is this node.
+fn edge_at(corners: &[u32; 3], numbers: &[u32; 3], node: Node) -> u32
+    ensures { result ≡ edge_at_node corners.now numbers.now node }
+{
+    if Node::between(corners[0], corners[1]) == node {
+        numbers[0]
+    } else if Node::between(corners[1], corners[2]) == node {
+        numbers[1]
+    } else {
+        numbers[2]
+    }
+}
+
+/// Pushes each slot at the front of the linked list of the edge where its segment starts, from the last slot to the
+/// first, so that each list is in ascending order.
+fn push_starts<A: Allocator>(heads: &mut [u32], edges: &SegmentEdges<A>, after: &mut [u32])
+    requires edges { All (λ e. e < length heads.old) edges.now.starts.items }
+    requires room { length after.old ≡ length edges.now.starts.items }
+    requires limit { length edges.now.starts.items ≤ FACET_LIMIT }
+    requires clear { IsClear heads.old }
+    ensures firsts { HasFirsts heads.new 0 edges.now.starts.items }
+    ensures nexts { HasNexts after.new 0 edges.now.starts.items }
+{
+    for i in (0..edges.starts.len()).rev() {
+        let edge = edges.starts[i] as usize;
+        after[i] = heads[edge];
+        heads[edge] = i as u32;
+    }
+}
+
+/// Pops for each slot, from the first on, the front of the linked list of the edge where its segment ends: its
+/// follower.
+fn pop_starts<A: Allocator>(
+    heads: &mut [u32],
+    edges: &SegmentEdges<A>,
+    after: &[u32],
+    next: &mut [u32],
+)
+    requires edges { All (λ e. e < length heads.old) edges.now.finishes.items }
+    requires room { length next.old ≡ length edges.now.finishes.items }
+    requires size { length after.now ≡ length edges.now.starts.items }
+    requires limit { length after.now ≤ FACET_LIMIT }
+    requires firsts { HasFirsts heads.old 0 edges.now.starts.items }
+    requires nexts { HasNexts after.now 0 edges.now.starts.items }
+    ensures left { HasLeft heads.new edges.now.starts.items edges.now.finishes.items (length edges.now.finishes.items) }
+    ensures popped { ArePopped next.new edges.now.starts.items edges.now.finishes.items (length edges.now.finishes.items) }
+{
+    for (i, edge) in edges.finishes.iter().enumerate() {
+        let first = heads[*edge as usize];
+        next[i] = first;
+        heads[*edge as usize] = slot_at(after, first);
+    }
+}
+
+/// The slot that a list has at a slot; [`NONE`] where the list is shorter.
+fn slot_at(list: &[u32], slot: u32) -> u32
+    ensures { result ≡ slice_index_or list.now slot NONE }
+{
+    list.get(slot as usize).copied().unwrap_or(NONE)
+}
+
+/// Traces the loops, each from its first segment, in the order of their first segments; `next` has for each slot that
+/// of its follower. `visited` and `ends` are overwritten: the caller keeps them for their memory. The result has no
+/// spare capacity.
+fn trace_loops<A: Allocator + Copy + Send + Sync>(
+    alloc: A,
+    list: &[Segment],
+    next: &[u32],
+    visited: &mut Vec<bool, A>,
+    ends: &mut Vec<usize, A>,
+) -> Result<Loops<A>, AllocError>
+    requires links { AreLinks list.now next.now }
+    requires order { InFacetOrder list.now }
+    ensures { IfOk result (AreLoops list.now) }
+{
+    visited.clear();
+    visited.resize(list.len(), false)?;
+    ends.clear();
+    let mut flat = Vec::with_capacity(alloc, list.len())?;
+    for first in 0..list.len() {
+        if !visited[first] {
+            trace_loop(list, next, first, visited.as_mut_slice(), &mut flat)?;
+            ends.push(flat.len())?;
+        }
+    }
+    let ends = ends.as_slice().to_vec(alloc)?;
+    Ok(Loops::of(flat, ends))
+}
+
+/// Appends the loop of the segment at the slot `first` to `flat`, and marks its slots as visited.
+fn trace_loop<A: Allocator>(
+    list: &[Segment],
+    next: &[u32],
+    first: usize,
+    visited: &mut [bool],
+    flat: &mut Vec<Segment, A>,
+) -> Result<(), AllocError>
+    requires links { AreLinks list.now next.now }
+    requires order { InFacetOrder list.now }
+    requires size { length visited.old ≡ length list.now }
+    requires first { first < length list.now }
+    requires begins { is_visited visited.old first ≡ false }
+    requires whole { KeepsLoopsWhole list.now next.now visited.old }
+    requires earlier { (j : ℕ) → j < first → is_visited visited.old j ≡ true }
+    ensures { OnOk result ((part : List Segment) × (flat.new.items ≡ flat.old.items ++ part)
+        × IsTracedLoop list.now next.now first visited.old visited.new part) }
+{
+    let mut at = first;
+    while !visited[at] {
+        flat.push(list[at])?;
+        visited[at] = true;
+        at = next[at] as usize;
+    }
+    Ok(())
+}
+
+/// The loops of a mesh at the height `z2` in half-micrometres, at most `geometry::CENTRE_LIMIT` from 0; `list` is its
+/// segments there. Each loop is a closed cycle: each segment ends at the node where the next one starts, and the last one
+/// ends where the first starts. Each segment stands in exactly one loop, and of each node `low` is below `high`. `Err` comes
+/// only where an allocation failed; the list is used up in either case. A [`Linker`] of many planes keeps its memory from
+/// one to the next.
+pub fn loops<A: Allocator + Copy + Send + Sync>(
+    alloc: A,
+    s: &Solid<A>,
+    z2: i64,
+    list: Vec<Segment, A>,
+) -> Result<Loops<A>, AllocError>
+    requires height { IsAtMost CENTRE_LIMIT z2 }
+    requires list { list.items ≡ segments s.now.facets z2 }
+    ensures closed { IfOk result (AreLoops list.items) }
+    ensures loops { IfOk result (λ found. found ≡ loops list.items) }
+    ensures ordered { IfOk result (All (All HasOrderedNodes)) }
+{
+    Linker::new(alloc, s)?.loops(s, list.as_slice())
+}
