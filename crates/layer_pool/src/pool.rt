@@ -17,11 +17,12 @@ use stripe_claims::{Claims, Pass};
 
 /// The complete build of a job, for 1 to `PASS_LIMIT` workers and every gate.
 ///
-/// Each worker draws stripes from claims without a lock. It takes the lock on the book to file one piece, and for nothing
-/// else. A stripe for which a worker gets no memory is made at the end, on the caller's thread. Where a worker cannot be
-/// started, the others draw its share. `Err` comes only where an allocation failed on the caller's thread. No
-/// clause promises any of this, only that the build is complete: tests show that a worker goes on while a gate holds another,
-/// and that layers are made up at the end where workers had no memory; the rest is read in this file.
+/// The first worker is the caller's own thread; each of the others has a thread of its own. Each draws stripes from claims
+/// without a lock. It takes the lock on the book to file one piece, and for nothing else. A stripe for which a worker gets no
+/// memory is made at the end, on the caller's thread. Where a worker cannot be started, the others draw its share. `Err`
+/// comes only where an allocation failed on the caller's thread. No clause promises any of this, only that the build is
+/// complete: tests show that a worker goes on while a gate holds another, and that layers are made up at the end where
+/// workers had no memory; the rest is read in this file.
 pub fn build<'m, R: Threads + Wait + Sync, A: Allocator + Copy + Send + Sync, G: Gate<A> + Sync>(
     rt: &R,
     alloc: A,
@@ -79,7 +80,8 @@ struct Shared<'a, 'm, J: OfJob, R, A: Allocator, G> {
     ghost of: { job.now ≡ J.job },
 }
 
-/// Runs a worker for each pass, and returns when all have ended.
+/// Runs a worker for each pass, the first on the caller's thread and each other on a thread of its own, and returns when
+/// all have ended.
 fn run_workers<
     'm,
     J: OfJob + Send + Sync,
@@ -98,12 +100,16 @@ fn run_workers<
         {
             while let Some(pass) = passes.pop() {
                 let worker = passes.len() as u32;
-                let started = scope.spawn(
-                    move ||
-                        requires { IsOwned shared.now.claims.now pass }
-                    { run_worker(shared, worker, pass) },
-                );
-                drop(started);
+                if worker == 0 {
+                    run_worker(shared, worker, pass);
+                } else {
+                    let started = scope.spawn(
+                        move ||
+                            requires { IsOwned shared.now.claims.now pass }
+                        { run_worker(shared, worker, pass) },
+                    );
+                    drop(started);
+                }
             }
         },
     );
