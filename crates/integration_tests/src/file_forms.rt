@@ -1,7 +1,8 @@
 //! Meshes as text: a keyword or a vertex a line, and coordinates in millimetres with three decimals.
 use crate::meshes::{
-    BEAM, COLUMN, CUBE, CUBE_AND_FLAT, CUBE_AND_PAIR, CUBE_OF_THREE, INWARD_CUBE, LONG_BEAM,
-    NINE_IN_A_ROW, OCTAHEDRON, ONE_INWARD, Part, SHEET, TOUCHING, TWO_CUBES, facets_of,
+    BEAM, BOX, COLUMN, CORNERS as CUBE_CORNERS, CUBE, CUBE_AND_FLAT, CUBE_AND_PAIR, CUBE_OF_THREE,
+    INWARD_CUBE, LONG_BEAM, NINE_IN_A_ROW, OCTAHEDRON, ONE_INWARD, Part, SHEET, TOUCHING,
+    TWO_CUBES, facets_of,
 };
 use crate::published::FARTHEST;
 use micro_num::Unit;
@@ -77,6 +78,14 @@ fn meshes_are_read_from_their_texts(rt: HostRuntime) -> Result<(), Fail> {
     ] {
         assert_eq!(rt; is_read(rt.alloc(), parts, len), Some(true));
     }
+    Ok(())
+}
+
+// The cube without its first facet. It is open, which the weld refuses and reading does not.
+#[test]
+fn an_open_mesh_is_read_from_its_text(rt: HostRuntime) -> Result<(), Fail> {
+    let open_cube: &[Part] = &[(CUBE_CORNERS, &BOX[1..])];
+    assert_eq!(rt; is_read(rt.alloc(), open_cube, 1361), Some(true));
     Ok(())
 }
 

@@ -84,6 +84,12 @@ pub(crate) const TWO_CUBES: &[Part] = &[(NEAR, BOX), (FAR, BOX)];
 /// The same, of which the second is inward.
 pub(crate) const ONE_INWARD: &[Part] = &[(NEAR, BOX), (FAR, INWARD)];
 
+/// A cube with a cavity. The cavity's facets face into it, which is outward from the solid between the two.
+pub(crate) const HOLLOW_CUBE: &[Part] = &[
+    (corners![0 0 0 to 8 8 8], BOX),
+    (corners![2 2 2 to 6 6 6], INWARD),
+];
+
 pub(crate) const CUBE_OF_THREE: &[Part] = &[(corners![0 0 0 to 3 3 3], BOX)];
 
 /// Two facets back to back, with nothing between them.

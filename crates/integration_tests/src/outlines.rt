@@ -1,7 +1,10 @@
 //! Outlines: worked meshes, to the nearest half-micrometre, and allocations that fail.
-use crate::meshes::{BOX, CUBE, CUBE_AND_PAIR, OCTAHEDRON, Part, TWO_CUBES};
+use crate::meshes::{BOX, CUBE, CUBE_AND_PAIR, HOLLOW_CUBE, OCTAHEDRON, Part, TWO_CUBES, solid_of};
 use crate::sessions::{fitted, open};
+use contour::{loops, segments};
+use exact_cut::Centre;
 use layer_session::{Outlines, PlanePoint, Session, SessionFault};
+use mesh_weld::{Solid, probe};
 use raster::Rule;
 use short_memory::ShortMemory;
 use std::alloc::{Allocator, Global};
@@ -72,6 +75,91 @@ fn two_cubes_that_overlap(rt: HostRuntime) -> Result<(), Fail> {
     let far = points![6 4, 12 4, 12 6, 12 12, 6 12, 4 12, 4 6, 4 4];
     assert!(rt; found.count() == 2 && found.ends() == [8usize, 16].as_slice());
     assert!(rt; found.get(0) == Some(near.as_slice()) && found.get(1) == Some(far.as_slice()));
+    Ok(())
+}
+
+// Where a segment of an outline starts and ends: the last one ends where the first starts.
+fn segment_of(outline: &[PlanePoint], number: usize) -> Option<(PlanePoint, PlanePoint)> {
+    let from = outline.get(number)?;
+    let to = match outline.get(number.checked_add(1)?) {
+        Some(next) => next,
+        None => outline.first()?,
+    };
+    Some((*from, *to))
+}
+
+// Whether a segment along x or y has the solid half a micrometre left of its middle, and not as far right of it.
+fn has_solid_on_left(
+    solid: &Solid<Global>,
+    (from, to): (PlanePoint, PlanePoint),
+    z2: i64,
+) -> Option<bool> {
+    let x2 = from.x2.checked_add(to.x2)? / 2;
+    let y2 = from.y2.checked_add(to.y2)? / 2;
+    let ahead_x = to.x2.checked_sub(from.x2)?.signum();
+    let ahead_y = to.y2.checked_sub(from.y2)?.signum();
+    let left = Centre::new(x2.checked_sub(ahead_y)?, y2.checked_add(ahead_x)?, z2)?;
+    let right = Centre::new(x2.checked_add(ahead_y)?, y2.checked_sub(ahead_x)?, z2)?;
+    Some(probe(solid, &left) == (1, 1) && probe(solid, &right) == (0, 0))
+}
+
+// Whether each segment of an outline has the solid on its left and not on its right.
+fn have_solid_on_left(solid: &Solid<Global>, outline: &[PlanePoint], z2: i64) -> Option<bool> {
+    for number in 0..outline.len() {
+        if !has_solid_on_left(solid, segment_of(outline, number)?, z2)? {
+            return Some(false);
+        }
+    }
+    Some(true)
+}
+
+// Twice the area within an outline, in square half-micrometres: below 0 where it runs clockwise, seen from above.
+fn doubled_area(outline: &[PlanePoint]) -> Option<i64> {
+    let mut sum = 0i64;
+    for number in 0..outline.len() {
+        let (from, to) = segment_of(outline, number)?;
+        let forth = from.x2.checked_mul(to.y2)?;
+        let back = to.x2.checked_mul(from.y2)?;
+        sum = sum.checked_add(forth.checked_sub(back)?)?;
+    }
+    Some(sum)
+}
+
+// An outline, and twice the area within it.
+type Told<'a> = (&'a [PlanePoint], i64);
+
+// Whether a mesh has just these outlines at a height in half-micrometres, and the solid on the left of their segments.
+fn are_outlines(alloc: Global, parts: &[Part<'_>], z2: i64, told: &[Told<'_>]) -> Option<bool> {
+    let at = Centre::new(0, 0, z2)?;
+    let solid = solid_of(alloc, parts).ok()?;
+    let list = segments(alloc, &solid, at.z2()).ok()?;
+    let linked = loops(alloc, &solid, at.z2(), list).ok()?;
+    let found = Outlines::of(alloc, &solid, linked, at.z2()).ok()?;
+    for (number, (points, area)) in told.iter().enumerate() {
+        let outline = found.get(number)?;
+        if outline != *points
+            || doubled_area(outline) != Some(*area)
+            || !have_solid_on_left(&solid, outline, z2)?
+        {
+            return Some(false);
+        }
+    }
+    Some(found.count() == told.len())
+}
+
+// The first has the solid within it and the second, the cavity's, around it. No coordinate is odd, so that each segment
+// has a middle.
+const AROUND_A_CAVITY: &[Told] = &[
+    (&points![6 0, 16 0, 16 6, 16 16, 6 16, 0 16, 0 6, 0 0], 512),
+    (&points![12 4, 6 4, 4 4, 4 6, 4 12, 6 12, 12 12, 12 6], -128),
+];
+
+#[test]
+fn a_cavity_clockwise(rt: HostRuntime) -> Result<(), Fail> {
+    assert_eq!(rt;
+        are_outlines(rt.alloc(), HOLLOW_CUBE, 6, AROUND_A_CAVITY),
+        Some(true)
+    );
     Ok(())
 }
 
