@@ -1,12 +1,11 @@
-//! Runs of half-edges with the same two ends. The sorts tell by them whether the half-edges balance.
+//! Counts of half-edges with the same two ends. The sorts tell by them whether the half-edges balance.
 ghost use Rattle.std.specs.Prelude.{◌≡◌, ◌↔◌, ◌<◌, ◌*◌, ◌+◌, ◌-◌, ◌^◌, IsTrue, min, max};
 ghost use Rattle.mesh_weld.specs.SameEnds.{started, counted};
 ghost use Rattle.mesh_weld.specs.declared.packing.TheConstants.{HALF_WORD};
 
 use crate::half_edge::HalfEdge;
 
-/// A run of half-edges with the same two ends in a sorted list: the numbers of those from the lesser end to the greater
-/// one, and of those back.
+/// How many half-edges of a sorted list have the same two ends: from the lesser end to the greater one, and back.
 #[derive(Clone, Copy)]
 pub(crate) struct SameEnds {
     pub(crate) low: u32,
@@ -16,7 +15,7 @@ pub(crate) struct SameEnds {
 }
 
 impl SameEnds {
-    /// A run with no half-edge.
+    /// No half-edge is counted, between no ends.
     pub(crate) const NONE: SameEnds = SameEnds {
         low: 0,
         high: 0,
@@ -24,7 +23,7 @@ impl SameEnds {
         back: 0,
     };
 
-    /// The run of a half-edge's ends, before any half-edge is counted.
+    /// The ends of a half-edge, before any half-edge is counted.
     pub(crate) fn started(half_edge: &HalfEdge) -> SameEnds
         ensures { result ≡ started half_edge.now }
     {
@@ -35,7 +34,7 @@ impl SameEnds {
         }
     }
 
-    /// Whether a half-edge has the run's ends.
+    /// Whether a half-edge has these ends.
     pub(crate) fn has_ends_of(&self, half_edge: &HalfEdge) -> bool
         ensures in_range { (self.now.high < HALF_WORD) × (half_edge.now.from < HALF_WORD) × (half_edge.now.to < HALF_WORD) }
         ensures value { IsTrue result ↔ (self.now.low ≡ min half_edge.now.from half_edge.now.to) × (self.now.high ≡ max half_edge.now.from half_edge.now.to) }
@@ -44,7 +43,7 @@ impl SameEnds {
         self.low == from.min(to) && high == from.max(to)
     }
 
-    /// The run with one more half-edge between its ends.
+    /// The counts with one more half-edge between these ends.
     pub(crate) fn counted(self, half_edge: &HalfEdge) -> SameEnds
         requires there { self.there < 2 ^ 32 - 1 }
         requires back { self.back < 2 ^ 32 - 1 }

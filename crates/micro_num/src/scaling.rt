@@ -89,7 +89,8 @@ fn shrunk(value: u64, power: u64) -> u64
     }
 }
 
-/// `value` times ten to the power `power`. A product above `COORDINATE_LIMIT` may be given as any other such number.
+/// `value` times ten to the power `power`. Where the product is above `COORDINATE_LIMIT`, the result is only some number
+/// above it.
 #[inline(always)]
 fn grown(value: u64, power: u64) -> u64
     ensures { IsCapped (value * 10 ^ power) result }
@@ -103,8 +104,8 @@ fn grown(value: u64, power: u64) -> u64
     }
 }
 
-/// `value` times ten to the power `power`, to the nearest whole number, halves upward. A product above
-/// `COORDINATE_LIMIT` may be given as any other such number.
+/// `value` times ten to the power `power`, to the nearest whole number, halves upward. Where that is
+/// above `COORDINATE_LIMIT`, the result is only some number above it.
 #[inline(always)]
 fn scaled(value: u64, power: i64) -> u64
     requires { value < SCALE_LIMIT }
@@ -174,8 +175,8 @@ fn power_in(unit: Unit) -> i64
     }
 }
 
-/// The value of a number without its sign, in micrometres. A value above `COORDINATE_LIMIT` may be given as any other
-/// such value.
+/// The value of a number without its sign, in micrometres. Where it is above `COORDINATE_LIMIT`, the result is only some
+/// number above it.
 #[inline(always)]
 pub(crate) fn magnitude_in(mantissa: &Mantissa<'_>, exponent: i64, unit: Unit) -> u64
     requires mantissa { IsMantissa mantissa.now.leading.value mantissa.now.leading.dropped

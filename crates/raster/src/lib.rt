@@ -12,7 +12,7 @@
 //! - [`Grid`]: the voxels that a mesh is sliced into; [`GridFault`] says why there is none.
 //! - [`Placing`]: whether a grid fits the mesh, or lies where it is told to.
 //! - [`Rule`]: which sums of signed crossings count as inside.
-//! - [`Span`]: a run of filled pixels in a row.
+//! - [`Span`]: filled pixels side by side in a row.
 //! - [`Filler`]: fills one layer after another, and keeps its memory.
 //! - [`Source`], [`Sink`]: the devices that are read and written. [`Counted`] makes one of any reader or writer, and
 //!   [`put_all`] writes a whole chunk of bytes.

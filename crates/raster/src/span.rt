@@ -1,4 +1,4 @@
-//! Spans, the runs of filled pixels in a row. A filled layer is handed on as a list of them.
+//! Spans: filled pixels side by side in a row. A filled layer is handed on as a list of them.
 ghost use Rattle.std.specs.Prelude.{◌≡◌};
 ghost use Rattle.raster.specs.Span.{IsLayerOfSpans, span_area};
 

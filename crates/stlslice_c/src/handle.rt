@@ -6,7 +6,7 @@ use crate::mesh_pointer::MeshPointer;
 use layer_session::Session;
 use std::alloc::Global;
 
-/// A handle: an open mesh, or none. Zeros make one with none.
+/// A handle: an open mesh, or none. One whose bytes are all 0 has none.
 #[repr(C)]
 #[derive(Drop)]
 pub struct Handle {

@@ -2,8 +2,8 @@
 //!
 //! A hash table gives the corners ids as the facets come, and compares each with the point of its id. Chains by lesser ends
 //! number the edges. A counting sort by groups of x brings the points into order. No contract speaks of a hash or a group:
-//! that would take long proofs, and is not needed, since a pass checks that the points ascend, which no point with two ids
-//! does. Where that check fails, where chains, in the table or of edges, grow too long, or where the half-edges do not
+//! that would take long proofs, and is not needed, since it is checked that the points strictly ascend; they do not where a
+//! point has two ids. Where that check fails, where chains, in the table or of edges, grow too long, or where the half-edges do not
 //! balance, `by_sort` does the work again.
 ghost use Rattle.std.specs.Prelude.{◌≤◌, IfOk, IfSome, length};
 ghost use Rattle.mesh_weld.specs.Grouping.{AreEdgesOf, AreOrdersOf};
