@@ -45,7 +45,7 @@ impl<A: Allocator> Layer<A> {
         self.number
     }
 
-    /// Its loops.
+    /// Its loops. Of each node of theirs `low` is below `high`, by the law `ordered` of `hold_loop_laws` in `contour`.
     pub fn loops(&self) -> &Loops<A>
         ensures { result.now ≡ self.now.loops }
     {

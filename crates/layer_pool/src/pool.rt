@@ -15,7 +15,8 @@ use std::thread;
 use std::thread::Threads;
 use stripe_claims::{Claims, Pass};
 
-/// The complete build of a job, for 1 to `PASS_LIMIT` workers and every gate.
+/// The complete build of a job, for 1 to `PASS_LIMIT` workers and every gate. What its layers are, and that there is one
+/// such build, says the law `headline` of `build_book`.
 ///
 /// The first worker is the caller's own thread; each of the others has a thread of its own. Each draws stripes from claims
 /// without a lock. It takes the lock on the book to file one piece, and for nothing else. A stripe for which a worker gets no

@@ -139,7 +139,7 @@ impl<A: Allocator + Copy + Send + Sync> Welder<A> {
         named.into_solid(found)
     }
 
-    /// The same as [`Welder::finish`], where several threads work at the same time. It takes up to 24 bytes a facet more.
+    /// The same as [`Welder::finish`], where several threads work at the same time. It takes more memory while it does.
     pub fn finish_by<R: Threads + Sync>(self, rt: &R) -> Result<Solid<A>, WeldFault>
         ensures { IsWeldOf self result }
     {
