@@ -89,8 +89,8 @@ fn shrunk(value: u64, power: u64) -> u64
     }
 }
 
-/// `value` times ten to the power `power`. Where the product is above `COORDINATE_LIMIT`, the result is only some number
-/// above it.
+/// `value` times ten to the power `power`. Where the product is above `COORDINATE_LIMIT`, so is the
+/// result, which may be another number.
 #[inline(always)]
 fn grown(value: u64, power: u64) -> u64
     ensures { IsCapped (value * 10 ^ power) result }
@@ -105,7 +105,7 @@ fn grown(value: u64, power: u64) -> u64
 }
 
 /// `value` times ten to the power `power`, to the nearest whole number, halves upward. Where that is
-/// above `COORDINATE_LIMIT`, the result is only some number above it.
+/// above `COORDINATE_LIMIT`, so is the result, which may be another number.
 #[inline(always)]
 fn scaled(value: u64, power: i64) -> u64
     requires { value < SCALE_LIMIT }
@@ -175,8 +175,8 @@ fn power_in(unit: Unit) -> i64
     }
 }
 
-/// The value of a number without its sign, in micrometres. Where it is above `COORDINATE_LIMIT`, the result is only some
-/// number above it.
+/// The value of a number without its sign, in micrometres. Where it is above `COORDINATE_LIMIT`, so is the result, which
+/// may be another number.
 #[inline(always)]
 pub(crate) fn magnitude_in(mantissa: &Mantissa<'_>, exponent: i64, unit: Unit) -> u64
     requires mantissa { IsMantissa mantissa.now.leading.value mantissa.now.leading.dropped

@@ -1,10 +1,10 @@
 //! The numbering of a solid by hashes, chains and groups: several times as fast as the sorts of `by_sort` on large meshes.
 //!
 //! A hash table gives the corners ids as the facets come, and compares each with the point of its id. Chains by lesser ends
-//! number the edges. A counting sort by groups of x brings the points into order. No contract speaks of a hash or a group:
-//! that would take long proofs, and is not needed, since it is checked that the points strictly ascend; they do not where a
-//! point has two ids. Where that check fails, where chains, in the table or of edges, grow too long, or where the half-edges do not
-//! balance, `by_sort` does the work again.
+//! number the edges. A counting sort by groups of x brings the points into order. No contract speaks of a hash or a
+//! group: that would take long proofs, and is not needed, since it is checked that the points strictly ascend; they do
+//! not where a point has two ids. Where that check fails, where chains, in the table or of edges, grow too long, or where
+//! the half-edges do not balance, `by_sort` does the work again.
 ghost use Rattle.std.specs.Prelude.{◌≤◌, IfOk, IfSome, length};
 ghost use Rattle.mesh_weld.specs.Grouping.{AreEdgesOf, AreOrdersOf};
 ghost use Rattle.mesh_weld.specs.Welder.{AreBelow};

@@ -1,5 +1,5 @@
-//! Half-edges sorted by their two ends: those with the same ends stand side by side, so that the least open edge is
-//! found, and the edges are numbered, by going through them once.
+//! Half-edges sorted by their two ends: those with the same ends stand side by side, so that going through them
+//! once finds the least open edge, and once more numbers the edges.
 ghost use Rattle.std.specs.Prelude.{◌≡◌, ◌≤◌, IfOk, OnOk, MatchOption, ◌++◌, ◌∷◌, [], length, vec_len};
 ghost use Rattle.std.specs.List.Sorted.{IsPermutation, IsNonDecreasingBy};
 ghost use Rattle.mesh_weld.specs.HalfEdge.{half_edges_from, pair_key, IsEven, IsLeastUneven, ArePairNumbers};

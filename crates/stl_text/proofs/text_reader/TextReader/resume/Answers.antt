@@ -2,7 +2,7 @@ use Rattle.std.proofs.Common.{ℕ, false, ◌+◌, ◌<◌, ◌-◌, ◌++◌, l
 use Rattle.std.proofs.lemmas.Bool.{eqb-false}
 use Rattle.stl_text.specs.TextReader.{IsReading, IsReadingAt, TextReader, Waits, whole}
 use Rattle.stl_text.proofs.lemmas.Steps.{empty-list}
-use Rattle.stl_text.proofs.lemmas.TextReaders.{kept_on, kept_word, moved_by, nil-of-length}
+use Rattle.stl_text.proofs.lemmas.TextReaders.{kept_on, kept_word, moved_by}
 use Rattle.stl_text.proofs.lemmas.FacetRuns.{drop_rest, rest_then}
 use Rattle.stl_text.proofs.text_reader.TextReader.resume.Goals as goal
 
