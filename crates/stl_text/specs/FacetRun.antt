@@ -2,6 +2,7 @@
 --     IsRestOf        the rest of a text from some byte on
 --     StandsBefore    a text is read up to this rest of it, among the facets of a solid
 --     IsFacetRun      facets that stand one after another in a text
+--     Chunk           a chunk of a text, whose numbers are in a unit
 use Rattle.std.specs.Prelude.{◌≡◌, ◌+◌, ◌≤◌, ℕ, List, [], ◌∷◌, ◌++◌, drop, length}
 use Rattle.micro_num.specs.declared.unit.Unit.{Unit as LengthUnit}
 use Rattle.geometry.specs.Facet.{Facet}
@@ -33,3 +34,8 @@ pub record IsFacetRun (unit : LengthUnit) (text : List ℕ) (facets : List Facet
   pub ends : IsRestOf from to
   pub leads : (limit : ℕ) (had : List Facet) (whole more : List ℕ) → StandsBefore limit unit had whole (from ++ more)
       → length had + length facets ≤ limit → StandsBefore limit unit (had ++ facets) whole (to ++ more)
+
+-- a chunk of a text, with the unit of its numbers: what its parts are of, and the runs that are found in them
+pub record Chunk : Type 0 where
+  pub unit : LengthUnit
+  pub bytes : List ℕ

@@ -1,9 +1,9 @@
-//! Runs of facets, which several workers find in parts of a text at the same time, and over which its reader jumps.
+//! Runs of facets, which workers find in parts of a text, and over which its reader jumps.
 //!
 //! A run says that its facets stand one after another from some byte of the text on. It does not say that the reader wants
 //! a facet at that byte. So a worker may guess where the facets of its part begin: after a wrong guess the reader never
 //! stands where the run begins, and does not use it.
-ghost use Rattle.std.specs.Prelude.{◌≡◌, ◌≤◌, ◌<◌, ◌+◌, ℕ, All, IfOk, IfSome, List, None, length};
+ghost use Rattle.std.specs.Prelude.{◌≡◌, ◌≤◌, ◌<◌, ◌+◌, ℕ, IfSome, List, None, length};
 ghost use Rattle.stl_text.specs.FacetRun.{IsFacetRun, IsRestOf};
 
 use crate::grammar::after_solid;
@@ -12,8 +12,7 @@ use crate::word::Word;
 use geometry::Facet;
 use memchr::memmem;
 use micro_num::Unit;
-use std::alloc::{AllocError, Allocator};
-use std::thread::{Threads, map_chunks};
+use std::alloc::Allocator;
 
 /// The keyword that ends a facet, in capitals.
 const END_FACET_IN_CAPITALS: &[u8] = b"ENDFACET";
@@ -26,27 +25,6 @@ pub(crate) struct FacetRun<'t, A: Allocator> {
     pub(crate) facets: Vec<Facet, A>,
     /// The text after the run.
     pub(crate) to: &'t [u8],
-}
-
-impl<'t, A: Allocator + Copy + Send + Sync> FacetRun<'t, A> {
-    /// The runs of up to `parts` parts of a text, which as many workers find at the same time.
-    pub(crate) fn found_by<R: Threads + Sync>(
-        rt: &R,
-        alloc: A,
-        text: &'t [u8],
-        unit: Unit,
-        parts: usize,
-    ) -> Result<Vec<FacetRun<'t, A>, A>, AllocError>
-        requires { 1 ≤ parts }
-        ensures { IfOk result (λ runs. All (λ run. IsFacetRun unit text.now run.facets.items run.from.now run.to.now) runs.items) }
-    {
-        let find = |at: usize, part: &[u8]| -> FacetRun<A>
-            requires { at + length part.now ≤ length text.now }
-            ensures { IsFacetRun unit text.entry.now result.facets.items result.from.now result.to.now }
-        { run_of(alloc, text, unit, at, part.len()) };
-        let len = text.len() / parts + 1;
-        map_chunks(rt, alloc, text, len, &find)
-    }
 }
 
 /// The text after the first `endfacet`, or else `ENDFACET`, that begins in a part of it, or its end if none does.
@@ -106,7 +84,7 @@ fn run_on<'t, A: Allocator>(
 
 /// The run of a part of a text, from after the first `endfacet` that begins in the part. The facet that ends after the
 /// part is left to the reader of the text, which then stands where the next part's run begins.
-fn run_of<'t, A: Allocator>(
+pub(crate) fn run_of<'t, A: Allocator>(
     alloc: A,
     text: &'t [u8],
     unit: Unit,

@@ -3,6 +3,7 @@
 //! - [`read_stl`], [`read_stl_at_most`]: the facets of a text in file order, or its one fault.
 //! - [`read_stl_by`]: the same, read in parts by several workers.
 //! - [`TextReader`]: the same of a text that arrives in chunks, and is not held; several workers may read each chunk.
+//! - [`ChunkParts`], [`FacetRuns`]: such a chunk in parts that workers draw, and what they find in them.
 //! - [`StlFault`]: why a text is no mesh, with the byte offset of the fault; [`Word`]: what is wanted there.
 //! - [`one_outcome`], [`reads_as_written`]: laws. Each text has one outcome, and it reads as facets exactly where it is
 //!   these facets written as STL.
@@ -21,6 +22,7 @@
 //! in bytes, from 0.
 #![tactic(auto)]
 
+mod chunk_parts;
 mod facet_run;
 mod grammar;
 mod laws;
@@ -33,6 +35,7 @@ mod stl_fault;
 mod text_reader;
 mod word;
 
+pub use chunk_parts::{ChunkParts, FacetRuns};
 pub use geometry::{FACET_LIMIT, Facet, Point, extent, points_in_order};
 pub use laws::{one_outcome, reads_as_written};
 pub use reading::{read_stl, read_stl_at_most, read_stl_by};

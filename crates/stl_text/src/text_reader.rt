@@ -9,6 +9,7 @@ ghost use Rattle.stl_text.specs.FacetRun.{IsFacetRun};
 ghost use Rattle.stl_text.specs.Stage.{AtWord, in_facets};
 ghost use Rattle.stl_text.specs.TextReader.{EndsAt, IsAfter, IsReading, ReadsOn, StandsAt, at_line, at_word};
 
+use crate::chunk_parts::{ChunkParts, FacetRuns};
 use crate::facet_run::{FacetRun, layout_within};
 use crate::layout::{Layout, front_facet};
 use crate::scanning::{skip_line, skip_space, word_len};
@@ -20,9 +21,6 @@ use std::alloc::Allocator;
 use std::marker::Model;
 use std::mem::swap;
 use std::thread::Threads;
-
-/// The least length of a part of a chunk, in bytes. A chunk that is too short for two parts is read by one worker.
-const LEAST_PART: usize = 1 << 15;
 
 /// Whether `facet` or `endsolid` is wanted.
 fn is_among_facets(state: ReaderState) -> bool
@@ -145,8 +143,23 @@ impl<A: Allocator> TextReader<A> {
         self.read_to(rest, &layout_within(chunk), 0);
     }
 
+    /// Reads the next chunk of the text, of which some runs are known. The answer is that of [`TextReader::feed`] with the chunk,
+    /// whichever they are.
+    pub fn feed_runs(&mut self, found: FacetRuns<'_, A>)
+        ensures { (limit : ℕ) (unit : LengthUnit) (taken : List Facet) (fed : List ℕ) → IsAfter limit unit taken self.old fed
+            → IsAfter limit unit taken self.new (fed ++ found.entry.bytes) }
+    {
+        let is_own = found.unit() == self.unit;
+        let (chunk, runs) = found.in_order();
+        if !is_own || matches!(self.state, ReaderState::Stopped(_)) {
+            self.feed(chunk);
+            return;
+        }
+        self.read_by_runs(chunk, &runs);
+    }
+
     /// Reads the next chunk of the text, of which some runs are known, in the order in which they begin.
-    fn feed_runs<'p>(&mut self, chunk: &'p [u8], runs: &[FacetRun<'p, A>])
+    fn read_by_runs<'p>(&mut self, chunk: &'p [u8], runs: &[FacetRun<'p, A>])
         ensures { (limit : ℕ) (unit : LengthUnit) (taken : List Facet) (fed : List ℕ)
             → IsAfter limit unit taken self.old fed
             → All (λ run. IsFacetRun unit chunk.now run.facets.items run.from.now run.to.now) runs.now
@@ -407,22 +420,27 @@ impl<A: Allocator> TextReader<A> {
 }
 
 impl<A: Allocator + Copy + Send + Sync> TextReader<A> {
+    /// The parts of the next chunk of the text, in which up to `workers` workers look for runs of facets. Where the reader stopped
+    /// at a fault there are none.
+    pub fn parts<'t>(&self, chunk: &'t [u8], workers: u32) -> ChunkParts<'t, A>
+        ensures unit { result.unit ≡ self.now.unit }
+        ensures bytes { result.bytes ≡ chunk.now }
+    {
+        let workers = if matches!(self.state, ReaderState::Stopped(_)) {
+            0
+        } else {
+            workers
+        };
+        ChunkParts::of(*self.facets.allocator(), chunk, self.unit, workers)
+    }
+
     /// Reads the next chunk of the text, a long one in parts by up to `workers` workers at the same time. The answer is
     /// that of [`TextReader::feed`], for every number of workers.
     pub fn feed_by<R: Threads + Sync>(&mut self, rt: &R, chunk: &[u8], workers: u32)
         ensures { (limit : ℕ) (unit : LengthUnit) (taken : List Facet) (fed : List ℕ)
             → IsAfter limit unit taken self.old fed → IsAfter limit unit taken self.new (fed ++ chunk.now) }
     {
-        let parts = (chunk.len() / LEAST_PART).min(workers as usize);
-        let stopped = matches!(self.state, ReaderState::Stopped(_));
-        if stopped || parts < 2 {
-            self.feed(chunk);
-            return;
-        }
-        let alloc = *self.facets.allocator();
-        match FacetRun::found_by(rt, alloc, chunk, self.unit, parts) {
-            Ok(runs) => self.feed_runs(chunk, &runs),
-            Err(_) => self.feed(chunk),
-        }
+        let parts = self.parts(chunk, workers);
+        self.feed_runs(parts.runs_by(rt, workers));
     }
 }

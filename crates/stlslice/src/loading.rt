@@ -22,7 +22,7 @@ use raster::Source;
 use std::alloc::Allocator;
 use std::mem::swap;
 use std::thread::{Threads, join_mut};
-use stl_text::TextReader;
+use stl_text::{ChunkParts, FacetRuns, TextReader};
 
 /// The number of bytes for each worker, where several read at the same time.
 const WORKER_LEN: usize = 1 << 20;
@@ -166,8 +166,8 @@ fn weld_last<A: Allocator + Copy + Send + Sync>(
 
 /// Feeds a reader with a round. Meanwhile the facets of the round before are welded and, where the source has more
 /// (`is_more`), the next round is filled. Answers whether the source has more after the next round. Of up to `workers` workers
-/// one welds and fills, on the thread that calls, and the others read. Where there is nothing to weld or to fill, all of them
-/// read.
+/// one welds first, another one fills first, on the thread that calls, and each that has nothing else to do looks for runs in the
+/// parts of the round. The reader then jumps over these, and reads the rest by itself.
 fn read_and_weld<R: Threads + Sync, A: Allocator + Copy + Send + Sync, I: Source>(
     rt: &R,
     workers: u32,
@@ -184,39 +184,99 @@ fn read_and_weld<R: Threads + Sync, A: Allocator + Copy + Send + Sync, I: Source
     ensures welded { OnOk result (HasWelded facets.now welder.old welder.new) }
     ensures filled { IsFilled I.remaining I.Failures.failure_count source.old source.new is_more next.new.items result }
 {
-    let readers = if is_more || !facets.is_empty() {
-        workers.saturating_sub(1)
-    } else {
-        workers
-    };
-    let ((), filled) = join_mut(
-        rt,
-        &mut || reader.feed_by(rt, round, readers),
-        &mut || weld_and_fill(welder, facets, source, next, round_len(workers), is_more),
-    );
+    let parts = reader.parts(round, workers);
+    let (found, filled) = weld_and_fill(rt, workers, &parts, welder, facets, source, next, is_more);
+    reader.feed_runs(found);
     filled
 }
 
-/// Adds facets to a welder, and fills a round from a source, or leaves it empty where the source has no more (`is_more`).
-/// Answers whether the source has more after the round.
-fn weld_and_fill<A: Allocator + Copy + Send + Sync, I: Source>(
+/// Adds facets to a welder, fills a round from a source, or leaves it empty where the source has no more (`is_more`), and finds
+/// runs in the parts of a chunk, all at the same time. Answers these, and whether the source has more after the round.
+fn weld_and_fill<'t, R: Threads + Sync, A: Allocator + Copy + Send + Sync, I: Source>(
+    rt: &R,
+    workers: u32,
+    parts: &ChunkParts<'t, A>,
     welder: &mut Welder<A>,
     facets: &[Facet],
     source: &mut I,
     round: &mut Vec<u8, A>,
+    is_more: bool,
+) -> (FacetRuns<'t, A>, Result<bool, RunFault>)
+    ensures found { result.0 ≡ parts.now }
+    ensures welded { OnOk result.1 (HasWelded facets.now welder.old welder.new) }
+    ensures filled { IsFilled I.remaining I.Failures.failure_count source.old source.new is_more round.new.items result.1 }
+{
+    let len = round_len(workers);
+    let mut weld = || weld_beside(rt, workers, parts, welder, facets);
+    let mut fill = || fill_first(parts, source, round, len, is_more);
+    let ((mut found, welded), (more, filled)) = join_mut(rt, &mut weld, &mut fill);
+    found.add(more);
+    // a failed read comes before want of memory
+    match (filled, welded) {
+        (Ok(is_next), Ok(())) => (found, Ok(is_next)),
+        (Ok(_), Err(fault)) => (found, Err(fault)),
+        (Err(fault), _) => (found, Err(fault)),
+    }
+}
+
+/// Adds facets to a welder, and then finds runs in the parts of a chunk. All but two of the workers look for runs from the start.
+fn weld_beside<'t, R: Threads + Sync, A: Allocator + Copy + Send + Sync>(
+    rt: &R,
+    workers: u32,
+    parts: &ChunkParts<'t, A>,
+    welder: &mut Welder<A>,
+    facets: &[Facet],
+) -> (FacetRuns<'t, A>, Result<(), RunFault>)
+    ensures found { result.0 ≡ parts.now }
+    ensures welded { OnOk result.1 (HasWelded facets.now welder.old welder.new) }
+    ensures only { IfErr result.1 (λ fault. fault ≡ Memory) }
+{
+    if workers <= 2 {
+        return weld_first(parts, welder, facets);
+    }
+    let others = workers - 2;
+    let (mut found, (more, welded)) = join_mut(
+        rt,
+        &mut || parts.runs_by(rt, others),
+        &mut || weld_first(parts, welder, facets),
+    );
+    found.add(more);
+    (found, welded)
+}
+
+/// Adds facets to a welder, and then finds runs in the parts of a chunk that are left.
+fn weld_first<'t, A: Allocator + Copy + Send + Sync>(
+    parts: &ChunkParts<'t, A>,
+    welder: &mut Welder<A>,
+    facets: &[Facet],
+) -> (FacetRuns<'t, A>, Result<(), RunFault>)
+    ensures found { result.0 ≡ parts.now }
+    ensures welded { OnOk result.1 (HasWelded facets.now welder.old welder.new) }
+    ensures only { IfErr result.1 (λ fault. fault ≡ Memory) }
+{
+    let welded = weld_next(welder, facets);
+    (parts.runs(), welded)
+}
+
+/// Fills a round from a source, or leaves it empty where the source has no more (`is_more`), and then finds runs in the parts of a
+/// chunk that are left. Answers these, and whether the source has more after the round.
+fn fill_first<'t, A: Allocator + Copy, I: Source>(
+    parts: &ChunkParts<'t, A>,
+    source: &mut I,
+    round: &mut Vec<u8, A>,
     len: usize,
     is_more: bool,
-) -> Result<bool, RunFault>
-    ensures welded { OnOk result (HasWelded facets.now welder.old welder.new) }
-    ensures filled { IsFilled I.remaining I.Failures.failure_count source.old source.new is_more round.new.items result }
+) -> (FacetRuns<'t, A>, Result<bool, RunFault>)
+    ensures found { result.0 ≡ parts.now }
+    ensures filled { IsFilled I.remaining I.Failures.failure_count source.old source.new is_more round.new.items result.1 }
 {
     round.clear();
-    weld_next(welder, facets)?;
-    if is_more {
+    let filled = if is_more {
         fill_round(source, round, len)
     } else {
         Ok(false)
-    }
+    };
+    (parts.runs(), filled)
 }
 
 /// The number of bytes that a round of these workers waits for.

@@ -2,6 +2,8 @@
 use Rattle.std.proofs.Common.{◌≡◌, ℕ, ◌+◌, ◌-◌, ◌<◌, ◌≤◌, Bool, true, false, List, [], ◌∷◌, ◌++◌, length, drop, refl, sym, ◌∙◌, ap, subst, arith, append_assoc, append-nil, drop-drop, length-append, length-drop}
 use Rattle.std.proofs.Common.{zero, suc, leb-true, leb-false}
 use lib.Seq.{drop-nil}
+use Rattle.std.specs.List.{All}
+use Rattle.std.proofs.lemmas.List.Elements.{All-append}
 use Rattle.std.specs.Prelude.{Some, None, if◌then◌else◌, nat_le}
 use Rattle.std.specs.List.{position_or_len, prefix_len}
 use Rattle.std.proofs.Math.Seq.{drop-append_seam, drop-length}
@@ -129,3 +131,14 @@ run_solid unit text facets from to rest run spelled some = record {
         sees = refl;
       };
 }
+
+-- Lists of runs.
+
+-- what holds of each element of two lists holds of each of them together, if the second list was added
+pub all_added : {X : Type 0} (P : X → Type 0) (b : Bool) (xs ys zs : List X) → zs ≡ (if b then xs ++ ys else xs) → All P xs → All P ys → All P zs
+all_added P true xs ys zs is had more = subst (All P) (sym is) (All-append P xs ys had more)
+all_added P false xs ys zs is had more = subst (All P) (sym is) had
+
+pub all_of_one : {X : Type 0} (P : X → Type 0) (x : X) → P x → All P (x ∷ [])
+all_of_one P x p zero d lt = p
+all_of_one P x p (suc k) d lt = absurd (omega (arith, lt))

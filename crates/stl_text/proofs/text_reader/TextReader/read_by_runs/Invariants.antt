@@ -3,7 +3,7 @@ use Rattle.geometry.specs.Facet.{Facet}
 use Rattle.micro_num.specs.declared.unit.Unit.{Unit as LengthUnit}
 use Rattle.stl_text.specs.FacetRun.{IsFacetRun}
 use Rattle.stl_text.specs.TextReader.{IsAfter, IsReading}
-use Rattle.stl_text.proofs.text_reader.TextReader.feed_runs.Given as goal
+use Rattle.stl_text.proofs.text_reader.TextReader.read_by_runs.Given as goal
 
 abbrev pub invariant-loop-run : goal.invariant-loop-run
 invariant-loop-run g l = record {

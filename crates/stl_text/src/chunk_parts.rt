@@ -1,0 +1,201 @@
+//! A chunk of a text in parts, which workers draw and in which they look for runs of facets.
+//!
+//! Each worker draws the next part from a count that they share, until none is left: one that has other work to do first draws
+//! fewer. Nothing has to be known of a number that is drawn. A run is a fact of the text whoever finds it, and a part at which no
+//! worker looked is read by the reader itself.
+ghost use Rattle.std.specs.Prelude.{◌≡◌, All, IfOk, IfSome};
+ghost use Rattle.stl_text.specs.FacetRun.{IsFacetRun};
+
+use crate::facet_run::{FacetRun, run_of};
+use micro_num::Unit;
+use std::alloc::{AllocError, Allocator};
+use std::cmp::Reverse;
+use std::marker::Model;
+use std::sync::atomic::{AtomicUsize, Ordering};
+use std::thread::{Threads, map_indices};
+
+/// The least length of a part of a chunk, in bytes. A chunk that is too short for two parts has none.
+const LEAST_PART: usize = 1 << 15;
+
+/// The number of parts for each worker, so that the workers end at about the same time.
+const PARTS_OF_A_WORKER: usize = 4;
+
+/// A chunk of a text in parts, of which each worker draws one after another. Workers share it by reference.
+#[derive(Drop)]
+pub struct ChunkParts<'t, A: Allocator> {
+    alloc: A,
+    chunk: &'t [u8],
+    unit: Unit,
+    /// The number of parts.
+    count: usize,
+    /// The length of a part, in bytes. The last one may be shorter.
+    len: usize,
+    /// The number of parts that were drawn, and of draws that found none left.
+    drawn: AtomicUsize,
+}
+
+impl<'t, A: Allocator> Model for ChunkParts<'t, A> {
+    ghost use Rattle.stl_text.specs.FacetRun.{Chunk};
+
+    ghost Value = { Chunk };
+
+    ghost view = { λ p. record { unit = p.unit; bytes = p.chunk.now } };
+}
+
+/// Runs of facets that were found in a chunk of a text.
+#[derive(Drop)]
+pub struct FacetRuns<'t, A: Allocator> {
+    chunk: &'t [u8],
+    unit: Unit,
+    runs: Vec<FacetRun<'t, A>, A>,
+}
+
+impl<'t, A: Allocator> Model for FacetRuns<'t, A> {
+    ghost use Rattle.std.specs.Prelude.{All};
+    ghost use Rattle.stl_text.specs.FacetRun.{Chunk, IsFacetRun};
+
+    ghost Value = { Chunk };
+
+    ghost view = { λ r. record { unit = r.unit; bytes = r.chunk.now } };
+
+    ghost invariant = { λ r. All (λ run. IsFacetRun r.unit r.chunk.now run.facets.items run.from.now run.to.now) r.runs.items };
+}
+
+impl<'t, A: Allocator> FacetRuns<'t, A> {
+    /// Adds a run. Where memory fails, it is let go, and the answer is `false`.
+    fn push(&mut self, run: FacetRun<'t, A>) -> bool
+        requires { IsFacetRun self.old.unit self.old.bytes run.facets.items run.from.now run.to.now }
+        ensures { self.new ≡ self.old }
+    {
+        self.runs.push(run).is_ok()
+    }
+
+    /// Takes over the runs that were found elsewhere in the chunk. Where memory fails, they are let go.
+    pub fn add(&mut self, more: FacetRuns<'t, A>)
+        requires { more ≡ self.old }
+        ensures { self.new ≡ self.old }
+    {
+        let FacetRuns { mut runs, .. } = more;
+        let _ = self.runs.append(&mut runs);
+    }
+
+    /// The unit in which their numbers were read.
+    pub(crate) fn unit(&self) -> Unit
+        ensures { result ≡ self.now.unit }
+    {
+        self.unit
+    }
+
+    /// The chunk, and its runs in the order in which they begin.
+    pub(crate) fn in_order(self) -> (&'t [u8], Vec<FacetRun<'t, A>, A>)
+        ensures chunk { result.0.now ≡ self.entry.bytes }
+        ensures runs { All (λ run. IsFacetRun self.entry.unit self.entry.bytes run.facets.items run.from.now run.to.now) result.1.items }
+    {
+        let FacetRuns {
+            chunk,
+            mut runs,
+            ..
+        } = self;
+        runs.sort_unstable_by_key(|run| Reverse(run.from.len()));
+        (chunk, runs)
+    }
+}
+
+impl<'t, A: Allocator + Copy> ChunkParts<'t, A> {
+    /// The parts of a chunk for up to `workers` workers. A single worker gets none, since the reader does as well by itself.
+    pub(crate) fn of(alloc: A, chunk: &'t [u8], unit: Unit, workers: u32) -> ChunkParts<'t, A>
+        ensures unit { result.unit ≡ unit }
+        ensures bytes { result.bytes ≡ chunk.now }
+    {
+        let most = (workers as usize).saturating_mul(PARTS_OF_A_WORKER);
+        let parts = (chunk.len() / LEAST_PART).min(most);
+        let count = if workers < 2 || parts < 2 { 0 } else { parts };
+        ChunkParts {
+            alloc,
+            chunk,
+            unit,
+            count,
+            len: (chunk.len() / count.max(1)).saturating_add(1),
+            drawn: AtomicUsize::new(0),
+        }
+    }
+
+    /// The runs of the parts that are left, which one worker draws one after another. Where memory fails, it draws no more.
+    pub fn runs(&self) -> FacetRuns<'t, A>
+        ensures { result ≡ self.now }
+    {
+        let mut found = self.none();
+        // the bound shows that the loop ends: after as many draws no part is left
+        'draw: for _ in 0..self.count {
+            if !self.find(&mut found) {
+                return found;
+            }
+        }
+        found
+    }
+
+    /// Adds the run of the next part: `false` where no part is left, or no memory.
+    fn find(&self, found: &mut FacetRuns<'t, A>) -> bool
+        requires { found.old ≡ self.now }
+        ensures { found.new ≡ found.old }
+    {
+        match self.next_run() {
+            Some(run) => found.push(run),
+            None => false,
+        }
+    }
+
+    /// No runs.
+    fn none(&self) -> FacetRuns<'t, A>
+        ensures { result ≡ self.now }
+    {
+        FacetRuns {
+            chunk: self.chunk,
+            unit: self.unit,
+            runs: Vec::new(self.alloc),
+        }
+    }
+
+    /// The run of the next part, if one is left.
+    fn next_run(&self) -> Option<FacetRun<'t, A>>
+        ensures { IfSome result (λ run. IsFacetRun self.now.unit self.now.bytes run.facets.items run.from.now run.to.now) }
+    {
+        let number = self.drawn.fetch_add(1, Ordering::SeqCst);
+        if number >= self.count {
+            return None;
+        }
+        let start = self.len.saturating_mul(number).min(self.chunk.len());
+        let len = self.len.min(self.chunk.len() - start);
+        Some(run_of(self.alloc, self.chunk, self.unit, start, len))
+    }
+}
+
+impl<'t, A: Allocator + Copy + Send + Sync> ChunkParts<'t, A> {
+    /// The runs of the parts that are left, which up to `workers` workers draw at the same time. Where memory fails, some of
+    /// them are missing.
+    pub fn runs_by<R: Threads + Sync>(&self, rt: &R, workers: u32) -> FacetRuns<'t, A>
+        ensures { result ≡ self.now }
+    {
+        let mut all = self.none();
+        if let Ok(mut lists) = self.lists_by(rt, self.count.min(workers as usize)) {
+            'add: while let Some(list) = lists.pop() {
+                all.add(list);
+            }
+        }
+        all
+    }
+
+    /// The runs that each of some workers finds.
+    fn lists_by<R: Threads + Sync>(
+        &self,
+        rt: &R,
+        workers: usize,
+    ) -> Result<Vec<FacetRuns<'t, A>, A>, AllocError>
+        ensures { IfOk result (λ lists. All (λ list. list ≡ self.now) lists.items) }
+    {
+        let draw = |_: usize| -> FacetRuns<A>
+            ensures { result ≡ self.entry.now }
+        { self.runs() };
+        map_indices(rt, self.alloc, workers, &draw)
+    }
+}
