@@ -4,5 +4,6 @@ pub mod Outcome
 pub mod Extent
 pub mod Transcript
 pub mod Loading
+pub mod Round
 pub mod Run
 pub mod WrittenPixels

@@ -18,6 +18,7 @@
 mod extent;
 mod laws;
 mod loading;
+mod round;
 mod run_fault;
 mod running;
 mod write;

@@ -1,5 +1,5 @@
 //! What a run reads: the facets that its input spells, and the closed mesh that they make.
-ghost use Rattle.std.specs.Prelude.{◌≡◌, ◌<◌, ◌≤◌, ◌++◌, IfErr, IfOk, List, Ok, OnOk, Option, [], false, length, take, true, vec_len, ℕ};
+ghost use Rattle.std.specs.Prelude.{◌≡◌, ◌<◌, ◌≤◌, ◌++◌, IfErr, IfOk, List, Ok, OnOk, Option, [], false, length, take, true, ℕ};
 ghost use Rattle.std.specs.Io.KnownBytes.{Consumes, IsAtEnd};
 ghost use Rattle.geometry.specs.Facet.{Facet};
 ghost use Rattle.geometry.specs.declared.limits.TheConstants.{FACET_LIMIT};
@@ -14,6 +14,7 @@ ghost use Rattle.stlslice.specs.Transcript.{transcript};
 ghost use Rattle.stlslice.specs.declared.run_fault.RunFault.TheVariants.{Memory, Read};
 
 use crate::extent::Extent;
+use crate::round::Round;
 use crate::run_fault::RunFault;
 use geometry::{FACET_LIMIT, Facet};
 use mesh_weld::{Solid, Welder};
@@ -27,7 +28,7 @@ use stl_text::{ChunkParts, FacetRuns, TextReader};
 /// The number of bytes for each worker, where several read at the same time.
 const WORKER_LEN: usize = 1 << 20;
 
-/// The greatest number of bytes that a round waits for. Its last window may reach beyond them.
+/// The greatest number of bytes of a round.
 const ROUND_LIMIT: usize = 1 << 23;
 
 /// The length of the window that is filled from the source and then handed to the reader, in bytes.
@@ -98,9 +99,8 @@ pub(crate) fn read_solid_by<R: Threads + Sync, A: Allocator + Copy + Send + Sync
     }
     let mut reader = TextReader::new(alloc, FACET_LIMIT, unit);
     let mut welder = Welder::new(alloc);
-    let room = round_len(workers).saturating_add(WINDOW_LEN);
-    let mut round = Vec::with_capacity(alloc, room)?;
-    let mut next = Vec::with_capacity(alloc, room)?;
+    let mut round = Round::with_room(alloc, round_len(workers))?;
+    let mut next = Round::with_room(alloc, round_len(workers))?;
     let mut facets = Vec::new(alloc);
     let mut is_more = true;
     // the bound shows that the loop ends; no input is so long
@@ -109,7 +109,7 @@ pub(crate) fn read_solid_by<R: Threads + Sync, A: Allocator + Copy + Send + Sync
             rt,
             workers,
             &mut reader,
-            round.as_slice(),
+            round.bytes(),
             &mut welder,
             facets.as_slice(),
             source,
@@ -165,9 +165,8 @@ fn weld_last<A: Allocator + Copy + Send + Sync>(
 }
 
 /// Feeds a reader with a round. Meanwhile the facets of the round before are welded and, where the source has more
-/// (`is_more`), the next round is filled. Answers whether the source has more after the next round. Of up to `workers` workers
-/// one welds first, another one fills first, on the thread that calls, and each that has nothing else to do looks for runs in the
-/// parts of the round. The reader then jumps over these, and reads the rest by itself.
+/// (`is_more`), the next round is filled. Answers whether the source has more after the next round. The reader jumps over the
+/// runs of facets that up to `workers` workers find in parts of the round, and reads the rest by itself.
 fn read_and_weld<R: Threads + Sync, A: Allocator + Copy + Send + Sync, I: Source>(
     rt: &R,
     workers: u32,
@@ -176,133 +175,89 @@ fn read_and_weld<R: Threads + Sync, A: Allocator + Copy + Send + Sync, I: Source
     welder: &mut Welder<A>,
     facets: &[Facet],
     source: &mut I,
-    next: &mut Vec<u8, A>,
+    next: &mut Round<A>,
     is_more: bool,
 ) -> Result<bool, RunFault>
     ensures fed { (unit : LengthUnit) (taken : List Facet) (fed : List ℕ) → IsAfter FACET_LIMIT unit taken reader.old fed
         → IsAfter FACET_LIMIT unit taken reader.new (fed ++ round.now) }
     ensures welded { OnOk result (HasWelded facets.now welder.old welder.new) }
-    ensures filled { IsFilled I.remaining I.Failures.failure_count source.old source.new is_more next.new.items result }
+    ensures filled { IsFilled I.remaining I.Failures.failure_count source.old source.new is_more next.new.bytes result }
 {
     let parts = reader.parts(round, workers);
-    let (found, filled) = weld_and_fill(rt, workers, &parts, welder, facets, source, next, is_more);
+    let (found, filled) = weld_and_find(rt, workers, &parts, welder, facets, source, next, is_more);
     reader.feed_runs(found);
     filled
 }
 
 /// Adds facets to a welder, fills a round from a source, or leaves it empty where the source has no more (`is_more`), and finds
-/// runs in the parts of a chunk, all at the same time. Answers these, and whether the source has more after the round.
-fn weld_and_fill<'t, R: Threads + Sync, A: Allocator + Copy + Send + Sync, I: Source>(
+/// runs in the parts of a chunk, all at the same time. Answers these, and whether the source has more after the round. Of up to
+/// `workers` workers the one on the thread that calls welds and fills first, while the others draw parts.
+fn weld_and_find<'t, R: Threads + Sync, A: Allocator + Copy + Send + Sync, I: Source>(
     rt: &R,
     workers: u32,
     parts: &ChunkParts<'t, A>,
     welder: &mut Welder<A>,
     facets: &[Facet],
     source: &mut I,
-    round: &mut Vec<u8, A>,
+    round: &mut Round<A>,
     is_more: bool,
 ) -> (FacetRuns<'t, A>, Result<bool, RunFault>)
     ensures found { result.0 ≡ parts.now }
     ensures welded { OnOk result.1 (HasWelded facets.now welder.old welder.new) }
-    ensures filled { IsFilled I.remaining I.Failures.failure_count source.old source.new is_more round.new.items result.1 }
+    ensures filled { IsFilled I.remaining I.Failures.failure_count source.old source.new is_more round.new.bytes result.1 }
 {
-    let len = round_len(workers);
-    let mut weld = || weld_beside(rt, workers, parts, welder, facets);
-    let mut fill = || fill_first(parts, source, round, len, is_more);
-    let ((mut found, welded), (more, filled)) = join_mut(rt, &mut weld, &mut fill);
-    found.add(more);
-    // a failed read comes before want of memory
-    match (filled, welded) {
-        (Ok(is_next), Ok(())) => (found, Ok(is_next)),
-        (Ok(_), Err(fault)) => (found, Err(fault)),
-        (Err(fault), _) => (found, Err(fault)),
-    }
-}
-
-/// Adds facets to a welder, and then finds runs in the parts of a chunk. All but two of the workers look for runs from the start.
-fn weld_beside<'t, R: Threads + Sync, A: Allocator + Copy + Send + Sync>(
-    rt: &R,
-    workers: u32,
-    parts: &ChunkParts<'t, A>,
-    welder: &mut Welder<A>,
-    facets: &[Facet],
-) -> (FacetRuns<'t, A>, Result<(), RunFault>)
-    ensures found { result.0 ≡ parts.now }
-    ensures welded { OnOk result.1 (HasWelded facets.now welder.old welder.new) }
-    ensures only { IfErr result.1 (λ fault. fault ≡ Memory) }
-{
-    if workers <= 2 {
-        return weld_first(parts, welder, facets);
-    }
-    let others = workers - 2;
-    let (mut found, (more, welded)) = join_mut(
+    // A new thread often begins only when the one that made it waits. So what takes longest is not given to a new one.
+    let (mut found, (more, filled)) = join_mut(
         rt,
-        &mut || parts.runs_by(rt, others),
-        &mut || weld_first(parts, welder, facets),
+        &mut || parts.runs_by(rt, workers.saturating_sub(1)),
+        &mut || weld_fill_and_draw(parts, welder, facets, source, round, is_more),
     );
     found.add(more);
-    (found, welded)
+    (found, filled)
 }
 
-/// Adds facets to a welder, and then finds runs in the parts of a chunk that are left.
-fn weld_first<'t, A: Allocator + Copy + Send + Sync>(
+/// Adds facets to a welder, fills a round from a source, or leaves it empty where the source has no more (`is_more`), and then
+/// finds runs in the parts of a chunk that are left. Answers these, and whether the source has more after the round.
+fn weld_fill_and_draw<'t, A: Allocator + Copy + Send + Sync, I: Source>(
     parts: &ChunkParts<'t, A>,
     welder: &mut Welder<A>,
     facets: &[Facet],
-) -> (FacetRuns<'t, A>, Result<(), RunFault>)
-    ensures found { result.0 ≡ parts.now }
-    ensures welded { OnOk result.1 (HasWelded facets.now welder.old welder.new) }
-    ensures only { IfErr result.1 (λ fault. fault ≡ Memory) }
-{
-    let welded = weld_next(welder, facets);
-    (parts.runs(), welded)
-}
-
-/// Fills a round from a source, or leaves it empty where the source has no more (`is_more`), and then finds runs in the parts of a
-/// chunk that are left. Answers these, and whether the source has more after the round.
-fn fill_first<'t, A: Allocator + Copy, I: Source>(
-    parts: &ChunkParts<'t, A>,
     source: &mut I,
-    round: &mut Vec<u8, A>,
-    len: usize,
+    round: &mut Round<A>,
     is_more: bool,
 ) -> (FacetRuns<'t, A>, Result<bool, RunFault>)
     ensures found { result.0 ≡ parts.now }
-    ensures filled { IsFilled I.remaining I.Failures.failure_count source.old source.new is_more round.new.items result.1 }
+    ensures welded { OnOk result.1 (HasWelded facets.now welder.old welder.new) }
+    ensures filled { IsFilled I.remaining I.Failures.failure_count source.old source.new is_more round.new.bytes result.1 }
 {
-    round.clear();
-    let filled = if is_more {
-        fill_round(source, round, len)
-    } else {
-        Ok(false)
-    };
+    let filled = weld_and_fill(welder, facets, source, round, is_more);
     (parts.runs(), filled)
 }
 
-/// The number of bytes that a round of these workers waits for.
-fn round_len(workers: u32) -> usize {
-    WORKER_LEN.saturating_mul(workers as usize).min(ROUND_LIMIT)
+/// Adds facets to a welder, and fills a round from a source, or leaves it empty where the source has no more (`is_more`).
+/// Answers whether the source has more after the round.
+fn weld_and_fill<A: Allocator + Copy + Send + Sync, I: Source>(
+    welder: &mut Welder<A>,
+    facets: &[Facet],
+    source: &mut I,
+    round: &mut Round<A>,
+    is_more: bool,
+) -> Result<bool, RunFault>
+    ensures welded { OnOk result (HasWelded facets.now welder.old welder.new) }
+    ensures filled { IsFilled I.remaining I.Failures.failure_count source.old source.new is_more round.new.bytes result }
+{
+    round.clear();
+    weld_next(welder, facets)?;
+    if is_more {
+        round.fill(source)
+    } else {
+        Ok(false)
+    }
 }
 
-/// Adds what a source has next to a round, which is empty before, until it has `len` bytes: `false` at the end of the source.
-fn fill_round<A: Allocator, I: Source>(
-    source: &mut I,
-    round: &mut Vec<u8, A>,
-    len: usize,
-) -> Result<bool, RunFault>
-    requires { round.old.items ≡ [] }
-    ensures filled { IsFilled I.remaining I.Failures.failure_count source.old source.new true round.new.items result }
-    ensures more { result ≡ Ok true → len ≤ vec_len round.new }
-{
-    let mut window = [0; WINDOW_LEN];
-    'round: while round.len() < len {
-        let count = fill(source, &mut window)?;
-        if count == 0 {
-            return Ok(false);
-        }
-        round.extend_from_slice(&window[..count])?;
-    }
-    Ok(true)
+/// The number of bytes of a round of these workers.
+fn round_len(workers: u32) -> usize {
+    WORKER_LEN.saturating_mul(workers as usize).min(ROUND_LIMIT)
 }
 
 /// Adds facets to a welder. A text with more of them than the limit is a fault, so these need not be welded.
@@ -370,7 +325,7 @@ fn next_facets<A: Allocator, I: Source>(
 }
 
 /// Fills the front of a window from a source: answers how many bytes came, which is 0 only at its end.
-fn fill<I: Source>(source: &mut I, window: &mut [u8]) -> Result<usize, RunFault>
+pub(crate) fn fill<I: Source>(source: &mut I, window: &mut [u8]) -> Result<usize, RunFault>
     requires { 0 < length window.old }
     ensures len { length window.new ≡ length window.old }
     ensures within { IfOk result (λ count. count ≤ length window.old) }

@@ -20,7 +20,7 @@ loop-init g c = record {
     (λ few. c.new-welder.ensures),
     (
       [],
-      rw c.in_ok-round.ensures.items (Consumes-nil (g.I.Source.remaining c.args.source.now)),
+      rw c.in_ok-round.ensures.empty (Consumes-nil (g.I.Source.remaining c.args.source.now)),
       rw c.new-facets.ensures.items c.new-reader.ensures,
     ),
   );
@@ -33,17 +33,17 @@ loop-preserved g c =
     let so_far = c.loop.invariant.fed in
     let taken = so_far.0 ++ c.loop.facets.items in
     let fed = so_far.2 in
-    let read = fed.0 ++ c.loop.round.items in
-    let after = subst (λ p. IsAfter FACET_LIMIT c.args.unit taken c.read_and_weld.new.reader (fed.0 ++ p)) c.as_slice.ensures.value
+    let read = fed.0 ++ c.loop.round.bytes in
+    let after = subst (λ p. IsAfter FACET_LIMIT c.args.unit taken c.read_and_weld.new.reader (fed.0 ++ p)) c.bytes.ensures
     (c.in_ok-is_next.ensures.fed c.args.unit taken fed.0 fed.2) in
     record {
       fed = (
         taken,
-        subst (λ fs. AreWelded (so_far.0 ++ fs) c.read_and_weld.new.welder) c.as_slice-in-loop.ensures.value
+        subst (λ fs. AreWelded (so_far.0 ++ fs) c.read_and_weld.new.welder) c.as_slice.ensures.value
             (c.in_ok-is_next.ensures.welded so_far.0 so_far.1),
         (
           read,
-          rw c.swap.ensures.x_after (Consumes-trans (g.I.Source.remaining c.args.source.now) _ _ read c.read_and_weld.new.next.items fed.1
+          rw c.swap.ensures.x_after (Consumes-trans (g.I.Source.remaining c.args.source.now) _ _ read c.read_and_weld.new.next.bytes fed.1
               c.in_ok-is_next.ensures.filled.taken),
           rw c.take_facets.ensures.given (c.take_facets.ensures.after FACET_LIMIT c.args.unit taken read after),
         ),
@@ -59,12 +59,12 @@ returns-then-not-is_more g c =
     let so_far = c.loop.invariant.fed in
     let taken : List Facet = so_far.0 ++ c.loop.facets.items in
     let fed = so_far.2 in
-    let input = fed.0 ++ c.loop.round.items in
+    let input = fed.0 ++ c.loop.round.bytes in
     let last : List Facet = c.take_facets.new.list.items in
     let kept = c.in_ok-is_next.ensures.filled.kept c.if-not-is_more.true in
-    let after = subst (λ p. IsAfter FACET_LIMIT unit taken c.read_and_weld.new.reader (fed.0 ++ p)) c.as_slice.ensures.value
+    let after = subst (λ p. IsAfter FACET_LIMIT unit taken c.read_and_weld.new.reader (fed.0 ++ p)) c.bytes.ensures
     (c.in_ok-is_next.ensures.fed unit taken fed.0 fed.2) in
-    let before = subst (λ fs. AreWelded (so_far.0 ++ fs) c.read_and_weld.new.welder) c.as_slice-in-loop.ensures.value
+    let before = subst (λ fs. AreWelded (so_far.0 ++ fs) c.read_and_weld.new.welder) c.as_slice.ensures.value
     (c.in_ok-is_next.ensures.welded so_far.0 so_far.1) in
     let welded = subst (λ fs. AreWelded (taken ++ fs) c.weld_next.new.welder) c.as_slice-then-not-is_more.ensures.value
     (c.in_ok-weld_next.ensures.welded taken before) in

@@ -11,7 +11,7 @@ use Rattle.stlslice.proofs.loading.read_solid_by.Given as goal
 abbrev pub invariant-loop : goal.invariant-loop
 invariant-loop g l = record {
   fed : (welded : List Facet) × AreWelded welded l.welder
-      × ((fed : List ℕ) × Consumes (g.I.Source.remaining l.initial.source) (g.I.Source.remaining l.source) (fed ++ l.round.items)
+      × ((fed : List ℕ) × Consumes (g.I.Source.remaining l.initial.source) (g.I.Source.remaining l.source) (fed ++ l.round.bytes)
       × IsAfter FACET_LIMIT l.fn.unit (welded ++ l.facets.items) l.reader fed);
   counted : g.I.Failures.failure_count l.source ≡ g.I.Failures.failure_count l.initial.source;
   end : l.is_more ≡ false → IsAtEnd (g.I.Source.remaining l.source);

@@ -1,0 +1,15 @@
+use Rattle.std.proofs.Common.{◌≡◌, ◌≤◌, ◌-◌, length}
+use Rattle.std.specs.Prelude.{take}
+use Rattle.std.specs.Io.KnownBytes.{Consumes}
+use Rattle.stlslice.proofs.round.Round.fill.Given as goal
+
+abbrev pub invariant-round : goal.invariant-round
+invariant-round g l = record {
+  taken : Consumes (g.I.Source.remaining l.initial.source) (g.I.Source.remaining l.source) (take l.self-inside.len l.self-inside.room.items);
+  counted : g.I.Failures.failure_count l.source ≡ g.I.Failures.failure_count l.initial.source;
+  within : l.self-inside.len ≤ length l.self-inside.room.items;
+  room : length l.self-inside.room.items ≡ length l.initial.self-inside.room.items;
+}
+
+abbrev pub decreases-round : goal.decreases-round
+decreases-round g l = length l.self-inside.room.items - l.self-inside.len

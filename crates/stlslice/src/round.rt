@@ -1,0 +1,91 @@
+//! A round: the bytes of a text that several workers read at the same time, filled straight from its source.
+ghost use Rattle.std.specs.Prelude.{◌≡◌, ◌≤◌, ◌<◌, ◌+◌, IfErr, IfOk, List, Ok, OnOk, Option, [], length, take, true, ℕ};
+ghost use Rattle.std.specs.Io.KnownBytes.{Consumes, IsAtEnd};
+ghost use Rattle.raster.specs.Devices.{Fails};
+ghost use Rattle.stlslice.specs.Loading.{IsFilled};
+ghost use Rattle.stlslice.specs.declared.run_fault.RunFault.TheVariants.{Read};
+
+use crate::loading::fill;
+use crate::run_fault::RunFault;
+use raster::Source;
+use std::alloc::{AllocError, Allocator};
+use std::marker::Model;
+
+/// The bytes of a round, in room that is made once. Those after the first `len` are not part of it.
+#[derive(Drop)]
+pub(crate) struct Round<A: Allocator> {
+    room: Vec<u8, A>,
+    len: usize,
+}
+
+impl<A: Allocator> Model for Round<A> {
+    ghost use Rattle.std.specs.Prelude.{◌≤◌, length, take};
+    ghost use Rattle.stlslice.specs.Round.{Round};
+
+    ghost Value = { Round };
+
+    ghost view = { λ r. record { bytes = take r.len r.room.items; room = length r.room.items } };
+
+    ghost invariant = { λ r. r.len ≤ length r.room.items };
+}
+
+impl<A: Allocator> Round<A> {
+    /// A round without bytes, and with room for `room` of them.
+    pub(crate) fn with_room(alloc: A, room: usize) -> Result<Round<A>, AllocError>
+        ensures empty { IfOk result (λ round. round.bytes ≡ []) }
+        ensures room { IfOk result (λ round. round.room ≡ room) }
+    {
+        Ok(Round {
+            room: vec![in alloc; 0; room]?,
+            len: 0,
+        })
+    }
+
+    /// The bytes of the round.
+    pub(crate) fn bytes(&self) -> &[u8]
+        ensures { result.now ≡ self.now.bytes }
+    {
+        let (bytes, _) = self.room.split_at(self.len);
+        bytes
+    }
+
+    /// Removes all bytes.
+    pub(crate) fn clear(&mut self)
+        ensures empty { self.new.bytes ≡ [] }
+        ensures room { self.new.room ≡ self.old.room }
+    {
+        self.len = 0;
+    }
+
+    /// Fills the round anew with what a source has next: `false` at the end of the source.
+    pub(crate) fn fill<I: Source>(&mut self, source: &mut I) -> Result<bool, RunFault>
+        ensures filled { IsFilled I.remaining I.Failures.failure_count source.old source.new true self.new.bytes result }
+        ensures full { result ≡ Ok true → length self.new.bytes ≡ self.new.room }
+        ensures room { self.new.room ≡ self.old.room }
+    {
+        self.len = 0;
+        'round: while self.len < self.room.len() {
+            let count = fill_after(source, self.room.as_mut_slice(), self.len)?;
+            if count == 0 {
+                return Ok(false);
+            }
+            self.len += count;
+        }
+        Ok(true)
+    }
+}
+
+/// Fills the bytes after the first `len` from a source: answers how many came, which is 0 only at its end.
+fn fill_after<I: Source>(source: &mut I, bytes: &mut [u8], len: usize) -> Result<usize, RunFault>
+    requires { len < length bytes.old }
+    ensures len { length bytes.new ≡ length bytes.old }
+    ensures within { IfOk result (λ count. len + count ≤ length bytes.old) }
+    ensures taken { IfOk result (λ count. (start : Option (List ℕ)) → Consumes start (I.remaining source.old) (take len bytes.old)
+        → Consumes start (I.remaining source.new) (take (len + count) bytes.new)) }
+    ensures end { result ≡ Ok 0 → IsAtEnd (I.remaining source.new) }
+    ensures err { IfErr result (λ fault. (fault ≡ Read) × Fails (I.Failures.failure_count source.old) (I.Failures.failure_count source.new)) }
+    ensures sound { OnOk result (I.Failures.failure_count source.new ≡ I.Failures.failure_count source.old) }
+{
+    let (_, rest) = bytes.split_at_mut(len);
+    fill(source, rest)
+}
