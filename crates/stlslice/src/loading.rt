@@ -28,11 +28,11 @@ use stl_text::{ChunkParts, FacetRuns, TextReader};
 /// The number of bytes for each worker, where several read at the same time.
 const WORKER_LEN: usize = 1 << 20;
 
-/// The greatest number of bytes of a round.
+/// The greatest number of bytes that a round waits for. It may have up to a window more.
 const ROUND_LIMIT: usize = 1 << 23;
 
 /// The length of the window that is filled from the source and then handed to the reader, in bytes.
-const WINDOW_LEN: usize = 65_536;
+pub(crate) const WINDOW_LEN: usize = 65_536;
 
 /// The closed mesh of an ASCII STL text whose numbers are in `unit`. Facets with two equal corners are dropped.
 ///
@@ -99,8 +99,8 @@ pub(crate) fn read_solid_by<R: Threads + Sync, A: Allocator + Copy + Send + Sync
     }
     let mut reader = TextReader::new(alloc, FACET_LIMIT, unit);
     let mut welder = Welder::new(alloc);
-    let mut round = Round::with_room(alloc, round_len(workers))?;
-    let mut next = Round::with_room(alloc, round_len(workers))?;
+    let mut round = Round::new(alloc, round_len(workers))?;
+    let mut next = Round::new(alloc, round_len(workers))?;
     let mut facets = Vec::new(alloc);
     let mut is_more = true;
     // the bound shows that the loop ends; no input is so long
@@ -255,7 +255,7 @@ fn weld_and_fill<A: Allocator + Copy + Send + Sync, I: Source>(
     }
 }
 
-/// The number of bytes of a round of these workers.
+/// The number of bytes that a round of these workers waits for.
 fn round_len(workers: u32) -> usize {
     WORKER_LEN.saturating_mul(workers as usize).min(ROUND_LIMIT)
 }

@@ -1,21 +1,24 @@
 //! A round: the bytes of a text that several workers read at the same time, filled straight from its source.
-ghost use Rattle.std.specs.Prelude.{◌≡◌, ◌≤◌, ◌<◌, ◌+◌, IfErr, IfOk, List, Ok, OnOk, Option, [], length, take, true, ℕ};
+ghost use Rattle.std.specs.Prelude.{◌≡◌, ◌≤◌, ◌<◌, ◌+◌, ◌++◌, IfErr, IfOk, List, Ok, OnOk, Option, [], length, take, true, ℕ};
 ghost use Rattle.std.specs.Io.KnownBytes.{Consumes, IsAtEnd};
 ghost use Rattle.raster.specs.Devices.{Fails};
 ghost use Rattle.stlslice.specs.Loading.{IsFilled};
 ghost use Rattle.stlslice.specs.declared.run_fault.RunFault.TheVariants.{Read};
 
-use crate::loading::fill;
+use crate::loading::{WINDOW_LEN, fill};
 use crate::run_fault::RunFault;
 use raster::Source;
 use std::alloc::{AllocError, Allocator};
 use std::marker::Model;
 
-/// The bytes of a round, in room that is made once. Those after the first `len` are not part of it.
+/// The bytes of a round, in room that is kept from one filling to the next. It grows by a window where the bytes fill it, so a
+/// short text touches no more memory than it needs. What stands after the first `len` bytes is not part of the round.
 #[derive(Drop)]
 pub(crate) struct Round<A: Allocator> {
     room: Vec<u8, A>,
     len: usize,
+    /// The number of bytes that the round waits for where the source has as many.
+    wanted: usize,
 }
 
 impl<A: Allocator> Model for Round<A> {
@@ -24,20 +27,21 @@ impl<A: Allocator> Model for Round<A> {
 
     ghost Value = { Round };
 
-    ghost view = { λ r. record { bytes = take r.len r.room.items; room = length r.room.items } };
+    ghost view = { λ r. record { bytes = take r.len r.room.items; wanted = r.wanted } };
 
     ghost invariant = { λ r. r.len ≤ length r.room.items };
 }
 
 impl<A: Allocator> Round<A> {
-    /// A round without bytes, and with room for `room` of them.
-    pub(crate) fn with_room(alloc: A, room: usize) -> Result<Round<A>, AllocError>
+    /// A round without bytes, which is to be filled with `wanted` bytes and up to a window more.
+    pub(crate) fn new(alloc: A, wanted: usize) -> Result<Round<A>, AllocError>
         ensures empty { IfOk result (λ round. round.bytes ≡ []) }
-        ensures room { IfOk result (λ round. round.room ≡ room) }
+        ensures wanted { IfOk result (λ round. round.wanted ≡ wanted) }
     {
         Ok(Round {
-            room: vec![in alloc; 0; room]?,
+            room: Vec::with_capacity(alloc, wanted.saturating_add(WINDOW_LEN))?,
             len: 0,
+            wanted,
         })
     }
 
@@ -52,7 +56,7 @@ impl<A: Allocator> Round<A> {
     /// Removes all bytes.
     pub(crate) fn clear(&mut self)
         ensures empty { self.new.bytes ≡ [] }
-        ensures room { self.new.room ≡ self.old.room }
+        ensures wanted { self.new.wanted ≡ self.old.wanted }
     {
         self.len = 0;
     }
@@ -60,11 +64,14 @@ impl<A: Allocator> Round<A> {
     /// Fills the round anew with what a source has next: `false` at the end of the source.
     pub(crate) fn fill<I: Source>(&mut self, source: &mut I) -> Result<bool, RunFault>
         ensures filled { IsFilled I.remaining I.Failures.failure_count source.old source.new true self.new.bytes result }
-        ensures full { result ≡ Ok true → length self.new.bytes ≡ self.new.room }
-        ensures room { self.new.room ≡ self.old.room }
+        ensures full { result ≡ Ok true → self.new.wanted ≤ length self.new.bytes }
+        ensures wanted { self.new.wanted ≡ self.old.wanted }
     {
         self.len = 0;
-        'round: while self.len < self.room.len() {
+        'round: while self.len < self.wanted {
+            if self.len == self.room.len() {
+                grow(&mut self.room)?;
+            }
             let count = fill_after(source, self.room.as_mut_slice(), self.len)?;
             if count == 0 {
                 return Ok(false);
@@ -73,6 +80,14 @@ impl<A: Allocator> Round<A> {
         }
         Ok(true)
     }
+}
+
+/// Makes room for a window more.
+fn grow<A: Allocator>(room: &mut Vec<u8, A>) -> Result<(), AllocError>
+    ensures same { take (length room.old.items) room.new.items ≡ room.old.items }
+    ensures more { OnOk result (length room.old.items < length room.new.items) }
+{
+    room.extend_from_slice(&[0; WINDOW_LEN])
 }
 
 /// Fills the bytes after the first `len` from a source: answers how many came, which is 0 only at its end.

@@ -8,8 +8,8 @@ invariant-round g l = record {
   taken : Consumes (g.I.Source.remaining l.initial.source) (g.I.Source.remaining l.source) (take l.self-inside.len l.self-inside.room.items);
   counted : g.I.Failures.failure_count l.source ≡ g.I.Failures.failure_count l.initial.source;
   within : l.self-inside.len ≤ length l.self-inside.room.items;
-  room : length l.self-inside.room.items ≡ length l.initial.self-inside.room.items;
+  wanted : l.self-inside.wanted ≡ l.initial.self-inside.wanted;
 }
 
 abbrev pub decreases-round : goal.decreases-round
-decreases-round g l = length l.self-inside.room.items - l.self-inside.len
+decreases-round g l = l.self-inside.wanted - l.self-inside.len
