@@ -18,8 +18,8 @@ use stripe_claims::{Claims, Pass};
 /// The complete build of a job, for 1 to `PASS_LIMIT` workers and every gate. What its layers are, and that there is one
 /// such build, says the law `headline` of `build_book`.
 ///
-/// The first worker is the caller's own thread; each of the others has a thread of its own. Each draws stripes from claims
-/// without a lock. It takes the lock on the book to file one piece, and for nothing else. A stripe for which a worker gets no
+/// A single worker is the caller's own thread; several have a thread each, and the caller waits for them. Each draws stripes
+/// from claims without a lock. It takes the lock on the book to file one piece, and for nothing else. A stripe for which a worker gets no
 /// memory is made at the end, on the caller's thread. Where a worker cannot be started, the others draw its share. `Err`
 /// comes only where an allocation failed on the caller's thread. No clause promises any of this, only that the build is
 /// complete: tests show that a worker goes on while a gate holds another, and that layers are made up at the end where
@@ -81,8 +81,9 @@ struct Shared<'a, 'm, J: OfJob, R, A: Allocator, G> {
     ghost of: { job.now ≡ J.job },
 }
 
-/// Runs a worker for each pass, the first on the caller's thread and each other on a thread of its own, and returns when
-/// all have ended.
+/// Runs a worker for each pass, a single one on the caller's thread and several on threads of their own, and returns when all
+/// have ended. A thread that begins may have to share a processor with the one that made it until that one waits, so where
+/// there are several workers the caller is none of them.
 fn run_workers<
     'm,
     J: OfJob + Send + Sync,
@@ -93,6 +94,12 @@ fn run_workers<
     requires owned { All (IsOwned shared.now.claims.now) passes.items }
     requires count { length passes.items ≤ PASS_LIMIT }
 {
+    if passes.len() == 1 {
+        if let Some(pass) = passes.pop() {
+            run_worker(shared, 0, pass);
+        }
+        return;
+    }
     thread::scope(
         thread::scope_env(),
         shared.rt,
@@ -101,16 +108,12 @@ fn run_workers<
         {
             while let Some(pass) = passes.pop() {
                 let worker = passes.len() as u32;
-                if worker == 0 {
-                    run_worker(shared, worker, pass);
-                } else {
-                    let started = scope.spawn(
-                        move ||
-                            requires { IsOwned shared.now.claims.now pass }
-                        { run_worker(shared, worker, pass) },
-                    );
-                    drop(started);
-                }
+                let started = scope.spawn(
+                    move ||
+                        requires { IsOwned shared.now.claims.now pass }
+                    { run_worker(shared, worker, pass) },
+                );
+                drop(started);
             }
         },
     );
