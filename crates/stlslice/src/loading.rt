@@ -1,5 +1,5 @@
 //! What a run reads: the facets that its input spells, and the closed mesh that they make.
-ghost use Rattle.std.specs.Prelude.{◌≡◌, ◌<◌, ◌≤◌, ◌++◌, IfErr, IfOk, List, Ok, OnOk, Option, [], false, length, take, true, ℕ};
+ghost use Rattle.std.specs.Prelude.{◌≡◌, ◌⊎◌, ◌<◌, ◌≤◌, ◌++◌, Err, IfErr, IfOk, IsOk, List, Ok, OnOk, Option, [], false, length, take, true, ℕ};
 ghost use Rattle.std.specs.Io.KnownBytes.{Consumes, IsAtEnd};
 ghost use Rattle.geometry.specs.Facet.{Facet};
 ghost use Rattle.geometry.specs.declared.limits.TheConstants.{FACET_LIMIT};
@@ -190,8 +190,11 @@ fn read_and_weld<R: Threads + Sync, A: Allocator + Copy + Send + Sync, I: Source
 }
 
 /// Adds facets to a welder, fills a round from a source, or leaves it empty where the source has no more (`is_more`), and finds
-/// runs in the parts of a chunk, all at the same time. Answers these, and whether the source has more after the round. Of up to
-/// `workers` workers the one on the thread that calls welds and fills first, while the others draw parts.
+/// runs in the parts of a chunk, by up to `workers` workers at the same time. Answers these, and whether the source has more after
+/// the round.
+///
+/// A thread that begins may have to share a processor with the one that made it, until that one waits. So the first new thread
+/// gets no work but parts, of which others draw more while it waits.
 fn weld_and_find<'t, R: Threads + Sync, A: Allocator + Copy + Send + Sync, I: Source>(
     rt: &R,
     workers: u32,
@@ -206,19 +209,20 @@ fn weld_and_find<'t, R: Threads + Sync, A: Allocator + Copy + Send + Sync, I: So
     ensures welded { OnOk result.1 (HasWelded facets.now welder.old welder.new) }
     ensures filled { IsFilled I.remaining I.Failures.failure_count source.old source.new is_more round.new.bytes result.1 }
 {
-    // A new thread often begins only when the one that made it waits. So what takes longest is not given to a new one.
     let (mut found, (more, filled)) = join_mut(
         rt,
-        &mut || parts.runs_by(rt, workers.saturating_sub(1)),
-        &mut || weld_fill_and_draw(parts, welder, facets, source, round, is_more),
+        &mut || parts.runs(),
+        &mut || weld_and_fill(rt, workers, parts, welder, facets, source, round, is_more),
     );
     found.add(more);
     (found, filled)
 }
 
-/// Adds facets to a welder, fills a round from a source, or leaves it empty where the source has no more (`is_more`), and then
-/// finds runs in the parts of a chunk that are left. Answers these, and whether the source has more after the round.
-fn weld_fill_and_draw<'t, A: Allocator + Copy + Send + Sync, I: Source>(
+/// The same as [`weld_and_find`], by all workers but one: one of them first welds, and the one on the thread that calls first
+/// fills. Where it is the only one, it does both.
+fn weld_and_fill<'t, R: Threads + Sync, A: Allocator + Copy + Send + Sync, I: Source>(
+    rt: &R,
+    workers: u32,
     parts: &ChunkParts<'t, A>,
     welder: &mut Welder<A>,
     facets: &[Facet],
@@ -230,29 +234,90 @@ fn weld_fill_and_draw<'t, A: Allocator + Copy + Send + Sync, I: Source>(
     ensures welded { OnOk result.1 (HasWelded facets.now welder.old welder.new) }
     ensures filled { IsFilled I.remaining I.Failures.failure_count source.old source.new is_more round.new.bytes result.1 }
 {
-    let filled = weld_and_fill(welder, facets, source, round, is_more);
-    (parts.runs(), filled)
+    if workers < 3 {
+        let welded = weld_next(welder, facets);
+        let (found, filled) = fill_first(parts, source, round, is_more);
+        return (found, read_before_memory(filled, welded));
+    }
+    let others = workers - 3;
+    let ((mut found, welded), (more, filled)) = join_mut(
+        rt,
+        &mut || weld_first(parts, welder, facets),
+        &mut || fill_beside(rt, others, parts, source, round, is_more),
+    );
+    found.add(more);
+    (found, read_before_memory(filled, welded))
 }
 
-/// Adds facets to a welder, and fills a round from a source, or leaves it empty where the source has no more (`is_more`).
-/// Answers whether the source has more after the round.
-fn weld_and_fill<A: Allocator + Copy + Send + Sync, I: Source>(
+/// What a round that was filled answers, if the facets could be welded. A failed read comes before want of memory.
+fn read_before_memory(
+    filled: Result<bool, RunFault>,
+    welded: Result<(), RunFault>,
+) -> Result<bool, RunFault>
+    ensures ok { IfOk result (λ is_more. (filled ≡ Ok is_more) × (welded ≡ Ok tt)) }
+    ensures err { IfErr result (λ fault. (filled ≡ Err fault) ⊎ (IsOk filled × (welded ≡ Err fault))) }
+{
+    let is_more = filled?;
+    welded?;
+    Ok(is_more)
+}
+
+/// Adds facets to a welder, and then finds runs in the parts of a chunk that are left.
+fn weld_first<'t, A: Allocator + Copy + Send + Sync>(
+    parts: &ChunkParts<'t, A>,
     welder: &mut Welder<A>,
     facets: &[Facet],
+) -> (FacetRuns<'t, A>, Result<(), RunFault>)
+    ensures found { result.0 ≡ parts.now }
+    ensures welded { OnOk result.1 (HasWelded facets.now welder.old welder.new) }
+    ensures only { IfErr result.1 (λ fault. fault ≡ Memory) }
+{
+    let welded = weld_next(welder, facets);
+    (parts.runs(), welded)
+}
+
+/// Fills a round as [`fill_first`] does, while `others` workers look for runs too.
+fn fill_beside<'t, R: Threads + Sync, A: Allocator + Copy + Send + Sync, I: Source>(
+    rt: &R,
+    others: u32,
+    parts: &ChunkParts<'t, A>,
     source: &mut I,
     round: &mut Round<A>,
     is_more: bool,
-) -> Result<bool, RunFault>
-    ensures welded { OnOk result (HasWelded facets.now welder.old welder.new) }
-    ensures filled { IsFilled I.remaining I.Failures.failure_count source.old source.new is_more round.new.bytes result }
+) -> (FacetRuns<'t, A>, Result<bool, RunFault>)
+    ensures found { result.0 ≡ parts.now }
+    ensures filled { IsFilled I.remaining I.Failures.failure_count source.old source.new is_more round.new.bytes result.1 }
+{
+    if others == 0 {
+        return fill_first(parts, source, round, is_more);
+    }
+    let (mut found, (more, filled)) = join_mut(
+        rt,
+        &mut || parts.runs_by(rt, others),
+        &mut || fill_first(parts, source, round, is_more),
+    );
+    found.add(more);
+    (found, filled)
+}
+
+/// Fills a round from a source, or leaves it empty where the source has no more (`is_more`), and then finds runs in the parts of a
+/// chunk that are left. Answers these, and whether the source has more after the round.
+fn fill_first<'t, A: Allocator + Copy, I: Source>(
+    parts: &ChunkParts<'t, A>,
+    source: &mut I,
+    round: &mut Round<A>,
+    is_more: bool,
+) -> (FacetRuns<'t, A>, Result<bool, RunFault>)
+    ensures found { result.0 ≡ parts.now }
+    ensures filled { IsFilled I.remaining I.Failures.failure_count source.old source.new is_more round.new.bytes result.1 }
 {
     round.clear();
-    weld_next(welder, facets)?;
-    if is_more {
+    let filled = if is_more {
         round.fill(source)
     } else {
         Ok(false)
-    }
+    };
+    (parts.runs(), filled)
 }
 
 /// The number of bytes that a round of these workers waits for.
