@@ -3,6 +3,7 @@ pub mod Grammar
 pub mod LeadingDigits
 pub mod DigitRows
 pub mod Powers
+pub mod Reciprocals
 pub mod Capped
 pub mod Scanning
 pub mod Exponents

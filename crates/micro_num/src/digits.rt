@@ -1,5 +1,5 @@
 //! The digits at the front of a text: how many there are, and their value as far as it fits 64 bits.
-ghost use Rattle.std.specs.Prelude.{◌≡◌, ◌≤◌, ◌<◌, ◌+◌, ◌*◌, ◌-◌, IfSome, ℕ, length, take, true};
+ghost use Rattle.std.specs.Prelude.{◌≡◌, ◌≤◌, ◌<◌, ◌+◌, ◌*◌, ◌-◌, IfSome, MatchOption, ℕ, false, length, take, true};
 ghost use Rattle.std.specs.List.{position_or_len};
 ghost use Rattle.std.specs.Char.{is_ascii_digit};
 ghost use Rattle.micro_num.specs.Scan.{IsLeading, digits_after, is_other};
@@ -28,26 +28,26 @@ impl LeadingDigits {
 
     /// These digits and one more after them, which still fits.
     #[inline(always)]
-    fn extended(self, digit: u8) -> Self
-        requires digit { is_ascii_digit digit ≡ true }
+    fn extended(self, digit: u64) -> Self
+        requires digit { digit < 10 }
         requires room { self.value < LEADING_ROOM }
         ensures leads { (n : ℕ) → IsLeading self.value self.dropped n
-            → IsLeading result.value result.dropped (10 * n + (digit - 48)) }
-        ensures value { result.value ≡ 10 * self.value + (digit - 48) }
+            → IsLeading result.value result.dropped (10 * n + digit) }
+        ensures value { result.value ≡ 10 * self.value + digit }
         ensures same { result.dropped ≡ self.dropped }
     {
         Self {
-            value: 10 * self.value + u64::from(digit - b'0'),
+            value: 10 * self.value + digit,
             dropped: self.dropped,
         }
     }
 
     /// These digits and one more after them.
-    fn followed_by(self, digit: u8) -> Self
-        requires digit { is_ascii_digit digit ≡ true }
+    fn followed_by(self, digit: u64) -> Self
+        requires digit { digit < 10 }
         requires few { self.dropped < WORD_LIMIT }
         ensures leads { (n : ℕ) → IsLeading self.value self.dropped n
-            → IsLeading result.value result.dropped (10 * n + (digit - 48)) }
+            → IsLeading result.value result.dropped (10 * n + digit) }
         ensures few { result.dropped ≤ self.dropped + 1 }
     {
         if self.value < LEADING_ROOM {
@@ -67,6 +67,20 @@ pub(crate) struct Digits {
     pub(crate) leading: LeadingDigits,
     /// The number of digits at the front.
     pub(crate) count: usize,
+}
+
+/// The value of a digit, or `None` for any other byte.
+///
+/// A byte below `0` becomes a great number, so that one subtraction serves the test and the value. It is done in 64
+/// bits, since the value is wanted in as many.
+#[inline(always)]
+fn digit_value(byte: u8) -> Option<u64>
+    ensures digit { MatchOption result (is_ascii_digit byte ≡ false) (λ _. is_ascii_digit byte ≡ true) }
+    ensures value { IfSome result (λ digit. digit ≡ byte - 48) }
+    ensures small { IfSome result (λ digit. digit < 10) }
+{
+    let digit = u64::from(byte).wrapping_sub(u64::from(b'0'));
+    if digit < 10 { Some(digit) } else { None }
 }
 
 /// Reads the digits at the front of a text, after those in `before`.
@@ -101,14 +115,13 @@ pub(crate) fn few_digits(bytes: &[u8], before: LeadingDigits) -> Option<Digits>
     }
     let mut leading = before;
     for index in 0..FEW_DIGITS {
-        let next = bytes[index];
-        if !next.is_ascii_digit() {
+        let Some(digit) = digit_value(bytes[index]) else {
             return Some(Digits {
                 leading,
                 count: index,
             });
-        }
-        leading = leading.extended(next);
+        };
+        leading = leading.extended(digit);
     }
     None
 }
@@ -125,14 +138,13 @@ fn many_digits(bytes: &[u8], before: LeadingDigits) -> Digits
 {
     let mut leading = before;
     for index in 0..bytes.len() {
-        let byte = bytes[index];
-        if !byte.is_ascii_digit() {
+        let Some(digit) = digit_value(bytes[index]) else {
             return Digits {
                 leading,
                 count: index,
             };
-        }
-        leading = leading.followed_by(byte);
+        };
+        leading = leading.followed_by(digit);
     }
     Digits {
         leading,

@@ -23,6 +23,7 @@ mod laws;
 mod limits;
 mod mantissa;
 mod num_fault;
+mod powers;
 mod reading;
 mod scaling;
 mod short_number;

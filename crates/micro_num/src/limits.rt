@@ -32,5 +32,8 @@ pub(crate) const SCALE_LIMIT: u64 = INCH_FACTOR * LEADING_LIMIT + CARRY_LIMIT;
 /// Ten to a power below this fits 64 bits.
 pub(crate) const POWER_COUNT: u64 = 20;
 
+/// Numbers below this are divided by multiplying with a reciprocal.
+pub(crate) const DIVIDEND_LIMIT: u64 = 1 << 63;
+
 /// Ten to a higher power than this is above `COORDINATE_LIMIT`.
 pub(crate) const COORDINATE_POWER: u64 = 8;

@@ -8,63 +8,9 @@ ghost use Rattle.geometry.specs.declared.limits.TheConstants.{COORDINATE_LIMIT};
 use crate::digits::LeadingDigits;
 use crate::limits::{COORDINATE_POWER, INCH_FACTOR, POWER_COUNT};
 use crate::mantissa::Mantissa;
+use crate::powers::{divided, power_of_ten};
 use crate::unit::Unit;
 use geometry::COORDINATE_LIMIT;
-
-const THOUSAND: u64 = 1_000;
-
-const MILLION: u64 = 1_000_000;
-
-const BILLION: u64 = 1_000_000_000;
-
-const TRILLION: u64 = 1_000_000_000_000;
-
-const QUADRILLION: u64 = 1_000_000_000_000_000;
-
-const QUINTILLION: u64 = 1_000_000_000_000_000_000;
-
-/// The powers of ten that 64 bits hold.
-static POWERS: [u64; POWER_COUNT as usize] = [
-    1,
-    10,
-    100,
-    THOUSAND,
-    10 * THOUSAND,
-    100 * THOUSAND,
-    MILLION,
-    10 * MILLION,
-    100 * MILLION,
-    BILLION,
-    10 * BILLION,
-    100 * BILLION,
-    TRILLION,
-    10 * TRILLION,
-    100 * TRILLION,
-    QUADRILLION,
-    10 * QUADRILLION,
-    100 * QUADRILLION,
-    QUINTILLION,
-    10 * QUINTILLION,
-];
-
-/// Ten to the power `power`.
-#[inline(always)]
-fn power_of_ten(power: u64) -> u64
-    requires { power < POWER_COUNT }
-    ensures { result ≡ 10 ^ power }
-{
-    POWERS[power as usize]
-}
-
-/// `value` divided by `unit`, a power of ten, to the nearest whole number, halves upward.
-#[inline(always)]
-fn divided(value: u64, unit: u64) -> u64
-    requires some { 0 < unit }
-    requires small { value < SCALE_LIMIT }
-    ensures { (power : ℕ) → 0 < power → unit ≡ 10 ^ power → result ≡ rounded_quotient value power }
-{
-    (value + unit / 2) / unit
-}
 
 /// `value` divided by ten to the power `power`, to the nearest whole number, halves upward.
 #[inline(always)]
@@ -73,19 +19,11 @@ fn shrunk(value: u64, power: u64) -> u64
     requires small { value < SCALE_LIMIT }
     ensures { result ≡ rounded_quotient value power }
 {
-    // The compiler makes a division by a constant a multiplication, and most numbers with an exponent have one of these
-    // powers.
-    if power == 2 {
-        divided(value, 100)
-    } else if power == 3 {
-        divided(value, THOUSAND)
-    } else if power == 4 {
-        divided(value, 10 * THOUSAND)
-    } else if power >= POWER_COUNT {
+    if power >= POWER_COUNT {
         // each value here is less than half of ten to that power
         0
     } else {
-        divided(value, power_of_ten(power))
+        divided(value + power_of_ten(power) / 2, power)
     }
 }
 
