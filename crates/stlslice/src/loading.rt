@@ -212,7 +212,7 @@ fn weld_and_find<'t, R: Threads + Sync, A: Allocator + Copy + Send + Sync, I: So
     let (mut found, (more, filled)) = join_mut(
         rt,
         &mut || parts.runs(),
-        &mut || weld_and_fill(rt, workers, parts, welder, facets, source, round, is_more),
+        &mut || weld_and_fill(rt, workers, source, round, is_more, welder, facets, parts),
     );
     found.add(more);
     (found, filled)
@@ -223,12 +223,12 @@ fn weld_and_find<'t, R: Threads + Sync, A: Allocator + Copy + Send + Sync, I: So
 fn weld_and_fill<'t, R: Threads + Sync, A: Allocator + Copy + Send + Sync, I: Source>(
     rt: &R,
     workers: u32,
-    parts: &ChunkParts<'t, A>,
-    welder: &mut Welder<A>,
-    facets: &[Facet],
     source: &mut I,
     round: &mut Round<A>,
     is_more: bool,
+    welder: &mut Welder<A>,
+    facets: &[Facet],
+    parts: &ChunkParts<'t, A>,
 ) -> (FacetRuns<'t, A>, Result<bool, RunFault>)
     ensures found { result.0 ≡ parts.now }
     ensures welded { OnOk result.1 (HasWelded facets.now welder.old welder.new) }
@@ -236,13 +236,13 @@ fn weld_and_fill<'t, R: Threads + Sync, A: Allocator + Copy + Send + Sync, I: So
 {
     if workers < 3 {
         let welded = weld_next(welder, facets);
-        let (found, filled) = fill_first(parts, source, round, is_more);
+        let (found, filled) = fill_first(source, round, is_more, parts);
         return (found, read_before_memory(filled, welded));
     }
     let others = workers - 3;
     let ((mut found, welded), (more, filled)) = join_mut(
         rt,
-        &mut || weld_first(parts, welder, facets),
+        &mut || weld_first(welder, facets, parts),
         &mut || fill_beside(rt, others, parts, source, round, is_more),
     );
     found.add(more);
@@ -264,9 +264,9 @@ fn read_before_memory(
 
 /// Adds facets to a welder, and then finds runs in the parts of a chunk that are left.
 fn weld_first<'t, A: Allocator + Copy + Send + Sync>(
-    parts: &ChunkParts<'t, A>,
     welder: &mut Welder<A>,
     facets: &[Facet],
+    parts: &ChunkParts<'t, A>,
 ) -> (FacetRuns<'t, A>, Result<(), RunFault>)
     ensures found { result.0 ≡ parts.now }
     ensures welded { OnOk result.1 (HasWelded facets.now welder.old welder.new) }
@@ -289,12 +289,12 @@ fn fill_beside<'t, R: Threads + Sync, A: Allocator + Copy + Send + Sync, I: Sour
     ensures filled { IsFilled I.remaining I.Failures.failure_count source.old source.new is_more round.new.bytes result.1 }
 {
     if others == 0 {
-        return fill_first(parts, source, round, is_more);
+        return fill_first(source, round, is_more, parts);
     }
     let (mut found, (more, filled)) = join_mut(
         rt,
         &mut || parts.runs_by(rt, others),
-        &mut || fill_first(parts, source, round, is_more),
+        &mut || fill_first(source, round, is_more, parts),
     );
     found.add(more);
     (found, filled)
@@ -303,10 +303,10 @@ fn fill_beside<'t, R: Threads + Sync, A: Allocator + Copy + Send + Sync, I: Sour
 /// Fills a round from a source, or leaves it empty where the source has no more (`is_more`), and then finds runs in the parts of a
 /// chunk that are left. Answers these, and whether the source has more after the round.
 fn fill_first<'t, A: Allocator + Copy, I: Source>(
-    parts: &ChunkParts<'t, A>,
     source: &mut I,
     round: &mut Round<A>,
     is_more: bool,
+    parts: &ChunkParts<'t, A>,
 ) -> (FacetRuns<'t, A>, Result<bool, RunFault>)
     ensures found { result.0 ≡ parts.now }
     ensures filled { IsFilled I.remaining I.Failures.failure_count source.old source.new is_more round.new.bytes result.1 }
