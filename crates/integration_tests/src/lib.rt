@@ -23,6 +23,8 @@ mod file_forms;
 #[cfg(test)]
 mod filling;
 #[cfg(test)]
+mod image_writers;
+#[cfg(test)]
 mod images;
 #[cfg(test)]
 mod jobs;

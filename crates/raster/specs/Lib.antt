@@ -5,6 +5,7 @@ pub mod Rule
 pub mod Span
 pub mod Filler
 pub mod Image
+pub mod ImageWriter
 pub mod Bits
 pub mod Rows
 pub mod RowCrossing

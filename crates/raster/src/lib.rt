@@ -14,6 +14,7 @@
 //! - [`Rule`]: which sums of signed crossings count as inside.
 //! - [`Span`]: filled pixels side by side in a row.
 //! - [`Filler`]: fills one layer after another, and keeps its memory.
+//! - [`ImageWriter`]: writes images one after another, by few calls of the sink; [`write_layer`] writes one.
 //! - [`Source`], [`Sink`]: the devices that are read and written. [`Counted`] makes one of any reader or writer, and
 //!   [`put_all`] writes a whole chunk of bytes.
 //!
@@ -35,7 +36,7 @@ mod span;
 pub use devices::{Counted, Failed, Failures, Sink, Source, WriteFault, put_all};
 pub use filler::{Filler, fill};
 pub use grid::{Grid, GridFault};
-pub use pbm::{image_len, write_layer};
+pub use pbm::{ImageWriter, image_len, write_layer};
 pub use placing::Placing;
 pub use rule::Rule;
 pub use span::{Span, area};

@@ -2,11 +2,11 @@
 ghost use Rattle.std.specs.Prelude.{◌≡◌, ◌≢◌};
 ghost use Rattle.stl_text.specs.declared.stl_fault.StlFault.TheVariants as stl_fault;
 ghost use Rattle.stlslice.specs.RunFault.{of_weld, run_status};
-ghost use Rattle.stlslice.specs.declared.run_fault.RunFault.TheVariants.{Grid, Memory, Stl};
+ghost use Rattle.stlslice.specs.declared.run_fault.RunFault.TheVariants.{Grid, Memory, Stl, Write};
 
 use geometry::Point;
 use mesh_weld::WeldFault;
-use raster::GridFault;
+use raster::{GridFault, WriteFault};
 use std::alloc::AllocError;
 use stl_text::StlFault;
 use thiserror::Error;
@@ -110,5 +110,15 @@ impl From<GridFault> for RunFault {
 
     fn from(cause: GridFault) -> RunFault {
         RunFault::Grid(cause)
+    }
+}
+
+impl From<WriteFault> for RunFault {
+    ghost from_gives = { λ cause fault. fault ≡ Write cause.written };
+
+    fn from(cause: WriteFault) -> RunFault {
+        RunFault::Write {
+            written: cause.written,
+        }
     }
 }

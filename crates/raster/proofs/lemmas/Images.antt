@@ -1,11 +1,19 @@
 -- Lengths of images, and images of the same pixels.
-use Rattle.std.proofs.Common.{◌≡◌, ℕ, zero, suc, ◌+◌, ◌*◌, ◌<◌, Bool, List, ◌++◌, length, length-append, true, false, ap, ◌∙◌, arith, refl, sym}
-use Rattle.std.specs.Prelude.{codes, decimal, map, nat_lt, ◌&&◌}
+use Rattle.std.proofs.Common.{◌≡◌, ℕ, zero, suc, ◌+◌, ◌*◌, ◌/◌, ◌<◌, ◌≤◌, Bool, List, ◌∷◌, ◌++◌, length, length-append, true, false, ap, ◌∙◌, arith, refl, sym}
+use Rattle.std.specs.Prelude.{codes, decimal, flat_map, map, nat_lt, ◌&&◌}
 use Rattle.std.specs.Int.{div_ceil}
+use Rattle.std.specs.List.{range_with_len}
+use Rattle.std.proofs.lemmas.List.Concat.{flat_map-cons}
+use Rattle.std.proofs.Math.Nat.{mul-le-mul_left}
 use Rattle.std.proofs.Math.Path.{fun_ext}
 use Rattle.std.proofs.lemmas.Bool.{leb-true}
-use Rattle.raster.specs.Filler.{below}
-use Rattle.raster.specs.Image.{header, image_of_pixels, packed_byte, row_bytes}
+use Rattle.geometry.specs.declared.limits.TheConstants.{COLUMN_LIMIT, LAYER_LIMIT}
+use Rattle.geometry.specs.Facet.{Facet}
+use Rattle.raster.specs.declared.rule.Rule.{Rule}
+use Rattle.raster.specs.Filler.{below, is_filled}
+use Rattle.raster.specs.Grid.{Grid, centre}
+use Rattle.raster.specs.Image.{header, image_limit, image_of_pixels, images, images_limit, layer_image, packed_byte, row_bytes}
+use Rattle.raster.proofs.lemmas.Decimals.{length-five}
 use Rattle.raster.proofs.lemmas.Written.{length-row, lower_rows, rows-step}
 
 pub length-rows : (width n : ℕ) (pixel : ℕ → ℕ → Bool) → length (lower_rows width pixel n) ≡ n * div_ceil width 8
@@ -30,6 +38,30 @@ pub length-image : (width height : ℕ) (pixel : ℕ → ℕ → Bool)
 length-image width height pixel =
     length-append (header width height) (lower_rows width pixel height)
     ∙ omega (arith, length-header width height, length-rows width height pixel)
+
+pub small-image : (width height : ℕ) (pixel : ℕ → ℕ → Bool) → width ≤ COLUMN_LIMIT → height ≤ COLUMN_LIMIT
+    → length (image_of_pixels width height pixel) ≤ image_limit
+small-image width height pixel narrow low =
+    let row : div_ceil width 8 ≤ COLUMN_LIMIT / 8 = omega arith in
+    omega (arith, length-image width height pixel, length-five width narrow, length-five height low, mul-le-mul_left height row)
+
+small-parts : (f : ℕ → List ℕ) (a n : ℕ) → ((k : ℕ) → length (f k) ≤ image_limit) → length (flat_map f (range_with_len a n)) ≤ n * image_limit
+small-parts f a zero small = omega arith
+small-parts f a (suc n) small =
+    let both : length (flat_map f (a ∷ range_with_len (a + 1) n)) ≡ length (f a) + length (flat_map f (range_with_len (a + 1) n)) =
+    ap (λ (l : List ℕ). length l) (flat_map-cons f a (range_with_len (a + 1) n))
+    ∙ length-append (f a) (flat_map f (range_with_len (a + 1) n)) in
+    omega (arith, both, small a, small-parts f (a + 1) n small)
+
+pub small-images : (g : Grid) (rule : Rule) (facets : List Facet) → g.columns ≤ COLUMN_LIMIT → g.rows ≤ COLUMN_LIMIT → g.layers ≤ LAYER_LIMIT
+    → length (images g rule facets) ≤ images_limit
+small-images g rule facets narrow low few =
+    omega (
+      arith,
+      few,
+      small-parts (layer_image g rule facets) 0 g.layers
+          (λ k. small-image g.columns g.rows (λ i j. is_filled rule facets (centre g i j k)) narrow low),
+    )
 
 -- pixels outside an image do not count
 

@@ -1,17 +1,16 @@
--- How much of an image went out, and how much is left.
-use Rattle.std.proofs.Common.{◌≡◌, ℕ, zero, suc, ◌+◌, ◌-◌, ◌*◌, ◌<◌, ◌≤◌, List, [], ◌∷◌, ◌++◌, Bool, length, take, drop, length-append, length-drop, append_assoc, refl, ap, sym, subst, ◌∙◌, arith}
-use Rattle.std.specs.Prelude.{Option, reverse, flat_map, nat_lt, ◌&&◌}
+-- How much of a text went out, how much a chunk holds, and how much is left; and the rows of an image.
+use Rattle.std.proofs.Common.{◌≡◌, ℕ, zero, suc, ◌+◌, ◌-◌, ◌<◌, ◌≤◌, List, [], ◌∷◌, ◌++◌, Bool, length, take, drop, length-append, length-drop, append_assoc, ap, sym, subst, ◌∙◌, arith}
+use Rattle.std.specs.Prelude.{None, Option, Some, reverse, flat_map, nat_lt, ◌&&◌}
 use Rattle.std.specs.List.{range_with_len}
 use Rattle.std.specs.Int.{div_ceil}
 use Rattle.std.proofs.lemmas.List.FromFn.{length-map-range_with_len}
 use Rattle.std.specs.Io.KnownBytes.{Appends}
-use Rattle.std.proofs.lemmas.List.{reverse-append}
+use Rattle.std.proofs.lemmas.List.{append-nil, drop-append-le, drop-drop, reverse-append, take-append-drop, take-append-le}
 use Rattle.std.proofs.lemmas.List.Concat.{flat_map-cons}
 use Rattle.std.proofs.Math.Seq.{take-add}
-use Rattle.geometry.specs.declared.limits.TheConstants.{COLUMN_LIMIT}
 use Rattle.raster.specs.Devices.{AppendsFirst}
 use Rattle.raster.specs.Filler.{below}
-use Rattle.raster.specs.Image.{image_limit, packed_byte, row_bytes}
+use Rattle.raster.specs.Image.{packed_byte, row_bytes}
 use Rattle.raster.proofs.lemmas.Sent.{appends-after}
 
 -- the rows below n, the greatest first
@@ -29,83 +28,97 @@ rows-step width pixel n =
     ∙ flat_map-cons (λ j. row_bytes width (λ i. pixel i j)) (0 + n) (reverse (below n))
     ∙ ap (λ (m : ℕ). row_bytes width (λ i. pixel i m) ++ lower_rows width pixel n) (omega arith)
 
--- written bytes of a text, with a chunk and then the rest still to go
-pub record IsUnderWay (old now : Option (List ℕ)) (text : List ℕ) (written : ℕ) (chunk rest : List ℕ) : Type 0 where
-  pub out : AppendsFirst old now written text
-  pub left : drop written text ≡ chunk ++ rest
+-- of a text so many bytes went out, counted on from `before`; a chunk and then the rest are still to go
+pub record IsUnderWay (old now : Option (List ℕ)) (text : List ℕ) (before written : ℕ) (chunk rest : List ℕ) : Type 0 where
+  pub low : before ≤ written
+  pub high : written ≤ before + length text
+  pub out : AppendsFirst old now (written - before) text
+  pub left : drop (written - before) text ≡ chunk ++ rest
 
-drop-append : (n : ℕ) (xs ys : List ℕ) → n ≤ length xs → drop n (xs ++ ys) ≡ drop n xs ++ ys
-drop-append zero xs ys h = refl
-drop-append (suc n) [] ys h = absurd (omega arith)
-drop-append (suc n) (x ∷ xs) ys h = drop-append n xs ys (omega arith)
+nothing-out : (now : Option (List ℕ)) → Appends now now []
+nothing-out None = tt
+nothing-out (Some xs) = sym (append-nil xs)
 
-take-append : (n : ℕ) (xs ys : List ℕ) → n ≤ length xs → take n (xs ++ ys) ≡ take n xs
-take-append zero xs ys h = refl
-take-append (suc n) [] ys h = absurd (omega arith)
-take-append (suc n) (x ∷ xs) ys h = ap (λ (l : List ℕ). x ∷ l) (take-append n xs ys (omega arith))
+pub begun : (now : Option (List ℕ)) (before : ℕ) (chunk rest : List ℕ) → IsUnderWay now now (chunk ++ rest) before before chunk rest
+begun now before chunk rest =
+    let none : before - before ≡ 0 = omega arith in
+    record {
+      low = omega arith;
+      high = omega arith;
+      out = subst (λ (n : ℕ). Appends now now (take n (chunk ++ rest))) (sym none) (nothing-out now);
+      left = ap (λ (n : ℕ). drop n (chunk ++ rest)) none;
+    }
 
-drop-none : (n : ℕ) → drop {A = ℕ} n [] ≡ []
-drop-none zero = refl
-drop-none (suc n) = refl
-
-drop-more : (n m : ℕ) (xs : List ℕ) → drop m (drop n xs) ≡ drop (n + m) xs
-drop-more zero m xs = ap (λ (k : ℕ). drop k xs) (omega arith)
-drop-more (suc n) m [] = drop-none m ∙ sym (drop-none (suc n + m))
-drop-more (suc n) m (x ∷ xs) =
-    let next : suc (n + m) ≡ suc n + m = omega arith in
-    drop-more n m xs ∙ ap (λ (k : ℕ). drop k (x ∷ xs)) next
+-- what is out, held and left is all
+pub all-counted : (old now : Option (List ℕ)) (text : List ℕ) (before written : ℕ) (chunk rest : List ℕ) → IsUnderWay old now text before written chunk rest → written + length chunk + length rest ≡ before + length text
+all-counted old now text before written chunk rest h =
+    let left : length (drop (written - before) text) ≡ length (chunk ++ rest) = ap (λ (l : List ℕ). length l) h.left in
+    omega (arith, h.low, h.high, left, length-drop (written - before) text, length-append chunk rest)
 
 -- more of the chunk went out, on success or before a failure
-pub more-out : (old now new : Option (List ℕ)) (text : List ℕ) (written total : ℕ) (chunk rest : List ℕ) → IsUnderWay old now text written chunk rest → written ≤ total → total ≤ written + length chunk → AppendsFirst now new (total - written) chunk → AppendsFirst old new total text
-more-out old now new text written total chunk rest h low high sent =
-    subst (λ (l : List ℕ). Appends old new l) (sym together) (appends-after old now new (take written text) (take (total - written) chunk) h.out sent)
+pub more-out : (old now new : Option (List ℕ)) (text : List ℕ) (before written total : ℕ) (chunk rest : List ℕ) → IsUnderWay old now text before written chunk rest → written ≤ total → total ≤ written + length chunk → AppendsFirst now new (total - written) chunk → AppendsFirst old new (total - before) text
+more-out old now new text before written total chunk rest h low high sent =
+    subst (λ (l : List ℕ). Appends old new l) (sym together)
+    (appends-after old now new (take (written - before) text) (take (total - written) chunk) h.out sent)
   where
-    together : take total text ≡ take written text ++ take (total - written) chunk
+    together : take (total - before) text ≡ take (written - before) text ++ take (total - written) chunk
     together =
-        ap (λ (n : ℕ). take n text) (omega arith)
-        ∙ take-add written (total - written) text
-        ∙ ap (λ (l : List ℕ). take written text ++ take (total - written) l) h.left
-        ∙ ap (λ (l : List ℕ). take written text ++ l) (take-append (total - written) chunk rest (omega arith))
-
-pub less-left : (old now : Option (List ℕ)) (text : List ℕ) (written total : ℕ) (chunk rest : List ℕ) → IsUnderWay old now text written chunk rest → written ≤ total → total ≤ written + length chunk → drop total text ≡ drop (total - written) chunk ++ rest
-less-left old now text written total chunk rest h low high =
-    ap (λ (n : ℕ). drop n text) (omega arith)
-    ∙ sym (drop-more written (total - written) text)
-    ∙ ap (λ (l : List ℕ). drop (total - written) l) h.left
-    ∙ drop-append (total - written) chunk rest (omega arith)
+        ap (λ (n : ℕ). take n text) (omega (arith, h.low, low))
+        ∙ take-add (written - before) (total - written) text
+        ∙ ap (λ (l : List ℕ). take (written - before) text ++ take (total - written) l) h.left
+        ∙ ap (λ (l : List ℕ). take (written - before) text ++ l) (take-append-le (total - written) chunk rest (omega (arith, low, high)))
 
 -- what is written is within the text
-pub written-within : (old now : Option (List ℕ)) (text : List ℕ) (written total : ℕ) (chunk rest : List ℕ) → IsUnderWay old now text written chunk rest → total < written + length chunk → written ≤ total → total < length text
-written-within old now text written total chunk rest h high low =
-    omega (arith, length-drop written text, ap (λ (l : List ℕ). length l) h.left, length-append chunk rest)
+pub written-within : (old now : Option (List ℕ)) (text : List ℕ) (before written total : ℕ) (chunk rest : List ℕ) → IsUnderWay old now text before written chunk rest → total < written + length chunk → total < before + length text
+written-within old now text before written total chunk rest h high =
+    omega (arith, high, all-counted old now text before written chunk rest h)
 
-pub under-way-step : (old now new : Option (List ℕ)) (width m n : ℕ) (pixel : ℕ → ℕ → Bool) (text : List ℕ) (written total : ℕ) (chunk room drawn : List ℕ) → m ≡ suc n → IsUnderWay old now text written chunk (lower_rows width pixel m) → written ≤ total → total ≤ written + length chunk → AppendsFirst now new (total - written) chunk → room ≡ drop (total - written) chunk → drawn ≡ room ++ row_bytes width (λ i. pixel i n) → IsUnderWay old new text total drawn (lower_rows width pixel n)
-under-way-step old now new width m n pixel text written total chunk room drawn next h low high sent kept row = record {
-  out = more-out old now new text written total chunk (lower_rows width pixel m) h low high sent;
-  left = less-left old now text written total chunk (lower_rows width pixel m) h low high
-      ∙ ap (λ (l : List ℕ). l ++ lower_rows width pixel m) (sym kept)
-      ∙ ap (λ (k : ℕ). room ++ lower_rows width pixel k) next
-      ∙ ap (λ (l : List ℕ). room ++ l) (rows-step width pixel n)
-      ∙ sym (append_assoc room (row_bytes width (λ i. pixel i n)) (lower_rows width pixel n))
-      ∙ ap (λ (l : List ℕ). l ++ lower_rows width pixel n) (sym row);
+-- a chunk after its front, or all of it, went out
+pub moved : (old now new : Option (List ℕ)) (text : List ℕ) (before written total : ℕ) (chunk kept rest : List ℕ) → IsUnderWay old now text before written chunk rest → written ≤ total → total ≤ written + length chunk → AppendsFirst now new (total - written) chunk → kept ≡ drop (total - written) chunk → IsUnderWay old new text before total kept rest
+moved old now new text before written total chunk kept rest h low high sent is = record {
+  low = omega (arith, h.low, low);
+  high = omega (arith, high, all-counted old now text before written chunk rest h);
+  out = more-out old now new text before written total chunk rest h low high sent;
+  left = ap (λ (n : ℕ). drop n text) (omega (arith, h.low, low))
+      ∙ sym (drop-drop (total - written) (written - before) text)
+      ∙ ap (λ (l : List ℕ). drop (total - written) l) h.left
+      ∙ drop-append-le (total - written) chunk rest (omega (arith, low, high))
+      ∙ ap (λ (l : List ℕ). l ++ rest) (sym is);
+}
+
+-- a text of which the front went out, and then the rest, or a front of it
+pub whole-out : (a b c : Option (List ℕ)) (text held : List ℕ) (sent : ℕ) → AppendsFirst a b sent text → held ≡ drop sent text → Appends b c held → Appends a c text
+whole-out a b c text held sent first is rest =
+    subst (λ (l : List ℕ). Appends a c l) (ap (λ (l : List ℕ). take sent text ++ l) is ∙ take-append-drop sent text)
+    (appends-after a b c (take sent text) held first rest)
+
+pub first-out : (a b c : Option (List ℕ)) (text held : List ℕ) (sent written : ℕ) → AppendsFirst a b sent text → held ≡ drop sent text → sent ≤ written → AppendsFirst b c (written - sent) held → AppendsFirst a c written text
+first-out a b c text held sent written first is low more =
+    subst (λ (l : List ℕ). Appends a c l)
+    (ap (λ (l : List ℕ). take sent text ++ take (written - sent) l) is
+    ∙ sym (take-add sent (written - sent) text)
+    ∙ ap (λ (n : ℕ). take n text) (omega (arith, low)))
+    (appends-after a b c (take sent text) (take (written - sent) held) first more)
+
+-- a text of which only a chunk was left to go out
+pub all-out : (old now new : Option (List ℕ)) (text : List ℕ) (before written : ℕ) (chunk : List ℕ) → IsUnderWay old now text before written chunk [] → Appends now new chunk → Appends old new text
+all-out old now new text before written chunk h out = whole-out old now new text chunk (written - before) h.out (sym (h.left ∙ append-nil chunk)) out
+
+-- a chunk that took the next part of what was left
+pub taken-on : (old now : Option (List ℕ)) (text : List ℕ) (before written : ℕ) (chunk more part rest left : List ℕ) → IsUnderWay old now text before written chunk left → left ≡ part ++ rest → more ≡ chunk ++ part → IsUnderWay old now text before written more rest
+taken-on old now text before written chunk more part rest left h next is = record {
+  low = h.low;
+  high = h.high;
+  out = h.out;
+  left = h.left
+      ∙ ap (λ (l : List ℕ). chunk ++ l) next
+      ∙ sym (append_assoc chunk part rest)
+      ∙ ap (λ (l : List ℕ). l ++ rest) (sym is);
 }
 
 pub length-row : (width : ℕ) (pixel : ℕ → Bool) → length (row_bytes width pixel) ≡ div_ceil width 8
 length-row width pixel = length-map-range_with_len (packed_byte (λ i. nat_lt i width && pixel i)) 0 (div_ceil width 8)
 
-pub short-step : (width row rows written total : ℕ) (pixel : ℕ → Bool) (chunk room drawn : List ℕ) → width ≤ COLUMN_LIMIT → 0 < row → written + length chunk + 2048 * row ≤ 15 + 2048 * rows → written ≤ total → total ≤ written + length chunk → room ≡ drop (total - written) chunk → drawn ≡ room ++ row_bytes width pixel → total + length drawn + 2048 * (row - 1) ≤ 15 + 2048 * rows
-short-step width row rows written total pixel chunk room drawn narrow some h low high kept row-is =
-    let left : length room ≡ length chunk - (total - written) = ap (λ (l : List ℕ). length l) kept ∙ length-drop (total - written) chunk in
-    let more : length drawn ≡ length room + length (row_bytes width pixel) = ap (λ (l : List ℕ). length l) row-is ∙ length-append room (row_bytes width pixel) in
-    let bytes : length (row_bytes width pixel) ≤ 2048 = omega (arith, length-row width pixel) in
-    omega arith
-
--- ---- row by row
-pub few-written : (written chunk row rows : ℕ) → written + chunk + 2048 * row ≤ 15 + 2048 * rows → rows ≤ COLUMN_LIMIT → written ≤ image_limit
-few-written written chunk row rows h k = omega arith
-
-pub row-under : (row rows : ℕ) → 0 < row → row ≤ rows → row - 1 < rows
-row-under row rows h k = omega arith
-
-pub row-back : (row : ℕ) → 0 < row → row ≡ row - 1 + 1
-row-back row h = omega arith
+-- the row above those of a number
+pub next-row : (width m n : ℕ) (pixel : ℕ → ℕ → Bool) → m ≡ suc n → lower_rows width pixel m ≡ row_bytes width (λ i. pixel i n) ++ lower_rows width pixel n
+next-row width m n pixel next = ap (λ (k : ℕ). lower_rows width pixel k) next ∙ rows-step width pixel n

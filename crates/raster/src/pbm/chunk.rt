@@ -1,9 +1,9 @@
-//! The bytes of an image on their way to a sink, gathered so that one call of the sink takes many rows.
+//! The bytes of images on their way to a sink, gathered so that one call of the sink takes many rows and images.
 ghost use Rattle.std.specs.Prelude.{◌≡◌, ◌<◌, ◌≤◌, ◌+◌, ◌-◌, [], ◌∷◌, ◌++◌, decimal, drop, length, OnOk, OnErr, IfErr, IfOk, true};
 ghost use Rattle.std.specs.Int.{div_ceil};
 ghost use Rattle.std.specs.Io.KnownBytes.{Appends};
-ghost use Rattle.raster.specs.Devices.{AppendsFirst, Fails};
-ghost use Rattle.raster.specs.Image.{header, image_limit, row_bytes};
+ghost use Rattle.raster.specs.Devices.{AppendsFirst, Fails, greatest_count};
+ghost use Rattle.raster.specs.Image.{header, row_bytes};
 ghost use Rattle.raster.specs.Rows.{are_within, crosses};
 ghost use Rattle.raster.specs.declared.pbm.chunk.TheConstants.{CHUNK_LEN, HEADER_LIMIT};
 ghost use Rattle.geometry.specs.declared.limits.TheConstants.{COLUMN_LIMIT};
@@ -19,7 +19,7 @@ const CHUNK_LEN: usize = 8 * (COLUMN_LIMIT as usize / 8);
 
 /// The greatest length of an image's header: `P4`, a line break, the width, a blank, the height and a line break, where each
 /// of both numbers has at most five digits.
-const HEADER_LIMIT: usize = 15;
+pub(crate) const HEADER_LIMIT: usize = 15;
 
 /// Bytes on their way to a sink. They lie on the stack, so that writing allocates no memory. All bytes of the free room
 /// after them are 0, so that a row is drawn by setting bits.
@@ -91,11 +91,10 @@ impl Chunk {
 
     /// Appends the header of an image of this width and height.
     pub(crate) fn push_header(&mut self, width: u32, height: u32)
-        requires empty { self.old ≡ [] }
+        requires room { length self.old + HEADER_LIMIT ≤ CHUNK_LEN }
         requires width { width ≤ COLUMN_LIMIT }
         requires height { height ≤ COLUMN_LIMIT }
-        ensures value { self.new ≡ header width height }
-        ensures short { length self.new ≤ HEADER_LIMIT }
+        ensures { self.new ≡ self.old ++ header width height }
     {
         self.push_all(b"P4\n");
         self.push_decimal(width);
@@ -115,8 +114,8 @@ impl Chunk {
         self.filled = end;
     }
 
-    /// Makes room for `needed` more bytes: sends the chunk where it has less. `before` is the number of the image's bytes
-    /// that were sent so far; answers how many were sent then.
+    /// Makes room for `needed` more bytes: sends the chunk where it has less. `before` is the number of bytes that were sent
+    /// so far; answers how many were sent then.
     pub(crate) fn make_room<W: Sink>(
         &mut self,
         needed: usize,
@@ -124,7 +123,7 @@ impl Chunk {
         before: u64,
     ) -> Result<u64, WriteFault>
         requires needed { needed ≤ CHUNK_LEN }
-        requires before { before ≤ image_limit }
+        requires count { before + length self.old ≤ greatest_count }
         ensures room { OnOk result (length self.new + needed ≤ CHUNK_LEN) }
         ensures kept { IfOk result (λ total. self.new ≡ drop (total - before) self.old) }
         ensures ok { IfOk result (λ total. AppendsFirst (W.contents w.old) (W.contents w.new) (total - before) self.old) }
@@ -143,10 +142,10 @@ impl Chunk {
         }
     }
 
-    /// Sends the bytes to a sink, and empties the chunk. `before` is the number of the image's bytes that were sent so far;
-    /// answers how many were sent then.
+    /// Sends the bytes to a sink, and empties the chunk. `before` is the number of bytes that were sent so far; answers how
+    /// many were sent then.
     pub(crate) fn send<W: Sink>(&mut self, w: &mut W, before: u64) -> Result<u64, WriteFault>
-        requires { before ≤ image_limit }
+        requires { before + length self.old ≤ greatest_count }
         ensures emptied { OnOk result (self.new ≡ []) }
         ensures ok { OnOk result (Appends (W.contents w.old) (W.contents w.new) self.old) }
         ensures total { IfOk result (λ total. total ≡ before + length self.old) }

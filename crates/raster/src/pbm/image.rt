@@ -1,18 +1,13 @@
-//! Writes the image of a layer, row by row from the greatest row to the least, through a chunk on the stack; and how long an
-//! image is.
-ghost use Rattle.std.specs.Prelude.{◌≡◌, ◌<◌, ◌≤◌, ◌+◌, ◌++◌, ℕ, Bool, decimal, length, IfErr, OnErr, OnOk};
-ghost use Rattle.std.specs.Int.{div_ceil};
+//! Writes the image of one layer; and how long an image is.
+ghost use Rattle.std.specs.Prelude.{◌≡◌, ◌<◌, ◌≤◌, ℕ, Bool, decimal, length, IfErr, OnErr, OnOk};
 ghost use Rattle.std.specs.Io.KnownBytes.{Appends};
 ghost use Rattle.raster.specs.Devices.{AppendsFirst, Fails};
 ghost use Rattle.raster.specs.Span.{AreSpans, covers};
-ghost use Rattle.raster.specs.Image.{image_limit, image_of_pixels, row_bytes};
-ghost use Rattle.raster.specs.Rows.{IsSplit};
-ghost use Rattle.raster.specs.declared.pbm.chunk.TheConstants.{CHUNK_LEN};
+ghost use Rattle.raster.specs.Image.{image_limit, image_of_pixels};
 
 use crate::devices::{Sink, WriteFault};
 use crate::grid::Grid;
-use crate::pbm::chunk::Chunk;
-use crate::pbm::rows::start_of_row;
+use crate::pbm::image_writer::ImageWriter;
 use crate::span::Span;
 
 /// Writes the image of a layer in raw PBM ("P4", pbm(5)): the pixels in the spans are black, and the row of the greatest
@@ -30,34 +25,10 @@ pub fn write_layer<W: Sink>(g: &Grid, spans: &[Span], w: &mut W) -> Result<(), W
     ensures within { IfErr result (λ fault. fault.written < length (image_of_pixels g.now.columns g.now.rows (covers spans.now))) }
     ensures failed { OnErr result (Fails (W.Failures.failure_count w.old) (W.Failures.failure_count w.new)) }
 {
-    let needed = g.columns().div_ceil(8) as usize;
-    let mut chunk = Chunk::new();
-    chunk.push_header(g.columns(), g.rows());
-    let mut written = 0;
-    let mut end = spans.len();
-    let mut row = g.rows();
-    while row > 0 {
-        row -= 1;
-        written = chunk.make_room(needed, w, written)?;
-        end = push_row(&mut chunk, g, spans, row, end);
-    }
-    chunk.send(w, written)?;
+    let mut writer = ImageWriter::new();
+    writer.add(g, spans, w)?;
+    writer.finish(w)?;
     Ok(())
-}
-
-/// Adds a row of the layer to the chunk. The first `end` spans are those of this row and of the rows below; answers how
-/// many are in the rows below.
-fn push_row(chunk: &mut Chunk, g: &Grid, spans: &[Span], row: u32, end: usize) -> usize
-    requires form { AreSpans g.now.columns g.now.rows spans.now }
-    requires row { row < g.now.rows }
-    requires split { IsSplit spans.now end (row + 1) }
-    requires room { length chunk.old + div_ceil g.now.columns 8 ≤ CHUNK_LEN }
-    ensures split { IsSplit spans.now result row }
-    ensures drawn { chunk.new ≡ chunk.old ++ row_bytes g.now.columns (λ i. covers spans.now i row) }
-{
-    let start = start_of_row(g, spans, row, end);
-    chunk.push_row(g.columns(), &spans[start..end]);
-    start
 }
 
 /// The length in bytes of the image of a layer of this grid, which is the same for all of them.

@@ -1,20 +1,16 @@
 -- The text of slicing, layer by layer.
-use Rattle.std.proofs.Common.{◌≡◌, ℕ, zero, suc, ◌+◌, ◌<◌, ◌≤◌, List, [], ◌∷◌, ◌++◌, Option, length, length-append, take, ap, sym, subst, ◌∙◌, arith, append_assoc, slice_index_or, refl}
+use Rattle.std.proofs.Common.{◌≡◌, ℕ, suc, ◌+◌, ◌-◌, ◌<◌, ◌≤◌, List, [], ◌∷◌, ◌++◌, Option, length, ap, sym, subst, ◌∙◌, arith, slice_index_or, refl}
 use Rattle.std.specs.Prelude.{flat_map, sum_by}
-use Rattle.std.specs.Io.KnownBytes.{Appends}
 use Rattle.std.specs.List.{range_with_len}
-use Rattle.std.proofs.lemmas.List.{take-append-le}
 use Rattle.std.proofs.lemmas.List.Concat.{flat_map-cons}
 use Rattle.std.proofs.lemmas.List.Sums.{sum_by-cons}
-use Rattle.std.proofs.Math.Seq.{take-append-add}
 use Rattle.contour.specs.Loops.{loops}
 use Rattle.contour.specs.Segment.{segments}
 use Rattle.contour.specs.declared.segment.Segment.{Segment}
-use Rattle.raster.specs.Devices.{AppendsFirst}
 use Rattle.raster.specs.Filler.{area_of, below}
 use Rattle.raster.specs.Grid.{plane}
-use Rattle.raster.specs.Image.{layer_image}
-use Rattle.raster.proofs.lemmas.Sent.{appends-after}
+use Rattle.raster.specs.Image.{images, layer_image}
+use Rattle.raster.proofs.lemmas.Written.{IsUnderWay, taken-on}
 use Rattle.build_book.specs.Layer.{AreLawfulFrom, IsLawful, Layer, layers_area}
 use Rattle.build_book.specs.Build.{IsComplete}
 use Rattle.build_book.specs.Job.{Job}
@@ -71,43 +67,31 @@ pub all_lines : (job : Job) (n total : ℕ) (old new : List ℕ)
     → new ≡ report_text job.grid job.rule job.solid.facets
 all_lines job n total old new before all added sum = rw (added, before, all, sum) refl
 
--- the parts before one, that part, and those after it
-around : (f : ℕ → List ℕ) (a n i k : ℕ) → i < n → k ≡ a + i
-    → (rest : List ℕ) × (flat_map f (range_with_len a n) ≡ flat_map f (range_with_len a i) ++ (f k ++ rest))
-around f a zero i k h is = absurd (omega (arith, h))
-around f a (suc n) zero k h is =
-    let rest : List ℕ = flat_map f (range_with_len (a + 1) n) in
-    (rest, flat_map-cons f a (range_with_len (a + 1) n) ∙ ap (λ (m : ℕ). f m ++ rest) (omega (arith, is)))
-around f a (suc n) (suc i) k h is =
-    let later = around f (a + 1) n i k (omega (arith, h)) (omega (arith, is)) in
-    let front : List ℕ = flat_map f (range_with_len (a + 1) i) in (
-      later.0,
-      flat_map-cons f a (range_with_len (a + 1) n)
-          ∙ ap (λ (l : List ℕ). f a ++ l) later.1
-          ∙ sym (append_assoc (f a) front (f k ++ later.0))
-          ∙ ap (λ (l : List ℕ). l ++ (f k ++ later.0)) (sym (flat_map-cons f a (range_with_len (a + 1) i))),
-    )
+-- the images of the layers from a number on
+abbrev pub images_from : Job → ℕ → List ℕ
+images_from job k = flat_map (layer_image job.grid job.rule job.solid.facets) (range_with_len k (job.grid.layers - k))
 
--- a front of the next part went out
-pub part_out : (f : ℕ → List ℕ) (n i : ℕ) (old middle new : Option (List ℕ)) (before written : ℕ)
-    → i < n → before ≡ length (flat_map f (below i)) → written ≤ length (f i)
-    → Appends old middle (flat_map f (below i)) → AppendsFirst middle new written (f i)
-    → (before + written ≤ length (flat_map f (below n))) × AppendsFirst old new (before + written) (flat_map f (below n))
-part_out f n i old middle new before written h done within out more =
-    let front : List ℕ = flat_map f (below i) in
-    let split = around f 0 n i i h (omega arith) in
-    let rest : List ℕ = split.0 in
-    let all : flat_map f (below n) ≡ front ++ (f i ++ rest) = split.1 in
-    let start : take (length front + written) (front ++ (f i ++ rest)) ≡ front ++ take written (f i ++ rest) =
-    take-append-add front (f i ++ rest) written in
-    let own : take written (f i ++ rest) ≡ take written (f i) = take-append-le written (f i) rest within in
-    let taken : take (before + written) (flat_map f (below n)) ≡ front ++ take written (f i) =
-    ap (λ (m : ℕ). take (m + written) (flat_map f (below n))) done
-    ∙ ap (λ (l : List ℕ). take (length front + written) l) all
-    ∙ start
-    ∙ ap (λ (l : List ℕ). front ++ l) own in
-    let long : length (flat_map f (below n)) ≡ length front + (length (f i) + length rest) =
-    ap (λ (l : List ℕ). length l) all ∙ length-append front (f i ++ rest) ∙ ap (λ (m : ℕ). length front + m) (length-append (f i) rest) in (
-      omega (arith, done, within, long),
-      subst (λ (l : List ℕ). Appends old new l) (sym taken) (appends-after old middle new front (take written (f i)) out more),
-    )
+-- the first of them
+pub image_next : (job : Job) (k : ℕ) → k < job.grid.layers
+    → images_from job k ≡ layer_image job.grid job.rule job.solid.facets k ++ images_from job (k + 1)
+image_next job k h =
+    let image : ℕ → List ℕ = layer_image job.grid job.rule job.solid.facets in
+    let more : job.grid.layers - k ≡ suc (job.grid.layers - (k + 1)) = omega (arith, h) in
+    ap (λ (n : ℕ). flat_map image (range_with_len k n)) more
+    ∙ flat_map-cons image k (range_with_len (k + 1) (job.grid.layers - (k + 1)))
+
+-- after the last layer
+pub none_left : (job : Job) (k : ℕ) → job.grid.layers ≤ k → images_from job k ≡ []
+none_left job k h =
+    let none : job.grid.layers - k ≡ 0 = omega (arith, h) in
+    ap (λ (n : ℕ). flat_map (layer_image job.grid job.rule job.solid.facets) (range_with_len k n)) none
+
+-- a writer's bytes once it is to add the next image
+pub with_image : (job : Job) (k sent : ℕ) (old now : Option (List ℕ)) (held next : List ℕ) → k < job.grid.layers
+    → next ≡ layer_image job.grid job.rule job.solid.facets k
+    → IsUnderWay old now (images job.grid job.rule job.solid.facets) 0 sent held (images_from job k)
+    → IsUnderWay old now (images job.grid job.rule job.solid.facets) 0 sent (held ++ next) (images_from job (k + 1))
+with_image job k sent old now held next h is text =
+    taken-on old now (images job.grid job.rule job.solid.facets) 0 sent held (held ++ next)
+    (layer_image job.grid job.rule job.solid.facets k) (images_from job (k + 1)) (images_from job k)
+    text (image_next job k h) (ap (λ (l : List ℕ). held ++ l) is)

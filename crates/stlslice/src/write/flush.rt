@@ -17,12 +17,8 @@ pub(crate) fn write_all<O: Sink>(sink: &mut O, text: &[u8]) -> Result<(), RunFau
         × AppendsFirst (O.contents sink.old) (O.contents sink.new) written text.now
         × Fails (O.Failures.failure_count sink.old) (O.Failures.failure_count sink.new)) }
 {
-    match put_all(sink, text) {
-        Ok(()) => settle(sink, text.len() as u64),
-        Err(fault) => Err(RunFault::Write {
-            written: fault.written,
-        }),
-    }
+    put_all(sink, text)?;
+    settle(sink, text.len() as u64)
 }
 
 /// Flushes a sink, after `written` bytes of a run's output.

@@ -1,11 +1,12 @@
 //! Runs over readers and writers that fail after each number of calls or bytes: contracts say what a fault leaves, and
 //! these show that the run goes on until there.
 use super::answers::end_of;
-use super::meshes::Mesh::Facets;
+use super::meshes::Mesh::{Boxes, Facets};
 use super::meshes::{CUBE, mesh_text};
 use short_memory::{InterruptedOnce, OneByteReader, SmallWriter};
 use std::io::ErrorKind;
 use std::sync::Wait;
+use std::test::Fail;
 use std::thread::Threads;
 use stl_text::{StlFault, Word};
 use stlslice::{Counted, Failures, RunFault, Sink};
@@ -348,4 +349,33 @@ fn all_interrupted<R: Threads + Wait + Sync + AllocGlobal>(
 #[test]
 fn writers_that_are_interrupted_once(rt: HostRuntime) -> Result<(), usize> {
     all_interrupted(&rt, &TEXTS)
+}
+
+/// How many calls a run makes of a writer that takes all that it is given, the flush among them. `None` where it does not end
+/// well.
+fn calls_of<R: Threads + Wait + Sync + AllocGlobal>(
+    rt: &R,
+    line: &str,
+    input: &str,
+) -> Option<u64> {
+    let mut source = Counted::new(input.as_bytes());
+    let mut sink = Counted::new(InterruptedOnce {
+        inner: Vec::new(rt.alloc()),
+        calls: Some(100),
+    });
+    let found = end_of(rt, rt.alloc(), line, &mut source, &mut sink);
+    if found != Some(Ok(())) {
+        return None;
+    }
+    100_u64.checked_sub(sink.inner().calls?)
+}
+
+#[test]
+fn images_of_all_layers_in_one_call(rt: HostRuntime) -> Result<(), Fail> {
+    let column = mesh_text(rt.alloc(), Boxes(&[[[0, 0, 0], [1, 1, 17]]]))?;
+    // one call takes 17 images, and another one flushes
+    for line in &["--pitch 1 --layer 1", "--pitch 1 --layer 1 --workers 3"] {
+        assert_eq!(rt; calls_of(&rt, line, column.as_str()), Some(2));
+    }
+    Ok(())
 }

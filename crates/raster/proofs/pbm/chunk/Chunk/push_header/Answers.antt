@@ -1,44 +1,30 @@
-use Rattle.std.proofs.Common.{◌≡◌, ◌∷◌, [], List, ℕ, length, ap, arith}
+use Rattle.std.proofs.Common.{◌∷◌, [], arith}
 use Rattle.std.specs.Prelude.{decimal}
 use Rattle.raster.proofs.lemmas.Decimals.{length-five, longer}
 use Rattle.raster.proofs.pbm.chunk.Chunk.push_header.Goals as goal
 
 pub push_decimal-requires : goal.push_decimal-requires
 push_decimal-requires c =
-    let start : length c.args.self.now ≡ 0 = ap (λ (l : List ℕ). length l) c.requires.empty in
     let one = longer c.args.self.now (80 ∷ 52 ∷ 10 ∷ []) c.push_all.new.self c.push_all.ensures in
-    omega (arith, length-five c.args.width c.requires.width, length-five c.args.height c.requires.height)
+    omega (arith, c.requires.room, length-five c.args.width c.requires.width, length-five c.args.height c.requires.height)
 
 pub push-requires : goal.push-requires
 push-requires c =
-    let start : length c.args.self.now ≡ 0 = ap (λ (l : List ℕ). length l) c.requires.empty in
     let one = longer c.args.self.now (80 ∷ 52 ∷ 10 ∷ []) c.push_all.new.self c.push_all.ensures in
     let two = longer c.push_all.new.self (decimal c.args.width) c.push_decimal.new.self c.push_decimal.ensures in
-    omega (arith, length-five c.args.width c.requires.width, length-five c.args.height c.requires.height)
+    omega (arith, c.requires.room, length-five c.args.width c.requires.width, length-five c.args.height c.requires.height)
 
 pub push_decimal-requires-2 : goal.push_decimal-requires-2
 push_decimal-requires-2 c =
-    let start : length c.args.self.now ≡ 0 = ap (λ (l : List ℕ). length l) c.requires.empty in
     let one = longer c.args.self.now (80 ∷ 52 ∷ 10 ∷ []) c.push_all.new.self c.push_all.ensures in
     let two = longer c.push_all.new.self (decimal c.args.width) c.push_decimal.new.self c.push_decimal.ensures in
     let three = longer c.push_decimal.new.self (32 ∷ []) c.push.new.self c.push.ensures in
-    omega (arith, length-five c.args.width c.requires.width, length-five c.args.height c.requires.height)
+    omega (arith, c.requires.room, length-five c.args.width c.requires.width, length-five c.args.height c.requires.height)
 
 pub push-requires-2 : goal.push-requires-2
 push-requires-2 c =
-    let start : length c.args.self.now ≡ 0 = ap (λ (l : List ℕ). length l) c.requires.empty in
     let one = longer c.args.self.now (80 ∷ 52 ∷ 10 ∷ []) c.push_all.new.self c.push_all.ensures in
     let two = longer c.push_all.new.self (decimal c.args.width) c.push_decimal.new.self c.push_decimal.ensures in
     let three = longer c.push_decimal.new.self (32 ∷ []) c.push.new.self c.push.ensures in
     let four = longer c.push.new.self (decimal c.args.height) c.push_decimal-2.new.self c.push_decimal-2.ensures in
-    omega (arith, length-five c.args.width c.requires.width, length-five c.args.height c.requires.height)
-
-pub returns-clause-short : goal.returns-clause-short
-returns-clause-short c =
-    let start : length c.args.self.now ≡ 0 = ap (λ (l : List ℕ). length l) c.requires.empty in
-    let one = longer c.args.self.now (80 ∷ 52 ∷ 10 ∷ []) c.push_all.new.self c.push_all.ensures in
-    let two = longer c.push_all.new.self (decimal c.args.width) c.push_decimal.new.self c.push_decimal.ensures in
-    let three = longer c.push_decimal.new.self (32 ∷ []) c.push.new.self c.push.ensures in
-    let four = longer c.push.new.self (decimal c.args.height) c.push_decimal-2.new.self c.push_decimal-2.ensures in
-    let five = longer c.push_decimal-2.new.self (10 ∷ []) c.push-2.new.self c.push-2.ensures in
-    omega (arith, length-five c.args.width c.requires.width, length-five c.args.height c.requires.height)
+    omega (arith, c.requires.room, length-five c.args.width c.requires.width, length-five c.args.height c.requires.height)

@@ -3,7 +3,7 @@ use Rattle.std.proofs.Math.Path.{fun_ext}
 use Rattle.raster.specs.Rows.{are_within, crosses}
 use Rattle.raster.specs.Image.{row_bytes}
 use Rattle.raster.proofs.lemmas.Covered.{covers-part, within-part}
-use Rattle.raster.proofs.pbm.image.push_row.Goals as goal
+use Rattle.raster.proofs.pbm.image_writer.push_row.Goals as goal
 
 pub push_row-requires-clause-within : goal.push_row-requires-clause-within
 push_row-requires-clause-within c =

@@ -1,0 +1,83 @@
+use Rattle.std.proofs.Common.{◌-◌, ◌∙◌, ◌≤◌, List, ℕ, arith, length, length-append, subst}
+use Rattle.std.proofs.lemmas.Result.{err_from_is_err_and}
+use Rattle.geometry.specs.declared.limits.TheConstants.{COLUMN_LIMIT}
+use Rattle.raster.specs.Image.{image_limit, image_of_pixels, row_bytes}
+use Rattle.raster.specs.ImageWriter.{pending}
+use Rattle.raster.specs.Span.{covers}
+use Rattle.raster.proofs.lemmas.Images.{small-image}
+use Rattle.raster.proofs.lemmas.Written.{all-counted, lower_rows, more-out, moved, next-row, taken-on, written-within}
+use Rattle.raster.proofs.pbm.image_writer.push_image.Goals as goal
+
+pub make_room-requires-in-loop-row-clause-count : goal.make_room-requires-in-loop-row-clause-count
+make_room-requires-in-loop-row-clause-count g c =
+    let at = c.args.g.now in
+    let image : List ℕ = image_of_pixels at.columns at.rows (covers c.args.spans.now) in
+    let small : length image ≤ image_limit =
+    small-image at.columns at.rows (covers c.args.spans.now)
+    (subst (λ (n : ℕ). n ≤ COLUMN_LIMIT) c.columns.ensures.value c.columns.ensures.high)
+    (subst (λ (n : ℕ). n ≤ COLUMN_LIMIT) c.rows.ensures.value c.rows.ensures.high) in
+    omega (
+      arith,
+      c.requires.count,
+      small,
+      length-append c.args.chunk.now image,
+      all-counted (g.W.Sink.contents c.args.w.now) (g.W.Sink.contents c.loop-row.w) (pending c.args.chunk.now at c.args.spans.now)
+          c.args.before c.loop-row.written c.loop-row.chunk (lower_rows at.columns (covers c.args.spans.now) c.loop-row.row) c.loop-row.invariant.text,
+    )
+
+pub returns-clause-few : goal.returns-clause-few
+returns-clause-few g c =
+    let at = c.args.g.now in
+    let image : List ℕ = image_of_pixels at.columns at.rows (covers c.args.spans.now) in
+    let small : length image ≤ image_limit =
+    small-image at.columns at.rows (covers c.args.spans.now)
+    (subst (λ (n : ℕ). n ≤ COLUMN_LIMIT) c.columns.ensures.value c.columns.ensures.high)
+    (subst (λ (n : ℕ). n ≤ COLUMN_LIMIT) c.rows.ensures.value c.rows.ensures.high) in
+    omega (
+      arith,
+      c.requires.count,
+      small,
+      length-append c.args.chunk.now image,
+      all-counted (g.W.Sink.contents c.args.w.now) (g.W.Sink.contents c.loop-row.w) (pending c.args.chunk.now at c.args.spans.now)
+          c.args.before c.loop-row.written c.loop-row.chunk (lower_rows at.columns (covers c.args.spans.now) c.loop-row.row) c.loop-row.invariant.text,
+    )
+
+pub returns-in_err-written-2-clause-written : goal.returns-in_err-written-2-clause-written
+returns-in_err-written-2-clause-written g c =
+    let p = err_from_is_err_and c.from_residual-in_err-written-2.result c.from_residual-in_err-written-2.ensures.1 in
+    let at = c.args.g.now in
+    rw (p.1, p.2)
+    (more-out (g.W.Sink.contents c.args.w.now) (g.W.Sink.contents c.loop-row.w) (g.W.Sink.contents c.make_room-in-loop-row.new.w)
+    (pending c.args.chunk.now at c.args.spans.now) c.args.before c.loop-row.written c.in_err-written-2.field-0.0.written c.loop-row.chunk
+    (lower_rows at.columns (covers c.args.spans.now) c.loop-row.row)
+    c.loop-row.invariant.text c.in_err-written-2.ensures.some (omega (arith, c.in_err-written-2.ensures.within)) c.in_err-written-2.ensures.written)
+
+pub returns-in_err-written-2-clause-within : goal.returns-in_err-written-2-clause-within
+returns-in_err-written-2-clause-within g c =
+    let p = err_from_is_err_and c.from_residual-in_err-written-2.result c.from_residual-in_err-written-2.ensures.1 in
+    let at = c.args.g.now in
+    rw (p.1, p.2)
+    (written-within (g.W.Sink.contents c.args.w.now) (g.W.Sink.contents c.loop-row.w) (pending c.args.chunk.now at c.args.spans.now)
+    c.args.before c.loop-row.written c.in_err-written-2.field-0.0.written c.loop-row.chunk
+    (lower_rows at.columns (covers c.args.spans.now) c.loop-row.row) c.loop-row.invariant.text c.in_err-written-2.ensures.within)
+
+pub loop-row-preserved : goal.loop-row-preserved
+loop-row-preserved g c =
+    let at = c.args.g.now in
+    let inv = c.loop-row.invariant in
+    let out = c.in_ok-written-2.ensures in
+    let rest = lower_rows at.columns (covers c.args.spans.now) c.loop-row.row in
+    let now = moved (g.W.Sink.contents c.args.w.now) (g.W.Sink.contents c.loop-row.w) (g.W.Sink.contents c.make_room-in-loop-row.new.w)
+    (pending c.args.chunk.now at c.args.spans.now) c.args.before c.loop-row.written c.in_ok-written-2.written c.loop-row.chunk
+    c.make_room-in-loop-row.new.self rest inv.text out.low out.high out.ok out.kept in
+    record {
+      needed = inv.needed;
+      rows = omega (arith, inv.rows);
+      split = c.push_row-end.ensures.split;
+      text = taken-on (g.W.Sink.contents c.args.w.now) (g.W.Sink.contents c.make_room-in-loop-row.new.w)
+          (pending c.args.chunk.now at c.args.spans.now) c.args.before c.in_ok-written-2.written c.make_room-in-loop-row.new.self
+          c.push_row-end.new.chunk (row_bytes at.columns (λ i. covers c.args.spans.now i (c.loop-row.row - 1)))
+          (lower_rows at.columns (covers c.args.spans.now) (c.loop-row.row - 1)) rest now
+          (next-row at.columns c.loop-row.row (c.loop-row.row - 1) (covers c.args.spans.now) (omega arith)) c.push_row-end.ensures.drawn;
+      same = out.same ∙ inv.same;
+    }

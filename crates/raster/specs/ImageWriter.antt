@@ -1,0 +1,15 @@
+-- A writer of images, which come one after another.
+use Rattle.std.specs.Prelude.{ℕ, List, ◌++◌}
+use Rattle.raster.specs.declared.span.Span.{Span}
+use Rattle.raster.specs.Grid.{Grid}
+use Rattle.raster.specs.Image.{image_of_pixels}
+use Rattle.raster.specs.Span.{covers}
+
+-- the bytes that it holds, which are not out yet, and the number of those that are
+pub record ImageWriter : Type 0 where
+  pub held : List ℕ
+  pub sent : ℕ
+
+-- what is still to go out once the image of these spans is added: the bytes that are held, and then the image
+abbrev pub pending : List ℕ → Grid → List Span → List ℕ
+pending held g spans = held ++ image_of_pixels g.columns g.rows (covers spans)

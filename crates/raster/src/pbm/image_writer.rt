@@ -1,0 +1,144 @@
+//! Writes the images of layers one after another, each row by row from the greatest row to the least, through one chunk on
+//! the stack.
+ghost use Rattle.std.specs.Prelude.{◌≡◌, ◌<◌, ◌≤◌, ◌+◌, ◌-◌, [], ◌++◌, drop, length, IfErr, IfOk, OnErr, OnOk};
+ghost use Rattle.std.specs.Int.{div_ceil};
+ghost use Rattle.std.specs.Io.KnownBytes.{Appends};
+ghost use Rattle.raster.specs.Devices.{AppendsFirst, Fails, greatest_count};
+ghost use Rattle.raster.specs.Span.{AreSpans, covers};
+ghost use Rattle.raster.specs.Image.{image_limit, row_bytes};
+ghost use Rattle.raster.specs.ImageWriter.{pending};
+ghost use Rattle.raster.specs.Rows.{IsSplit};
+ghost use Rattle.raster.specs.declared.pbm.chunk.TheConstants.{CHUNK_LEN};
+
+use crate::devices::{Sink, WriteFault};
+use crate::grid::Grid;
+use crate::pbm::chunk::{Chunk, HEADER_LIMIT};
+use crate::pbm::rows::start_of_row;
+use crate::span::Span;
+use std::marker::Model;
+
+/// Writes images of layers in raw PBM ("P4", pbm(5)) one after another. It gathers their bytes in a chunk, so that one call
+/// of the sink takes many rows of a large image, or many small images. What it holds goes out before the row that has no
+/// room any more, and the rest by [`ImageWriter::finish`]; without that call it is lost.
+///
+/// A call of the sink that fails is not tried again, and the writer is of no use after it. No memory is allocated.
+#[derive(Drop)]
+pub struct ImageWriter {
+    chunk: Chunk,
+    sent: u64,
+}
+
+impl Model for ImageWriter {
+    ghost use Rattle.raster.specs.ImageWriter.{ImageWriter};
+
+    ghost Value = { ImageWriter };
+
+    ghost view = { λ writer. record { held = writer.chunk; sent = writer.sent } };
+}
+
+impl ImageWriter {
+    /// A writer that has written nothing.
+    pub fn new() -> ImageWriter
+        ensures { result ≡ record { held = []; sent = 0 } }
+    {
+        ImageWriter {
+            chunk: Chunk::new(),
+            sent: 0,
+        }
+    }
+
+    /// Adds the image of a layer to those before it: the pixels in the spans are black, and the row of the greatest number
+    /// stands at the top. The spans are those of one layer of the grid: in it, by ascending row, then column, not empty and
+    /// not touching.
+    ///
+    /// The bytes that went out since the writer was made are the first ones of all images. On an error they are the first
+    /// `written`, which are fewer than all.
+    pub fn add<W: Sink>(&mut self, g: &Grid, spans: &[Span], w: &mut W) -> Result<(), WriteFault>
+        requires form { AreSpans g.now.columns g.now.rows spans.now }
+        requires count { self.old.sent + length self.old.held + image_limit ≤ greatest_count }
+        ensures low { OnOk result (self.old.sent ≤ self.new.sent) }
+        ensures high { OnOk result (self.new.sent ≤ self.old.sent + length (pending self.old.held g.now spans.now)) }
+        ensures ok { OnOk result (AppendsFirst (W.contents w.old) (W.contents w.new) (self.new.sent - self.old.sent)
+            (pending self.old.held g.now spans.now)) }
+        ensures held { OnOk result (self.new.held ≡ drop (self.new.sent - self.old.sent)
+            (pending self.old.held g.now spans.now)) }
+        ensures few { OnOk result (self.new.sent + length self.new.held ≤ self.old.sent + length self.old.held + image_limit) }
+        ensures same { OnOk result (W.Failures.failure_count w.new ≡ W.Failures.failure_count w.old) }
+        ensures written { IfErr result (λ fault. AppendsFirst (W.contents w.old) (W.contents w.new) (fault.written - self.old.sent)
+            (pending self.old.held g.now spans.now)) }
+        ensures some { IfErr result (λ fault. self.old.sent ≤ fault.written) }
+        ensures within { IfErr result (λ fault. fault.written < self.old.sent + length (pending self.old.held g.now spans.now)) }
+        ensures failed { OnErr result (Fails (W.Failures.failure_count w.old) (W.Failures.failure_count w.new)) }
+    {
+        self.sent = push_image(&mut self.chunk, g, spans, w, self.sent)?;
+        Ok(())
+    }
+
+    /// Sends the bytes that the writer still holds, and answers how many it has sent in all.
+    pub fn finish<W: Sink>(self, w: &mut W) -> Result<u64, WriteFault>
+        requires { self.sent + length self.held ≤ greatest_count }
+        ensures ok { OnOk result (Appends (W.contents w.old) (W.contents w.new) self.held) }
+        ensures total { IfOk result (λ total. total ≡ self.sent + length self.held) }
+        ensures same { OnOk result (W.Failures.failure_count w.new ≡ W.Failures.failure_count w.old) }
+        ensures written { IfErr result (λ fault. AppendsFirst (W.contents w.old) (W.contents w.new) (fault.written - self.sent) self.held) }
+        ensures some { IfErr result (λ fault. self.sent ≤ fault.written) }
+        ensures within { IfErr result (λ fault. fault.written < self.sent + length self.held) }
+        ensures failed { OnErr result (Fails (W.Failures.failure_count w.old) (W.Failures.failure_count w.new)) }
+    {
+        let ImageWriter { mut chunk, sent } = self;
+        chunk.send(w, sent)
+    }
+}
+
+/// Adds an image to the chunk, which is sent whenever it has no room for the next row. `before` is the number of bytes that
+/// were sent so far; answers how many were sent then.
+fn push_image<W: Sink>(
+    chunk: &mut Chunk,
+    g: &Grid,
+    spans: &[Span],
+    w: &mut W,
+    before: u64,
+) -> Result<u64, WriteFault>
+    requires form { AreSpans g.now.columns g.now.rows spans.now }
+    requires count { before + length chunk.old + image_limit ≤ greatest_count }
+    ensures low { IfOk result (λ total. before ≤ total) }
+    ensures high { IfOk result (λ total. total ≤ before + length (pending chunk.old g.now spans.now)) }
+    ensures ok { IfOk result (λ total. AppendsFirst (W.contents w.old) (W.contents w.new) (total - before)
+        (pending chunk.old g.now spans.now)) }
+    ensures held { IfOk result (λ total. chunk.new ≡ drop (total - before)
+        (pending chunk.old g.now spans.now)) }
+    ensures few { IfOk result (λ total. total + length chunk.new ≤ before + length chunk.old + image_limit) }
+    ensures same { OnOk result (W.Failures.failure_count w.new ≡ W.Failures.failure_count w.old) }
+    ensures written { IfErr result (λ fault. AppendsFirst (W.contents w.old) (W.contents w.new) (fault.written - before)
+        (pending chunk.old g.now spans.now)) }
+    ensures some { IfErr result (λ fault. before ≤ fault.written) }
+    ensures within { IfErr result (λ fault. fault.written < before + length (pending chunk.old g.now spans.now)) }
+    ensures failed { OnErr result (Fails (W.Failures.failure_count w.old) (W.Failures.failure_count w.new)) }
+{
+    let needed = g.columns().div_ceil(8) as usize;
+    let mut written = chunk.make_room(HEADER_LIMIT, w, before)?;
+    chunk.push_header(g.columns(), g.rows());
+    let mut end = spans.len();
+    let mut row = g.rows();
+    while row > 0 {
+        row -= 1;
+        written = chunk.make_room(needed, w, written)?;
+        end = push_row(chunk, g, spans, row, end);
+    }
+    Ok(written)
+}
+
+/// Adds a row of the layer to the chunk. The first `end` spans are those of this row and of the rows below; answers how
+/// many are in the rows below.
+fn push_row(chunk: &mut Chunk, g: &Grid, spans: &[Span], row: u32, end: usize) -> usize
+    requires form { AreSpans g.now.columns g.now.rows spans.now }
+    requires row { row < g.now.rows }
+    requires split { IsSplit spans.now end (row + 1) }
+    requires room { length chunk.old + div_ceil g.now.columns 8 ≤ CHUNK_LEN }
+    ensures split { IsSplit spans.now result row }
+    ensures drawn { chunk.new ≡ chunk.old ++ row_bytes g.now.columns (λ i. covers spans.now i row) }
+{
+    let start = start_of_row(g, spans, row, end);
+    chunk.push_row(g.columns(), &spans[start..end]);
+    start
+}
