@@ -8,9 +8,9 @@ use std::io::ErrorKind;
 use std::test::Fail;
 
 // How many bytes a writer takes a call, and the fault with which it has no more room.
-type Way = (usize, Option<ErrorKind>);
+pub(crate) type Way = (usize, Option<ErrorKind>);
 
-const WAYS: [Way; 6] = [
+pub(crate) const WAYS: [Way; 6] = [
     (1, Some(ErrorKind::Other)),
     (1, Some(ErrorKind::Interrupted)),
     (1, None),
@@ -19,7 +19,11 @@ const WAYS: [Way; 6] = [
     (5, None),
 ];
 
-fn writer(alloc: Global, (most_per_call, fault): Way, room: usize) -> Counted<SmallWriter> {
+pub(crate) fn writer(
+    alloc: Global,
+    (most_per_call, fault): Way,
+    room: usize,
+) -> Counted<SmallWriter> {
     Counted::new(SmallWriter::new(alloc, room, most_per_call, fault, true))
 }
 

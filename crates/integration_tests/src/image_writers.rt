@@ -1,7 +1,9 @@
 //! Several images through one writer: which bytes go out, in how many calls of the sink, and how many before it fails.
 ghost use Rattle.raster.specs.Span.{AreSpans};
 
+use crate::byte_writers::{WAYS, Way, writer};
 use crate::spans::spans;
+use geometry::COLUMN_LIMIT;
 use raster::{Counted, Failures, Grid, ImageWriter, Sink, Span, WriteFault, write_layer};
 use short_memory::{InterruptedOnce, SmallWriter};
 use std::alloc::Global;
@@ -37,9 +39,6 @@ fn text_of(alloc: Global, outer: &Grid, spans: &[Span], inner: &Grid) -> Option<
     Some(w.into_inner())
 }
 
-// How many bytes a writer takes a call, and the fault with which it has no more room.
-type Way = (usize, Option<ErrorKind>);
-
 // Whether just the first bytes of a text, the images', go out to a writer of this way up to its room, with one failure where
 // these are not all.
 fn is_filled(
@@ -53,7 +52,7 @@ fn is_filled(
 ) -> bool
     requires { AreSpans outer.now.columns outer.now.rows spans.now }
 {
-    let mut w = Counted::new(SmallWriter::new(alloc, room, way.0, way.1, true));
+    let mut w = writer(alloc, way, room);
     let found = write_by_one(outer, spans, inner, &mut w);
     let written = room.min(text.len());
     let told = if room < text.len() {
@@ -67,15 +66,6 @@ fn is_filled(
     let is_front = w.inner().taken.as_slice() == &text[..written];
     found == told && w.failures() == failures && is_front
 }
-
-const WAYS: [Way; 6] = [
-    (1, Some(ErrorKind::Other)),
-    (1, Some(ErrorKind::Interrupted)),
-    (1, None),
-    (5, Some(ErrorKind::Other)),
-    (5, Some(ErrorKind::Interrupted)),
-    (5, None),
-];
 
 #[test]
 fn each_beginning_of_three_images(rt: HostRuntime) -> Result<(), Fail> {
@@ -132,11 +122,11 @@ fn ends_at(
 {
     let place = Point::new(0, 0, 0)?;
     let outer = Grid::given(place, 1, 1, 8, outer_rows, 1).ok()?;
-    let inner = Grid::given(place, 1, 1, 16_384, inner_rows, 1).ok()?;
+    let inner = Grid::given(place, 1, 1, COLUMN_LIMIT, inner_rows, 1).ok()?;
     let text = text_of(alloc, &outer, spans, &inner)?;
     let bytes = text.as_slice();
+    let way = (1000, Some(ErrorKind::Other));
     for (calls, end) in ends.iter().enumerate() {
-        let way = (1000, Some(ErrorKind::Other));
         let room = end.saturating_sub(1);
         if !begins_at(alloc, &outer, spans, &inner, bytes, calls + 1, *end)
             || !is_filled(alloc, &outer, spans, &inner, bytes, way, room)
@@ -147,18 +137,32 @@ fn ends_at(
     Some(begins_at(alloc, &outer, spans, &inner, bytes, 0, 0) && ends.last() == Some(&bytes.len()))
 }
 
-// A chunk has room for eight rows of 16384 pixels, and a call sends it where the next row, or 15 bytes for the next
-// header, would go beyond.
+// The length of a chunk: room for eight rows of the greatest width.
+const CHUNK: usize = COLUMN_LIMIT as usize;
+
+// A call of the sink takes a chunk where the next row, or 15 bytes for the next header, would go beyond it.
 #[test]
 fn images_at_the_ends_of_chunks(rt: HostRuntime) {
     let alloc = rt.alloc();
     let found = [
         // a byte less than a chunk, just a chunk, and a byte more: the last row of the second image comes later then
-        ends_at(alloc, 2026, &spans![0: 0, 8], 7, &[16_383, 18_419]),
-        ends_at(alloc, 2027, &spans![0: 0, 8], 7, &[16_384, 18_421]),
-        ends_at(alloc, 2028, &spans![0: 0, 8], 7, &[14_337, 18_423]),
+        ends_at(alloc, 2026, &spans![0: 0, 8], 7, &[CHUNK - 1, CHUNK + 2035]),
+        ends_at(alloc, 2027, &spans![0: 0, 8], 7, &[CHUNK, CHUNK + 2037]),
+        ends_at(
+            alloc,
+            2028,
+            &spans![0: 0, 8],
+            7,
+            &[CHUNK - 2047, CHUNK + 2039],
+        ),
         // a large image after a small one
-        ends_at(alloc, 1, &spans![0: 0, 8], 16, &[14_356, 30_740, 32_796]),
+        ends_at(
+            alloc,
+            1,
+            &spans![0: 0, 8],
+            16,
+            &[CHUNK - 2028, 2 * CHUNK - 2028, 2 * CHUNK + 28],
+        ),
     ];
     assert_eq!(rt; found, [Some(true); 4]);
 }

@@ -28,7 +28,7 @@ rows-step width pixel n =
     ∙ flat_map-cons (λ j. row_bytes width (λ i. pixel i j)) (0 + n) (reverse (below n))
     ∙ ap (λ (m : ℕ). row_bytes width (λ i. pixel i m) ++ lower_rows width pixel n) (omega arith)
 
--- of a text so many bytes went out, counted on from `before`; a chunk and then the rest are still to go
+-- the first bytes of a text went out, up to `written`, counted on from `before`; a chunk and then the rest are still to go
 pub record IsUnderWay (old now : Option (List ℕ)) (text : List ℕ) (before written : ℕ) (chunk rest : List ℕ) : Type 0 where
   pub low : before ≤ written
   pub high : written ≤ before + length text
