@@ -1,6 +1,6 @@
 //! Fractions that grow by one increment a step, without a division: a digital differential analyser (DDA). A walk along
 //! the rows of a lattice divides at its start alone, and then adds.
-ghost use Rattle.std.specs.Prelude.{◌≡◌, ◌+◌, ◌<◌, ◌≤◌, ◌*ℤ◌, ◌-ℤ◌, ◌<ℤ◌, ◌≤ℤ◌, IfSome, pos, unsigned_abs, ℤ};
+ghost use Rattle.std.specs.Prelude.{◌≡◌, ◌+◌, ◌<◌, ◌≤◌, ◌*ℤ◌, ◌-ℤ◌, ◌<ℤ◌, ◌≤ℤ◌, IfSome, if◌then◌else◌, int_lt, pos, unsigned_abs, ℤ};
 ghost use Rattle.exact_int.specs.Bounds.{IsAtMost};
 ghost use Rattle.exact_cut.specs.Bounds.{distance_limit, quotient_limit, unit_limit, whole_limit};
 ghost use Rattle.exact_cut.specs.Dda.{IsDda, IsDivisionOf, increment_of, next, position_of};
@@ -14,6 +14,9 @@ use crate::dda::lattice::Lattice;
 use crate::scanline::cut_point::CutPoint;
 use crate::scanline::section::{meet, slope};
 use exact_int::quick_ceil_div;
+
+/// The place of the sign in a number of 128 bits.
+const SIGN_BIT: u32 = 127;
 
 /// The bits of a number that a guess of a quotient looks at; with the sign they fill 32.
 const LEADING_BITS: u32 = 31;
@@ -169,6 +172,14 @@ fn dda_between(near: &CutPoint, far: &CutPoint, lattice: &Lattice, row: u32, row
     }
 }
 
+/// The number where `excess` is below 0, else 0. A mask in place of a branch: which of the two comes next follows no pattern.
+#[inline(always)]
+fn if_negative(excess: i128, n: i128) -> i128
+    ensures { result ≡ (if int_lt excess (pos 0) then n else pos 0) }
+{
+    n & (excess >> SIGN_BIT)
+}
+
 /// The DDA one step on.
 #[inline(always)]
 fn stepped(d: &Dda) -> Dda
@@ -176,19 +187,12 @@ fn stepped(d: &Dda) -> Dda
     requires whole_in { IsAtMost whole_limit d.now.whole }
     ensures { result ≡ next d.now }
 {
-    let whole = d.whole + d.increment;
-    let remainder = d.remainder + d.increment_remainder;
-    if remainder < d.unit {
-        Dda {
-            whole,
-            remainder,
-            ..*d
-        }
-    } else {
-        Dda {
-            whole: whole - 1,
-            remainder: remainder - d.unit,
-            ..*d
-        }
+    let excess = d.remainder + d.increment_remainder - d.unit;
+    let one = if_negative(excess, 1);
+    let unit = if_negative(excess, d.unit);
+    Dda {
+        whole: d.whole + d.increment - 1 + one,
+        remainder: excess + unit,
+        ..*d
     }
 }
