@@ -26,6 +26,7 @@ pub struct Cut {
 /// The one edge that passes the height `z2` downward and the one that passes it upward, or `None` where no corner
 /// counts as below `z2`, by the tie rule, or no corner is above it. `z2` is in half-micrometres, within `CENTRE_LIMIT`
 /// of 0.
+#[inline(always)]
 pub fn cuts(f: &Facet, z2: i64) -> Option<Cut>
     requires { IsAtMost CENTRE_LIMIT z2 }
     ensures { MatchOption result (IsBetween (twice f.now) z2 → ⊥)
@@ -46,6 +47,7 @@ pub fn cuts(f: &Facet, z2: i64) -> Option<Cut>
 }
 
 /// Whether the corner with this number counts as below the height `z2`, by the tie rule.
+#[inline(always)]
 fn is_corner_below(f: &Facet, number: usize, z2: i64) -> bool
     requires { number < 3 }
     ensures { IsTrue result ↔ IsBelow (corner (twice f.now) number).z z2 }
@@ -54,6 +56,7 @@ fn is_corner_below(f: &Facet, number: usize, z2: i64) -> bool
 }
 
 /// A point of a mesh, in half-micrometres.
+#[inline(always)]
 fn in_half_micrometres(p: Point) -> HalfPoint
     ensures { point_of result ≡ half_micrometres_of p }
 {
@@ -65,6 +68,7 @@ fn in_half_micrometres(p: Point) -> HalfPoint
 }
 
 /// The corner with this number.
+#[inline(always)]
 pub(crate) fn corner_at(f: &Facet, number: usize) -> HalfPoint
     requires { number < 3 }
     ensures { point_of result ≡ corner (twice f.now) number }
@@ -73,14 +77,20 @@ pub(crate) fn corner_at(f: &Facet, number: usize) -> HalfPoint
 }
 
 /// The corner that an edge starts from.
+#[inline(always)]
 pub(crate) fn start_of(f: &Facet, edge: usize) -> HalfPoint
     requires { edge < 3 }
     ensures { point_of result ≡ start (twice f.now) edge }
 {
-    corner_at(f, edge)
+    match edge {
+        0 => corner_at(f, 0),
+        1 => corner_at(f, 1),
+        _ => corner_at(f, 2),
+    }
 }
 
 /// The corner that an edge ends at.
+#[inline(always)]
 pub(crate) fn finish_of(f: &Facet, edge: usize) -> HalfPoint
     requires { edge < 3 }
     ensures { point_of result ≡ finish (twice f.now) edge }

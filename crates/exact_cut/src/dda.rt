@@ -1,6 +1,6 @@
 //! Fractions that grow by one increment a step, without a division: a digital differential analyser (DDA). A walk along
 //! the rows of a lattice divides at its start alone, and then adds.
-ghost use Rattle.std.specs.Prelude.{◌≡◌, ◌+◌, ◌<◌, ◌≤◌, ◌*ℤ◌, ◌-ℤ◌, ◌<ℤ◌, ◌≤ℤ◌, pos, unsigned_abs, ℤ};
+ghost use Rattle.std.specs.Prelude.{◌≡◌, ◌+◌, ◌<◌, ◌≤◌, ◌*ℤ◌, ◌-ℤ◌, ◌<ℤ◌, ◌≤ℤ◌, IfSome, if◌then◌else◌, int_lt, pos, unsigned_abs, ℤ};
 ghost use Rattle.exact_int.specs.Bounds.{IsAtMost};
 ghost use Rattle.exact_cut.specs.Bounds.{distance_limit, quotient_limit, unit_limit, whole_limit};
 ghost use Rattle.exact_cut.specs.Dda.{IsDda, IsDivisionOf, increment_of, next, position_of};
@@ -14,6 +14,12 @@ use crate::dda::lattice::Lattice;
 use crate::scanline::cut_point::CutPoint;
 use crate::scanline::section::{meet, slope};
 use exact_int::quick_ceil_div;
+
+/// The place of the sign in a number of 128 bits.
+const SIGN_BIT: u32 = 127;
+
+/// The bits of a number that a guess of a quotient looks at; with the sign they fill 32.
+const LEADING_BITS: u32 = 31;
 
 /// A position that grows by one increment a step. The position is `whole * unit - remainder`, and the increment
 /// `increment * unit - increment_remainder`. Both remainders are at least 0 and below the unit, so `whole` is the
@@ -35,13 +41,78 @@ pub(crate) struct Division {
     pub(crate) remainder: i128,
 }
 
-/// Divides a number by a unit, rounding up.
+/// Divides a number by a unit, rounding up. Most numbers of a walk take more than 32 bits, where a division takes several
+/// times as long as one of 32 bits: so the quotient is guessed by the numbers' leading bits, and tested exactly.
+#[inline(always)]
 fn divide(n: i128, unit: i128) -> Division
     requires n_in { IsAtMost distance_limit n }
     requires unit_in { IsAtMost unit_limit unit }
     requires unit_positive { pos 0 <ℤ unit }
     ensures division { IsDivisionOf n unit result }
     ensures quotient_in { unsigned_abs result.quotient ≤ unsigned_abs n + unsigned_abs unit }
+{
+    match divide_by_guess(n, unit) {
+        Some(division) => division,
+        None => divide_exactly(n, unit),
+    }
+}
+
+/// What [`divide`] answers, or `None` where a number takes more than 64 bits or the guess is off by more than one.
+#[inline(always)]
+fn divide_by_guess(n: i128, unit: i128) -> Option<Division>
+    requires { pos 0 <ℤ unit }
+    ensures { IfSome result (IsDivisionOf n unit) }
+{
+    match (i64::try_from(n), i64::try_from(unit)) {
+        (Ok(n), Ok(unit)) => division_near(n, unit, guessed_quotient(n, unit)),
+        _ => None,
+    }
+}
+
+/// The division whose quotient is the guess or one more, or `None` where neither is the quotient.
+#[inline(always)]
+fn division_near(n: i64, unit: i64, guess: i64) -> Option<Division>
+    requires { pos 0 <ℤ unit }
+    ensures { IfSome result (IsDivisionOf n unit) }
+{
+    let excess = guess.checked_mul(unit)?.checked_sub(n)?;
+    if excess >= 0 {
+        if excess < unit {
+            Some(Division {
+                quotient: guess as i128,
+                remainder: excess as i128,
+            })
+        } else {
+            None
+        }
+    } else if -unit < excess {
+        Some(Division {
+            quotient: (guess as i128) + 1,
+            remainder: (excess + unit) as i128,
+        })
+    } else {
+        None
+    }
+}
+
+/// A whole number near `n / unit`, by at most `LEADING_BITS` leading bits of both.
+#[inline(always)]
+fn guessed_quotient(n: i64, unit: i64) -> i64 {
+    let size = u64::BITS - (n.unsigned_abs() | unit.unsigned_abs()).leading_zeros();
+    let dropped = size.saturating_sub(LEADING_BITS);
+    let n = i32::try_from(n >> dropped).unwrap_or(0);
+    let unit = i32::try_from(unit >> dropped).unwrap_or(0);
+    i64::from(n.checked_div(unit).unwrap_or(0))
+}
+
+/// What [`divide`] answers, by a division of whole numbers.
+#[cold]
+#[inline(never)]
+fn divide_exactly(n: i128, unit: i128) -> Division
+    requires n_in { IsAtMost distance_limit n }
+    requires unit_in { IsAtMost unit_limit unit }
+    requires unit_positive { pos 0 <ℤ unit }
+    ensures { IsDivisionOf n unit result }
 {
     let quotient = quick_ceil_div(n, unit);
     Division {
@@ -52,6 +123,7 @@ fn divide(n: i128, unit: i128) -> Division
 
 /// Divides the increment of a walk along `rows` rows by the unit, rounding up. A walk of one row never steps: its
 /// increment is 0, which saves a division.
+#[inline(always)]
 fn divide_increment(n: i128, unit: i128, rows: u32) -> Division
     requires n_in { IsAtMost distance_limit n }
     requires unit_in { IsAtMost unit_limit unit }
@@ -74,6 +146,7 @@ fn divide_increment(n: i128, unit: i128, rows: u32) -> Division
 /// The DDA of the line through two cut points, for `rows` rows from `row` on. Its position is how far right of the
 /// centres of column 0 the line crosses the row, its unit is the distance from one column to the next, and its increment
 /// is how far right the line goes from one row to the next. Each is in half-micrometres, times the line's denominator.
+#[inline(always)]
 fn dda_between(near: &CutPoint, far: &CutPoint, lattice: &Lattice, row: u32, rows: u32) -> Dda
     requires row_in { row < lattice.now.rows }
     requires den_positive { pos 0 <ℤ den_between near.now far.now }
@@ -99,25 +172,27 @@ fn dda_between(near: &CutPoint, far: &CutPoint, lattice: &Lattice, row: u32, row
     }
 }
 
+/// The number where `excess` is below 0, else 0. A mask in place of a branch: which of the two comes next follows no pattern.
+#[inline(always)]
+fn if_negative(excess: i128, n: i128) -> i128
+    ensures { result ≡ (if int_lt excess (pos 0) then n else pos 0) }
+{
+    n & (excess >> SIGN_BIT)
+}
+
 /// The DDA one step on.
+#[inline(always)]
 fn stepped(d: &Dda) -> Dda
     requires dda { IsDda d.now }
     requires whole_in { IsAtMost whole_limit d.now.whole }
     ensures { result ≡ next d.now }
 {
-    let whole = d.whole + d.increment;
-    let remainder = d.remainder + d.increment_remainder;
-    if remainder < d.unit {
-        Dda {
-            whole,
-            remainder,
-            ..*d
-        }
-    } else {
-        Dda {
-            whole: whole - 1,
-            remainder: remainder - d.unit,
-            ..*d
-        }
+    let excess = d.remainder + d.increment_remainder - d.unit;
+    let one = if_negative(excess, 1);
+    let unit = if_negative(excess, d.unit);
+    Dda {
+        whole: d.whole + d.increment - 1 + one,
+        remainder: excess + unit,
+        ..*d
     }
 }

@@ -29,6 +29,7 @@ pub fn column(c: &Crossing, first2: i64, step: u32, columns: u32) -> u32
 }
 
 /// The number from 0 to `count` that is nearest to `i`.
+#[inline(always)]
 pub(crate) fn clamped(i: i128, count: u32) -> u32
     ensures { result ≡ clamp i count }
 {

@@ -237,6 +237,7 @@ pub(crate) fn push_facets<A: Allocator + Copy>(
 
 /// Adds the crossings of a facet with the rows of a lattice at the height `z2`, in half-micrometres. On an error `out` may
 /// have some of them.
+#[inline(always)]
 fn push_facet<A: Allocator + Copy>(
     facet: &Facet,
     z2: i64,
@@ -260,6 +261,7 @@ fn push_facet<A: Allocator + Copy>(
 }
 
 /// Adds the crossings of a walk, one in each of its rows. On an error `out` may have some of them.
+#[inline(always)]
 fn push_walk<A: Allocator + Copy>(
     mut walk: Walk,
     out: &mut RowCrossings<A>,

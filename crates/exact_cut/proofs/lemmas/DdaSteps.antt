@@ -23,6 +23,50 @@ next-near s e = ap (λ (b : Bool). if b then near s else far s) e
 pub next-far : (s : Dda) → int_lt (s.remainder +ℤ s.increment_remainder) s.unit ≡ false → next s ≡ far s
 next-far s e = ap (λ (b : Bool). if b then near s else far s) e
 
+-- one step by an excess over the unit, which is below 0 exactly in the first case
+module _ (s : Dda) where
+  abbrev pub excess : ℤ
+  excess = s.remainder +ℤ s.increment_remainder -ℤ s.unit
+
+  abbrev pub stepped_by : ℤ → ℤ → Dda
+  stepped_by one unit = record { unit = s.unit; whole = s.whole +ℤ s.increment -ℤ pos 1 +ℤ one; remainder = excess +ℤ unit; increment = s.increment; increment_remainder = s.increment_remainder }
+
+  pub stepped-next : (one unit : ℤ) → one ≡ (if int_lt excess (pos 0) then pos 1 else pos 0) → unit ≡ (if int_lt excess (pos 0) then s.unit else pos 0) → stepped_by one unit ≡ next s
+  stepped-next one unit h k = by (int_lt excess (pos 0)) (int_lt (s.remainder +ℤ s.increment_remainder) s.unit) refl refl h k
+    where
+      back : (w p : ℤ) → w +ℤ p -ℤ pos 1 +ℤ pos 1 ≡ w +ℤ p
+      back w p = omega (arith, ints)
+
+      kept : (a u : ℤ) → a -ℤ u +ℤ u ≡ a
+      kept a u = omega (arith, ints)
+
+      same : (a : ℤ) → a +ℤ pos 0 ≡ a
+      same a = omega (arith, ints)
+
+      clash : (a u : ℤ) → int_lt (a -ℤ u) (pos 0) ≡ true → int_lt a u ≡ false → ⊥
+      clash a u e f = omega (arith, ints)
+
+      clash' : (a u : ℤ) → int_lt (a -ℤ u) (pos 0) ≡ false → int_lt a u ≡ true → ⊥
+      clash' a u e f = omega (arith, ints)
+
+      by : (b c : Bool) → int_lt excess (pos 0) ≡ b → int_lt (s.remainder +ℤ s.increment_remainder) s.unit ≡ c
+          → one ≡ (if b then pos 1 else pos 0) → unit ≡ (if b then s.unit else pos 0) → stepped_by one unit ≡ next s
+      by true true e f h k =
+          (λ i. stepped_by (h i) (k i))
+          ∙ (λ i. record { unit = s.unit; whole = back s.whole s.increment i; remainder = kept (s.remainder +ℤ s.increment_remainder) s.unit i; increment = s.increment; increment_remainder = s.increment_remainder })
+          ∙ sym (next-near s f)
+      by false false e f h k =
+          (λ i. stepped_by (h i) (k i))
+          ∙ (λ i. record { unit = s.unit; whole = same (s.whole +ℤ s.increment -ℤ pos 1) i; remainder = same excess i; increment = s.increment; increment_remainder = s.increment_remainder })
+          ∙ sym (next-far s f)
+      by true false e f h k = absurd (clash (s.remainder +ℤ s.increment_remainder) s.unit e f)
+      by false true e f h k = absurd (clash' (s.remainder +ℤ s.increment_remainder) s.unit e f)
+
+-- a number or 0 is within the number's bound
+pub kept_in : {m : ℕ} (b : Bool) (n : ℤ) {k : ℤ} → k ≡ (if b then n else pos 0) → IsAtMost m n → IsAtMost m k
+kept_in true n e h = subst (IsAtMost _) (sym e) h
+kept_in false n e h = subst (IsAtMost _) (sym e) (record { at_most = omega arith })
+
 -- what holds of both cases holds of the step
 by_cases : (s : Dda) (P : Dda → Type 0) → ((s.remainder +ℤ s.increment_remainder) <ℤ s.unit → P (near s)) → (s.unit ≤ℤ (s.remainder +ℤ s.increment_remainder) → P (far s)) → P (next s)
 by_cases s P h k = by (int_lt (s.remainder +ℤ s.increment_remainder) s.unit) refl

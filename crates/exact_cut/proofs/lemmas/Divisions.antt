@@ -1,7 +1,8 @@
 -- A number over a unit, rounded up: the remainder is at least 0 and less than a unit.
-use Rattle.std.proofs.Common.{◌≡◌, ◌↔◌, ◌⊎◌, inl, inr, ℕ, ◌+◌, ◌*◌, ◌≤◌, [], ◌∷◌, ℤ, pos, ◌+ℤ◌, ◌-ℤ◌, ◌*ℤ◌, ◌≤ℤ◌, ◌<ℤ◌, unsigned_abs, refl, arith}
+use Rattle.std.proofs.Common.{◌≡◌, ◌↔◌, ◌⊎◌, inl, inr, ℕ, ◌+◌, ◌*◌, ◌≤◌, [], ◌∷◌, ℤ, pos, ◌+ℤ◌, ◌-ℤ◌, ◌*ℤ◌, ◌≤ℤ◌, ◌<ℤ◌, unsigned_abs, FitsSigned, refl, ◌∙◌, ap, arith}
 use Rattle.std.proofs.lemmas.Int.{ints, unsigned_abs-mul}
 use Rattle.std.proofs.Math.Nat.{mul-le-mul}
+use mir.Syntax.{w64, w128}
 use Rattle.exact_int.specs.Bounds.{IsAtMost}
 use Rattle.exact_int.proofs.lemmas.Identity.{reads, identity}
 use Rattle.exact_int.proofs.lemmas.Signs.{at_most_or_above}
@@ -61,6 +62,34 @@ module _ (n u w : ℤ) (h : (q : ℤ) → (w ≤ℤ q) ↔ (n ≤ℤ (q *ℤ u))
     not_negative = remainder_not_negative;
     below = remainder_below;
   }
+
+-- ---- a division by a guess g, whose product p exceeds n by e
+pub division_at : (n u g p e : ℤ) → p ≡ g *ℤ u → e ≡ p -ℤ n → pos 0 ≤ℤ e → e <ℤ u → IsDivisionOf n u (record { quotient = g; remainder = e })
+division_at n u g p e h k a b = record { value = given n p e k ∙ ap (λ x. x -ℤ e) h; not_negative = a; below = b }
+  where
+    given : (n p e : ℤ) → e ≡ p -ℤ n → n ≡ p -ℤ e
+    given n p e k = omega (arith, ints)
+
+pub division_above : (n u g p e : ℤ) → p ≡ g *ℤ u → e ≡ p -ℤ n → e <ℤ pos 0 → (pos 0 -ℤ u) <ℤ e → IsDivisionOf n u (record { quotient = g +ℤ pos 1; remainder = e +ℤ u })
+division_above n u g p e h k a b = record { value = given n p e u k ∙ ap (λ x. (x +ℤ u) -ℤ (e +ℤ u)) h ∙ ap (λ x. x -ℤ (e +ℤ u)) (once_more g u); not_negative = positive e u b; below = less e u a }
+  where
+    given : (n p e u : ℤ) → e ≡ p -ℤ n → n ≡ (p +ℤ u) -ℤ (e +ℤ u)
+    given n p e u k = omega (arith, ints)
+
+    once_more : (g u : ℤ) → g *ℤ u +ℤ u ≡ (g +ℤ pos 1) *ℤ u
+    once_more g u = identity (g ∷ u ∷ []) (search reads depth 40) refl
+
+    positive : (e u : ℤ) → (pos 0 -ℤ u) <ℤ e → pos 0 ≤ℤ (e +ℤ u)
+    positive e u b = omega (arith, ints)
+
+    less : (e u : ℤ) → e <ℤ pos 0 → (e +ℤ u) <ℤ u
+    less e u a = omega (arith, ints)
+
+pub next_remainder_fits : (e u : ℤ) → FitsSigned w64 u → e <ℤ pos 0 → (pos 0 -ℤ u) <ℤ e → FitsSigned w64 (e +ℤ u)
+next_remainder_fits e u f a b = omega (arith, ints, f)
+
+pub one_more : (g : ℤ) → FitsSigned w64 g → FitsSigned w128 (g +ℤ pos 1)
+one_more g f = omega (arith, ints, f)
 
 -- ---- the DDA of two numbers over one unit
 abbrev pub dda_of : ℤ → Division → Division → Dda

@@ -36,6 +36,7 @@ impl Lattice {
     ghost use Rattle.exact_cut.specs.Lattice.{row_y};
 
     /// The first row whose y is not below that of a cut point, or the number of rows where there is none.
+    #[inline(always)]
     pub(crate) fn first_row(&self, p: &CutPoint) -> u32
         ensures { IsLeastRow p.now.y p.now.d self.now.y2 self.now.step self.now.rows result }
     {
@@ -45,6 +46,7 @@ impl Lattice {
     }
 
     /// The y of a row's centres, in half-micrometres.
+    #[inline(always)]
     pub(crate) fn scanline(&self, row: u32) -> i64
         requires { row < self.now.rows }
         ensures value { result ≡ row_y self.now row }

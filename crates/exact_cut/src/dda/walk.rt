@@ -41,6 +41,7 @@ impl Model for Walk {
 impl Walk {
     /// The crossings of a facet at the height `z2` with the rows of a lattice, or `None` where it crosses none of them.
     /// `z2` is in half-micrometres, within `CENTRE_LIMIT` of 0.
+    #[inline(always)]
     pub fn start(f: &Facet, z2: i64, lattice: &Lattice) -> Option<Walk>
         requires { IsAtMost CENTRE_LIMIT z2 }
         ensures { MatchOption result (IsUncrossed (twice f.now) z2 lattice.now)
@@ -49,16 +50,20 @@ impl Walk {
         let ends = Section::at_height(f, z2)?;
         let down = lattice.first_row(&ends.down);
         let up = lattice.first_row(&ends.up);
-        if down < up {
-            Some(Walk::between(1, down, up, &ends.down, &ends.up, lattice))
-        } else if up < down {
-            Some(Walk::between(-1, up, down, &ends.up, &ends.down, lattice))
-        } else {
-            None
+        if down == up {
+            return None;
         }
+        // one call for both signs, since which comes next follows no pattern in a mesh
+        let (sign, row, end, near, far) = if down < up {
+            (1, down, up, ends.down, ends.up)
+        } else {
+            (-1, up, down, ends.up, ends.down)
+        };
+        Some(Walk::between(sign, row, end, &near, &far, lattice))
     }
 
     /// The crossings of the line through two cut points with the rows from `row` to `end`, which is excluded.
+    #[inline(always)]
     fn between(
         sign: i32,
         row: u32,
@@ -89,6 +94,7 @@ impl Walk {
     }
 
     /// The row of the next crossing.
+    #[inline(always)]
     pub fn row(&self) -> u32
         ensures { result ≡ self.now.row }
     {
@@ -96,6 +102,7 @@ impl Walk {
     }
 
     /// One past the row of the last crossing.
+    #[inline(always)]
     pub fn end(&self) -> u32
         ensures { result ≡ self.now.row + length self.now.columns }
     {
@@ -103,6 +110,7 @@ impl Walk {
     }
 
     /// The facet's winding round each of the rows, 1 or -1.
+    #[inline(always)]
     pub fn sign(&self) -> i32
         ensures value { result ≡ self.now.sign }
         ensures unit { IsUnit result }
@@ -112,6 +120,7 @@ impl Walk {
 
     /// The column of the next crossing: the first one whose centre is not left of it, or the number of columns where
     /// there is none. Steps to the next row. A crossing must be left: `row` is below `end`.
+    #[inline(always)]
     pub fn next_column(&mut self) -> u32
         requires { 0 < length self.old.columns }
         ensures column { self.old.columns ≡ result ∷ self.new.columns }

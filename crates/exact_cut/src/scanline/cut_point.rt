@@ -23,6 +23,7 @@ pub(crate) struct CutPoint {
 
 impl CutPoint {
     /// Where the edge between `low` and `high` passes the height `z2`.
+    #[inline(always)]
     pub(crate) fn between(low: HalfPoint, high: HalfPoint, z2: i64) -> CutPoint
         requires { Rises (point_of low) (point_of high) z2 }
         ensures x { result.x ≡ cut_x (point_of low) (point_of high) z2 }

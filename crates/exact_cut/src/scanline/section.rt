@@ -24,6 +24,7 @@ pub(crate) struct Section {
 
 impl Section {
     /// The segment in which the plane at the height `z2` cuts a facet, or `None` where it does not cut the facet.
+    #[inline(always)]
     pub(crate) fn at_height(f: &Facet, z2: i64) -> Option<Section>
         requires { IsAtMost CENTRE_LIMIT z2 }
         ensures { MatchOption result ((y : ℤ) → wind (twice f.now) y z2 ≡ pos 0)
@@ -66,6 +67,7 @@ pub fn crossing(f: &Facet, z2: i64, y2: i64) -> Option<Crossing>
 }
 
 /// Where the line through two cut points passes the scanline `y2`: numerator and denominator of x in half-micrometres.
+#[inline(always)]
 pub(crate) fn meet(near: &CutPoint, far: &CutPoint, y2: i64) -> (i128, i128)
     requires { IsAtMost CENTRE_LIMIT y2 }
     ensures num { result.0 ≡ num_between near.now far.now y2 }
@@ -83,6 +85,7 @@ pub(crate) fn meet(near: &CutPoint, far: &CutPoint, y2: i64) -> (i128, i128)
 
 /// The slope of the line through two cut points: by how much x grows for each half-micrometre of y, as a numerator over
 /// the line's denominator.
+#[inline(always)]
 pub(crate) fn slope(near: &CutPoint, far: &CutPoint) -> i128
     ensures value { result ≡ slope_between near.now far.now }
     ensures within { IsAtMost denominator_limit result }

@@ -2,8 +2,8 @@ use Rattle.std.proofs.Common.{◌-ℤ◌, ◌*ℤ◌, FitsSigned, refl}
 use Rattle.std.proofs.lemmas.Int.{to_z-of_z}
 use mir.Syntax.{w128}
 use Rattle.exact_int.proofs.lemmas.Sizes.{sizes, fits}
-use Rattle.exact_cut.proofs.lemmas.Divisions.{quotient_in, division_of, product_at_most, quotient_at_most}
-use Rattle.exact_cut.proofs.dda.divide.Goals as goal
+use Rattle.exact_cut.proofs.lemmas.Divisions.{division_of, product_at_most, quotient_at_most}
+use Rattle.exact_cut.proofs.dda.divide_exactly.Goals as goal
 
 pub overflow_mul-result : goal.overflow_mul-result
 overflow_mul-result c =
@@ -42,7 +42,4 @@ returns c =
     let f3 : FitsSigned w128 w = fits w128 (search (sizes, quotient)) refl in
     let f4 : FitsSigned w128 (w *ℤ u) = fits w128 (search (sizes, product)) refl in
     let f5 : FitsSigned w128 (w *ℤ u -ℤ n) = fits w128 (search (sizes, product, c.requires.n_in)) refl in
-    record {
-      division = simp to_z-of_z (division_of n u w (simp to_z-of_z at c.quick_ceil_div-quotient.ensures));
-      quotient_in = simp to_z-of_z (quotient_in n u w (simp to_z-of_z at c.quick_ceil_div-quotient.ensures) c.requires.unit_positive);
-    }
+    simp to_z-of_z (division_of n u w (simp to_z-of_z at c.quick_ceil_div-quotient.ensures))
