@@ -19,11 +19,11 @@ use stripe_claims::{Claims, Pass};
 /// such build, says the law `headline` of `build_book`.
 ///
 /// A single worker is the caller's own thread; several have a thread each, and the caller waits for them. Each draws stripes
-/// from claims without a lock. It takes the lock on the book to file one piece, and for nothing else. A stripe for which a worker gets no
-/// memory is made at the end, on the caller's thread. Where a worker cannot be started, the others draw its share. `Err`
-/// comes only where an allocation failed on the caller's thread. No clause promises any of this, only that the build is
-/// complete: tests show that a worker goes on while a gate holds another, and that layers are made up at the end where
-/// workers had no memory; the rest is read in this file.
+/// from claims without a lock. It takes the lock on the book to file one piece, and for nothing else. A stripe for which a
+/// worker gets no memory is made at the end, on the caller's thread. Where a worker cannot be started, the others draw its
+/// share. `Err` comes only where an allocation failed on the caller's thread. No clause promises any of this, only that the
+/// build is complete: tests show that a worker goes on while a gate holds another, and that layers are made up at the end
+/// where workers had no memory; the rest is read in this file.
 pub fn build<'m, R: Threads + Wait + Sync, A: Allocator + Copy + Send + Sync, G: Gate<A> + Sync>(
     rt: &R,
     alloc: A,

@@ -86,7 +86,7 @@ impl<'t, A: Allocator> FacetRuns<'t, A> {
         self.unit
     }
 
-    /// The chunk, and its runs in the order in which they begin.
+    /// The chunk, and its runs. They are put in the order in which they begin, so that the reader meets each in its turn.
     pub(crate) fn in_order(self) -> (&'t [u8], Vec<FacetRun<'t, A>, A>)
         ensures chunk { result.0.now ≡ self.entry.bytes }
         ensures runs { All (λ run. IsFacetRun self.entry.unit self.entry.bytes run.facets.items run.from.now run.to.now) result.1.items }

@@ -76,7 +76,7 @@ fn first_free_turn_over<R: Threads + Wait + Sync + AllocGlobal>(
 /// A line of words, the text that a run by them writes for the cube, and a turn at which an allocation still fails.
 type Row<'a> = (&'a str, &'a [u8], u64);
 
-static ROWS: [Row; 5] = [
+static ROWS: [Row; 7] = [
     ("--box", b"facets 12 box 0 0 0 2 2 2\n", 3),
     (
         "--pitch 1 --layer 1 --probe 0,0,0",
@@ -90,6 +90,16 @@ static ROWS: [Row; 5] = [
     ),
     (
         "--pitch 1 --layer 1 --workers 2",
+        b"P4\n2 2\n\xc0\xc0P4\n2 2\n\xc0\xc0",
+        20,
+    ),
+    (
+        "--pitch 1 --layer 1 --workers 3",
+        b"P4\n2 2\n\xc0\xc0P4\n2 2\n\xc0\xc0",
+        20,
+    ),
+    (
+        "--pitch 1 --layer 1 --workers 4",
         b"P4\n2 2\n\xc0\xc0P4\n2 2\n\xc0\xc0",
         20,
     ),

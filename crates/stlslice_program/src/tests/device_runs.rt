@@ -15,13 +15,17 @@ use stlslice::{Counted, Failures, RunFault, Sink};
 type Row<'a> = (&'a str, &'a [u8]);
 
 /// The text of each kind of task for the cube.
-static TEXTS: [Row; 4] = [
+static TEXTS: [Row; 5] = [
     ("--box", b"facets 12 box 0 0 0 2 2 2\n"),
     (
         "--pitch 1 --layer 1 --probe 0,0,0",
         b"voxel 0 0 0 x 1 y 1\n",
     ),
     ("--pitch 1 --layer 1", b"P4\n2 2\n\xc0\xc0P4\n2 2\n\xc0\xc0"),
+    (
+        "--pitch 1 --layer 1 --workers 3",
+        b"P4\n2 2\n\xc0\xc0P4\n2 2\n\xc0\xc0",
+    ),
     (
         "--pitch 1 --layer 1 --report",
         b"layer 0 loops 1 area 4\nlayer 1 loops 1 area 4\ntotal 8\n",
