@@ -1,6 +1,6 @@
 # make            proves and builds the program, and leaves it at build/stlslice
 # make demo       slices a bundled part into build/demo, at once: unproved where the program isn't built
-# make test       the gate (every proof from nothing, the edits that must fail, each test, each program), then tests/;
+# make test       the gate (every proof, the edits that must fail, each test, each program), then tests/;
 #                 where all passed, what it proved and built is left at build/stlslice
 # make install    copies the program, its manual, completions, documents and examples below PREFIX, and the library
 #                 with its header where it is built

@@ -97,7 +97,7 @@ const HEADER_LEN: usize = 12;
 const ROW_LEN: usize = 2048;
 
 /// The greatest length of a chunk in which an image goes out, in bytes.
-const CHUNK_LEN: usize = 16_384;
+pub(crate) const CHUNK_LEN: usize = 16_384;
 
 /// Where the first chunk ends: after the header and seven rows, since an eighth would go beyond `CHUNK_LEN`.
 const FIRST_END: usize = HEADER_LEN + 7 * ROW_LEN;

@@ -1,7 +1,7 @@
 //! Several images through one writer: which bytes go out, in how many calls of the sink, and how many before it fails.
 ghost use Rattle.raster.specs.Span.{AreSpans};
 
-use crate::byte_writers::{WAYS, Way, writer};
+use crate::byte_writers::{CHUNK_LEN, WAYS, Way, writer};
 use crate::spans::spans;
 use geometry::COLUMN_LIMIT;
 use raster::{Counted, Failures, Grid, ImageWriter, Sink, Span, WriteFault, write_layer};
@@ -82,7 +82,7 @@ fn each_beginning_of_three_images(rt: HostRuntime) -> Result<(), Fail> {
     Ok(())
 }
 
-// Whether the call of the sink after these calls begins at this byte of the images' text: it is interrupted.
+// Whether the call of the sink after this many calls begins at this byte of the images' text. That call is interrupted.
 fn begins_at(
     alloc: Global,
     outer: &Grid,
@@ -137,23 +137,32 @@ fn ends_at(
     Some(begins_at(alloc, &outer, spans, &inner, bytes, 0, 0) && ends.last() == Some(&bytes.len()))
 }
 
-// The length of a chunk: room for eight rows of the greatest width.
-const CHUNK: usize = COLUMN_LIMIT as usize;
-
 // A call of the sink takes a chunk where the next row, or 15 bytes for the next header, would go beyond it.
 #[test]
 fn images_at_the_ends_of_chunks(rt: HostRuntime) {
     let alloc = rt.alloc();
     let found = [
         // a byte less than a chunk, just a chunk, and a byte more: the last row of the second image comes later then
-        ends_at(alloc, 2026, &spans![0: 0, 8], 7, &[CHUNK - 1, CHUNK + 2035]),
-        ends_at(alloc, 2027, &spans![0: 0, 8], 7, &[CHUNK, CHUNK + 2037]),
+        ends_at(
+            alloc,
+            2026,
+            &spans![0: 0, 8],
+            7,
+            &[CHUNK_LEN - 1, CHUNK_LEN + 2035],
+        ),
+        ends_at(
+            alloc,
+            2027,
+            &spans![0: 0, 8],
+            7,
+            &[CHUNK_LEN, CHUNK_LEN + 2037],
+        ),
         ends_at(
             alloc,
             2028,
             &spans![0: 0, 8],
             7,
-            &[CHUNK - 2047, CHUNK + 2039],
+            &[CHUNK_LEN - 2047, CHUNK_LEN + 2039],
         ),
         // a large image after a small one
         ends_at(
@@ -161,7 +170,7 @@ fn images_at_the_ends_of_chunks(rt: HostRuntime) {
             1,
             &spans![0: 0, 8],
             16,
-            &[CHUNK - 2028, 2 * CHUNK - 2028, 2 * CHUNK + 28],
+            &[CHUNK_LEN - 2028, 2 * CHUNK_LEN - 2028, 2 * CHUNK_LEN + 28],
         ),
     ];
     assert_eq!(rt; found, [Some(true); 4]);

@@ -2,7 +2,7 @@
 use Rattle.std.specs.Prelude.{◌≡◌, ℕ, Bool, ◌+◌, ◌-◌, ◌^◌, min, List, take, Option}
 use Rattle.std.specs.Io.KnownBytes.{Appends}
 
--- a count that stays once it is at the end of its range
+-- the greatest count of 64 bits; a count of failures stays there
 abbrev pub greatest_count : ℕ
 greatest_count = 2 ^ 64 - 1
 

@@ -34,8 +34,3 @@ pub record IsFacetRun (unit : LengthUnit) (text : List ℕ) (facets : List Facet
   pub ends : IsRestOf from to
   pub leads : (limit : ℕ) (had : List Facet) (whole more : List ℕ) → StandsBefore limit unit had whole (from ++ more)
       → length had + length facets ≤ limit → StandsBefore limit unit (had ++ facets) whole (to ++ more)
-
--- a chunk of a text, with the unit of its numbers: what its parts are of, and the runs that are found in them
-pub record Chunk : Type 0 where
-  pub unit : LengthUnit
-  pub bytes : List ℕ

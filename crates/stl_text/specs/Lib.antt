@@ -1,6 +1,7 @@
 pub mod Text
 pub mod Reader
 pub mod FacetRun
+pub mod ChunkParts
 pub mod Layout
 pub mod Written
 pub mod Stage

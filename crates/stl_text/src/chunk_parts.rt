@@ -1,8 +1,8 @@
 //! A chunk of a text in parts, which workers draw and in which they look for runs of facets.
 //!
-//! Each worker draws the next part from a count that they share, until none is left: one that has other work to do first draws
-//! fewer. Nothing has to be known of a number that is drawn. A run is a fact of the text whoever finds it, and a part at which no
-//! worker looked is read by the reader itself.
+//! The workers share a count, from which each takes the number of the next part, until none is left. A worker that joins
+//! later takes fewer. No proof needs a fact about these numbers: what a run says holds of the text whichever worker found it,
+//! and the reader reads a part by itself if no worker did.
 ghost use Rattle.std.specs.Prelude.{◌≡◌, All, IfOk, IfSome};
 ghost use Rattle.stl_text.specs.FacetRun.{IsFacetRun};
 
@@ -30,12 +30,12 @@ pub struct ChunkParts<'t, A: Allocator> {
     count: usize,
     /// The length of a part, in bytes. The last one may be shorter.
     len: usize,
-    /// The number of parts that were drawn, and of draws that found none left.
+    /// The number of draws. It may exceed `count`, since draws that find no part left count too.
     drawn: AtomicUsize,
 }
 
 impl<'t, A: Allocator> Model for ChunkParts<'t, A> {
-    ghost use Rattle.stl_text.specs.FacetRun.{Chunk};
+    ghost use Rattle.stl_text.specs.ChunkParts.{Chunk};
 
     ghost Value = { Chunk };
 
@@ -52,7 +52,8 @@ pub struct FacetRuns<'t, A: Allocator> {
 
 impl<'t, A: Allocator> Model for FacetRuns<'t, A> {
     ghost use Rattle.std.specs.Prelude.{All};
-    ghost use Rattle.stl_text.specs.FacetRun.{Chunk, IsFacetRun};
+    ghost use Rattle.stl_text.specs.ChunkParts.{Chunk};
+    ghost use Rattle.stl_text.specs.FacetRun.{IsFacetRun};
 
     ghost Value = { Chunk };
 
@@ -62,7 +63,7 @@ impl<'t, A: Allocator> Model for FacetRuns<'t, A> {
 }
 
 impl<'t, A: Allocator> FacetRuns<'t, A> {
-    /// Adds a run. Where memory fails, it is let go, and the answer is `false`.
+    /// Adds a run, or drops it and answers `false` where an allocation fails.
     fn push(&mut self, run: FacetRun<'t, A>) -> bool
         requires { IsFacetRun self.old.unit self.old.bytes run.facets.items run.from.now run.to.now }
         ensures { self.new ≡ self.old }
@@ -70,7 +71,7 @@ impl<'t, A: Allocator> FacetRuns<'t, A> {
         self.runs.push(run).is_ok()
     }
 
-    /// Takes over the runs that were found elsewhere in the chunk. Where memory fails, they are let go.
+    /// Takes over the runs that were found elsewhere in the chunk, or drops them where an allocation fails.
     pub fn add(&mut self, more: FacetRuns<'t, A>)
         requires { more ≡ self.old }
         ensures { self.new ≡ self.old }
@@ -79,7 +80,7 @@ impl<'t, A: Allocator> FacetRuns<'t, A> {
         let _ = self.runs.append(&mut runs);
     }
 
-    /// The unit in which their numbers were read.
+    /// The unit in which the numbers of the runs were read.
     pub(crate) fn unit(&self) -> Unit
         ensures { result ≡ self.now.unit }
     {
@@ -102,7 +103,7 @@ impl<'t, A: Allocator> FacetRuns<'t, A> {
 }
 
 impl<'t, A: Allocator + Copy> ChunkParts<'t, A> {
-    /// The parts of a chunk for up to `workers` workers. A single worker gets none, since the reader does as well by itself.
+    /// The parts of a chunk for up to `workers` workers. A single worker gets none, since the reader alone is as fast.
     pub(crate) fn of(alloc: A, chunk: &'t [u8], unit: Unit, workers: u32) -> ChunkParts<'t, A>
         ensures unit { result.unit ≡ unit }
         ensures bytes { result.bytes ≡ chunk.now }
@@ -120,7 +121,7 @@ impl<'t, A: Allocator + Copy> ChunkParts<'t, A> {
         }
     }
 
-    /// The runs of the parts that are left, which one worker draws one after another. Where memory fails, it draws no more.
+    /// The runs of the parts that nobody has drawn yet. It stops where an allocation fails.
     pub fn runs(&self) -> FacetRuns<'t, A>
         ensures { result ≡ self.now }
     {
@@ -134,7 +135,7 @@ impl<'t, A: Allocator + Copy> ChunkParts<'t, A> {
         found
     }
 
-    /// Adds the run of the next part: `false` where no part is left, or no memory.
+    /// Adds the run of the next part: `false` where no part is left, or an allocation fails.
     fn find(&self, found: &mut FacetRuns<'t, A>) -> bool
         requires { found.old ≡ self.now }
         ensures { found.new ≡ found.old }
@@ -171,8 +172,8 @@ impl<'t, A: Allocator + Copy> ChunkParts<'t, A> {
 }
 
 impl<'t, A: Allocator + Copy + Send + Sync> ChunkParts<'t, A> {
-    /// The runs of the parts that are left, which up to `workers` workers draw at the same time. Where memory fails, some of
-    /// them are missing.
+    /// The runs of the parts that nobody has drawn yet, by up to `workers` workers at the same time. Some of them are missing
+    /// where an allocation fails.
     pub fn runs_by<R: Threads + Sync>(&self, rt: &R, workers: u32) -> FacetRuns<'t, A>
         ensures { result ≡ self.now }
     {

@@ -143,8 +143,8 @@ impl<A: Allocator> TextReader<A> {
         self.read_to(rest, &layout_within(chunk), 0);
     }
 
-    /// Reads the next chunk of the text, of which some runs are known. The answer is that of [`TextReader::feed`] with the chunk,
-    /// whichever they are.
+    /// Reads the next chunk of the text, in which runs of facets were found. The answer is that of [`TextReader::feed`] with
+    /// this chunk, whichever runs they are.
     pub fn feed_runs(&mut self, found: FacetRuns<'_, A>)
         ensures { (limit : ℕ) (unit : LengthUnit) (taken : List Facet) (fed : List ℕ) → IsAfter limit unit taken self.old fed
             → IsAfter limit unit taken self.new (fed ++ found.entry.bytes) }
@@ -420,8 +420,8 @@ impl<A: Allocator> TextReader<A> {
 }
 
 impl<A: Allocator + Copy + Send + Sync> TextReader<A> {
-    /// The parts of the next chunk of the text, in which up to `workers` workers look for runs of facets. Where the reader stopped
-    /// at a fault there are none.
+    /// The parts of the next chunk of the text, in which up to `workers` workers look for runs of facets. There are none where
+    /// the reader stopped at a fault.
     pub fn parts<'t>(&self, chunk: &'t [u8], workers: u32) -> ChunkParts<'t, A>
         ensures unit { result.unit ≡ self.now.unit }
         ensures bytes { result.bytes ≡ chunk.now }

@@ -19,8 +19,10 @@ mod extent;
 mod laws;
 mod loading;
 mod round;
+mod round_work;
 mod run_fault;
 mod running;
+mod window;
 mod write;
 
 pub use build_book::Piece;

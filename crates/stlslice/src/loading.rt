@@ -1,38 +1,36 @@
 //! What a run reads: the facets that its input spells, and the closed mesh that they make.
-ghost use Rattle.std.specs.Prelude.{◌≡◌, ◌⊎◌, ◌<◌, ◌≤◌, ◌++◌, Err, IfErr, IfOk, IsOk, List, Ok, OnOk, Option, [], false, length, take, true, ℕ};
-ghost use Rattle.std.specs.Io.KnownBytes.{Consumes, IsAtEnd};
+ghost use Rattle.std.specs.Prelude.{◌≡◌, ◌<◌, ◌++◌, Err, IfErr, IfOk, List, Ok, OnOk, Option, false, length, true, ℕ};
+ghost use Rattle.std.specs.Io.KnownBytes.{IsAtEnd};
 ghost use Rattle.geometry.specs.Facet.{Facet};
 ghost use Rattle.geometry.specs.declared.limits.TheConstants.{FACET_LIMIT};
 ghost use Rattle.mesh_weld.specs.Balance.{IsBalanced};
 ghost use Rattle.mesh_weld.specs.Solid.{solid_of};
 ghost use Rattle.micro_num.specs.declared.unit.Unit.{Unit as LengthUnit};
 ghost use Rattle.raster.specs.Devices.{Fails};
-ghost use Rattle.stl_text.specs.TextReader.{IsAfter};
 ghost use Rattle.stl_text.specs.Text.{Reads};
-ghost use Rattle.stlslice.specs.Loading.{HasWelded, IsAllWelded, IsFed, IsFilled, IsLoadFault, IsLoaded, IsMisread, IsReadAs, IsSolidOf, IsTextExtent, OfText};
+ghost use Rattle.stlslice.specs.Loading.{IsAllWelded, IsFed, IsLoadFault, IsLoaded, IsMisread, IsReadAs, IsSolidOf, IsTextExtent, OfText};
 ghost use Rattle.stlslice.specs.Transcript.{transcript};
 ghost use Rattle.stlslice.specs.declared.run_fault.RunFault.TheVariants.{Memory, Read};
 
 use crate::extent::Extent;
 use crate::round::Round;
+use crate::round_work::{read_and_weld, weld_next};
 use crate::run_fault::RunFault;
+use crate::window::{WINDOW_LEN, fill};
 use geometry::{FACET_LIMIT, Facet};
 use mesh_weld::{Solid, Welder};
 use micro_num::Unit;
 use raster::Source;
 use std::alloc::Allocator;
 use std::mem::swap;
-use std::thread::{Threads, join_mut};
-use stl_text::{ChunkParts, FacetRuns, TextReader};
+use std::thread::Threads;
+use stl_text::TextReader;
 
 /// The number of bytes for each worker, where several read at the same time.
 const WORKER_LEN: usize = 1 << 20;
 
 /// The greatest number of bytes that a round waits for. It may have up to a window more.
 const ROUND_LIMIT: usize = 1 << 23;
-
-/// The length of the window that is filled from the source and then handed to the reader, in bytes.
-pub(crate) const WINDOW_LEN: usize = 65_536;
 
 /// The closed mesh of an ASCII STL text whose numbers are in `unit`. Facets with two equal corners are dropped.
 ///
@@ -164,179 +162,9 @@ fn weld_last<A: Allocator + Copy + Send + Sync>(
     Ok(welder)
 }
 
-/// Feeds a reader with a round. Meanwhile the facets of the round before are welded and, where the source has more
-/// (`is_more`), the next round is filled. Answers whether the source has more after the next round. The reader jumps over the
-/// runs of facets that up to `workers` workers find in parts of the round, and reads the rest by itself.
-fn read_and_weld<R: Threads + Sync, A: Allocator + Copy + Send + Sync, I: Source>(
-    rt: &R,
-    workers: u32,
-    reader: &mut TextReader<A>,
-    round: &[u8],
-    welder: &mut Welder<A>,
-    facets: &[Facet],
-    source: &mut I,
-    next: &mut Round<A>,
-    is_more: bool,
-) -> Result<bool, RunFault>
-    ensures fed { (unit : LengthUnit) (taken : List Facet) (fed : List ℕ) → IsAfter FACET_LIMIT unit taken reader.old fed
-        → IsAfter FACET_LIMIT unit taken reader.new (fed ++ round.now) }
-    ensures welded { OnOk result (HasWelded facets.now welder.old welder.new) }
-    ensures filled { IsFilled I.remaining I.Failures.failure_count source.old source.new is_more next.new.bytes result }
-{
-    let parts = reader.parts(round, workers);
-    let (found, filled) = weld_and_find(rt, workers, &parts, welder, facets, source, next, is_more);
-    reader.feed_runs(found);
-    filled
-}
-
-/// Adds facets to a welder, fills a round from a source, or leaves it empty where the source has no more (`is_more`), and finds
-/// runs in the parts of a chunk, by up to `workers` workers at the same time. Answers these, and whether the source has more after
-/// the round.
-///
-/// A thread that begins may have to share a processor with the one that made it, until that one waits. So the first new thread
-/// gets no work but parts, of which others draw more while it waits.
-fn weld_and_find<'t, R: Threads + Sync, A: Allocator + Copy + Send + Sync, I: Source>(
-    rt: &R,
-    workers: u32,
-    parts: &ChunkParts<'t, A>,
-    welder: &mut Welder<A>,
-    facets: &[Facet],
-    source: &mut I,
-    round: &mut Round<A>,
-    is_more: bool,
-) -> (FacetRuns<'t, A>, Result<bool, RunFault>)
-    ensures found { result.0 ≡ parts.now }
-    ensures welded { OnOk result.1 (HasWelded facets.now welder.old welder.new) }
-    ensures filled { IsFilled I.remaining I.Failures.failure_count source.old source.new is_more round.new.bytes result.1 }
-{
-    let (mut found, (more, filled)) = join_mut(
-        rt,
-        &mut || parts.runs(),
-        &mut || weld_and_fill(rt, workers, source, round, is_more, welder, facets, parts),
-    );
-    found.add(more);
-    (found, filled)
-}
-
-/// The same as [`weld_and_find`], by all workers but one: one of them first welds, and the one on the thread that calls first
-/// fills. Where it is the only one, it does both.
-fn weld_and_fill<'t, R: Threads + Sync, A: Allocator + Copy + Send + Sync, I: Source>(
-    rt: &R,
-    workers: u32,
-    source: &mut I,
-    round: &mut Round<A>,
-    is_more: bool,
-    welder: &mut Welder<A>,
-    facets: &[Facet],
-    parts: &ChunkParts<'t, A>,
-) -> (FacetRuns<'t, A>, Result<bool, RunFault>)
-    ensures found { result.0 ≡ parts.now }
-    ensures welded { OnOk result.1 (HasWelded facets.now welder.old welder.new) }
-    ensures filled { IsFilled I.remaining I.Failures.failure_count source.old source.new is_more round.new.bytes result.1 }
-{
-    if workers < 3 {
-        let welded = weld_next(welder, facets);
-        let (found, filled) = fill_first(source, round, is_more, parts);
-        return (found, read_before_memory(filled, welded));
-    }
-    let others = workers - 3;
-    let ((mut found, welded), (more, filled)) = join_mut(
-        rt,
-        &mut || weld_first(welder, facets, parts),
-        &mut || fill_beside(rt, others, parts, source, round, is_more),
-    );
-    found.add(more);
-    (found, read_before_memory(filled, welded))
-}
-
-/// What a round that was filled answers, if the facets could be welded. A failed read comes before want of memory.
-fn read_before_memory(
-    filled: Result<bool, RunFault>,
-    welded: Result<(), RunFault>,
-) -> Result<bool, RunFault>
-    ensures ok { IfOk result (λ is_more. (filled ≡ Ok is_more) × (welded ≡ Ok tt)) }
-    ensures err { IfErr result (λ fault. (filled ≡ Err fault) ⊎ (IsOk filled × (welded ≡ Err fault))) }
-{
-    let is_more = filled?;
-    welded?;
-    Ok(is_more)
-}
-
-/// Adds facets to a welder, and then finds runs in the parts of a chunk that are left.
-fn weld_first<'t, A: Allocator + Copy + Send + Sync>(
-    welder: &mut Welder<A>,
-    facets: &[Facet],
-    parts: &ChunkParts<'t, A>,
-) -> (FacetRuns<'t, A>, Result<(), RunFault>)
-    ensures found { result.0 ≡ parts.now }
-    ensures welded { OnOk result.1 (HasWelded facets.now welder.old welder.new) }
-    ensures only { IfErr result.1 (λ fault. fault ≡ Memory) }
-{
-    let welded = weld_next(welder, facets);
-    (parts.runs(), welded)
-}
-
-/// Fills a round as [`fill_first`] does, while `others` workers look for runs too.
-fn fill_beside<'t, R: Threads + Sync, A: Allocator + Copy + Send + Sync, I: Source>(
-    rt: &R,
-    others: u32,
-    parts: &ChunkParts<'t, A>,
-    source: &mut I,
-    round: &mut Round<A>,
-    is_more: bool,
-) -> (FacetRuns<'t, A>, Result<bool, RunFault>)
-    ensures found { result.0 ≡ parts.now }
-    ensures filled { IsFilled I.remaining I.Failures.failure_count source.old source.new is_more round.new.bytes result.1 }
-{
-    if others == 0 {
-        return fill_first(source, round, is_more, parts);
-    }
-    let (mut found, (more, filled)) = join_mut(
-        rt,
-        &mut || parts.runs_by(rt, others),
-        &mut || fill_first(source, round, is_more, parts),
-    );
-    found.add(more);
-    (found, filled)
-}
-
-/// Fills a round from a source, or leaves it empty where the source has no more (`is_more`), and then finds runs in the parts of a
-/// chunk that are left. Answers these, and whether the source has more after the round.
-fn fill_first<'t, A: Allocator + Copy, I: Source>(
-    source: &mut I,
-    round: &mut Round<A>,
-    is_more: bool,
-    parts: &ChunkParts<'t, A>,
-) -> (FacetRuns<'t, A>, Result<bool, RunFault>)
-    ensures found { result.0 ≡ parts.now }
-    ensures filled { IsFilled I.remaining I.Failures.failure_count source.old source.new is_more round.new.bytes result.1 }
-{
-    round.clear();
-    let filled = if is_more {
-        round.fill(source)
-    } else {
-        Ok(false)
-    };
-    (parts.runs(), filled)
-}
-
 /// The number of bytes that a round of these workers waits for.
 fn round_len(workers: u32) -> usize {
     WORKER_LEN.saturating_mul(workers as usize).min(ROUND_LIMIT)
-}
-
-/// Adds facets to a welder. A text with more of them than the limit is a fault, so these need not be welded.
-fn weld_next<A: Allocator + Copy + Send + Sync>(
-    welder: &mut Welder<A>,
-    facets: &[Facet],
-) -> Result<(), RunFault>
-    ensures welded { OnOk result (HasWelded facets.now welder.old welder.new) }
-    ensures only { IfErr result (λ fault. fault ≡ Memory) }
-{
-    if facets.len() <= (FACET_LIMIT as usize).saturating_sub(welder.count()) {
-        welder.add(facets)?;
-    }
-    Ok(())
 }
 
 /// How many facets a source spells, and their bounding box. It is read to its end; neither its text nor its facets are
@@ -387,20 +215,4 @@ fn next_facets<A: Allocator, I: Source>(
     reader.feed(&window[..count]);
     reader.take_facets(facets);
     Ok(count > 0)
-}
-
-/// Fills the front of a window from a source: answers how many bytes came, which is 0 only at its end.
-pub(crate) fn fill<I: Source>(source: &mut I, window: &mut [u8]) -> Result<usize, RunFault>
-    requires { 0 < length window.old }
-    ensures len { length window.new ≡ length window.old }
-    ensures within { IfOk result (λ count. count ≤ length window.old) }
-    ensures taken { IfOk result (λ count. Consumes (I.remaining source.old) (I.remaining source.new) (take count window.new)) }
-    ensures end { result ≡ Ok 0 → IsAtEnd (I.remaining source.new) }
-    ensures err { IfErr result (λ fault. (fault ≡ Read) × Fails (I.Failures.failure_count source.old) (I.Failures.failure_count source.new)) }
-    ensures sound { OnOk result (I.Failures.failure_count source.new ≡ I.Failures.failure_count source.old) }
-{
-    match source.pull(window) {
-        Ok(count) => Ok(count),
-        Err(_) => Err(RunFault::Read),
-    }
 }

@@ -1,12 +1,12 @@
 //! A round: the bytes of a text that several workers read at the same time, filled straight from its source.
-ghost use Rattle.std.specs.Prelude.{◌≡◌, ◌≤◌, ◌<◌, ◌+◌, ◌++◌, IfErr, IfOk, List, Ok, OnOk, Option, [], length, take, true, ℕ};
+ghost use Rattle.std.specs.Prelude.{◌≡◌, ◌≤◌, ◌<◌, ◌+◌, IfErr, IfOk, List, Ok, OnOk, Option, [], length, take, true, ℕ};
 ghost use Rattle.std.specs.Io.KnownBytes.{Consumes, IsAtEnd};
 ghost use Rattle.raster.specs.Devices.{Fails};
 ghost use Rattle.stlslice.specs.Loading.{IsFilled};
 ghost use Rattle.stlslice.specs.declared.run_fault.RunFault.TheVariants.{Read};
 
-use crate::loading::{WINDOW_LEN, fill};
 use crate::run_fault::RunFault;
+use crate::window::{WINDOW_LEN, fill};
 use raster::Source;
 use std::alloc::{AllocError, Allocator};
 use std::marker::Model;

@@ -18,8 +18,8 @@ use crate::span::Span;
 use std::marker::Model;
 
 /// Writes images of layers in raw PBM ("P4", pbm(5)) one after another. It gathers their bytes in a chunk, so that one call
-/// of the sink takes many rows of a large image, or many small images. What it holds goes out before the row that has no
-/// room any more, and the rest by [`ImageWriter::finish`]; without that call it is lost.
+/// of the sink takes many rows of a large image, or many small images. It sends what it holds where the next row or header no
+/// longer fits. [`ImageWriter::finish`] sends the rest, which is lost without that call.
 ///
 /// A call of the sink that fails is not tried again, and the writer is of no use after it. No memory is allocated.
 #[derive(Drop)]
@@ -51,8 +51,9 @@ impl ImageWriter {
     /// stands at the top. The spans are those of one layer of the grid: in it, by ascending row, then column, not empty and
     /// not touching.
     ///
-    /// The bytes that went out since the writer was made are the first ones of all images. On an error they are the first
-    /// `written`, which are fewer than all.
+    /// `count`: the bytes so far, those that are held and those of one image more can be counted in 64 bits. The bytes that
+    /// went out since the writer was made are the first ones of all images. On an error they are the first `written`, which
+    /// are fewer than all.
     pub fn add<W: Sink>(&mut self, g: &Grid, spans: &[Span], w: &mut W) -> Result<(), WriteFault>
         requires form { AreSpans g.now.columns g.now.rows spans.now }
         requires count { self.old.sent + length self.old.held + image_limit ≤ greatest_count }

@@ -28,7 +28,7 @@ pub(crate) fn write_images<A: Allocator, O: Sink>(
         × Fails (O.Failures.failure_count sink.old) (O.Failures.failure_count sink.new)) }
 {
     let grid = build.job().grid();
-    // wakes the invariant (see CONTRIBUTING.md): a grid has few columns, rows and layers, so the bytes can be counted
+    // wakes the invariant: the counts of columns, rows and layers bound the count of the bytes
     let _columns = grid.columns();
     let _rows = grid.rows();
     let _layers = grid.layers();

@@ -1,6 +1,7 @@
 use Rattle.std.proofs.Common.{◌≡◌, ◌∙◌, List, ℕ, All, ap, is_ok, subst, sym}
 use Rattle.micro_num.specs.declared.unit.Unit.{Unit as LengthUnit}
-use Rattle.stl_text.specs.FacetRun.{Chunk, IsFacetRun}
+use Rattle.stl_text.specs.ChunkParts.{Chunk}
+use Rattle.stl_text.specs.FacetRun.{IsFacetRun}
 use Rattle.stl_text.specs.declared.facet_run.FacetRun.{FacetRun}
 use Rattle.stl_text.proofs.lemmas.FacetRuns.{all_added}
 use Rattle.stl_text.proofs.chunk_parts.FacetRuns.add.Goals as goal

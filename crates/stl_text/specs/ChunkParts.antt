@@ -1,0 +1,8 @@
+-- A chunk of a text, of which there are parts, and in which runs of facets are found.
+use Rattle.std.specs.Prelude.{ℕ, List}
+use Rattle.micro_num.specs.declared.unit.Unit.{Unit as LengthUnit}
+
+-- its bytes, with the unit of the text's numbers
+pub record Chunk : Type 0 where
+  pub unit : LengthUnit
+  pub bytes : List ℕ
