@@ -65,7 +65,7 @@ fn weld_and_find<'t, R: Threads + Sync, A: Allocator + Copy + Send + Sync, I: So
     let (mut found, (more, filled)) = join_mut(
         rt,
         &mut || parts.runs(),
-        &mut || weld_and_fill(rt, workers, source, round, is_more, welder, facets, parts),
+        &mut || weld_and_fill(rt, workers, parts, source, round, is_more, welder, facets),
     );
     found.add(more);
     (found, filled)
@@ -76,12 +76,12 @@ fn weld_and_find<'t, R: Threads + Sync, A: Allocator + Copy + Send + Sync, I: So
 fn weld_and_fill<'t, R: Threads + Sync, A: Allocator + Copy + Send + Sync, I: Source>(
     rt: &R,
     workers: u32,
+    parts: &ChunkParts<'t, A>,
     source: &mut I,
     round: &mut Round<A>,
     is_more: bool,
     welder: &mut Welder<A>,
     facets: &[Facet],
-    parts: &ChunkParts<'t, A>,
 ) -> (FacetRuns<'t, A>, Result<bool, RunFault>)
     ensures found { result.0 ≡ parts.now }
     ensures welded { OnOk result.1 (HasWelded facets.now welder.old welder.new) }
@@ -96,7 +96,7 @@ fn weld_and_fill<'t, R: Threads + Sync, A: Allocator + Copy + Send + Sync, I: So
     let others = workers - 3;
     let ((mut found, welded), (more, filled)) = join_mut(
         rt,
-        &mut || weld_first(welder, facets, parts),
+        &mut || weld_first(parts, welder, facets),
         &mut || fill_beside(rt, others, parts, source, round, is_more),
     );
     found.add(more);
@@ -118,9 +118,9 @@ fn read_before_memory(
 
 /// Adds facets to a welder, and then finds runs in the parts that nobody has drawn yet.
 fn weld_first<'t, A: Allocator + Copy + Send + Sync>(
+    parts: &ChunkParts<'t, A>,
     welder: &mut Welder<A>,
     facets: &[Facet],
-    parts: &ChunkParts<'t, A>,
 ) -> (FacetRuns<'t, A>, Result<(), RunFault>)
     ensures found { result.0 ≡ parts.now }
     ensures welded { OnOk result.1 (HasWelded facets.now welder.old welder.new) }

@@ -3,7 +3,7 @@ use Rattle.std.specs.Prelude.{List}
 use Rattle.geometry.specs.Facet.{Facet}
 use Rattle.stlslice.specs.Extent.{IsExtentOf}
 use Rattle.stlslice.specs.Loading.{IsFed}
-use Rattle.stlslice.specs.declared.loading.TheConstants.{WINDOW_LEN}
+use Rattle.stlslice.specs.declared.window.TheConstants.{WINDOW_LEN}
 use Rattle.stlslice.proofs.loading.read_extent.Given as goal
 
 abbrev pub invariant-loop : goal.invariant-loop

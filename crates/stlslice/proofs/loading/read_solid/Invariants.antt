@@ -2,7 +2,7 @@ use Rattle.std.proofs.Common.{◌≡◌, length}
 use Rattle.std.specs.Prelude.{List}
 use Rattle.geometry.specs.Facet.{Facet}
 use Rattle.stlslice.specs.Loading.{AreWelded, IsFed}
-use Rattle.stlslice.specs.declared.loading.TheConstants.{WINDOW_LEN}
+use Rattle.stlslice.specs.declared.window.TheConstants.{WINDOW_LEN}
 use Rattle.stlslice.proofs.loading.read_solid.Given as goal
 
 abbrev pub invariant-loop : goal.invariant-loop
