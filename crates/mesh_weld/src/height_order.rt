@@ -1,11 +1,12 @@
 //! Facets in the order in which a sweep from below meets them, and their greatest rise, by which the sweep finds those that
 //! have not ended yet.
-ghost use Rattle.std.specs.Prelude.{◌≡◌, ◌≤◌, ◌^◌, ◌%◌, ◌/◌, ◌+ℤ◌, pos, IfOk, length, map};
+ghost use Rattle.std.specs.Prelude.{◌≡◌, ◌≤◌, ◌%◌, ◌/◌, ◌+ℤ◌, pos, IfOk, length, map};
 ghost use Rattle.std.specs.List.{range_with_len};
 ghost use Rattle.std.specs.List.Sorted.{IsPermutation, IsNonDecreasing};
 ghost use Rattle.mesh_weld.specs.HeightOrder.{AreHeightKeys};
 ghost use Rattle.mesh_weld.specs.Solid.{IsByHeight, IsGreatestRise, facets_by, greatest_z, least_z, rise};
 ghost use Rattle.mesh_weld.specs.Welder.{AreBelow};
+ghost use Rattle.mesh_weld.specs.declared.height_order.TheConstants.{HEIGHT_OFFSET};
 ghost use Rattle.mesh_weld.specs.declared.packing.TheConstants.{HALF_WORD};
 ghost use Rattle.geometry.specs.declared.limits.TheConstants.{FACET_LIMIT};
 
@@ -87,7 +88,7 @@ fn list_heights<A: Allocator + Copy>(
 /// A key that ascends with a facet's least height, and then with its number.
 fn height_key(facet: &Facet, number: u32) -> HeightKey
     ensures number { result % HALF_WORD ≡ number }
-    ensures height { pos (result / HALF_WORD) ≡ least_z facet.now +ℤ pos (2 ^ 31) }
+    ensures height { pos (result / HALF_WORD) ≡ least_z facet.now +ℤ HEIGHT_OFFSET }
 {
     let above = (i64::from(lowest(facet)) + HEIGHT_OFFSET) as u32;
     packed(above, number)

@@ -1,7 +1,8 @@
 //! Counts of half-edges with the same two ends. The sorts tell by them whether the half-edges balance.
-ghost use Rattle.std.specs.Prelude.{◌≡◌, ◌↔◌, ◌<◌, ◌*◌, ◌+◌, ◌-◌, ◌^◌, IsTrue, min, max};
+ghost use Rattle.std.specs.Prelude.{◌≡◌, ◌↔◌, ◌<◌, ◌*◌, ◌+◌, IsTrue, min, max};
 ghost use Rattle.mesh_weld.specs.SameEnds.{started, counted};
 ghost use Rattle.mesh_weld.specs.declared.packing.TheConstants.{HALF_WORD};
+ghost use Rattle.geometry.specs.declared.limits.TheConstants.{CORNER_LIMIT};
 
 use crate::half_edge::HalfEdge;
 
@@ -43,10 +44,10 @@ impl SameEnds {
         self.low == from.min(to) && high == from.max(to)
     }
 
-    /// The counts with one more half-edge between these ends.
+    /// The counts with one more half-edge between these ends. A mesh has no more half-edges than corners.
     pub(crate) fn counted(self, half_edge: &HalfEdge) -> SameEnds
-        requires there { self.there < 2 ^ 32 - 1 }
-        requires back { self.back < 2 ^ 32 - 1 }
+        requires there { self.there < CORNER_LIMIT }
+        requires back { self.back < CORNER_LIMIT }
         ensures { result ≡ counted self half_edge.now }
     {
         if half_edge.from < half_edge.to {
