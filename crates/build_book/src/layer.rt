@@ -1,6 +1,7 @@
 //! Layers: what a job has at one plane, its loops and its filled pixels.
-ghost use Rattle.std.specs.Prelude.{◌≡◌, ◌<◌, ◌^◌};
+ghost use Rattle.std.specs.Prelude.{◌≡◌, ◌≤◌};
 ghost use Rattle.build_book.specs.Layer.{layers_area};
+ghost use Rattle.build_book.specs.declared.limits.TheConstants.{VOXEL_LIMIT};
 
 use contour::Loops;
 use raster::Span;
@@ -69,7 +70,7 @@ impl<A: Allocator> Layer<A> {
 
 /// The sum of the layers' areas.
 pub(crate) fn layers_area<A: Allocator>(layers: &[Layer<A>]) -> u64
-    requires { layers_area layers.now < 2 ^ 64 }
+    requires { layers_area layers.now ≤ VOXEL_LIMIT }
     ensures { result ≡ layers_area layers.now }
 {
     let mut sum = 0;

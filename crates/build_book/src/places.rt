@@ -1,9 +1,9 @@
 //! The places of a book: counting and searching them, filling those that are free, making what is missing.
-ghost use Rattle.std.specs.Prelude.{◌≡◌, ◌+◌, ◌*◌, ◌^◌, ◌<◌, ◌≤◌, ℕ, IfOk, IfNone, IfSome, IsTrue, None, length, replicate, not, is_some, flat_map, option_to_list};
+ghost use Rattle.std.specs.Prelude.{◌≡◌, ◌+◌, ◌*◌, ◌<◌, ◌≤◌, ℕ, IfOk, IfNone, IfSome, IsTrue, None, length, replicate, not, is_some, flat_map, option_to_list};
 ghost use Rattle.build_book.specs.Job.{stripe_count};
 ghost use Rattle.build_book.specs.Places.{AreFree, IsTaken, IsTakenAt, filled, or_layer, filed_count, place_area, total_area};
 ghost use Rattle.build_book.specs.Book.{IsLawfulBook};
-ghost use Rattle.build_book.specs.declared.limits.TheConstants.{STRIPE_LAYERS};
+ghost use Rattle.build_book.specs.declared.limits.TheConstants.{STRIPE_LAYERS, VOXEL_LIMIT};
 ghost use Rattle.geometry.specs.declared.limits.TheConstants.{LAYER_LIMIT};
 
 use crate::job::Job;
@@ -35,7 +35,7 @@ pub(crate) fn filed_count<A: Allocator>(places: &[Option<Layer<A>>]) -> u32
 
 /// The sum of the areas of the layers in the places.
 pub(crate) fn total_area<A: Allocator>(places: &[Option<Layer<A>>]) -> u64
-    requires { total_area places.now < 2 ^ 64 }
+    requires { total_area places.now ≤ VOXEL_LIMIT }
     ensures { result ≡ total_area places.now }
 {
     let mut sum = 0;

@@ -1,5 +1,5 @@
 -- Sums of areas are small.
-use Rattle.std.proofs.Common.{◌≡◌, ℕ, zero, suc, ◌+◌, ◌*◌, ◌^◌, ◌<◌, ◌≤◌, List, [], ◌∷◌, length, take, get_or, sum_by, refl, sym, subst, ap, ◌∙◌, arith, Fits, w64, Option, Some, None, slice_get}
+use Rattle.std.proofs.Common.{◌≡◌, ℕ, zero, suc, ◌+◌, ◌*◌, ◌<◌, ◌≤◌, List, [], ◌∷◌, length, take, get_or, sum_by, refl, sym, subst, ap, ◌∙◌, arith, Fits, w64, Option, Some, None, slice_get}
 use Rattle.std.proofs.Math.Nat.{mul-le-mul}
 use Rattle.std.proofs.lemmas.List.{take_all}
 use Rattle.std.proofs.lemmas.List.Sums.{sum_by-cons, sum_by_more, sum_by_more_le}
@@ -8,6 +8,7 @@ use Rattle.build_book.specs.Layer.{Layer, IsLawful, AreLawfulFrom, layers_area}
 use Rattle.build_book.specs.Places.{place_area, total_area}
 use Rattle.build_book.specs.Book.{IsLawfulPlace, IsLawfulBook}
 use Rattle.build_book.specs.Build.{IsComplete}
+use Rattle.build_book.specs.declared.limits.TheConstants.{VOXEL_LIMIT}
 use Rattle.build_book.proofs.lemmas.Areas.{area_of-le}
 use Rattle.geometry.specs.declared.limits.TheConstants.{COLUMN_LIMIT, LAYER_LIMIT}
 
@@ -36,14 +37,14 @@ layers_small job at (l ∷ ls) lawful =
     let rest : layers_area ls ≤ length ls * (job.grid.rows * job.grid.columns) = layers_small job (at + 1) ls lawful.1 in
     simp sum_by-cons (omega (arith, head, rest))
 
-product_small : (n rows columns : ℕ) → n ≤ LAYER_LIMIT → rows ≤ COLUMN_LIMIT → columns ≤ COLUMN_LIMIT → n * (rows * columns) < 2 ^ 64
+product_small : (n rows columns : ℕ) → n ≤ LAYER_LIMIT → rows ≤ COLUMN_LIMIT → columns ≤ COLUMN_LIMIT → n * (rows * columns) ≤ VOXEL_LIMIT
 product_small n rows columns few r c =
     let area : rows * columns ≤ COLUMN_LIMIT * COLUMN_LIMIT = mul-le-mul r c in
     let all : n * (rows * columns) ≤ LAYER_LIMIT * (COLUMN_LIMIT * COLUMN_LIMIT) = mul-le-mul few area in
     omega (arith, all)
 
 pub book_small : (job : Job) (ps : List (Option Layer)) → IsLawfulBook (record { job = job; places = ps })
-    → job.grid.layers ≤ LAYER_LIMIT → job.grid.rows ≤ COLUMN_LIMIT → job.grid.columns ≤ COLUMN_LIMIT → total_area ps < 2 ^ 64
+    → job.grid.layers ≤ LAYER_LIMIT → job.grid.rows ≤ COLUMN_LIMIT → job.grid.columns ≤ COLUMN_LIMIT → total_area ps ≤ VOXEL_LIMIT
 book_small job ps lawful few rows columns =
     omega (
       arith,
@@ -52,7 +53,7 @@ book_small job ps lawful few rows columns =
     )
 
 pub build_small : (job : Job) (layers : List Layer) → IsComplete job layers
-    → job.grid.layers ≤ LAYER_LIMIT → job.grid.rows ≤ COLUMN_LIMIT → job.grid.columns ≤ COLUMN_LIMIT → layers_area layers < 2 ^ 64
+    → job.grid.layers ≤ LAYER_LIMIT → job.grid.rows ≤ COLUMN_LIMIT → job.grid.columns ≤ COLUMN_LIMIT → layers_area layers ≤ VOXEL_LIMIT
 build_small job layers complete few rows columns =
     omega (
       arith,
@@ -67,7 +68,7 @@ more_sum f xs i x sum more so now at low =
     (λ j. so j + (now ∙ ap f at) j) ∙ sym (sum_by_more f xs i x low)
 
 pub more_fits : {X : Type 0} (f : X → ℕ) (xs : List X) (i : ℕ) (x : X) (sum more : ℕ) → sum ≡ sum_by f (take i xs) → more ≡ f x
-    → x ≡ get_or xs i x → i < length xs → sum_by f xs < 2 ^ 64 → Fits w64 (sum + more)
+    → x ≡ get_or xs i x → i < length xs → sum_by f xs ≤ VOXEL_LIMIT → Fits w64 (sum + more)
 more_fits f xs i x sum more so now at low small =
     let below : sum_by f (take i xs) + f (get_or xs i x) ≤ sum_by f xs = sum_by_more_le f xs i x low in
     let this : more ≡ f (get_or xs i x) = now ∙ ap f at in
