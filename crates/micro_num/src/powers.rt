@@ -49,28 +49,34 @@ pub(crate) fn power_of_ten(power: u64) -> u64
     POWERS[power as usize]
 }
 
-/// For each power of ten from 10 on, a reciprocal: 2 to the power 64 and as many more as `SHIFTS` says, divided by the
-/// power of ten, to the next higher whole number.
+/// A reciprocal: 2 to the power 64 and `shift` more, divided by a number, to the next higher whole number.
+macro_rules! reciprocal {
+    ($shift:expr, $number:expr) => {
+        ((1u128 << (64 + $shift)) / ($number as u128) + 1) as u64
+    };
+}
+
+/// The reciprocal of each power of ten from 10 on, for as many more bits as `SHIFTS` says.
 static RECIPROCALS: [u64; POWER_COUNT as usize - 1] = [
-    0xcccc_cccc_cccc_cccd,
-    0xa3d7_0a3d_70a3_d70b,
-    0x8312_6e97_8d4f_df3c,
-    0xd1b7_1758_e219_652c,
-    0xa7c5_ac47_1b47_8424,
-    0x8637_bd05_af6c_69b6,
-    0xd6bf_94d5_e57a_42bd,
-    0xabcc_7711_8461_cefd,
-    0x8970_5f41_36b4_a598,
-    0xdbe6_fece_bded_d5bf,
-    0xafeb_ff0b_cb24_aaff,
-    0x8cbc_cc09_6f50_88cc,
-    0xe12e_1342_4bb4_0e14,
-    0xb424_dc35_095c_d810,
-    0x901d_7cf7_3ab0_acda,
-    0xe695_94be_c44d_e15c,
-    0xb877_aa32_36a4_b44a,
-    0x9392_ee8e_921d_5d08,
-    0xec1e_4a7d_b695_61a6,
+    reciprocal!(3, 10),
+    reciprocal!(6, 100),
+    reciprocal!(9, THOUSAND),
+    reciprocal!(13, 10 * THOUSAND),
+    reciprocal!(16, 100 * THOUSAND),
+    reciprocal!(19, MILLION),
+    reciprocal!(23, 10 * MILLION),
+    reciprocal!(26, 100 * MILLION),
+    reciprocal!(29, BILLION),
+    reciprocal!(33, 10 * BILLION),
+    reciprocal!(36, 100 * BILLION),
+    reciprocal!(39, TRILLION),
+    reciprocal!(43, 10 * TRILLION),
+    reciprocal!(46, 100 * TRILLION),
+    reciprocal!(49, QUADRILLION),
+    reciprocal!(53, 10 * QUADRILLION),
+    reciprocal!(56, 100 * QUADRILLION),
+    reciprocal!(59, QUINTILLION),
+    reciprocal!(63, 10 * QUINTILLION),
 ];
 
 /// For each power of ten from 10 on, the exponent of the greatest power of 2 below it.
