@@ -1,8 +1,8 @@
 -- The chunks of a text, which a `TextReader` is fed one after another: what it knows of the text so far, whatever follows.
 --     TextReader    what a reader of chunks keeps
 --     whole         it, with the facets that were taken off the reader
---     IsReading     it has read a text up to a part that it has at hand
---     ReadsOn       it goes on from one part of a text to the next
+--     IsReading     it has read a text up to the bytes ahead, its last ones
+--     ReadsOn       it goes on to bytes further on
 --     IsAfter       it was fed these bytes
 --     StandsAt      where the reading of a text stands after a word
 --     EndsAt        where it stands at the end of the text
@@ -42,33 +42,33 @@ abbrev pub Sees : Bool → List ℕ → List ℕ → Type 0
 Sees true after rest = after ≡ after_line rest
 Sees false after rest = after_space after ≡ after_space rest
 
--- Whatever follows the text, the reader stands at a stage of it before the part at hand, which is a rest of the text. `held`
+-- Whatever follows the text, the reader stands at a stage of it before the bytes ahead, which are a rest of the text. `held`
 -- is the front of a word that is not whole yet, and `count` the length of the text.
-pub record Waits (limit : ℕ) (unit : LengthUnit) (p : TextReader) (stage : Stage) (in_line : Bool) (text part : List ℕ) : Type 0 where
+pub record Waits (limit : ℕ) (unit : LengthUnit) (p : TextReader) (stage : Stage) (in_line : Bool) (text ahead : List ℕ) : Type 0 where
   pub limit_is : p.limit ≡ limit
   pub unit_is : p.unit ≡ unit
   pub count_is : p.count ≡ length text
-  pub at_hand : IsRestOf text part
-  pub within : length p.held + length part ≤ length text
+  pub is_rest : IsRestOf text ahead
+  pub within : length p.held + length ahead ≤ length text
   pub clear : list_all (λ byte. not (is_white byte)) p.held ≡ true
   pub after : (more : List ℕ) → List ℕ
   pub stands : (more : List ℕ) → Stands limit unit stage p.facets (text ++ more) (after more)
-  pub sees : (more : List ℕ) → Sees in_line (after more) (p.held ++ (part ++ more))
+  pub sees : (more : List ℕ) → Sees in_line (after more) (p.held ++ (ahead ++ more))
 
 abbrev pub IsReadingAt : ℕ → LengthUnit → TextReader → ReaderState → List ℕ → List ℕ → Type 0
-IsReadingAt limit unit p (state.Word stage) text part = Waits limit unit p stage false text part
-IsReadingAt limit unit p (state.Line stage) text part = Waits limit unit p stage true text part × (p.held ≡ [])
-IsReadingAt limit unit p (state.Stopped f) text part = f ≢ fault.Memory → (more : List ℕ) → IsFaultOf limit unit (text ++ more) f
+IsReadingAt limit unit p (state.Word stage) text ahead = Waits limit unit p stage false text ahead
+IsReadingAt limit unit p (state.Line stage) text ahead = Waits limit unit p stage true text ahead × (p.held ≡ [])
+IsReadingAt limit unit p (state.Stopped f) text ahead = f ≢ fault.Memory → (more : List ℕ) → IsFaultOf limit unit (text ++ more) f
 
--- The reader has read a text up to its last part, which it has at hand, and these facets were taken off it. Where it
+-- The reader has read a text up to the bytes ahead, its last ones, and these facets were taken off it. Where it
 -- stopped at a fault, the fault is that of the text, whatever follows it.
 abbrev pub IsReading : ℕ → LengthUnit → List Facet → TextReader → List ℕ → List ℕ → Type 0
-IsReading limit unit taken p text part = IsReadingAt limit unit (whole taken p) p.state text part
+IsReading limit unit taken p text ahead = IsReadingAt limit unit (whole taken p) p.state text ahead
 
--- the reader goes on from a part of a text to a part after it: what it had read up to the one, it has read up to the other
+-- the reader goes on in a text: what it had read up to the bytes ahead, it has read up to those that are left of them
 abbrev pub ReadsOn : TextReader → List ℕ → TextReader → List ℕ → Type 0
-ReadsOn old part new rest = (limit : ℕ) (unit : LengthUnit) (taken : List Facet) (text : List ℕ)
-    → IsReading limit unit taken old text part → IsReading limit unit taken new text rest
+ReadsOn old ahead new rest = (limit : ℕ) (unit : LengthUnit) (taken : List Facet) (text : List ℕ)
+    → IsReading limit unit taken old text ahead → IsReading limit unit taken new text rest
 
 -- the reader was fed these bytes, and these facets were taken off it
 abbrev pub IsAfter : ℕ → LengthUnit → List Facet → TextReader → List ℕ → Type 0

@@ -12,7 +12,7 @@ use std::marker::Model;
 /// more than that; [`TextReader`](crate::TextReader) finds what is wrong there.
 #[derive(Drop)]
 pub(crate) struct Reader<'t> {
-    /// The part of the text that is not read yet.
+    /// The text that is not read yet.
     pub(crate) rest: &'t [u8],
     /// The unit of its numbers.
     pub(crate) unit: Unit,

@@ -1,4 +1,4 @@
-//! The reader of a text that is fed in chunks.
+//! The reader of a text that is fed in chunks. The bytes *ahead* are those of a chunk that it has not read yet.
 ghost use Rattle.std.specs.Prelude.{◌≡◌, ◌≢◌, ◌↔◌, ◌<◌, ◌≤◌, ◌+◌, ◌-◌, ℕ, [], ◌∷◌, ◌++◌, All, List, IfErr, IfOk, IfSome, IsTrue, MatchResult, None, length};
 ghost use Rattle.geometry.specs.Facet.{Facet};
 ghost use Rattle.geometry.specs.declared.limits.TheConstants.{FACET_LIMIT};
@@ -175,24 +175,24 @@ impl<A: Allocator> TextReader<A> {
         self.read_to(rest, &layout, 0);
     }
 
-    /// Jumps over a run, if it begins where this part does, `facet` or `endsolid` is wanted here and the limit has room for
-    /// its facets: answers the text after it. Else it answers the part.
-    fn jump<'p>(&mut self, part: &'p [u8], run: &FacetRun<'p, A>) -> &'p [u8]
-        requires free { 0 < length part.now → self.old.held ≡ [] }
+    /// Jumps over a run, if the bytes ahead begin with it, `facet` or `endsolid` is wanted there and the limit has room for
+    /// its facets: answers the bytes after it. Else it answers those ahead.
+    fn jump<'p>(&mut self, ahead: &'p [u8], run: &FacetRun<'p, A>) -> &'p [u8]
+        requires free { 0 < length ahead.now → self.old.held ≡ [] }
         ensures read { (limit : ℕ) (unit : LengthUnit) (taken : List Facet) (fed chunk : List ℕ)
             → IsFacetRun unit chunk run.now.facets.items run.now.from.now run.now.to.now
-            → IsReading limit unit taken self.old (fed ++ chunk) part.now
+            → IsReading limit unit taken self.old (fed ++ chunk) ahead.now
             → IsReading limit unit taken self.new (fed ++ chunk) result.now }
         ensures free { 0 < length result.now → self.new.held ≡ [] }
     {
-        if part.is_empty() || part.len() != run.from.len() {
-            return part;
+        if ahead.is_empty() || ahead.len() != run.from.len() {
+            return ahead;
         }
         if !is_among_facets(self.state) {
-            return part;
+            return ahead;
         }
         if self.limit.saturating_sub(self.facets.len()) < run.facets.len() {
-            return part;
+            return ahead;
         }
         let rest = run.to;
         if let Err(fault) = add_all(&mut self.facets, &run.facets) {
@@ -202,15 +202,15 @@ impl<A: Allocator> TextReader<A> {
         rest
     }
 
-    /// Reads a part of a text until at most `left` bytes of it are left: answers these.
-    fn read_to<'p>(&mut self, part: &'p [u8], layout: &Option<Layout<'_>>, left: usize) -> &'p [u8]
-        requires free { 0 < length part.now → self.old.held ≡ [] }
-        ensures read { ReadsOn self.old part.now self.new result.now }
+    /// Reads the bytes ahead until at most `left` of them are left: answers these.
+    fn read_to<'p>(&mut self, ahead: &'p [u8], layout: &Option<Layout<'_>>, left: usize) -> &'p [u8]
+        requires free { 0 < length ahead.now → self.old.held ≡ [] }
+        ensures read { ReadsOn self.old ahead.now self.new result.now }
         ensures free { 0 < length result.now → self.new.held ≡ [] }
         ensures left { length result.now ≤ left }
     {
-        let mut rest = part;
-        'part: while rest.len() > left {
+        let mut rest = ahead;
+        'ahead: while rest.len() > left {
             rest = self.advance(rest, layout);
         }
         rest
@@ -267,7 +267,7 @@ impl<A: Allocator> TextReader<A> {
         }
     }
 
-    /// Goes on with a word that the last chunk cut: answers the text after it.
+    /// Goes on with a word that the last chunk cut: answers the bytes after it.
     fn resume<'p>(&mut self, chunk: &'p [u8]) -> &'p [u8]
         ensures read { ReadsOn self.old chunk.now self.new result.now }
         ensures free { 0 < length result.now → self.new.held ≡ [] }
@@ -290,38 +290,38 @@ impl<A: Allocator> TextReader<A> {
         rest
     }
 
-    /// Reads what stands at the front of a part of a text that is not empty: answers the text after it.
-    fn advance<'p>(&mut self, part: &'p [u8], layout: &Option<Layout<'_>>) -> &'p [u8]
+    /// Reads what stands at the front of the bytes ahead, of which there is at least one: answers those after it.
+    fn advance<'p>(&mut self, ahead: &'p [u8], layout: &Option<Layout<'_>>) -> &'p [u8]
         requires free { self.old.held ≡ [] }
-        requires some { 0 < length part.now }
-        ensures read { ReadsOn self.old part.now self.new result.now }
+        requires some { 0 < length ahead.now }
+        ensures read { ReadsOn self.old ahead.now self.new result.now }
         ensures free { 0 < length result.now → self.new.held ≡ [] }
-        ensures shorter { length result.now < length part.now }
+        ensures shorter { length result.now < length ahead.now }
     {
         match self.state {
             ReaderState::Stopped(_) => &[],
-            ReaderState::Line(stage) => self.line(stage, part),
+            ReaderState::Line(stage) => self.line(stage, ahead),
             ReaderState::Word(stage) => {
                 if matches!(stage, Stage::Facets) {
-                    if let Some(rest) = self.facet(part, layout) {
+                    if let Some(rest) = self.facet(ahead, layout) {
                         return rest;
                     }
                 }
-                self.word(stage, part)
+                self.word(stage, ahead)
             },
         }
     }
 
     /// Reads the rest of a line, and its line break.
-    fn line<'p>(&mut self, stage: Stage, part: &'p [u8]) -> &'p [u8]
+    fn line<'p>(&mut self, stage: Stage, ahead: &'p [u8]) -> &'p [u8]
         requires free { self.old.held ≡ [] }
-        requires some { 0 < length part.now }
+        requires some { 0 < length ahead.now }
         requires state { self.old.state ≡ at_line stage }
-        ensures read { ReadsOn self.old part.now self.new result.now }
+        ensures read { ReadsOn self.old ahead.now self.new result.now }
         ensures free { 0 < length result.now → self.new.held ≡ [] }
-        ensures shorter { length result.now < length part.now }
+        ensures shorter { length result.now < length ahead.now }
     {
-        let rest = skip_line(part);
+        let rest = skip_line(ahead);
         if rest.is_empty() {
             return rest;
         }
@@ -330,20 +330,20 @@ impl<A: Allocator> TextReader<A> {
         after
     }
 
-    /// Reads a whole facet at the front, if there is one and the limit has room for it: answers the text after it.
+    /// Reads a whole facet at the front, if there is one and the limit has room for it: answers the bytes after it.
     #[inline(always)]
-    fn facet<'p>(&mut self, part: &'p [u8], layout: &Option<Layout<'_>>) -> Option<&'p [u8]>
+    fn facet<'p>(&mut self, ahead: &'p [u8], layout: &Option<Layout<'_>>) -> Option<&'p [u8]>
         requires free { self.old.held ≡ [] }
         requires state { self.old.state ≡ at_word in_facets }
-        ensures read { IfSome result (λ rest. ReadsOn self.old part.now self.new rest.now) }
+        ensures read { IfSome result (λ rest. ReadsOn self.old ahead.now self.new rest.now) }
         ensures free { IfSome result (λ rest. self.new.held ≡ []) }
-        ensures shorter { IfSome result (λ rest. length rest.now < length part.now) }
+        ensures shorter { IfSome result (λ rest. length rest.now < length ahead.now) }
         ensures none { result ≡ None → self.new ≡ self.old }
     {
         if self.facets.len() >= self.limit {
             return None;
         }
-        let Some(found) = front_facet(part, self.unit, layout) else {
+        let Some(found) = front_facet(ahead, self.unit, layout) else {
             return None;
         };
         let rest = found.1;
@@ -354,16 +354,16 @@ impl<A: Allocator> TextReader<A> {
         Some(rest)
     }
 
-    /// Reads the word at the front, or keeps it where the part ends in it: answers the text after it.
-    fn word<'p>(&mut self, stage: Stage, part: &'p [u8]) -> &'p [u8]
+    /// Reads the word at the front, or keeps it where the chunk ends in it: answers the bytes after it.
+    fn word<'p>(&mut self, stage: Stage, ahead: &'p [u8]) -> &'p [u8]
         requires free { self.old.held ≡ [] }
-        requires some { 0 < length part.now }
+        requires some { 0 < length ahead.now }
         requires state { self.old.state ≡ at_word stage }
-        ensures read { ReadsOn self.old part.now self.new result.now }
+        ensures read { ReadsOn self.old ahead.now self.new result.now }
         ensures free { 0 < length result.now → self.new.held ≡ [] }
-        ensures shorter { length result.now < length part.now }
+        ensures shorter { length result.now < length ahead.now }
     {
-        let front = skip_space(part);
+        let front = skip_space(ahead);
         if front.is_empty() {
             return front;
         }

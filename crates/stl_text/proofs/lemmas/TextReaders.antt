@@ -34,7 +34,7 @@ at_start limit unit = record {
   limit_is = omega arith;
   unit_is = refl;
   count_is = refl;
-  at_hand = whole_rest [];
+  is_rest = whole_rest [];
   within = omega arith;
   clear = refl;
   after = λ more. more;
@@ -50,7 +50,7 @@ begun_at limit unit p q in_line s fed chunk e w = subst (λ r. Waits limit unit 
   limit_is = w.limit_is;
   unit_is = w.unit_is;
   count_is = omega (arith, w.count_is, length-append fed chunk);
-  at_hand = added_rest fed chunk;
+  is_rest = added_rest fed chunk;
   within = omega (arith, w.within, length-append fed chunk);
   clear = w.clear;
   after = λ more. w.after (chunk ++ more);
@@ -77,11 +77,11 @@ pub record Next (limit : ℕ) (unit : LengthUnit) (s : Stage) (facets : List Fac
   pub at_word : (more : List ℕ) → AtWord limit unit s facets (text ++ more) (after more) word at
   pub left : (more : List ℕ) → after_word (after more) ≡ rest ++ more
 
-pub next_word : (limit : ℕ) (unit : LengthUnit) (p : TextReader) (s : Stage) (text part word rest : List ℕ) (at : ℕ)
-    → Waits limit unit p s false text part → list_all is_clear word ≡ true → 0 < length word → Starts is_white rest → 0 < length rest
-    → ((more : List ℕ) → after_space (p.held ++ (part ++ more)) ≡ word ++ (rest ++ more)) → at + (length word + length rest) ≡ length text
+pub next_word : (limit : ℕ) (unit : LengthUnit) (p : TextReader) (s : Stage) (text ahead word rest : List ℕ) (at : ℕ)
+    → Waits limit unit p s false text ahead → list_all is_clear word ≡ true → 0 < length word → Starts is_white rest → 0 < length rest
+    → ((more : List ℕ) → after_space (p.held ++ (ahead ++ more)) ≡ word ++ (rest ++ more)) → at + (length word + length rest) ≡ length text
     → Next limit unit s p.facets text word rest at
-next_word limit unit p s text part word rest at w clear some starts left_some spaced at_is = record {
+next_word limit unit p s text ahead word rest at w clear some starts left_some spaced at_is = record {
   after = w.after;
   at_word = λ more. record {
     stands = w.stands more;
@@ -107,24 +107,24 @@ pub moved : (limit : ℕ) (unit : LengthUnit) (q : TextReader) (s : Stage) (pl :
     → ((t after : List ℕ) → AtWord limit unit s facets t after word at → StandsAt limit unit pl q.facets t after)
     → q.limit ≡ limit → q.unit ≡ unit → q.count ≡ length text → q.held ≡ [] → IsRestOf text rest
     → IsReadingAt limit unit q pl text rest
-moved limit unit q s (state.Word u) facets text word rest at n read limit_is unit_is count_is none at_hand = record {
+moved limit unit q s (state.Word u) facets text word rest at n read limit_is unit_is count_is none is_rest = record {
   limit_is = limit_is;
   unit_is = unit_is;
   count_is = count_is;
-  at_hand = at_hand;
-  within = omega (arith, ap length none, rest_within text rest at_hand);
+  is_rest = is_rest;
+  within = omega (arith, ap length none, rest_within text rest is_rest);
   clear = ap (list_all is_clear) none;
   after = λ more. after_word (n.after more);
   stands = λ more. read (text ++ more) (n.after more) (n.at_word more);
   sees = λ more. ap after_space (n.left more ∙ ap (λ h. h ++ (rest ++ more)) (sym none));
 }
-moved limit unit q s (state.Line u) facets text word rest at n read limit_is unit_is count_is none at_hand = (
+moved limit unit q s (state.Line u) facets text word rest at n read limit_is unit_is count_is none is_rest = (
   record {
     limit_is = limit_is;
     unit_is = unit_is;
     count_is = count_is;
-    at_hand = at_hand;
-    within = omega (arith, ap length none, rest_within text rest at_hand);
+    is_rest = is_rest;
+    within = omega (arith, ap length none, rest_within text rest is_rest);
     clear = ap (list_all is_clear) none;
     after = λ more. after_line (after_word (n.after more));
     stands = λ more. read (text ++ more) (n.after more) (n.at_word more);
@@ -132,10 +132,10 @@ moved limit unit q s (state.Line u) facets text word rest at n read limit_is uni
   },
   none,
 )
-moved limit unit q s (state.Stopped f) facets text word rest at n read limit_is unit_is count_is none at_hand =
+moved limit unit q s (state.Stopped f) facets text word rest at n read limit_is unit_is count_is none is_rest =
     λ no more. read (text ++ more) (n.after more) (n.at_word more) no
 
--- The front of a part, up to white space.
+-- The front of some bytes, up to white space.
 
 pub front-clear : (p : ℕ → Bool) (xs : List ℕ) → list_all (λ x. not (p x)) (take (position_or_len p xs) xs) ≡ true
 front-clear p [] = refl
@@ -148,82 +148,82 @@ front-clear p (x ∷ xs) = at_head (front-clear p xs) (p x) refl
 
 -- The rest of a line.
 
--- the line goes on after the part
-pub line_on : (limit : ℕ) (unit : LengthUnit) (p : TextReader) (s : Stage) (text part rest : List ℕ) → IsReadingAt limit unit p (state.Line s) text part
-    → rest ≡ after_line part → rest ≡ [] → IsReadingAt limit unit p (state.Line s) text rest
-line_on limit unit p s text part rest is rest_is none =
+-- the line goes on after the bytes ahead
+pub line_on : (limit : ℕ) (unit : LengthUnit) (p : TextReader) (s : Stage) (text ahead rest : List ℕ) → IsReadingAt limit unit p (state.Line s) text ahead
+    → rest ≡ after_line ahead → rest ≡ [] → IsReadingAt limit unit p (state.Line s) text rest
+line_on limit unit p s text ahead rest is rest_is none =
     subst (λ r. IsReadingAt limit unit p (state.Line s) text r) (sym none) (
       record {
         limit_is = is.0.limit_is;
         unit_is = is.0.unit_is;
         count_is = is.0.count_is;
-        at_hand = no_rest text;
+        is_rest = no_rest text;
         within = omega (arith, is.0.within);
         clear = is.0.clear;
         after = is.0.after;
         stands = is.0.stands;
-        sees = λ more. is.0.sees more ∙ ap after_line (ap (λ h. h ++ (part ++ more)) is.1) ∙ line-over part more (sym rest_is ∙ none)
+        sees = λ more. is.0.sees more ∙ ap after_line (ap (λ h. h ++ (ahead ++ more)) is.1) ∙ line-over ahead more (sym rest_is ∙ none)
             ∙ ap after_line (ap (λ h. h ++ more) (sym is.1));
       },
       is.1,
     )
 
--- the line ends in the part
-pub line_ended : (limit : ℕ) (unit : LengthUnit) (p q : TextReader) (s : Stage) (text part rest : List ℕ) → IsReadingAt limit unit p (state.Line s) text part
+-- the line ends in the bytes ahead
+pub line_ended : (limit : ℕ) (unit : LengthUnit) (p q : TextReader) (s : Stage) (text ahead rest : List ℕ) → IsReadingAt limit unit p (state.Line s) text ahead
     → q.limit ≡ p.limit → q.unit ≡ p.unit → q.count ≡ p.count → q.held ≡ p.held → q.facets ≡ p.facets
-    → rest ≡ after_line part → 0 < length rest → length rest ≤ length part → IsReadingAt limit unit q (state.Word s) text rest
-line_ended limit unit p q s text part rest is limit_is unit_is count_is held_is facets_is rest_is some fewer =
+    → rest ≡ after_line ahead → 0 < length rest → length rest ≤ length ahead → IsReadingAt limit unit q (state.Word s) text rest
+line_ended limit unit p q s text ahead rest is limit_is unit_is count_is held_is facets_is rest_is some fewer =
     let none : q.held ≡ [] = held_is ∙ is.1 in
     record {
       limit_is = limit_is ∙ is.0.limit_is;
       unit_is = unit_is ∙ is.0.unit_is;
       count_is = count_is ∙ is.0.count_is;
-      at_hand = rest_then text part rest is.0.at_hand (drop_rest (position_or_len is_line_end part) part rest rest_is);
+      is_rest = rest_then text ahead rest is.0.is_rest (drop_rest (position_or_len is_line_end ahead) ahead rest rest_is);
       within = omega (arith, is.0.within, ap length held_is, fewer);
       clear = ap (list_all is_clear) none;
       after = is.0.after;
       stands = λ more. subst (λ fs. Stands limit unit s fs (text ++ more) (is.0.after more)) (sym facets_is) (is.0.stands more);
       sees = λ more. ap after_space
-          (is.0.sees more ∙ ap (λ h. after_line (h ++ (part ++ more))) is.1 ∙ line-on part more (subst (λ r. 0 < length r) rest_is some) ∙ ap (λ r. r ++ more) (sym rest_is)
+          (is.0.sees more ∙ ap (λ h. after_line (h ++ (ahead ++ more))) is.1 ∙ line-on ahead more (subst (λ r. 0 < length r) rest_is some) ∙ ap (λ r. r ++ more) (sym rest_is)
           ∙ ap (λ h. h ++ (rest ++ more)) (sym none));
     }
 
--- White space, and a word that goes on after the part.
+-- White space, and a word that goes on after the bytes ahead.
 
--- only white space is left of the part
-pub space_passed : (limit : ℕ) (unit : LengthUnit) (p : TextReader) (s : Stage) (text part rest : List ℕ) → Waits limit unit p s false text part
-    → p.held ≡ [] → rest ≡ after_space part → rest ≡ [] → Waits limit unit p s false text rest
-space_passed limit unit p s text part rest w none rest_is empty =
+-- only white space is ahead
+pub space_passed : (limit : ℕ) (unit : LengthUnit) (p : TextReader) (s : Stage) (text ahead rest : List ℕ) → Waits limit unit p s false text ahead
+    → p.held ≡ [] → rest ≡ after_space ahead → rest ≡ [] → Waits limit unit p s false text rest
+space_passed limit unit p s text ahead rest w none rest_is empty =
     subst (λ r. Waits limit unit p s false text r) (sym empty)
     (record {
       limit_is = w.limit_is;
       unit_is = w.unit_is;
       count_is = w.count_is;
-      at_hand = no_rest text;
+      is_rest = no_rest text;
       within = omega (arith, w.within);
       clear = w.clear;
       after = w.after;
       stands = w.stands;
-      sees = λ more. w.sees more ∙ ap (λ h. after_space (h ++ (part ++ more))) none ∙ space-over part more (sym rest_is ∙ empty)
+      sees = λ more. w.sees more ∙ ap (λ h. after_space (h ++ (ahead ++ more))) none ∙ space-over ahead more (sym rest_is ∙ empty)
           ∙ ap (λ h. after_space (h ++ more)) (sym none);
     })
 
--- what is seen of the part after its white space
-pub front_seen : (p : TextReader) (part front more : List ℕ) → p.held ≡ [] → front ≡ after_space part → 0 < length front
-    → after_space (p.held ++ (part ++ more)) ≡ front ++ more
-front_seen p part front more none front_is some =
-    ap (λ h. after_space (h ++ (part ++ more))) none ∙ space-on part more (subst (λ f. 0 < length f) front_is some) ∙ ap (λ f. f ++ more) (sym front_is)
+-- what is seen of the bytes ahead after their white space
+pub front_seen : (p : TextReader) (ahead front more : List ℕ) → p.held ≡ [] → front ≡ after_space ahead → 0 < length front
+    → after_space (p.held ++ (ahead ++ more)) ≡ front ++ more
+front_seen p ahead front more none front_is some =
+    ap (λ h. after_space (h ++ (ahead ++ more))) none ∙ space-on ahead more (subst (λ f. 0 < length f) front_is some) ∙ ap (λ f. f ++ more) (sym front_is)
 
 -- the front of a word is kept
-pub word_held : (limit : ℕ) (unit : LengthUnit) (p q : TextReader) (s : Stage) (text part word : List ℕ) → Waits limit unit p s false text part
+pub word_held : (limit : ℕ) (unit : LengthUnit) (p q : TextReader) (s : Stage) (text ahead word : List ℕ) → Waits limit unit p s false text ahead
     → q.limit ≡ p.limit → q.unit ≡ p.unit → q.count ≡ p.count → q.facets ≡ p.facets → q.held ≡ word
     → list_all is_clear word ≡ true → 0 < length word → length word ≤ length text
-    → ((more : List ℕ) → after_space (p.held ++ (part ++ more)) ≡ word ++ more) → Waits limit unit q s false text []
-word_held limit unit p q s text part word w limit_is unit_is count_is facets_is held_is clear some within seen = record {
+    → ((more : List ℕ) → after_space (p.held ++ (ahead ++ more)) ≡ word ++ more) → Waits limit unit q s false text []
+word_held limit unit p q s text ahead word w limit_is unit_is count_is facets_is held_is clear some within seen = record {
   limit_is = limit_is ∙ w.limit_is;
   unit_is = unit_is ∙ w.unit_is;
   count_is = count_is ∙ w.count_is;
-  at_hand = no_rest text;
+  is_rest = no_rest text;
   within = omega (arith, ap length held_is, within);
   clear = ap (list_all is_clear) held_is ∙ clear;
   after = w.after;
@@ -233,17 +233,17 @@ word_held limit unit p q s text part word w limit_is unit_is count_is facets_is 
 
 -- A whole facet.
 
-pub facet_passed : (limit : ℕ) (unit : LengthUnit) (p q : TextReader) (t : Facet) (text part rest : List ℕ) → Waits limit unit p stage.Facets false text part
-    → p.held ≡ [] → rest_after unit (facet_tokens t) part ≡ Some rest → 0 < length rest → length rest < length part → length p.facets < limit
+pub facet_passed : (limit : ℕ) (unit : LengthUnit) (p q : TextReader) (t : Facet) (text ahead rest : List ℕ) → Waits limit unit p stage.Facets false text ahead
+    → p.held ≡ [] → rest_after unit (facet_tokens t) ahead ≡ Some rest → 0 < length rest → length rest < length ahead → length p.facets < limit
     → q.limit ≡ p.limit → q.unit ≡ p.unit → q.count ≡ p.count → q.held ≡ p.held → q.facets ≡ p.facets ++ t ∷ []
     → Waits limit unit q stage.Facets false text rest
-facet_passed limit unit p q t text part rest w none spelled some fewer room limit_is unit_is count_is held_is facets_is =
+facet_passed limit unit p q t text ahead rest w none spelled some fewer room limit_is unit_is count_is held_is facets_is =
     let empty : q.held ≡ [] = held_is ∙ none in
     record {
       limit_is = limit_is ∙ w.limit_is;
       unit_is = unit_is ∙ w.unit_is;
       count_is = count_is ∙ w.count_is;
-      at_hand = rest_then text part rest w.at_hand (rest_after-rest unit (facet_tokens t) part rest spelled);
+      is_rest = rest_then text ahead rest w.is_rest (rest_after-rest unit (facet_tokens t) ahead rest spelled);
       within = omega (arith, ap length held_is, w.within, fewer);
       clear = ap (list_all is_clear) empty;
       after = λ more. rest ++ more;
@@ -252,29 +252,29 @@ facet_passed limit unit p q t text part rest w none spelled some fewer room limi
       sees = λ more. ap (λ h. after_space (h ++ (rest ++ more))) (sym empty);
     }
   where
-    seen : (more : List ℕ) → after_space (w.after more) ≡ after_space (part ++ more)
-    seen more = w.sees more ∙ ap (λ h. after_space (h ++ (part ++ more))) none
+    seen : (more : List ℕ) → after_space (w.after more) ≡ after_space (ahead ++ more)
+    seen more = w.sees more ∙ ap (λ h. after_space (h ++ (ahead ++ more))) none
 
     read : (more : List ℕ) → rest_after unit (facet_tokens t) (w.after more) ≡ Some (rest ++ more)
     read more =
-        seen_keyword unit FacetOrEnd facet_keyword (facet_tail t) (w.after more) (part ++ more) (rest ++ more) (seen more)
-        (tokens-on unit (facet_tokens t) part more rest spelled some)
+        seen_keyword unit FacetOrEnd facet_keyword (facet_tail t) (w.after more) (ahead ++ more) (rest ++ more) (seen more)
+        (tokens-on unit (facet_tokens t) ahead more rest spelled some)
 
 -- A run of facets.
 
-pub run_passed : (limit : ℕ) (unit : LengthUnit) (p q : TextReader) (facets : List Facet) (fed chunk part from to : List ℕ)
-    → Waits limit unit p stage.Facets false (fed ++ chunk) part → p.held ≡ [] → IsFacetRun unit chunk facets from to → length part ≡ length from
+pub run_passed : (limit : ℕ) (unit : LengthUnit) (p q : TextReader) (facets : List Facet) (fed chunk ahead from to : List ℕ)
+    → Waits limit unit p stage.Facets false (fed ++ chunk) ahead → p.held ≡ [] → IsFacetRun unit chunk facets from to → length ahead ≡ length from
     → length p.facets + length facets ≤ limit
     → q.limit ≡ p.limit → q.unit ≡ p.unit → q.count ≡ p.count → q.held ≡ p.held → q.facets ≡ p.facets ++ facets
     → Waits limit unit q stage.Facets false (fed ++ chunk) to
-run_passed limit unit p q facets fed chunk part from to w none run long room limit_is unit_is count_is held_is facets_is =
+run_passed limit unit p q facets fed chunk ahead from to w none run long room limit_is unit_is count_is held_is facets_is =
     let empty : q.held ≡ [] = held_is ∙ none in
     record {
       limit_is = limit_is ∙ w.limit_is;
       unit_is = unit_is ∙ w.unit_is;
       count_is = count_is ∙ w.count_is;
-      at_hand = at_hand;
-      within = omega (arith, ap length empty, rest_within (fed ++ chunk) to at_hand);
+      is_rest = is_rest;
+      within = omega (arith, ap length empty, rest_within (fed ++ chunk) to is_rest);
       clear = ap (list_all is_clear) empty;
       after = λ more. (passed more).after;
       stands = λ more. subst (λ fs. Stands limit unit stage.Facets fs ((fed ++ chunk) ++ more) (passed more).after) (sym facets_is) (passed more).stands;
@@ -284,11 +284,11 @@ run_passed limit unit p q facets fed chunk part from to w none run long room lim
     begins : IsRestOf (fed ++ chunk) from
     begins = rest_then (fed ++ chunk) chunk from (added_rest fed chunk) run.begins
 
-    here : part ≡ from
-    here = same_rest (fed ++ chunk) part from w.at_hand begins long
+    here : ahead ≡ from
+    here = same_rest (fed ++ chunk) ahead from w.is_rest begins long
 
-    at_hand : IsRestOf (fed ++ chunk) to
-    at_hand = rest_then (fed ++ chunk) from to begins run.ends
+    is_rest : IsRestOf (fed ++ chunk) to
+    is_rest = rest_then (fed ++ chunk) from to begins run.ends
 
     passed : (more : List ℕ) → StandsBefore limit unit (p.facets ++ facets) ((fed ++ chunk) ++ more) (to ++ more)
     passed more =
@@ -296,7 +296,7 @@ run_passed limit unit p q facets fed chunk part from to w none run long room lim
         (record {
           after = w.after more;
           stands = w.stands more;
-          sees = w.sees more ∙ ap (λ h. after_space (h ++ (part ++ more))) none ∙ ap (λ f. after_space (f ++ more)) here;
+          sees = w.sees more ∙ ap (λ h. after_space (h ++ (ahead ++ more))) none ∙ ap (λ f. after_space (f ++ more)) here;
         })
         room
 
@@ -352,7 +352,7 @@ pub ended_stopped : (limit : ℕ) (unit : LengthUnit) (p : TextReader) (f : StlF
     → EndsAt limit unit (state.Stopped f) p.facets fed
 ended_stopped limit unit p f fed is = λ no. subst (λ t. IsFaultOf limit unit t f) (append-nil fed) (is no [])
 
--- A part that is cut after its first word.
+-- Bytes that are cut after their first word.
 
 pub record Cut (front word rest : List ℕ) : Type 0 where
   pub clear : list_all is_clear word ≡ true
@@ -367,96 +367,96 @@ cut_at front word rest n n_is word_is rest_is = record {
 }
 
 -- after white space there is a word
-pub word_some : (part front word : List ℕ) (n : ℕ) → front ≡ after_space part → 0 < length front → n ≡ position_or_len is_white front → word ≡ take n front
+pub word_some : (ahead front word : List ℕ) (n : ℕ) → front ≡ after_space ahead → 0 < length front → n ≡ position_or_len is_white front → word ≡ take n front
     → 0 < length word
-word_some part front word n front_is some n_is word_is = by_word word refl
+word_some ahead front word n front_is some n_is word_is = by_word word refl
   where
     by_word : (w : List ℕ) → word ≡ w → 0 < length w
     by_word [] e =
-        let none : first_word part ≡ [] = ap (before_first is_white) (sym front_is) ∙ ap (λ k. take k front) (sym n_is) ∙ sym word_is ∙ e in
-        absurd (omega (arith, some, ap length (front_is ∙ no_word-space part none)))
+        let none : first_word ahead ≡ [] = ap (before_first is_white) (sym front_is) ∙ ap (λ k. take k front) (sym n_is) ∙ sym word_is ∙ e in
+        absurd (omega (arith, some, ap length (front_is ∙ no_word-space ahead none)))
     by_word (b ∷ bs) e = omega arith
 
-pub front_le : (part front : List ℕ) → front ≡ after_space part → length front ≤ length part
-front_le part front front_is = omega (arith, ap length front_is, after_space-le part)
+pub front_le : (ahead front : List ℕ) → front ≡ after_space ahead → length front ≤ length ahead
+front_le ahead front front_is = omega (arith, ap length front_is, after_space-le ahead)
 
 -- after a word, where the limit and the unit are those of the reader
 pub moved_by : (limit l : ℕ) (unit u : LengthUnit) (q : TextReader) (s : Stage) (pl : ReaderState) (facets : List Facet) (text word rest : List ℕ) (at : ℕ)
     → l ≡ limit → u ≡ unit → q.limit ≡ l → q.unit ≡ u → Next limit unit s facets text word rest at
     → ((t after : List ℕ) → AtWord l u s facets t after word at → StandsAt l u pl q.facets t after)
     → q.count ≡ length text → q.held ≡ [] → IsRestOf text rest → IsReadingAt limit unit q pl text rest
-moved_by limit l unit u q s pl facets text word rest at l_is u_is q_limit q_unit n read count_is none at_hand =
+moved_by limit l unit u q s pl facets text word rest at l_is u_is q_limit q_unit n read count_is none is_rest =
     subst (λ v. IsReadingAt limit v q pl text rest) u_is
     (subst (λ k. IsReadingAt k u q pl text rest) l_is
     (moved l u q s pl facets text word rest at
     (subst (λ v. Next l v s facets text word rest at) (sym u_is) (subst (λ k. Next k unit s facets text word rest at) (sym l_is) n))
-    read q_limit q_unit count_is none at_hand))
+    read q_limit q_unit count_is none is_rest))
 
--- The word at the front of a part, where none is kept.
+-- The word at the front of the bytes ahead, where none is kept.
 
-pub front_word : (limit : ℕ) (unit : LengthUnit) (p : TextReader) (s : Stage) (text part front word rest : List ℕ) (at n : ℕ)
-    → Waits limit unit p s false text part → p.held ≡ [] → front ≡ after_space part → n ≡ position_or_len is_white front → word ≡ take n front
+pub front_word : (limit : ℕ) (unit : LengthUnit) (p : TextReader) (s : Stage) (text ahead front word rest : List ℕ) (at n : ℕ)
+    → Waits limit unit p s false text ahead → p.held ≡ [] → front ≡ after_space ahead → n ≡ position_or_len is_white front → word ≡ take n front
     → rest ≡ drop n front → 0 < length rest → at ≡ p.count - length front → Next limit unit s p.facets text word rest at
-front_word limit unit p s text part front word rest at n w none front_is n_is word_is rest_is left_some at_is =
+front_word limit unit p s text ahead front word rest at n w none front_is n_is word_is rest_is left_some at_is =
     let cut : Cut front word rest = cut_at front word rest n n_is word_is rest_is in
     let lengths : length front ≡ length word + length rest = ap length cut.whole ∙ length-append word rest in
     let some : 0 < length front = omega (arith, lengths, left_some) in
-    next_word limit unit p s text part word rest at w cut.clear (word_some part front word n front_is some n_is word_is) cut.starts left_some
-    (λ more. front_seen p part front more none front_is some ∙ ap (λ f. f ++ more) cut.whole ∙ append_assoc word rest more)
-    (omega (arith, at_is, w.count_is, w.within, front_le part front front_is, lengths))
+    next_word limit unit p s text ahead word rest at w cut.clear (word_some ahead front word n front_is some n_is word_is) cut.starts left_some
+    (λ more. front_seen p ahead front more none front_is some ∙ ap (λ f. f ++ more) cut.whole ∙ append_assoc word rest more)
+    (omega (arith, at_is, w.count_is, w.within, front_le ahead front front_is, lengths))
 
--- The part ends in its first word, which is kept.
+-- The bytes ahead end in their first word, which is kept.
 
-pub front_held : (limit : ℕ) (unit : LengthUnit) (p q : TextReader) (s : Stage) (text part front word rest : List ℕ) (n : ℕ)
-    → Waits limit unit p s false text part → p.held ≡ [] → front ≡ after_space part → 0 < length front → n ≡ position_or_len is_white front
+pub front_held : (limit : ℕ) (unit : LengthUnit) (p q : TextReader) (s : Stage) (text ahead front word rest : List ℕ) (n : ℕ)
+    → Waits limit unit p s false text ahead → p.held ≡ [] → front ≡ after_space ahead → 0 < length front → n ≡ position_or_len is_white front
     → word ≡ take n front → rest ≡ drop n front → rest ≡ []
     → q.limit ≡ p.limit → q.unit ≡ p.unit → q.count ≡ p.count → q.facets ≡ p.facets → q.held ≡ p.held ++ word
     → Waits limit unit q s false text rest
-front_held limit unit p q s text part front word rest n w none front_is some n_is word_is rest_is empty limit_is unit_is count_is facets_is held_is =
+front_held limit unit p q s text ahead front word rest n w none front_is some n_is word_is rest_is empty limit_is unit_is count_is facets_is held_is =
     let cut : Cut front word rest = cut_at front word rest n n_is word_is rest_is in
     let same : front ≡ word = cut.whole ∙ ap (λ r. word ++ r) empty ∙ append-nil word in
     subst (λ r. Waits limit unit q s false text r) (sym empty)
-    (word_held limit unit p q s text part word w limit_is unit_is count_is facets_is (held_is ∙ ap (λ h. h ++ word) none) cut.clear
-    (subst (λ f. 0 < length f) same some) (omega (arith, ap length same, w.within, front_le part front front_is))
-    (λ more. front_seen p part front more none front_is some ∙ ap (λ f. f ++ more) same))
+    (word_held limit unit p q s text ahead word w limit_is unit_is count_is facets_is (held_is ∙ ap (λ h. h ++ word) none) cut.clear
+    (subst (λ f. 0 < length f) same some) (omega (arith, ap length same, w.within, front_le ahead front front_is))
+    (λ more. front_seen p ahead front more none front_is some ∙ ap (λ f. f ++ more) same))
 
 -- A word that was kept goes on.
 
-joined : (held word rest more part : List ℕ) → part ≡ word ++ rest → held ++ (part ++ more) ≡ (held ++ word) ++ (rest ++ more)
-joined held word rest more part whole =
+joined : (held word rest more ahead : List ℕ) → ahead ≡ word ++ rest → held ++ (ahead ++ more) ≡ (held ++ word) ++ (rest ++ more)
+joined held word rest more ahead whole =
     ap (λ v. held ++ (v ++ more)) whole ∙ ap (λ v. held ++ v) (append_assoc word rest more) ∙ sym (append_assoc held word (rest ++ more))
 
 kept_clear : (held word : List ℕ) → list_all is_clear held ≡ true → list_all is_clear word ≡ true → list_all is_clear (held ++ word) ≡ true
 kept_clear held word h k = list_all-append is_clear held word ∙ rw h k
 
-pub kept_word : (limit : ℕ) (unit : LengthUnit) (p : TextReader) (s : Stage) (text part kept word rest : List ℕ) (at n : ℕ)
-    → Waits limit unit p s false text part → 0 < length p.held → n ≡ position_or_len is_white part → word ≡ take n part → rest ≡ drop n part
+pub kept_word : (limit : ℕ) (unit : LengthUnit) (p : TextReader) (s : Stage) (text ahead kept word rest : List ℕ) (at n : ℕ)
+    → Waits limit unit p s false text ahead → 0 < length p.held → n ≡ position_or_len is_white ahead → word ≡ take n ahead → rest ≡ drop n ahead
     → kept ≡ p.held ++ word → 0 < length rest → at ≡ p.count - length rest - length kept → Next limit unit s p.facets text kept rest at
-kept_word limit unit p s text part kept word rest at n w some n_is word_is rest_is kept_is left_some at_is =
-    let cut : Cut part word rest = cut_at part word rest n n_is word_is rest_is in
-    let lengths : length part ≡ length word + length rest = ap length cut.whole ∙ length-append word rest in
+kept_word limit unit p s text ahead kept word rest at n w some n_is word_is rest_is kept_is left_some at_is =
+    let cut : Cut ahead word rest = cut_at ahead word rest n n_is word_is rest_is in
+    let lengths : length ahead ≡ length word + length rest = ap length cut.whole ∙ length-append word rest in
     let size : length kept ≡ length p.held + length word = ap length kept_is ∙ length-append p.held word in
     let clear : list_all is_clear kept ≡ true = ap (list_all is_clear) kept_is ∙ kept_clear p.held word w.clear cut.clear in
     let kept_some : 0 < length kept = omega (arith, size, some) in
-    next_word limit unit p s text part kept rest at w clear kept_some cut.starts left_some
-    (λ more. ap after_space (joined p.held word rest more part cut.whole ∙ ap (λ k. k ++ (rest ++ more)) (sym kept_is))
+    next_word limit unit p s text ahead kept rest at w clear kept_some cut.starts left_some
+    (λ more. ap after_space (joined p.held word rest more ahead cut.whole ∙ ap (λ k. k ++ (rest ++ more)) (sym kept_is))
     ∙ word-first kept (rest ++ more) kept_some clear)
     (omega (arith, at_is, w.count_is, w.within, lengths, size))
 
-pub kept_on : (limit : ℕ) (unit : LengthUnit) (p q : TextReader) (s : Stage) (text part word rest last : List ℕ) (n : ℕ)
-    → Waits limit unit p s false text part → 0 < length p.held → n ≡ position_or_len is_white part → word ≡ take n part → rest ≡ drop n part
+pub kept_on : (limit : ℕ) (unit : LengthUnit) (p q : TextReader) (s : Stage) (text ahead word rest last : List ℕ) (n : ℕ)
+    → Waits limit unit p s false text ahead → 0 < length p.held → n ≡ position_or_len is_white ahead → word ≡ take n ahead → rest ≡ drop n ahead
     → rest ≡ [] → last ≡ []
     → q.limit ≡ p.limit → q.unit ≡ p.unit → q.count ≡ p.count → q.facets ≡ p.facets → q.held ≡ p.held ++ word
     → Waits limit unit q s false text last
-kept_on limit unit p q s text part word rest last n w some n_is word_is rest_is empty last_is limit_is unit_is count_is facets_is held_is =
-    let cut : Cut part word rest = cut_at part word rest n n_is word_is rest_is in
-    let same : part ≡ word = cut.whole ∙ ap (λ r. word ++ r) empty ∙ append-nil word in
+kept_on limit unit p q s text ahead word rest last n w some n_is word_is rest_is empty last_is limit_is unit_is count_is facets_is held_is =
+    let cut : Cut ahead word rest = cut_at ahead word rest n n_is word_is rest_is in
+    let same : ahead ≡ word = cut.whole ∙ ap (λ r. word ++ r) empty ∙ append-nil word in
     let kept : List ℕ = p.held ++ word in
     let size : length kept ≡ length p.held + length word = length-append p.held word in
     let clear : list_all is_clear kept ≡ true = kept_clear p.held word w.clear cut.clear in
     let kept_some : 0 < length kept = omega (arith, size, some) in
     subst (λ r. Waits limit unit q s false text r) (sym last_is)
-    (word_held limit unit p q s text part kept w limit_is unit_is count_is facets_is held_is clear kept_some
+    (word_held limit unit p q s text ahead kept w limit_is unit_is count_is facets_is held_is clear kept_some
     (omega (arith, size, w.within, ap length same))
     (λ more. ap after_space (ap (λ v. p.held ++ (v ++ more)) same ∙ sym (append_assoc p.held word more)) ∙ word-first kept more kept_some clear))
 
@@ -478,16 +478,16 @@ break_seen : (rest more : List ℕ) → Starts is_line_end rest → 0 < length r
 break_seen [] more starts some = absurd (omega (arith, some))
 break_seen (b ∷ bs) more starts some = rw (line_white b starts) (rw one-add refl)
 
-pub break_passed : (limit : ℕ) (unit : LengthUnit) (q : TextReader) (s : Stage) (text part rest last : List ℕ) → Waits limit unit q s false text rest
-    → q.held ≡ [] → rest ≡ after_line part → 0 < length rest → last ≡ drop 1 rest → Waits limit unit q s false text last
-break_passed limit unit q s text part rest last w none rest_is some last_is =
-    let starts : Starts is_line_end rest = subst (Starts is_line_end) (sym rest_is) (from_starts is_line_end part) in
+pub break_passed : (limit : ℕ) (unit : LengthUnit) (q : TextReader) (s : Stage) (text ahead rest last : List ℕ) → Waits limit unit q s false text rest
+    → q.held ≡ [] → rest ≡ after_line ahead → 0 < length rest → last ≡ drop 1 rest → Waits limit unit q s false text last
+break_passed limit unit q s text ahead rest last w none rest_is some last_is =
+    let starts : Starts is_line_end rest = subst (Starts is_line_end) (sym rest_is) (from_starts is_line_end ahead) in
     subst (λ r. Waits limit unit q s false text r) (sym last_is)
     (record {
       limit_is = w.limit_is;
       unit_is = w.unit_is;
       count_is = w.count_is;
-      at_hand = rest_then text rest (drop 1 rest) w.at_hand (drop_rest 1 rest (drop 1 rest) refl);
+      is_rest = rest_then text rest (drop 1 rest) w.is_rest (drop_rest 1 rest (drop 1 rest) refl);
       within = omega (arith, w.within, length-drop 1 rest);
       clear = w.clear;
       after = w.after;
@@ -536,11 +536,11 @@ ends_stage limit unit pl s facets others fed (inr state_is) facets_is e =
     ends_with limit unit pl (state.Line s) facets others fed state_is facets_is e
 
 -- a reader that did not stop at a fault has the unit of the text
-pub unit_known : (limit : ℕ) (unit : LengthUnit) (p : TextReader) (pl : ReaderState) (text part : List ℕ) → IsReadingAt limit unit p pl text part
+pub unit_known : (limit : ℕ) (unit : LengthUnit) (p : TextReader) (pl : ReaderState) (text ahead : List ℕ) → IsReadingAt limit unit p pl text ahead
     → ((f : StlFault) → pl ≡ state.Stopped f → ⊥) → p.unit ≡ unit
-unit_known limit unit p (state.Word s) text part is going = is.unit_is
-unit_known limit unit p (state.Line s) text part is going = is.0.unit_is
-unit_known limit unit p (state.Stopped f) text part is going = absurd (going f refl)
+unit_known limit unit p (state.Word s) text ahead is going = is.unit_is
+unit_known limit unit p (state.Line s) text ahead is going = is.0.unit_is
+unit_known limit unit p (state.Stopped f) text ahead is going = absurd (going f refl)
 
 -- The facets so far are taken off the reader.
 
@@ -554,29 +554,29 @@ pub within_limit : (limit : ℕ) (unit : LengthUnit) (s : Stage) (facets : List 
     → length facets ≤ limit
 within_limit limit unit s facets text after st = within_form limit (length facets) s st.solids st.added st.form
 
--- a reader that keeps the same but for the part of the limit that is left
-same_whole : (limit : ℕ) (unit : LengthUnit) (p q : TextReader) (s : Stage) (in_line : Bool) (text part : List ℕ) → Waits limit unit p s in_line text part
+-- a reader that keeps the same but for what is left of the limit
+same_whole : (limit : ℕ) (unit : LengthUnit) (p q : TextReader) (s : Stage) (in_line : Bool) (text ahead : List ℕ) → Waits limit unit p s in_line text ahead
     → (length p.facets ≤ p.limit → q.limit ≡ p.limit) → q.unit ≡ p.unit → q.count ≡ p.count → q.held ≡ p.held → q.facets ≡ p.facets
-    → Waits limit unit q s in_line text part
-same_whole limit unit p q s in_line text part w limit_is unit_is count_is held_is facets_is =
+    → Waits limit unit q s in_line text ahead
+same_whole limit unit p q s in_line text ahead w limit_is unit_is count_is held_is facets_is =
     let few : length p.facets ≤ limit = within_limit limit unit s p.facets (text ++ []) (w.after []) (w.stands []) in
     record {
       limit_is = limit_is (omega (arith, few, w.limit_is)) ∙ w.limit_is;
       unit_is = unit_is ∙ w.unit_is;
       count_is = count_is ∙ w.count_is;
-      at_hand = w.at_hand;
+      is_rest = w.is_rest;
       within = omega (arith, ap length held_is, w.within);
       clear = ap (list_all is_clear) held_is ∙ w.clear;
       after = w.after;
       stands = λ more. subst (λ fs. Stands limit unit s fs (text ++ more) (w.after more)) (sym facets_is) (w.stands more);
-      sees = λ more. subst (λ h. Sees in_line (w.after more) (h ++ (part ++ more))) (sym held_is) (w.sees more);
+      sees = λ more. subst (λ h. Sees in_line (w.after more) (h ++ (ahead ++ more))) (sym held_is) (w.sees more);
     }
 
-pub taken_off : (limit : ℕ) (unit : LengthUnit) (p q : TextReader) (pl : ReaderState) (text part : List ℕ) → IsReadingAt limit unit p pl text part
+pub taken_off : (limit : ℕ) (unit : LengthUnit) (p q : TextReader) (pl : ReaderState) (text ahead : List ℕ) → IsReadingAt limit unit p pl text ahead
     → (length p.facets ≤ p.limit → q.limit ≡ p.limit) → q.unit ≡ p.unit → q.count ≡ p.count → q.held ≡ p.held → q.facets ≡ p.facets
-    → IsReadingAt limit unit q pl text part
-taken_off limit unit p q (state.Word s) text part is limit_is unit_is count_is held_is facets_is =
-    same_whole limit unit p q s false text part is limit_is unit_is count_is held_is facets_is
-taken_off limit unit p q (state.Line s) text part is limit_is unit_is count_is held_is facets_is =
-    (same_whole limit unit p q s true text part is.0 limit_is unit_is count_is held_is facets_is, held_is ∙ is.1)
-taken_off limit unit p q (state.Stopped f) text part is limit_is unit_is count_is held_is facets_is = is
+    → IsReadingAt limit unit q pl text ahead
+taken_off limit unit p q (state.Word s) text ahead is limit_is unit_is count_is held_is facets_is =
+    same_whole limit unit p q s false text ahead is limit_is unit_is count_is held_is facets_is
+taken_off limit unit p q (state.Line s) text ahead is limit_is unit_is count_is held_is facets_is =
+    (same_whole limit unit p q s true text ahead is.0 limit_is unit_is count_is held_is facets_is, held_is ∙ is.1)
+taken_off limit unit p q (state.Stopped f) text ahead is limit_is unit_is count_is held_is facets_is = is

@@ -14,15 +14,15 @@ returns-clause-read g c = λ limit unit taken text is.
     let i = c.self.inside in
     let p : TextReader = record { limit = length taken + i.limit; unit = i.unit; count = i.count; state = i.state; held = i.held.items; facets = taken ++ i.facets.items } in
     let q : TextReader = record { limit = length taken + i.limit; unit = i.unit; count = i.count; state = i.state; held = i.held.items; facets = taken ++ c.add.new.facets.items } in
-    let part = c.args.part.now in
+    let ahead = c.args.ahead.now in
     let rest = c.in-Some.found.1.now in
     let at_state : i.state ≡ at_word in_facets = ap (λ r. r.state) c.self.view_is ∙ c.requires.state in
     let free : i.held.items ≡ [] = ap (λ r. r.held) c.self.view_is ∙ c.requires.free in
-    let here : IsReadingAt limit unit p i.state text part = subst (λ r. IsReading limit unit taken r text part) (sym c.self.view_is) is in
-    let w : Waits limit unit p in_facets false text part = subst (λ pl. IsReadingAt limit unit p pl text part) at_state here in
+    let here : IsReadingAt limit unit p i.state text ahead = subst (λ r. IsReading limit unit taken r text ahead) (sym c.self.view_is) is in
+    let w : Waits limit unit p in_facets false text ahead = subst (λ pl. IsReadingAt limit unit p pl text ahead) at_state here in
     let room : length (taken ++ i.facets.items) < limit =
     omega (arith, w.limit_is, c.len.ensures, i.facets.ok.0, c.if-len-self.false, length-append taken i.facets.items) in
     subst (λ pl. IsReadingAt limit unit q pl text rest) (sym at_state)
-    (facet_passed limit unit p q c.in-Some.found.0 text part rest w free
-    (subst (λ u. rest_after u (facet_tokens c.in-Some.found.0) part ≡ Some rest) w.unit_is c.in-Some.ensures.read) c.in-Some.ensures.some
+    (facet_passed limit unit p q c.in-Some.found.0 text ahead rest w free
+    (subst (λ u. rest_after u (facet_tokens c.in-Some.found.0) ahead ≡ Some rest) w.unit_is c.in-Some.ensures.read) c.in-Some.ensures.some
     c.in-Some.ensures.shorter room refl refl refl refl (ap (λ fs. taken ++ fs) c.in_default-add.ensures.added ∙ sym (append_assoc taken i.facets.items (c.in-Some.found.0 ∷ []))))

@@ -14,14 +14,14 @@ returns-clause-read g c = λ limit unit taken fed chunk run is.
     let p : TextReader = record { limit = length taken + i.limit; unit = i.unit; count = i.count; state = i.state; held = i.held.items; facets = taken ++ i.facets.items } in
     let q : TextReader = record { limit = length taken + i.limit; unit = i.unit; count = i.count; state = i.state; held = i.held.items; facets = taken ++ c.add_all.new.facets.items } in
     let text = fed ++ chunk in
-    let part = c.args.part.now in
+    let ahead = c.args.ahead.now in
     let facets = c.args.run.now.facets in
     let to = c.args.run.now.to.now in
-    let some : 0 < length part = omega (arith, eqb-false (length part) 0 (sym c.is_empty.ensures ∙ c.if-is_empty.false)) in
+    let some : 0 < length ahead = omega (arith, eqb-false (length ahead) 0 (sym c.is_empty.ensures ∙ c.if-is_empty.false)) in
     let free : i.held.items ≡ [] = ap (λ r. r.held) c.self.view_is ∙ c.requires.free some in
     let at_state : i.state ≡ at_word in_facets = c.is_among_facets.ensures.0 c.if-not-is_among_facets.false in
-    let here : IsReadingAt limit unit p i.state text part = subst (λ r. IsReading limit unit taken r text part) (sym c.self.view_is) is in
-    let w : Waits limit unit p in_facets false text part = subst (λ pl. IsReadingAt limit unit p pl text part) at_state here in
+    let here : IsReadingAt limit unit p i.state text ahead = subst (λ r. IsReading limit unit taken r text ahead) (sym c.self.view_is) is in
+    let w : Waits limit unit p in_facets false text ahead = subst (λ pl. IsReadingAt limit unit p pl text ahead) at_state here in
     let room : length (taken ++ i.facets.items) + length facets.items ≤ limit =
     omega (
       arith,
@@ -36,6 +36,6 @@ returns-clause-read g c = λ limit unit taken fed chunk run is.
       length-append taken i.facets.items,
     ) in
     subst (λ pl. IsReadingAt limit unit q pl text to) (sym at_state)
-    (run_passed limit unit p q facets.items fed chunk part c.args.run.now.from.now to w free run c.if-part-run.false room refl refl refl refl
+    (run_passed limit unit p q facets.items fed chunk ahead c.args.run.now.from.now to w free run c.if-ahead-run.false room refl refl refl refl
     (ap (λ fs. taken ++ fs) (c.in_default.ensures.added ∙ ap (λ xs. i.facets.items ++ xs) c.deref.ensures.value)
     ∙ sym (append_assoc taken i.facets.items facets.items)))

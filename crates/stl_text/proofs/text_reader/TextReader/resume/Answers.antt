@@ -44,4 +44,4 @@ returns-clause-read g c = λ limit unit taken text is.
     (kept_word limit unit p stage text chunk kept word rest at c.word_len.result w some c.word_len.ensures.len c.split_at.ensures.front
     c.split_at.ensures.back c.in_default-hold.ensures.held left refl)
     (c.read_held.ensures.read taken) (c.read_held.ensures.same.2 ∙ w.count_is) c.read_held.ensures.free
-    (rest_then text chunk rest w.at_hand (drop_rest c.word_len.result chunk rest c.split_at.ensures.back))
+    (rest_then text chunk rest w.is_rest (drop_rest c.word_len.result chunk rest c.split_at.ensures.back))

@@ -11,11 +11,11 @@ use Rattle.stl_text.proofs.text_reader.TextReader.word.Goals as goal
 pub returns-then-is_empty-clause-read : goal.returns-then-is_empty-clause-read
 returns-then-is_empty-clause-read g c = λ limit unit taken text is.
     let p : TextReader = whole taken c.args.self.now in
-    let part = c.args.part.now in
+    let ahead = c.args.ahead.now in
     let front = c.skip_space-front.result.now in
-    let w : Waits limit unit p c.args.stage false text part = subst (λ pl. IsReadingAt limit unit p pl text part) c.requires.state is in
+    let w : Waits limit unit p c.args.stage false text ahead = subst (λ pl. IsReadingAt limit unit p pl text ahead) c.requires.state is in
     subst (λ pl. IsReadingAt limit unit p pl text front) (sym c.requires.state)
-    (space_passed limit unit p c.args.stage text part front w c.requires.free c.skip_space-front.ensures
+    (space_passed limit unit p c.args.stage text ahead front w c.requires.free c.skip_space-front.ensures
     (empty-list front (sym c.is_empty.ensures ∙ c.if-is_empty.true)))
 
 pub returns-in_default-clause-read : goal.returns-in_default-clause-read
@@ -23,16 +23,16 @@ returns-in_default-clause-read g c = λ limit unit taken text is.
     let i = c.self.inside in
     let p : TextReader = record { limit = length taken + i.limit; unit = i.unit; count = i.count; state = i.state; held = i.held.items; facets = taken ++ i.facets.items } in
     let q : TextReader = record { limit = length taken + i.limit; unit = i.unit; count = i.count; state = i.state; held = c.hold.new.held.items; facets = taken ++ i.facets.items } in
-    let part = c.args.part.now in
+    let ahead = c.args.ahead.now in
     let front = c.skip_space-front.result.now in
     let rest = c.split_at.result.1.now in
     let at_state : i.state ≡ at_word c.args.stage = ap (λ r. r.state) c.self.view_is ∙ c.requires.state in
     let free : i.held.items ≡ [] = ap (λ r. r.held) c.self.view_is ∙ c.requires.free in
-    let here : IsReadingAt limit unit p i.state text part = subst (λ r. IsReading limit unit taken r text part) (sym c.self.view_is) is in
-    let w : Waits limit unit p c.args.stage false text part = subst (λ pl. IsReadingAt limit unit p pl text part) at_state here in
+    let here : IsReadingAt limit unit p i.state text ahead = subst (λ r. IsReading limit unit taken r text ahead) (sym c.self.view_is) is in
+    let w : Waits limit unit p c.args.stage false text ahead = subst (λ pl. IsReadingAt limit unit p pl text ahead) at_state here in
     let some : 0 < length front = omega (arith, eqb-false (length front) 0 (sym c.is_empty.ensures ∙ c.if-is_empty.false)) in
     subst (λ pl. IsReadingAt limit unit q pl text rest) (sym at_state)
-    (front_held limit unit p q c.args.stage text part front c.split_at.result.0.now rest c.word_len.result w free c.skip_space-front.ensures some
+    (front_held limit unit p q c.args.stage text ahead front c.split_at.result.0.now rest c.word_len.result w free c.skip_space-front.ensures some
     c.word_len.ensures.len c.split_at.ensures.front c.split_at.ensures.back (empty-list rest (sym c.is_empty-2.ensures ∙ c.if-is_empty-2.true))
     refl refl refl refl c.in_default.ensures.held)
 
@@ -48,22 +48,22 @@ returns-clause-read g c = λ limit unit taken text is.
       held = i.held.items;
       facets = taken ++ c.read_word-self-inside.new.facets.items;
     } in
-    let part = c.args.part.now in
+    let ahead = c.args.ahead.now in
     let front = c.skip_space-front.result.now in
     let rest = c.split_at.result.1.now in
     let word = c.split_at.result.0.now in
     let at_state : i.state ≡ at_word c.args.stage = ap (λ r. r.state) c.self.view_is ∙ c.requires.state in
     let free : i.held.items ≡ [] = ap (λ r. r.held) c.self.view_is ∙ c.requires.free in
-    let here : IsReadingAt limit unit p i.state text part = subst (λ r. IsReading limit unit taken r text part) (sym c.self.view_is) is in
-    let w : Waits limit unit p c.args.stage false text part = subst (λ pl. IsReadingAt limit unit p pl text part) at_state here in
+    let here : IsReadingAt limit unit p i.state text ahead = subst (λ r. IsReading limit unit taken r text ahead) (sym c.self.view_is) is in
+    let w : Waits limit unit p c.args.stage false text ahead = subst (λ pl. IsReadingAt limit unit p pl text ahead) at_state here in
     let left : 0 < length rest = omega (arith, eqb-false (length rest) 0 (sym c.is_empty-2.ensures ∙ c.if-is_empty-2.false)) in
     moved_by limit (length taken + i.limit) unit i.unit q c.args.stage c.read_word-self-inside.result (taken ++ i.facets.items) text word rest c.saturating_sub-at.result
     w.limit_is w.unit_is refl refl
-    (front_word limit unit p c.args.stage text part front word rest c.saturating_sub-at.result c.word_len.result w free c.skip_space-front.ensures
+    (front_word limit unit p c.args.stage text ahead front word rest c.saturating_sub-at.result c.word_len.result w free c.skip_space-front.ensures
     c.word_len.ensures.len c.split_at.ensures.front c.split_at.ensures.back left c.saturating_sub-at.ensures)
     (c.read_word-self-inside.ensures taken) w.count_is free
-    (rest_then text part rest w.at_hand
-    (rest_then part front rest (drop_rest (prefix_len is_white part) part front c.skip_space-front.ensures)
+    (rest_then text ahead rest w.is_rest
+    (rest_then ahead front rest (drop_rest (prefix_len is_white ahead) ahead front c.skip_space-front.ensures)
     (drop_rest c.word_len.result front rest c.split_at.ensures.back)))
 
 pub returns-clause-shorter : goal.returns-clause-shorter
@@ -71,5 +71,5 @@ returns-clause-shorter g c =
     let front = c.skip_space-front.result.now in
     let some : 0 < length front = omega (arith, eqb-false (length front) 0 (sym c.is_empty.ensures ∙ c.if-is_empty.false)) in
     let word : 0 < length c.split_at.result.0.now =
-    word_some c.args.part.now front c.split_at.result.0.now c.word_len.result c.skip_space-front.ensures some c.word_len.ensures.len c.split_at.ensures.front in
-    omega (arith, word, front_le c.args.part.now front c.skip_space-front.ensures, c.split_at.ensures.front_len, c.split_at.ensures.back_len, c.word_len.ensures.within)
+    word_some c.args.ahead.now front c.split_at.result.0.now c.word_len.result c.skip_space-front.ensures some c.word_len.ensures.len c.split_at.ensures.front in
+    omega (arith, word, front_le c.args.ahead.now front c.skip_space-front.ensures, c.split_at.ensures.front_len, c.split_at.ensures.back_len, c.word_len.ensures.within)
