@@ -10,7 +10,7 @@
 //! ```
 //!
 //! - [`Job`]: what is to be sliced, in which grid, by which rule. Its layers are cut into stripes, slabs of
-//!   [`STRIPE_LAYERS`] layers.
+//!   [`STRIPE_LAYERS`] layers; a job with the most layers has [`MOST_STRIPES`] of them.
 //! - [`Layer`]: the loops, the filled pixels and their area, of one plane. Areas are counts of pixels.
 //! - [`Piece`]: the layers of one stripe. [`slice_stripe`] makes one; a [`Slicer`] makes several and keeps its memory.
 //! - [`Book`]: a place for each layer. Pieces are filed in any order, and [`FileFault`] says why one is not.

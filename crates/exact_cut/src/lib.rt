@@ -9,11 +9,15 @@
 //! ray_hit(&f, &Centre::new(5, 4, 10)?)    // 0: the facet lies behind
 //! ```
 //!
-//! The types: [`Centre`], a point that a ray starts from; [`Cut`], the two edges that pass a height; [`Crossing`], where
-//! a scanline crosses a facet, as a fraction, and [`column`], the first pixel that is not left of it; [`Lattice`], the
-//! pixel centres of a layer, and [`Walk`], a facet's crossings with all of their rows, by a digital differential
-//! analyser (DDA) in place of a division a row; [`PlanePoint`] and [`start_point`], where a plane passes a facet's edge, to
-//! the nearest half-micrometre. [`hold_laws`] states the laws that hold for every facet.
+//! - [`Cut`], [`cuts`]: the two edges of a facet that pass a height.
+//! - [`Crossing`], [`crossing`]: where a scanline crosses a facet, as a fraction; [`column`]: the first pixel that is not
+//!   left of it.
+//! - [`Lattice`]: the pixel centres of a layer; [`Walk`]: a facet's crossings with all of their rows, by a digital
+//!   differential analyser (DDA) in place of a division a row.
+//! - [`Centre`]: a point that a ray starts from; [`ray_hit`], [`ray_hit_y`]: how the ray from there along x, and along y,
+//!   crosses a facet.
+//! - [`PlanePoint`], [`start_point`]: where a plane passes a facet's edge, to the nearest half-micrometre.
+//! - [`hold_laws`]: states the laws that hold for every facet.
 //!
 //! Coordinates are half-micrometres, so that the centres between whole micrometres are whole; names of such numbers end
 //! in `2`. Facets and steps between pixels are in micrometres.

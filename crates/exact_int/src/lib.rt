@@ -10,8 +10,10 @@
 //! assert!(rt; is_at_most(7, -7) && !is_at_most(7, 8));
 //! ```
 //!
-//! All functions take and give plain numbers, without a unit. `ceil_div_64` and `quick_ceil_div` answer what `ceil_div`
-//! answers, in less time.
+//! - [`ceil_div`]: the division that rounds up; [`ceil_div_64`], [`quick_ceil_div`]: the same in less time.
+//! - [`is_at_most`]: the test of a magnitude.
+//!
+//! All functions take and give plain numbers, without a unit.
 #![tactic(auto)]
 
 mod bounds;

@@ -5,7 +5,8 @@
 //! - [`extent`], [`extent_with`]: the bounding box of facets, and of facets and earlier ones; [`lower`], [`higher`]: the
 //!   corners of the bounding box of two points.
 //! - [`is_below`], [`rises_through`]: the tie rule, the same for every cut and every ray.
-//! - [`COORDINATE_LIMIT`] and the other limits of coordinates, grids and meshes.
+//! - [`COORDINATE_LIMIT`], [`CENTRE_LIMIT`]: the limits of coordinates; [`STEP_LIMIT`], [`COLUMN_LIMIT`], [`LAYER_LIMIT`]: those
+//!   of grids; [`FACET_LIMIT`], [`CORNER_LIMIT`]: those of meshes.
 //!
 //! ```
 //! // each corner is a `Some` of `Point::new`

@@ -23,6 +23,9 @@
 //! - [`Setup`]: what a text is opened with; [`Placing`]: a grid that fits the mesh, or a given one.
 //! - [`SessionFault`]: why there is no session, or no answer. The `Display` of a fault of text, mesh or grid, of one of memory
 //!   and of `Outside` is what the program writes for it after `stlslice: `; the program refuses `Step` as it reads its words.
+//! - [`Loops`] of [`Segment`]s between [`Node`]s, and [`Outlines`] of [`PlanePoint`]s: the answers of `Session::loops` and
+//!   of `Session::outlines`, handed on from `contour`.
+//! - [`Unit`], handed on from `micro_num`; [`Rule`] and [`Grid`], handed on from `raster`.
 //! - [`one_answer`]: a law. A setup and a text have one answer, a session or a fault, where memory suffices.
 //!
 //! Pitch, layer height, origin and box are in micrometres. Columns, rows and layers count from 0 along x, y and z, and

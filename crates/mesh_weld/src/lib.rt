@@ -9,7 +9,8 @@
 //! A [`Welder`] takes facets as they come, drops the degenerate ones (two equal corners) and makes a [`Solid`] of the
 //! others: its vertices, the numbers of corners and edges of each facet, and the order of the facets by height. Where the
 //! half-edges of a mesh do not balance it answers [`WeldFault::Open`] with the least pair of points between which they
-//! do not. [`weld`] is a welder that is fed once.
+//! do not. [`weld`] is a welder that is fed once. [`lowest`] and [`highest`] tell the least and the greatest height of a
+//! facet's corners.
 //! [`probe`] and [`step`] count the signed crossings of a solid by rays. [`hold_mesh_laws`] states what holds of every
 //! closed mesh: for example, its signed crossings by a whole line sum to 0. [`closed_or_open`] states that each list of
 //! facets is closed or has one least open edge.

@@ -1,16 +1,23 @@
 //! The program `stlslice`, but for its `main`: a run of one task, over any source of bytes and any sink.
 //!
-//! [`read_words`] turns the command's words into a [`Task`], and [`run`] does it: it reads ASCII STL to its end, and
-//! writes the images of all layers, a report, the box of the mesh, or the two rays of a voxel. A [`RunFault`] says why a
-//! run wrote nothing, or not all; its `Display` is the line on standard error, and its `status` the exit status.
-//! [`run_watched`] also tells a [`Gate`] of the layers as they are made. [`load`] is the closed mesh of a text at hand.
-//! [`one_answer`] is a law: a task and an input have one outcome, whatever the number of workers; [`written_pixels`] is
-//! another: a pixel that slicing writes follows the ray of all facets that were read.
-//!
 //! ```text
 //! let task = read_words(words)?;                    // --pitch 50 --layer 100
 //! run(&rt, alloc, &task, &mut source, &mut sink)?;  // a P4 image a layer
 //! ```
+//!
+//! - [`read_words`]: turns the command's words into a [`Task`], whose grid may be a [`Given`] one. A [`WordFault`] says why
+//!   words are no task, and by [`Wanted`] which option is missing. [`wants_progress`]: whether the words ask for the
+//!   progress of the run to be shown.
+//! - [`run`]: does a task: it reads ASCII STL to its end, and writes the images of all layers, a report, the box of the
+//!   mesh, or the two rays of a voxel. A [`RunFault`] says why a run wrote nothing, or not all; its `Display` is the line
+//!   on standard error, and its `status` the exit status.
+//! - [`run_watched`]: does a task, and tells a [`Gate`] of each [`Piece`], the layers of a stripe, as it is made.
+//! - [`Source`], [`Sink`]: the devices that a run reads and writes. A call of them that fails answers [`Failed`], and by
+//!   [`Failures`] a device tells how many have. [`Counted`] makes a device of any reader or writer.
+//! - [`image_len`]: the length of the image of a layer, in bytes.
+//! - [`load`]: the closed mesh of a text at hand.
+//! - [`one_answer`]: a law. A task and an input have one outcome, whatever the number of workers. [`written_pixels`]:
+//!   another. A pixel that slicing writes follows the ray of all facets that were read.
 //!
 //! Pitch, layer height and the box are in micrometres.
 #![tactic(auto)]

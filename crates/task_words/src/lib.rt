@@ -8,7 +8,8 @@
 //! ```
 //!
 //! [`read_words`] takes the words after the program's name, as `--pitch 50 --layer 100 --rule positive`, and answers a
-//! [`Task`], or a [`WordFault`] whose `Display` is the line on standard error and whose `status` the exit status.
+//! [`Task`], or a [`WordFault`] whose `Display` is the line on standard error and whose `status` the exit status. An option
+//! that is missing is told by [`Wanted`].
 //! `--help` and `--version` come as the fault `Refused` with status 0. [`wants_progress`] says whether such words ask
 //! for the progress of the run to be shown, which is no part of the task.
 //!
