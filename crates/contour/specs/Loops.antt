@@ -3,7 +3,7 @@
 --                           s has among those that end there
 --     loops list            the cycles, each from its least facet, in order of these
 --     AreLoops list found   the same without a word on how they are found
-use Rattle.std.specs.Prelude.{◌≡◌, ℕ, ◌-◌, ◌≤◌, take, drop, zero, suc, Bool, true, List, [], ◌∷◌, length, map, Option, Some, None, filter, slice_get, ◌==◌, nat_le, if◌then◌else◌, flat_map, count_by}
+use Rattle.std.specs.Prelude.{◌≡◌, ℕ, ◌-◌, ◌≤◌, take, drop, zero, suc, Bool, true, List, [], ◌∷◌, ◌++◌, length, map, Option, Some, None, filter, slice_get, ◌==◌, nat_le, if◌then◌else◌, flat_map, count_by}
 use Rattle.std.specs.List.{list_all, position_or_len, AllByRecursion}
 use Rattle.std.specs.List.Sorted.{IsStrictlyIncreasing}
 use Rattle.geometry.specs.Facet.{Facet}
@@ -78,6 +78,17 @@ parts_from at (e ∷ ends) xs = take (e - at) xs ∷ parts_from e ends (drop (e 
 abbrev pub AreEnds : ℕ → List ℕ → ℕ → Type 0
 AreEnds at [] n = at ≡ n
 AreEnds at (e ∷ ends) n = (at ≤ e) × AreEnds e ends n
+
+-- These are the positions where the parts of a list with n elements end, of all but the last one, which ends with the
+-- list; an empty list has no parts.
+abbrev pub AreInnerEnds : List ℕ → ℕ → Type 0
+AreInnerEnds inner zero = inner ≡ []
+AreInnerEnds inner (suc n) = AreEnds 0 (inner ++ suc n ∷ []) (suc n)
+
+-- those of all parts
+abbrev pub all_ends : List ℕ → ℕ → List ℕ
+all_ends inner zero = []
+all_ends inner (suc n) = inner ++ suc n ∷ []
 
 -- the position where the part with a number begins
 abbrev pub start_of : ℕ → List ℕ → ℕ → ℕ

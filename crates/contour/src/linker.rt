@@ -260,8 +260,10 @@ fn trace_loops<A: Allocator + Copy + Send + Sync>(
             ends.push(flat.len())?;
         }
     }
-    let ends = ends.as_slice().to_vec(alloc)?;
-    Ok(Loops::of(flat, ends))
+    // the last loop ends with the list
+    ends.pop();
+    let inner_ends = ends.as_slice().to_vec(alloc)?;
+    Ok(Loops::of(flat, inner_ends))
 }
 
 /// Appends the loop of the segment at the slot `first` to `flat`, and marks its slots as visited.

@@ -45,7 +45,7 @@ impl<A: Allocator> Outlines<A> {
         requires loops { found ≡ loops (segments s.now.facets z2) }
         ensures { IfOk result (λ found. found ≡ outlines s.now.facets z2) }
     {
-        let (list, ends) = found.into_parts();
+        let (list, ends) = found.into_parts()?;
         let points = start_points(alloc, s, list.as_slice(), z2)?;
         Ok(Outlines { points, ends })
     }
@@ -61,7 +61,8 @@ impl<A: Allocator> Outlines<A> {
     pub fn get(&self, number: usize) -> Option<&[PlanePoint]>
         ensures { option_map (λ part. part.now) result ≡ slice_get self.now number }
     {
-        part(self.points.as_slice(), self.ends.as_slice(), number)
+        let ends = self.ends.as_slice();
+        part(self.points.as_slice(), ends, ends.len(), number)
     }
 
     /// The points of all loops, one loop after the other.

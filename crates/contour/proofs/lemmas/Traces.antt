@@ -1,5 +1,5 @@
 -- Loops traced one by one, in order of their first segments: what they are in the end.
-use Rattle.std.proofs.Common.{◌≡◌, ℕ, zero, suc, ◌+◌, ◌<◌, ◌≤◌, Bool, true, false, cond, ◌&&◌, List, [], ◌∷◌, ◌++◌, ◌⊎◌, inl, inr, refl, sym, ◌∙◌, ap, subst, length, take, drop, get_or, arith, map}
+use Rattle.std.proofs.Common.{◌≡◌, ℕ, zero, suc, ◌+◌, ◌-◌, ◌<◌, ◌≤◌, Bool, true, false, cond, ◌&&◌, List, [], ◌∷◌, ◌++◌, ◌⊎◌, inl, inr, refl, sym, ◌∙◌, ap, subst, length, take, drop, get_or, arith, map}
 use Rattle.std.specs.Prelude.{nat_le, ℤ, ◌==◌}
 use Rattle.std.specs.List.{list_all, AllByRecursion}
 use Rattle.std.specs.List.Sorted.{IsStrictlyIncreasing}
@@ -12,7 +12,7 @@ use Rattle.contour.specs.Linker.{AreLinks, IsTracedLoop, KeepsLoopsWhole, InFace
 use Rattle.contour.proofs.lemmas.Counts.{count-append}
 use Rattle.geometry.specs.Facet.{Facet}
 use Rattle.contour.proofs.lemmas.Links.{AreFrom, segments_ascend}
-use Rattle.contour.proofs.lemmas.Parts.{ends-push, parts-all, parts-push}
+use Rattle.contour.proofs.lemmas.Parts.{AreOthers, ends-push, others-are, parts-all, parts-push}
 use Rattle.contour.proofs.lemmas.Slots.{either}
 
 pub record AreTraced (list : List Segment) (next : List ℕ) (first : ℕ) (visited : List Bool) (flat : List Segment) (ends : List ℕ) : Type 0 where
@@ -172,6 +172,12 @@ trace-ends list next first visited flat ends g l = record {
       ∙ (let a = g.once n in
       let b : count_of n (unvisited visited list) ≡ 0 = ap (count_of n) (unvisited-all visited list g.size (λ j m. g.earlier j (omega (arith, m, l)))) in omega (arith, a, b));
 }
+
+-- no loop is empty, so that the ends of all but the last one tell its end too
+pub trace-others : (list : List Segment) (next : List ℕ) (first : ℕ) (visited : List Bool) (flat : List Segment) (ends inner : List ℕ) (m : ℕ)
+    → AreTraced list next first visited flat ends → inner ≡ take m ends → m ≡ length ends - 1 → AreOthers ends inner (length flat)
+trace-others list next first visited flat ends inner m g told e =
+    subst (λ es. AreOthers ends es (length flat)) (sym told) (others-are (IsCycle list) (λ none. none) m ends flat e g.ends_are g.cycles)
 
 from_on : (a b : ℕ) (list : List Segment) (k : ℕ) → AreFrom a b list → k < length list → a ≤ facet_of list k
 from_on a b [] k h l = absurd (omega (arith, l))

@@ -1,8 +1,9 @@
-use Rattle.std.proofs.Common.{refl, ◌≡◌, ◌<◌, ◌+◌, ◌++◌, ◌∷◌, ◌∙◌, [], ℕ, true, length, sym, subst, ap, arith}
+use Rattle.std.proofs.Common.{refl, ◌≡◌, ◌<◌, ◌+◌, ◌-◌, ◌++◌, ◌∷◌, ◌∙◌, [], ℕ, true, length, sym, subst, ap, arith}
 use Rattle.std.proofs.lemmas.List.{get_or_read}
 use Rattle.contour.specs.Loops.{AreLoops, parts_from}
 use Rattle.contour.specs.Linker.{IsTracedLoop, KeepsLoopsWhole, is_visited}
-use Rattle.contour.proofs.lemmas.Traces.{AreTraced, trace-begins, trace-skips, trace-takes, trace-ends}
+use Rattle.contour.proofs.lemmas.Parts.{AreOthers}
+use Rattle.contour.proofs.lemmas.Traces.{AreTraced, trace-begins, trace-skips, trace-takes, trace-ends, trace-others}
 use Rattle.contour.proofs.lemmas.Traces.{cut}
 use Rattle.contour.proofs.linker.trace_loops.Goals as goal
 use Rattle.contour.proofs.linker.trace_loops.Goals.{then-not-index+in_ok-trace_loop+in_ok-push, else-not-index}
@@ -54,11 +55,23 @@ loop-first-preserved g c =
           (trace-skips list next first c.loop-first.visited.items c.loop-first.flat.items c.loop-first.ends.items traced skipped)))
     ]
 
+pub of-requires : goal.of-requires
+of-requires g c =
+    let before : c.loop-first.ends.len - 1 ≡ length c.loop-first.ends.items - 1 = omega (arith, c.loop-first.ends.ok.0) in
+    let others : AreOthers c.loop-first.ends.items c.in_ok-inner_ends.inner_ends.items (length c.loop-first.flat.items) =
+    trace-others c.args.list.now c.args.next.now c.loop-first.first c.loop-first.visited.items c.loop-first.flat.items c.loop-first.ends.items
+    c.in_ok-inner_ends.inner_ends.items (c.loop-first.ends.len - 1) c.loop-first.invariant
+    (c.in_ok-inner_ends.ensures.items_if_clones_equal (λ x y h. h) ∙ c.as_slice.ensures.value ∙ c.pop.ensures.rest) before in
+    others.inner_are
+
 pub returns : goal.returns
 returns g c =
-    let ends : c.in_ok-ends.ends.items ≡ c.loop-first.ends.items =
-    c.in_ok-ends.ensures.items_if_clones_equal (λ x y h. h) ∙ c.as_slice.ensures.value in
-    subst (AreLoops c.args.list.now) (sym (c.of.ensures ∙ ap (λ es. parts_from 0 es c.loop-first.flat.items) ends))
+    let before : c.loop-first.ends.len - 1 ≡ length c.loop-first.ends.items - 1 = omega (arith, c.loop-first.ends.ok.0) in
+    let others : AreOthers c.loop-first.ends.items c.in_ok-inner_ends.inner_ends.items (length c.loop-first.flat.items) =
+    trace-others c.args.list.now c.args.next.now c.loop-first.first c.loop-first.visited.items c.loop-first.flat.items c.loop-first.ends.items
+    c.in_ok-inner_ends.inner_ends.items (c.loop-first.ends.len - 1) c.loop-first.invariant
+    (c.in_ok-inner_ends.ensures.items_if_clones_equal (λ x y h. h) ∙ c.as_slice.ensures.value ∙ c.pop.ensures.rest) before in
+    subst (AreLoops c.args.list.now) (sym (c.of.ensures ∙ ap (λ es. parts_from 0 es c.loop-first.flat.items) others.all))
     (trace-ends c.args.list.now c.args.next.now c.loop-first.first c.loop-first.visited.items c.loop-first.flat.items c.loop-first.ends.items c.loop-first.invariant (omega (arith, c.loop-first-test.false)))
 
 pub index-requires : goal.index-requires
