@@ -49,18 +49,12 @@ fn grown(low: Point, high: Point, facets: &[Facet]) -> (Point, Point)
 pub fn lower(p: Point, q: Point) -> Point
     ensures { result ≡ least_of p q }
 {
-    let Some(point) = Point::new(p.x().min(q.x()), p.y().min(q.y()), p.z().min(q.z())) else {
-        unreachable!();
-    };
-    point
+    Point::at(p.x().min(q.x()), p.y().min(q.y()), p.z().min(q.z()))
 }
 
 /// The high corner of the bounding box of two points: the greater x, y and z, in micrometres.
 pub fn higher(p: Point, q: Point) -> Point
     ensures { result ≡ greatest_of p q }
 {
-    let Some(point) = Point::new(p.x().max(q.x()), p.y().max(q.y()), p.z().max(q.z())) else {
-        unreachable!();
-    };
-    point
+    Point::at(p.x().max(q.x()), p.y().max(q.y()), p.z().max(q.z()))
 }

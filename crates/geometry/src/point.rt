@@ -43,6 +43,14 @@ impl Point {
         }
     }
 
+    /// The point with these coordinates in micrometres, which are in range.
+    pub(crate) fn at(x: i32, y: i32, z: i32) -> Point
+        requires { IsMeshPoint (record { x = x; y = y; z = z }) }
+        ensures { result ≡ record { x = x; y = y; z = z } }
+    {
+        Point { x, y, z }
+    }
+
     /// The x coordinate, in micrometres.
     pub fn x(&self) -> i32
         ensures value { result ≡ self.now.x }

@@ -252,6 +252,20 @@ fn facet_by_layout<'t>(
     ensures some { IfSome result (λ found. 0 < length found.1.now) }
     ensures shorter { IfSome result (λ found. length found.1.now < length bytes.now) }
 {
+    // Each arm is compiled for its unit, so that none of a facet's nine numbers tests it.
+    match unit {
+        Unit::Millimetre => facet_in_unit(bytes, Unit::Millimetre, layout),
+        Unit::Inch => facet_in_unit(bytes, Unit::Inch, layout),
+    }
+}
+
+/// The same as `facet_by_layout`, compiled anew for each unit that it is called with.
+#[inline(always)]
+fn facet_in_unit<'t>(bytes: &'t [u8], unit: Unit, layout: &Layout<'_>) -> Option<(Facet, &'t [u8])>
+    ensures read { IfSome result (λ found. rest_after unit (facet_tokens found.0) bytes.now ≡ Some found.1.now) }
+    ensures some { IfSome result (λ found. 0 < length found.1.now) }
+    ensures shorter { IfSome result (λ found. length found.1.now < length bytes.now) }
+{
     // No call takes this reader by reference, unless it is inlined, so that the rest of its text stays in registers.
     let mut reader = Reader::new(bytes, unit);
     reader.skip(layout.opening)?;

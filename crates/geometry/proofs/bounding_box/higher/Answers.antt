@@ -1,24 +1,28 @@
-use Rattle.std.proofs.Common.{◌≡◌, ◌∙◌, rules}
-use Rattle.std.specs.Prelude.{◌↔◌, IsSome}
+use Rattle.std.proofs.Common.{◌≡◌, ◌∙◌, refl, rules, w32}
+use Rattle.std.specs.Prelude.{FitsSigned}
+use Rattle.std.proofs.lemmas.Int.{to_z-of_z}
 use Rattle.std.specs.Int.{int_max}
 use Rattle.exact_int.specs.Bounds.{IsAtMost}
 use Rattle.geometry.specs.BoundingBox.{greatest_of}
 use Rattle.geometry.specs.Point.{Point, IsMeshPoint}
-use Rattle.geometry.proofs.lemmas.Ranges.{max-within, there_is}
+use Rattle.geometry.proofs.lemmas.Ranges.{max-within}
 use Rattle.geometry.proofs.bounding_box.higher.Goals as goal
 use Rattle.geometry.specs.declared.limits.TheConstants.{COORDINATE_LIMIT}
 
-pub unreachable-requires : goal.unreachable-requires
-unreachable-requires c =
+pub at-requires : goal.at-requires
+at-requires c =
     let x_is : c.max.result ≡ int_max c.x.result c.x-2.result = search rules in
     let y_is : c.max-2.result ≡ int_max c.y.result c.y-2.result = search rules in
     let z_is : c.max-3.result ≡ int_max c.z.result c.z-2.result = search rules in
-    let place : Point = record { x = c.max.result; y = c.max-2.result; z = c.max-3.result } in
     let x_in : IsAtMost COORDINATE_LIMIT c.max.result = rw x_is (max-within COORDINATE_LIMIT _ _ c.x.ensures.within c.x-2.ensures.within) in
     let y_in : IsAtMost COORDINATE_LIMIT c.max-2.result = rw y_is (max-within COORDINATE_LIMIT _ _ c.y.ensures.within c.y-2.ensures.within) in
     let z_in : IsAtMost COORDINATE_LIMIT c.max-3.result = rw z_is (max-within COORDINATE_LIMIT _ _ c.z.ensures.within c.z-2.ensures.within) in
-    let there : IsSome c.new.result ↔ IsMeshPoint place = search rules in
-    there_is c.new.result (there.1 (x_in, y_in, z_in)) c.in_default.is
+    let place : Point = record { x = c.max.result; y = c.max-2.result; z = c.max-3.result } in
+    let within : IsMeshPoint place = (x_in, y_in, z_in) in
+    let x_fits : FitsSigned w32 c.max.result = search rules in
+    let y_fits : FitsSigned w32 c.max-2.result = search rules in
+    let z_fits : FitsSigned w32 c.max-3.result = search rules in
+    simp to_z-of_z within
 
 pub returns : goal.returns
 returns c =
@@ -26,6 +30,9 @@ returns c =
     let y_is : c.max-2.result ≡ int_max c.y.result c.y-2.result = search rules in
     let z_is : c.max-3.result ≡ int_max c.z.result c.z-2.result = search rules in
     let place : Point = record { x = c.max.result; y = c.max-2.result; z = c.max-3.result } in
-    let value : c.in-Some.point ≡ place = search rules in
+    let x_fits : FitsSigned w32 c.max.result = search rules in
+    let y_fits : FitsSigned w32 c.max-2.result = search rules in
+    let z_fits : FitsSigned w32 c.max-3.result = search rules in
+    let value : c.at.result ≡ place = c.at.ensures ∙ simp to_z-of_z refl in
     let place_is : place ≡ greatest_of c.args.p c.args.q = cc in
     value ∙ place_is

@@ -4,7 +4,7 @@ use Rattle.stl_text.specs.Text.{facet_tokens}
 use Rattle.stl_text.specs.declared.grammar.Separator.TheVariants as separator
 use Rattle.geometry.specs.Facet.{facet_with}
 use Rattle.stl_text.proofs.lemmas.Layouts.{facet-some, in_layout, read_from}
-use Rattle.stl_text.proofs.layout.facet_by_layout.Goals as goal
+use Rattle.stl_text.proofs.layout.facet_in_unit.Goals as goal
 
 pub returns-clause-read : goal.returns-clause-read
 returns-clause-read c =
