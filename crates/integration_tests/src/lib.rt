@@ -45,6 +45,8 @@ mod published;
 #[cfg(test)]
 mod rays;
 #[cfg(test)]
+mod refused_readings;
+#[cfg(test)]
 mod refused_rises;
 #[cfg(test)]
 mod refused_welds;
