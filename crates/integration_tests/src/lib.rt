@@ -37,6 +37,8 @@ mod number_texts;
 #[cfg(test)]
 mod outlines;
 #[cfg(test)]
+mod part_borders;
+#[cfg(test)]
 mod plane_segments;
 #[cfg(test)]
 mod pool;
