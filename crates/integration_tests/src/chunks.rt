@@ -2,7 +2,7 @@
 ghost use Rattle.std.specs.Prelude.{◌<◌};
 
 use crate::stl_texts::{Text, cube_file, worked_texts};
-use crate::text_parts::are_same;
+use crate::text_parts::{add_facets, are_same, put_solid};
 use micro_num::Unit;
 use short_memory::ShortMemory;
 use std::alloc::{AllocError, Global};
@@ -109,6 +109,14 @@ fn first_cut_badly<R: Threads + Sync>(
     Ok(None)
 }
 
+// The numbers of workers: one, the least that share a text, and the greatest that the program takes.
+const WORKERS: [u32; 3] = [1, 2, 64];
+
+// A name that spells two facets, each after an `endfacet`, and the end of a solid.
+const SPELLED: &[u8] =
+    b"endfacet facet normal 0 0 0 outer loop vertex 1 1 1 vertex 1 1 2 vertex 1 2 1 endloop endfacet \
+    FACET NORMAL 0 0 0 OUTER LOOP VERTEX 1 1 1 VERTEX 1 1 2 VERTEX 1 2 1 ENDLOOP ENDFACET endsolid";
+
 // A text in millimetres that may have up to `LIMIT` facets.
 fn limited(bytes: &[u8]) -> Text<'_> {
     Text {
@@ -133,6 +141,47 @@ fn worked_texts_in_chunks_by_two_workers(rt: HostRuntime) -> Result<(), Fail> {
 #[test]
 fn worked_texts_in_chunks_by_64_workers(rt: HostRuntime) -> Result<(), Fail> {
     assert_eq!(rt; first_cut_badly(&rt, rt.alloc(), 64)?, None);
+    Ok(())
+}
+
+// Whether the answer to a text is that of the whole for each cut, by each number of workers.
+fn is_cut_well_by_each<R: Threads + Sync>(rt: &R, alloc: Global, text: Text<'_>) -> bool {
+    for workers in WORKERS {
+        if !is_cut_well(rt, alloc, text, workers) {
+            return false;
+        }
+    }
+    true
+}
+
+// Names, and the rests of lines after `endsolid`, that spell facets: those are no facets wherever a chunk begins.
+#[test]
+fn names_that_spell_facets_in_chunks(rt: HostRuntime) -> Result<(), Fail> {
+    let mut bytes = Vec::new(rt.alloc());
+    let mut facets = Vec::new(rt.alloc());
+    for count in [0, 2] {
+        put_solid(&mut bytes, SPELLED, count)?;
+        add_facets(&mut facets, count)?;
+    }
+    let text = limited(bytes.as_slice());
+    assert!(rt; are_same(&text.whole(rt.alloc()), &Ok(facets)));
+    assert!(rt; is_cut_well_by_each(&rt, rt.alloc(), text));
+    Ok(())
+}
+
+#[test]
+fn solids_of_one_facet_in_chunks(rt: HostRuntime) -> Result<(), Fail> {
+    for name in [&b"one"[..], b"endfacet", b"endfacet facet"] {
+        let mut bytes = Vec::new(rt.alloc());
+        let mut facets = Vec::new(rt.alloc());
+        for _ in 0..3 {
+            put_solid(&mut bytes, name, 1)?;
+            add_facets(&mut facets, 1)?;
+        }
+        let text = limited(bytes.as_slice());
+        assert!(rt; are_same(&text.whole(rt.alloc()), &Ok(facets)));
+        assert!(rt; is_cut_well_by_each(&rt, rt.alloc(), text));
+    }
     Ok(())
 }
 

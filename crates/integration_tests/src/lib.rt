@@ -37,6 +37,8 @@ mod number_texts;
 #[cfg(test)]
 mod outlines;
 #[cfg(test)]
+mod part_borders;
+#[cfg(test)]
 mod plane_segments;
 #[cfg(test)]
 mod pool;
@@ -44,6 +46,8 @@ mod pool;
 mod published;
 #[cfg(test)]
 mod rays;
+#[cfg(test)]
+mod refused_readings;
 #[cfg(test)]
 mod refused_rises;
 #[cfg(test)]

@@ -7,15 +7,15 @@ use short_memory::ShortMemory;
 use std::alloc::{AllocError, Allocator, Global};
 use std::test::Fail;
 use std::thread::Threads;
-use stl_text::{FACET_LIMIT, Facet, StlFault, TextReader, read_stl_at_most, read_stl_by};
+use stl_text::{FACET_LIMIT, Facet, Point, StlFault, TextReader, read_stl_at_most, read_stl_by};
 
 const WORKERS: [u32; 5] = [1, 2, 3, 7, 64];
 
 // The least number of workers that read parts, and the greatest that the program takes.
-const TWO_AND_MOST: [u32; 2] = [2, 64];
+pub(crate) const TWO_AND_MOST: [u32; 2] = [2, 64];
 
 // The least length of a text that is read in two parts, in bytes.
-const LEAST_OF_TWO_PARTS: usize = 65_536;
+pub(crate) const LEAST_OF_TWO_PARTS: usize = 65_536;
 
 // The least length of the texts here, in bytes: each half is longer than the shortest chunk that is read in parts.
 const LONG: usize = 131_074;
@@ -42,14 +42,59 @@ fn put_facet(out: &mut Vec<u8>, digit: u8) -> Result<(), AllocError> {
     out.extend_from_slice(b" 1e-3 7 vertex 2 2 2 VERTEX 3 0 5 endloop EndFacet ")
 }
 
+// The facet that `put_facet` spells.
+fn facet_of(digit: u8) -> Option<Facet> {
+    let first = i32::from(digit & 7);
+    if digit % 2 == 0 {
+        return Some(Facet::of(
+            Point::new(100 * first, 0, 0)?,
+            Point::new(1500, 0, 0)?,
+            Point::new(0, 1000, 0)?,
+        ));
+    }
+    Some(Facet::of(
+        Point::new(-1000 * first, 1, 7000)?,
+        Point::new(2000, 2000, 2000)?,
+        Point::new(3000, 0, 5000)?,
+    ))
+}
+
+// The digit of a solid's facet of this number.
+fn digit_of(number: u32) -> u8 {
+    (number % 251) as u8
+}
+
+// The first `count` facets of a solid.
+pub(crate) fn put_facets(out: &mut Vec<u8>, count: u32) -> Result<(), AllocError> {
+    for k in 0..count {
+        put_facet(out, digit_of(k))?;
+    }
+    Ok(())
+}
+
+// Adds the facets that `put_facets` spells.
+pub(crate) fn add_facets(list: &mut Vec<Facet>, count: u32) -> Result<(), AllocError> {
+    for k in 0..count {
+        list.push(facet_of(digit_of(k)).ok_or(AllocError)?)?;
+    }
+    Ok(())
+}
+
+// Ends a solid, with `len` bytes on the rest of its line, and begins another.
+pub(crate) fn put_remark(out: &mut Vec<u8>, len: usize) -> Result<(), AllocError> {
+    out.extend_from_slice(b"endsolid ")?;
+    for _ in 0..len {
+        out.push(b'-')?;
+    }
+    out.extend_from_slice(b"\nsolid part\n")
+}
+
 // A solid of `count` facets, with its name at both ends.
-fn put_solid(out: &mut Vec<u8>, name: &[u8], count: u32) -> Result<(), AllocError> {
+pub(crate) fn put_solid(out: &mut Vec<u8>, name: &[u8], count: u32) -> Result<(), AllocError> {
     out.extend_from_slice(b"solid ")?;
     out.extend_from_slice(name)?;
     out.push(b'\n')?;
-    for k in 0..count {
-        put_facet(out, (k % 251) as u8)?;
-    }
+    put_facets(out, count)?;
     out.extend_from_slice(b"endsolid ")?;
     out.extend_from_slice(name)?;
     out.extend_from_slice(b"\n")
@@ -68,7 +113,7 @@ pub(crate) fn are_same<A: Allocator, B: Allocator>(
 }
 
 // The answer to a text that is fed in two chunks.
-fn in_two<R: Threads + Sync, A: Allocator + Copy + Send + Sync>(
+pub(crate) fn in_two<R: Threads + Sync, A: Allocator + Copy + Send + Sync>(
     rt: &R,
     alloc: A,
     chunks: (&[u8], &[u8]),

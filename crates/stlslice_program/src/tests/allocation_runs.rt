@@ -3,8 +3,11 @@
 use super::answers::outcome;
 use super::meshes::Mesh::Facets;
 use super::meshes::{CUBE, OPEN, gap, mesh_text};
+use raster::GridFault;
 use short_memory::ShortMemory;
+use std::alloc::{AllocError, Global};
 use std::sync::Wait;
+use std::test::Fail;
 use std::thread::Threads;
 use stlslice::RunFault;
 
@@ -123,6 +126,63 @@ fn all_free<R: Threads + Wait + Sync + AllocGlobal>(rt: &R, rows: &[Row<'_>]) ->
 #[test]
 fn each_allocation_fails_in_turn(rt: HostRuntime) -> Result<(), usize> {
     all_free(&rt, &ROWS)
+}
+
+/// A solid of no facets with a name of `eights` times eight bytes.
+fn push_named(text: &mut String, eights: u32) -> Result<(), AllocError> {
+    text.push_str("solid ")?;
+    for _ in 0..eights {
+        text.push_str("--------")?;
+    }
+    text.push_str("\nendsolid\n")
+}
+
+/// The cube, each facet a solid, and before each three of them a solid of no facets with such a name.
+fn long_cube(alloc: Global, eights: u32) -> Result<String, AllocError> {
+    let mut text = String::new(alloc);
+    for (n, facet) in CUBE.split_whitespace().enumerate() {
+        if n % 3 == 0 {
+            push_named(&mut text, eights)?;
+        }
+        let solid = mesh_text(alloc, Facets(facet))?;
+        text.push_str(solid.as_str())?;
+    }
+    Ok(text)
+}
+
+/// How a run that slices the cube ends.
+const SLICED: Usual = (Ok(()), b"P4\n2 2\n\xc0\xc0P4\n2 2\n\xc0\xc0");
+
+/// The least length of a part of a text, in bytes.
+const PART_LEN: usize = 32_768;
+
+#[test]
+fn each_allocation_fails_in_parts(rt: HostRuntime) -> Result<(), Fail> {
+    let cube = long_cube(rt.alloc(), 4_096)?;
+    assert!(rt; 4 * PART_LEN <= cube.len());
+    for line in [
+        "--pitch 1 --layer 1 --workers 2",
+        "--pitch 1 --layer 1 --workers 3",
+        "--pitch 1 --layer 1 --workers 4",
+    ] {
+        assert!(rt; first_free_turn(&rt, line, cube.as_str(), &SLICED) > 40);
+    }
+    Ok(())
+}
+
+/// The length of a round of two workers, without the window that it may have more.
+const ROUND_LEN: usize = 2 << 20;
+
+/// The second round has two parts, and the last facets. The fault comes once the mesh is closed: a facet that was left out
+/// would show as an open edge.
+#[test]
+fn each_allocation_of_two_rounds_fails(rt: HostRuntime) -> Result<(), Fail> {
+    let cube = long_cube(rt.alloc(), 68_500)?;
+    assert!(rt; ROUND_LEN + 2 * PART_LEN <= cube.len());
+    let line = "--pitch 1 --layer 1 --workers 2 --grid 0,1,1,0,0,0";
+    let usual: Usual = (Err(RunFault::Grid(GridFault::NoCells)), b"");
+    assert!(rt; first_free_turn(&rt, line, cube.as_str(), &usual) > 10);
+    Ok(())
 }
 
 #[test]
