@@ -188,3 +188,73 @@ fn each_allocation_of_loops_fails(rt: HostRuntime) -> Result<(), Fail> {
     assert!(rt; first_free_turn::<TwoCubesLoops>(rt.alloc(), 200, 2) > Some(8));
     Ok(())
 }
+
+// How many loops a plane of a mesh has, linked so many times by one linker.
+fn count_linked<A: Allocator + Copy + Send + Sync>(
+    alloc: A,
+    parts: &[Part<'_>],
+    z2: u8,
+    times: u8,
+) -> Option<usize> {
+    let solid = solid_of(alloc, parts).ok()?;
+    let list = segments(alloc, &solid, i64::from(z2)).ok()?;
+    let mut linker = Linker::new(alloc, &solid).ok()?;
+    let mut count = 0;
+    for _ in 0..times {
+        count = linker.loops(&solid, list.as_slice()).ok()?.count();
+    }
+    Some(count)
+}
+
+struct OneLoop;
+
+impl Count for OneLoop {
+    fn count(memory: &ShortMemory<Global>) -> Option<usize> {
+        count_linked(memory, TWO_CUBES, 2, 1)
+    }
+}
+
+struct OneLoopAgain;
+
+impl Count for OneLoopAgain {
+    fn count(memory: &ShortMemory<Global>) -> Option<usize> {
+        count_linked(memory, TWO_CUBES, 2, 2)
+    }
+}
+
+struct TwoLoops;
+
+impl Count for TwoLoops {
+    fn count(memory: &ShortMemory<Global>) -> Option<usize> {
+        count_linked(memory, TWO_CUBES, 6, 1)
+    }
+}
+
+struct TwoLoopsAgain;
+
+impl Count for TwoLoopsAgain {
+    fn count(memory: &ShortMemory<Global>) -> Option<usize> {
+        count_linked(memory, TWO_CUBES, 6, 2)
+    }
+}
+
+// How many allocations the second count makes beyond those of the first.
+fn more_allocations<F: Count, S: Count>(alloc: Global, usual: usize) -> Option<u64> {
+    let first = first_free_turn::<F>(alloc, 200, usual)?;
+    first_free_turn::<S>(alloc, 200, usual)?.checked_sub(first)
+}
+
+// A linker that has the memory for a plane takes some for the list of its segments, and for the ends of its loops only
+// where there are several.
+#[test]
+fn one_loop_takes_one_allocation(rt: HostRuntime) -> Result<(), Fail> {
+    assert_eq!(rt;
+        more_allocations::<OneLoop, OneLoopAgain>(rt.alloc(), 1),
+        Some(1)
+    );
+    assert_eq!(rt;
+        more_allocations::<TwoLoops, TwoLoopsAgain>(rt.alloc(), 2),
+        Some(2)
+    );
+    Ok(())
+}
