@@ -1,6 +1,6 @@
 //! The corners of facets by a table of hashes. Each gets an id: its number by first appearance, which serves until the
 //! points stand in order.
-ghost use Rattle.std.specs.Prelude.{◌≡◌, ◌≤◌, ◌<◌, ◌+◌, IfOk, IfSome, IsTrue, length, slice_index, slice_index_or, vec_len};
+ghost use Rattle.std.specs.Prelude.{◌≡◌, ◌↔◌, ◌≤◌, ◌<◌, ◌+◌, IfOk, IfSome, IsTrue, length, slice_index, slice_index_or, vec_len};
 ghost use Rattle.geometry.specs.Point.{origin};
 ghost use Rattle.mesh_weld.specs.Welder.{IsNamed, IsNamedFacet};
 ghost use Rattle.geometry.specs.declared.limits.TheConstants.{CORNER_LIMIT};
@@ -145,7 +145,7 @@ fn slot_of(ids: &[u32], points: &[Point], point: Point, from: usize) -> Option<u
 
 /// Whether an id is that of a point.
 fn leads_to(points: &[Point], id: u32, point: Point) -> bool
-    ensures { IsTrue result → (id < length points.now) × (slice_index_or points.now id origin ≡ point) }
+    ensures { IsTrue result ↔ ((id < length points.now) × (slice_index_or points.now id origin ≡ point)) }
 {
     (id as usize) < points.len() && points[id as usize] == point
 }
