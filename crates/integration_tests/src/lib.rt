@@ -19,6 +19,8 @@ mod cuts;
 #[cfg(test)]
 mod dense_rows;
 #[cfg(test)]
+mod failed_readings;
+#[cfg(test)]
 mod file_forms;
 #[cfg(test)]
 mod filling;
@@ -46,8 +48,6 @@ mod pool;
 mod published;
 #[cfg(test)]
 mod rays;
-#[cfg(test)]
-mod refused_readings;
 #[cfg(test)]
 mod refused_rises;
 #[cfg(test)]

@@ -63,7 +63,7 @@ fn in_parts<R: Threads + Sync, A: Allocator + Copy + Send + Sync>(
 #[derive(Clone, Copy)]
 struct Turns {
     usual: u32,
-    refused: u32,
+    lacking: u32,
 }
 
 // Fails each allocation in turn until none is left to fail. `None` where an answer was neither of the two, or where the
@@ -80,7 +80,7 @@ fn turns_of<R: Threads + Sync>(
 {
     let mut turns = Turns {
         usual: 0,
-        refused: 0,
+        lacking: 0,
     };
     for turn in 1..400 {
         let memory = ShortMemory::new(alloc, turn);
@@ -92,7 +92,7 @@ fn turns_of<R: Threads + Sync>(
         if same {
             turns.usual = turns.usual.saturating_add(1);
         } else if found.err() == Some(StlFault::Memory) {
-            turns.refused = turns.refused.saturating_add(1);
+            turns.lacking = turns.lacking.saturating_add(1);
         } else {
             return None;
         }
@@ -102,7 +102,7 @@ fn turns_of<R: Threads + Sync>(
 
 // Whether a text has its usual answer or lacks memory, by other workers too. By one thread the turns are always the same:
 // the reader does without what is lacking in the runs, of which there are four, and tells what is lacking in its own list.
-fn is_refused_well<R: Threads + Sync>(
+fn fails_well<R: Threads + Sync>(
     rt: &R,
     alloc: Global,
     text: &[u8],
@@ -117,7 +117,7 @@ fn is_refused_well<R: Threads + Sync>(
         }
     }
     match turns_of(rt, alloc, text, limit, 0, usual) {
-        Some(turns) => turns.usual > 4 && turns.refused > 0,
+        Some(turns) => turns.usual > 4 && turns.lacking > 0,
         None => false,
     }
 }
@@ -128,7 +128,7 @@ fn each_allocation_of_parts_fails_in_turn(rt: HostRuntime) -> Result<(), Fail> {
     text.extend_from_slice(b"endsolid part\n")?;
     assert!(rt; 2 * LEAST_OF_TWO_PARTS <= text.len());
     let usual = Ok(facets_of(rt.alloc())?);
-    assert!(rt; is_refused_well(&rt, rt.alloc(), &text, FACET_LIMIT, &usual));
+    assert!(rt; fails_well(&rt, rt.alloc(), &text, FACET_LIMIT, &usual));
     Ok(())
 }
 
@@ -138,7 +138,7 @@ fn each_allocation_fails_before_a_fault(rt: HostRuntime) -> Result<(), Fail> {
     assert!(rt; 2 * LEAST_OF_TWO_PARTS <= text.len());
     let word = Word::FacetOrEnd;
     let usual = Err(StlFault::Ended { word });
-    assert!(rt; is_refused_well(&rt, rt.alloc(), &text, FACET_LIMIT, &usual));
+    assert!(rt; fails_well(&rt, rt.alloc(), &text, FACET_LIMIT, &usual));
     Ok(())
 }
 
@@ -148,6 +148,6 @@ fn each_allocation_fails_before_a_facet_too_many(rt: HostRuntime) -> Result<(), 
     assert!(rt; 2 * LEAST_OF_TWO_PARTS <= text.len());
     let usual = Err(StlFault::TooMany { at: text.len() });
     put_facets(&mut text, 1)?;
-    assert!(rt; is_refused_well(&rt, rt.alloc(), &text, GROUPS * FACETS, &usual));
+    assert!(rt; fails_well(&rt, rt.alloc(), &text, GROUPS * FACETS, &usual));
     Ok(())
 }
