@@ -101,7 +101,7 @@ typedef struct {
 uint32_t stlslice_version(void);
 
 /* Reads an ASCII STL text, and tells the box of its facets. After a fault of text, mesh or grid, `line` has what the program
- * writes for it after "stlslice: "; where a number is out of its range, or memory was refused, a text of that. It is ended
+ * writes for it after "stlslice: "; where a number is out of its range, or an allocation failed, a text of that. It is ended
  * by 0, and cut where there is no room for it. At STLSLICE_DONE it is as it was. */
 stlslice_status stlslice_box(const uint8_t *text, size_t text_size, uint32_t unit, stlslice_corners *corners, char *line,
                              size_t line_room);

@@ -1,5 +1,5 @@
 /* What no caller should do, and want of memory: null pointers, sizes of 0, short lines, numbers out of range, meshes that
- * are closed, closed twice or opened twice, and each allocation refused in turn. It is linked with
+ * are closed, closed twice or opened twice, and each allocation failing in turn. It is linked with
  * --wrap=malloc,--wrap=realloc. The status is 0, or 100 where an answer is another than the header says.
  *
  *     hostile FILE LINE
@@ -30,12 +30,12 @@ void *__wrap_realloc(void *at, size_t size);
 }
 #endif
 
-/* the allocation that is refused, and how many there were */
-static unsigned long refused, asked;
+/* the allocation that fails, and how many there were */
+static unsigned long failing, asked;
 static bool counts;
 
-void *__wrap_malloc(size_t size) { return counts && ++asked == refused ? NULL : __real_malloc(size); }
-void *__wrap_realloc(void *at, size_t size) { return counts && ++asked == refused ? NULL : __real_realloc(at, size); }
+void *__wrap_malloc(size_t size) { return counts && ++asked == failing ? NULL : __real_malloc(size); }
+void *__wrap_realloc(void *at, size_t size) { return counts && ++asked == failing ? NULL : __real_realloc(at, size); }
 
 /* the text of each status; the last is that of every number which is none */
 static const char *const texts[] = {
@@ -253,7 +253,7 @@ static stlslice_status attempt(int turn, stlslice_mesh *mesh, uint8_t *images, s
     }
 }
 
-/* each allocation of each call refused in turn: the mesh stays, what the call writes to stays but for the line, which is
+/* each allocation of each call fails in turn: the mesh stays, what the call writes to stays but for the line, which is
  * the program's, and nothing leaks */
 static unsigned long short_memory(const char *said) {
     stlslice_mesh mesh = STLSLICE_CLOSED;
@@ -269,7 +269,7 @@ static unsigned long short_memory(const char *said) {
     CHECK(image != NULL && images != NULL);
     for (int turn = 0; turn < 6; turn++) {
         CHECK(stlslice_mask(&mesh, 3, image, one, &size) == STLSLICE_DONE);
-        for (refused = 1;; refused++) {
+        for (failing = 1;; failing++) {
             char line[STLSLICE_LINE] = "as before";
             memset(images, 0x3c, eight);
             memset(&told, 0x3c, sizeof told);
@@ -278,7 +278,7 @@ static unsigned long short_memory(const char *said) {
             counts = true;
             stlslice_status status = attempt(turn, &mesh, images, eight, line);
             counts = false;
-            if (asked < refused) {
+            if (asked < failing) {
                 CHECK(status == STLSLICE_DONE);
                 break;
             }
@@ -314,7 +314,7 @@ int main(int count, char **words) {
     boxes();
     lines();
     closed();
-    printf("%lu allocations refused\n", short_memory(words[2]));
+    printf("%lu failing allocations\n", short_memory(words[2]));
     free(text);
     return 0;
 }

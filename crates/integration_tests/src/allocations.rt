@@ -26,23 +26,23 @@ pub(crate) fn first_free_turn<C: Count>(alloc: Global, turns: u64, usual: usize)
 
 /// A call that is tried once more where an allocation failed.
 pub(crate) trait Retry {
-    /// Whether the first try was refused, and whether all was right after it and after the one that succeeded. `None`
+    /// Whether the first try failed, and whether all was right after it and after the one that succeeded. `None`
     /// where an allocation failed before the first try.
     fn tried(memory: &ShortMemory<Global>) -> Option<(bool, bool)>;
 }
 
-/// Fails each allocation in turn until none is left to fail, and answers how many first tries were refused. `None` where
+/// Fails each allocation in turn until none is left to fail, and answers how many first tries failed. `None` where
 /// all was not right in a turn, or where `turns` turns do not suffice.
-pub(crate) fn refusals<R: Retry>(alloc: Global, turns: u64) -> Option<u32> {
-    let mut refused = 0u32;
+pub(crate) fn failures<R: Retry>(alloc: Global, turns: u64) -> Option<u32> {
+    let mut failed = 0u32;
     for turn in 1..turns {
         let memory = ShortMemory::new(alloc, turn);
         let found = R::tried(&memory);
         if !memory.has_failed() {
-            return (found == Some((false, true))).then_some(refused);
+            return (found == Some((false, true))).then_some(failed);
         }
         match found {
-            Some((true, true)) => refused = refused.saturating_add(1),
+            Some((true, true)) => failed = failed.saturating_add(1),
             Some(_) => return None,
             None => {}
         }

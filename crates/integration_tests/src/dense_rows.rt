@@ -1,6 +1,6 @@
 //! Rows that few and many crossings share, of bricks that overlap, beside a count of the bricks round each centre.
 
-use crate::allocations::{Count, Retry, first_free_turn, refusals};
+use crate::allocations::{Count, Retry, failures, first_free_turn};
 use crate::filling::{layer, layer_by};
 use crate::meshes::{BOX, INWARD, push_facets, welded};
 use mesh_weld::Solid;
@@ -242,7 +242,7 @@ impl Retry for Fill {
 }
 
 #[test]
-fn a_filler_fills_after_a_refusal(rt: HostRuntime) -> Result<(), Fail> {
-    assert!(rt; refusals::<Fill>(rt.alloc(), 500) > Some(4));
+fn a_filler_fills_after_a_failed_allocation(rt: HostRuntime) -> Result<(), Fail> {
+    assert!(rt; failures::<Fill>(rt.alloc(), 500) > Some(4));
     Ok(())
 }

@@ -21,6 +21,10 @@ mod dense_rows;
 #[cfg(test)]
 mod failed_readings;
 #[cfg(test)]
+mod failed_rises;
+#[cfg(test)]
+mod failed_welds;
+#[cfg(test)]
 mod file_forms;
 #[cfg(test)]
 mod filling;
@@ -48,10 +52,6 @@ mod pool;
 mod published;
 #[cfg(test)]
 mod rays;
-#[cfg(test)]
-mod refused_rises;
-#[cfg(test)]
-mod refused_welds;
 #[cfg(test)]
 mod session_chunks;
 #[cfg(test)]

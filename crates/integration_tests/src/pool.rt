@@ -224,7 +224,7 @@ const ALLOCATIONS: u64 = 2000;
 
 // Fails each allocation in turn until none is left to fail: how many of the builds had late layers. `None` where an
 // answer was neither the column nor a failed allocation, or where a build with all its memory fails or has such layers.
-fn refuse_each<R: Threads + Wait + Sync>(rt: &R, alloc: Global, workers: u32) -> Option<u32>
+fn fail_each<R: Threads + Wait + Sync>(rt: &R, alloc: Global, workers: u32) -> Option<u32>
     requires some { 1 ≤ workers }
     requires few { workers ≤ PASS_LIMIT }
 {
@@ -246,8 +246,8 @@ fn refuse_each<R: Threads + Wait + Sync>(rt: &R, alloc: Global, workers: u32) ->
 
 #[test]
 fn each_allocation_of_a_build_fails_in_turn(rt: HostRuntime) -> Result<(), Fail> {
-    assert!(rt; refuse_each(&rt, rt.alloc(), 1) > Some(0));
-    assert!(rt; refuse_each(&rt, rt.alloc(), 2).is_some());
+    assert!(rt; fail_each(&rt, rt.alloc(), 1) > Some(0));
+    assert!(rt; fail_each(&rt, rt.alloc(), 2).is_some());
     Ok(())
 }
 

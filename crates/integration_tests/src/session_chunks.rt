@@ -89,7 +89,7 @@ fn faults_in_chunks(rt: HostRuntime) -> Result<(), Fail> {
 
 // Fails each allocation in turn until none is left to fail: how many of them were answered by `Memory`. `None` where an
 // answer was another.
-fn refused(alloc: Global, text: &[u8]) -> Option<u32> {
+fn failures(alloc: Global, text: &[u8]) -> Option<u32> {
     let mut told = 0u32;
     for turn in 1..2000u64 {
         let memory = ShortMemory::new(alloc, turn);
@@ -109,7 +109,7 @@ fn refused(alloc: Global, text: &[u8]) -> Option<u32> {
 #[test]
 fn memory_that_fails_is_told(rt: HostRuntime) -> Result<(), Fail> {
     let text = text_of(rt.alloc(), TWO_CUBES)?;
-    let told = refused(rt.alloc(), text.as_bytes()).ok_or("another answer")?;
+    let told = failures(rt.alloc(), text.as_bytes()).ok_or("another answer")?;
     assert!(rt; told > 10);
     Ok(())
 }

@@ -309,7 +309,7 @@ fn answers_of<A: Allocator + Copy + Send + Sync>(
 
 // Fails each allocation in turn until none is left to fail: how many of them were answered by `Memory`, and how many by
 // the next try. `None` where an answer was another.
-fn refused(alloc: Global) -> Option<(u32, u32)> {
+fn failures(alloc: Global) -> Option<(u32, u32)> {
     let usual = (13, 78, 28, 2);
     let (mut told, mut tried) = (0u32, 0u32);
     for turn in 1..2000u64 {
@@ -331,7 +331,7 @@ fn refused(alloc: Global) -> Option<(u32, u32)> {
 
 #[test]
 fn memory_that_fails_is_told_and_changes_nothing(rt: HostRuntime) -> Result<(), Fail> {
-    let (told, tried) = refused(rt.alloc()).ok_or("another answer")?;
+    let (told, tried) = failures(rt.alloc()).ok_or("another answer")?;
     assert!(rt; told > 10 && tried > 10);
     Ok(())
 }

@@ -162,7 +162,7 @@ fn each_allocation_fails_in_turn_among_many_facets(rt: HostRuntime) -> Result<()
 
 // A welder that lost its facets for want of memory can be fed again.
 #[test]
-fn a_welder_is_empty_after_a_refusal(rt: HostRuntime) -> Result<(), Fail> {
+fn a_welder_is_empty_after_a_failed_allocation(rt: HostRuntime) -> Result<(), Fail> {
     let memory = ShortMemory::new(rt.alloc(), 2);
     let facets = facets_of(rt.alloc(), CUBE)?;
     let mut welder = Welder::new(&memory);

@@ -26,7 +26,7 @@ pub enum WeldFault {
 impl From<AllocError> for WeldFault {
     ghost from_gives = { λ _ fault. fault ≡ weld_fault.Memory };
 
-    fn from(_refused: AllocError) -> WeldFault {
+    fn from(_error: AllocError) -> WeldFault {
         WeldFault::Memory
     }
 }

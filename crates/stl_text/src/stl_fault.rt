@@ -38,7 +38,7 @@ impl<T: Drop> From<AllocFailed<T>> for StlFault {
 impl From<AllocError> for StlFault {
     ghost from_gives = { λ _ fault. fault ≡ Memory };
 
-    fn from(_failed: AllocError) -> StlFault {
+    fn from(_error: AllocError) -> StlFault {
         StlFault::Memory
     }
 }

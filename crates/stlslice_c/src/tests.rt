@@ -1,5 +1,5 @@
 //! Each call once, with values from outside: a tetrahedron of 4 mm, sliced at 1 mm. Then each allocation of the calls that
-//! allocate, refused in turn: the status is that of memory, nothing else changes, and the next try succeeds. The exports take
+//! allocate fails in turn: the status is that of memory, nothing else changes, and the next try succeeds. The exports take
 //! the heap alone, so this calls the functions that they are made of.
 use crate::answers::{put_area, put_mask, put_stripe};
 use crate::handle::Handle;
@@ -214,23 +214,23 @@ impl Call for Points {
     }
 }
 
-// Refuses each allocation in turn, of opening the mesh and of a call on it, until none is left to refuse; answers how many
-// of the call's were refused. `None` where a call was not right.
-fn refusals<C: Call>(alloc: Global) -> Option<u32> {
+// Fails each allocation in turn, of opening the mesh and of a call on it, until none is left to fail; answers how many of
+// the call's failed. `None` where a call was not right.
+fn failures<C: Call>(alloc: Global) -> Option<u32> {
     let setup = MILLIMETRE.setup()?;
-    let mut refused = 0u32;
+    let mut failed = 0u32;
     for turn in 1..TURNS {
         let memory = ShortMemory::new(alloc, turn);
         match open(&memory, TETRAHEDRON, &setup) {
             Ok(session) => {
                 let found = C::called(&memory, &session);
                 if !memory.has_failed() {
-                    return (found == (DONE, true)).then_some(refused);
+                    return (found == (DONE, true)).then_some(failed);
                 }
                 if found != (MEMORY, true) || C::called(&memory, &session) != (DONE, true) {
                     return None;
                 }
-                refused = refused.saturating_add(1);
+                failed = failed.saturating_add(1);
             }
             Err(SessionFault::Memory) if memory.has_failed() => {}
             Err(_) => return None,
@@ -240,17 +240,17 @@ fn refusals<C: Call>(alloc: Global) -> Option<u32> {
 }
 
 #[test]
-fn each_refused_allocation_is_told(rt: HostRuntime) -> Result<(), Fail> {
+fn each_failed_allocation_is_told(rt: HostRuntime) -> Result<(), Fail> {
     let alloc = rt.alloc();
-    assert!(rt; refusals::<Mask>(alloc) > Some(0));
-    assert!(rt; refusals::<Stripe>(alloc) > Some(0));
-    assert!(rt; refusals::<Area>(alloc) > Some(0));
-    assert!(rt; refusals::<Points>(alloc) > Some(0));
+    assert!(rt; failures::<Mask>(alloc) > Some(0));
+    assert!(rt; failures::<Stripe>(alloc) > Some(0));
+    assert!(rt; failures::<Area>(alloc) > Some(0));
+    assert!(rt; failures::<Points>(alloc) > Some(0));
     Ok(())
 }
 
-// How many allocations of reading a box were refused in turn, each told as `Memory`, until it was right.
-fn refused_boxes(alloc: Global) -> Option<u64> {
+// How many allocations of reading a box failed in turn, each told as `Memory`, until it was right.
+fn failed_boxes(alloc: Global) -> Option<u64> {
     for turn in 1..TURNS {
         let memory = ShortMemory::new(alloc, turn);
         match read_corners(&memory, TETRAHEDRON, Unit::Millimetre) {
@@ -263,8 +263,8 @@ fn refused_boxes(alloc: Global) -> Option<u64> {
 }
 
 #[test]
-fn each_refused_allocation_of_a_box_is_told(rt: HostRuntime) -> Result<(), Fail> {
-    assert!(rt; refused_boxes(rt.alloc()) > Some(0));
+fn each_failed_allocation_of_a_box_is_told(rt: HostRuntime) -> Result<(), Fail> {
+    assert!(rt; failed_boxes(rt.alloc()) > Some(0));
     Ok(())
 }
 
@@ -299,8 +299,8 @@ fn what_is_told_without_memory(rt: HostRuntime) -> Result<(), Fail> {
     assert!(rt; is_line(alloc, &no_cells, 5, b"grid has no cells\0"));
     assert!(rt; is_line(memory, &no_cells, 5, b"there is no such grid\0"));
     assert!(rt; is_line(memory, &SessionFault::Memory, 6, b"out of memory\0"));
-    // the size of an image is told without slicing: no allocation is left to refuse
-    assert_eq!(rt; refusals::<Sizes>(alloc), Some(0));
+    // the size of an image is told without slicing: no allocation is left to fail
+    assert_eq!(rt; failures::<Sizes>(alloc), Some(0));
     Ok(())
 }
 

@@ -1,5 +1,5 @@
 //! A rise of a sweep for which an allocation fails leaves the sweep as it was, and the next one succeeds.
-use crate::allocations::{Retry, refusals};
+use crate::allocations::{Retry, failures};
 use crate::meshes::{TWO_CUBES, solid_of};
 use contour::Sweep;
 use mesh_weld::Solid;
@@ -59,7 +59,7 @@ impl Retry for Rise {
 }
 
 #[test]
-fn active_facets_stay_where_a_rise_is_refused(rt: HostRuntime) -> Result<(), Fail> {
-    assert!(rt; refusals::<Rise>(rt.alloc(), 200) > Some(0));
+fn active_facets_stay_where_a_rise_fails(rt: HostRuntime) -> Result<(), Fail> {
+    assert!(rt; failures::<Rise>(rt.alloc(), 200) > Some(0));
     Ok(())
 }

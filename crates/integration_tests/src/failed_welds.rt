@@ -37,16 +37,16 @@ fn outcome(memory: &ShortMemory<Global>, mesh: &Mesh<'_>) -> Option<Outcome> {
 
 // Fails each allocation in turn until none is left to fail: how many of the failed ones were the weld's. `None` where
 // one of these welds answered anything else, or where the last answer is not the usual one.
-fn refused(alloc: Global, mesh: &Mesh<'_>, usual: Outcome) -> Option<u32> {
-    let mut refused = 0u32;
+fn failures(alloc: Global, mesh: &Mesh<'_>, usual: Outcome) -> Option<u32> {
+    let mut failed = 0u32;
     for turn in 1..200u64 {
         let memory = ShortMemory::new(alloc, turn);
         let found = outcome(&memory, mesh);
         if !memory.has_failed() {
-            return (found == Some(usual)).then_some(refused);
+            return (found == Some(usual)).then_some(failed);
         }
         match found {
-            Some(Err(WeldFault::Memory)) => refused = refused.saturating_add(1),
+            Some(Err(WeldFault::Memory)) => failed = failed.saturating_add(1),
             Some(_) => return None,
             None => {}
         }
@@ -61,7 +61,7 @@ fn closed_meshes(rt: HostRuntime) -> Result<(), Fail> {
         (CUBE_AND_PAIR, (14, 0)),
         (CUBE_AND_FLAT, (12, 1)),
     ] {
-        assert!(rt; refused(rt.alloc(), &Mesh::Parts(parts), Ok(usual)) > Some(3));
+        assert!(rt; failures(rt.alloc(), &Mesh::Parts(parts), Ok(usual)) > Some(3));
     }
     Ok(())
 }
@@ -76,12 +76,12 @@ fn an_open_box(rt: HostRuntime) -> Result<(), Fail> {
         back: 1,
     };
     let parts = [(CORNERS, &BOX[1..])];
-    assert!(rt; refused(rt.alloc(), &Mesh::Parts(&parts), Err(open)) > Some(3));
+    assert!(rt; failures(rt.alloc(), &Mesh::Parts(&parts), Err(open)) > Some(3));
     Ok(())
 }
 
 #[test]
 fn rings_of_many_facets(rt: HostRuntime) -> Result<(), Fail> {
-    assert!(rt; refused(rt.alloc(), &Mesh::Rings, Ok((4608, 0))) > Some(15));
+    assert!(rt; failures(rt.alloc(), &Mesh::Rings, Ok((4608, 0))) > Some(15));
     Ok(())
 }
