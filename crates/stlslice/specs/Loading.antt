@@ -12,6 +12,7 @@ use Rattle.stl_text.specs.TextReader.{IsAfter, TextReader}
 use Rattle.stl_text.specs.Text.{IsFaultOf, Reads}
 use Rattle.stl_text.specs.declared.stl_fault.StlFault.{StlFault}
 use Rattle.stlslice.specs.Extent.{extent_of}
+use Rattle.stlslice.specs.Round.{Round}
 use Rattle.stlslice.specs.Transcript.{Transcript}
 use Rattle.stlslice.specs.declared.extent.Extent.{Extent}
 use Rattle.stlslice.specs.declared.run_fault.RunFault.{RunFault}
@@ -80,11 +81,14 @@ pub record IsReadAs {T : Type 0} (is_made : List ℕ → T → Type 0) (is_own :
   pub sound : result ≢ Err fault.Read → source.failed ≡ source.failed_before
 
 -- What a call promises of a round that it fills from a source where there is more, and leaves empty where there is none: it answers
--- whether there is more after it.
-pub record IsFilled {S : Type 0} (remaining : S → Option (List ℕ)) (failure_count : S → ℕ) (old new : S) (is_more : Bool) (round : List ℕ)
+-- whether there is more after it. `before` and `after` are the round.
+pub record IsFilled {S : Type 0} (remaining : S → Option (List ℕ)) (failure_count : S → ℕ) (old new : S) (is_more : Bool) (before after : Round)
     (result : Result Bool RunFault) : Type 0 where
   -- the round has what was taken off the source, just once and in its order
-  pub taken : OnOk result (Consumes (remaining old) (remaining new) round)
+  pub taken : OnOk result (Consumes (remaining old) (remaining new) after.bytes)
+  -- where there is more, the round has all that it waits for
+  pub full : result ≡ Ok true → after.wanted ≤ length after.bytes
+  pub waits : after.wanted ≡ before.wanted
   pub kept : is_more ≡ false → new ≡ old
   pub whole : result ≡ Ok false → is_more ≡ true → IsAtEnd (remaining new)
   -- just one call of the source failed where a failed read is the answer, else none

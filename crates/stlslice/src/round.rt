@@ -63,9 +63,7 @@ impl<A: Allocator> Round<A> {
 
     /// Fills the round anew with what a source has next: `false` at the end of the source.
     pub(crate) fn fill<I: Source>(&mut self, source: &mut I) -> Result<bool, RunFault>
-        ensures filled { IsFilled I.remaining I.Failures.failure_count source.old source.new true self.new.bytes result }
-        ensures full { result ≡ Ok true → self.new.wanted ≤ length self.new.bytes }
-        ensures wanted { self.new.wanted ≡ self.old.wanted }
+        ensures { IsFilled I.remaining I.Failures.failure_count source.old source.new true self.old self.new result }
     {
         self.len = 0;
         'round: while self.len < self.wanted {

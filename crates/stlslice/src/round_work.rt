@@ -1,6 +1,6 @@
 //! The work on a round of a text that several workers share: the facets of the round before are welded, the next round is
 //! filled, and runs of facets are looked for in parts of the round.
-ghost use Rattle.std.specs.Prelude.{◌≡◌, ◌≤◌, ◌⊎◌, ◌++◌, Err, IfErr, IfOk, IsOk, List, Ok, OnOk, length, true, ℕ};
+ghost use Rattle.std.specs.Prelude.{◌≡◌, ◌⊎◌, ◌++◌, Err, IfErr, IfOk, IsOk, List, Ok, OnOk, ℕ};
 ghost use Rattle.geometry.specs.Facet.{Facet};
 ghost use Rattle.geometry.specs.declared.limits.TheConstants.{FACET_LIMIT};
 ghost use Rattle.micro_num.specs.declared.unit.Unit.{Unit as LengthUnit};
@@ -34,9 +34,7 @@ pub(crate) fn read_and_weld<R: Threads + Sync, A: Allocator + Copy + Send + Sync
     ensures fed { (unit : LengthUnit) (taken : List Facet) (fed : List ℕ) → IsAfter FACET_LIMIT unit taken reader.old fed
         → IsAfter FACET_LIMIT unit taken reader.new (fed ++ round.now) }
     ensures welded { OnOk result (HasWelded facets.now welder.old welder.new) }
-    ensures filled { IsFilled I.remaining I.Failures.failure_count source.old source.new is_more next.new.bytes result }
-    ensures full { result ≡ Ok true → next.new.wanted ≤ length next.new.bytes }
-    ensures wanted { next.new.wanted ≡ next.old.wanted }
+    ensures filled { IsFilled I.remaining I.Failures.failure_count source.old source.new is_more next.old next.new result }
 {
     let parts = reader.parts(round, workers);
     let (found, filled) = weld_and_find(rt, workers, &parts, welder, facets, source, next, is_more);
@@ -62,9 +60,7 @@ fn weld_and_find<'t, R: Threads + Sync, A: Allocator + Copy + Send + Sync, I: So
 ) -> (FacetRuns<'t, A>, Result<bool, RunFault>)
     ensures found { result.0 ≡ parts.now }
     ensures welded { OnOk result.1 (HasWelded facets.now welder.old welder.new) }
-    ensures filled { IsFilled I.remaining I.Failures.failure_count source.old source.new is_more round.new.bytes result.1 }
-    ensures full { result.1 ≡ Ok true → round.new.wanted ≤ length round.new.bytes }
-    ensures wanted { round.new.wanted ≡ round.old.wanted }
+    ensures filled { IsFilled I.remaining I.Failures.failure_count source.old source.new is_more round.old round.new result.1 }
 {
     let (mut found, (more, filled)) = join_mut(
         rt,
@@ -89,9 +85,7 @@ fn weld_and_fill<'t, R: Threads + Sync, A: Allocator + Copy + Send + Sync, I: So
 ) -> (FacetRuns<'t, A>, Result<bool, RunFault>)
     ensures found { result.0 ≡ parts.now }
     ensures welded { OnOk result.1 (HasWelded facets.now welder.old welder.new) }
-    ensures filled { IsFilled I.remaining I.Failures.failure_count source.old source.new is_more round.new.bytes result.1 }
-    ensures full { result.1 ≡ Ok true → round.new.wanted ≤ length round.new.bytes }
-    ensures wanted { round.new.wanted ≡ round.old.wanted }
+    ensures filled { IsFilled I.remaining I.Failures.failure_count source.old source.new is_more round.old round.new result.1 }
 {
     if workers < 3 {
         let welded = weld_next(welder, facets);
@@ -146,9 +140,7 @@ fn fill_beside<'t, R: Threads + Sync, A: Allocator + Copy + Send + Sync, I: Sour
     is_more: bool,
 ) -> (FacetRuns<'t, A>, Result<bool, RunFault>)
     ensures found { result.0 ≡ parts.now }
-    ensures filled { IsFilled I.remaining I.Failures.failure_count source.old source.new is_more round.new.bytes result.1 }
-    ensures full { result.1 ≡ Ok true → round.new.wanted ≤ length round.new.bytes }
-    ensures wanted { round.new.wanted ≡ round.old.wanted }
+    ensures filled { IsFilled I.remaining I.Failures.failure_count source.old source.new is_more round.old round.new result.1 }
 {
     if others == 0 {
         return fill_first(source, round, is_more, parts);
@@ -171,9 +163,7 @@ fn fill_first<'t, A: Allocator + Copy, I: Source>(
     parts: &ChunkParts<'t, A>,
 ) -> (FacetRuns<'t, A>, Result<bool, RunFault>)
     ensures found { result.0 ≡ parts.now }
-    ensures filled { IsFilled I.remaining I.Failures.failure_count source.old source.new is_more round.new.bytes result.1 }
-    ensures full { result.1 ≡ Ok true → round.new.wanted ≤ length round.new.bytes }
-    ensures wanted { round.new.wanted ≡ round.old.wanted }
+    ensures filled { IsFilled I.remaining I.Failures.failure_count source.old source.new is_more round.old round.new result.1 }
 {
     round.clear();
     let filled = if is_more {

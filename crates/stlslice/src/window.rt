@@ -8,7 +8,7 @@ use crate::run_fault::RunFault;
 use raster::Source;
 
 /// The length of a window, in bytes.
-pub(crate) const WINDOW_LEN: usize = 1 << 18;
+pub(crate) const WINDOW_LEN: usize = 65_536;
 
 /// Fills the front of a window from a source: answers how many bytes came, which is 0 only at its end.
 pub(crate) fn fill<I: Source>(source: &mut I, window: &mut [u8]) -> Result<usize, RunFault>
