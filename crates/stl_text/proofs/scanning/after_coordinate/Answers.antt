@@ -1,4 +1,4 @@
-use Rattle.std.proofs.Common.{◌≡◌, ℤ, ap, sym, ◌∙◌, w32, FitsSigned, rules}
+use Rattle.std.proofs.Common.{ℤ, ap, sym, ◌∙◌, w32, FitsSigned, rules}
 use Rattle.std.proofs.lemmas.Int.{to_z-of_z}
 use Rattle.std.specs.Prelude.{Ok}
 use Rattle.std.specs.List.{before_first}

@@ -1,5 +1,4 @@
-use Rattle.std.proofs.Common.{[], ◌∷◌, List, ℕ, All, is_ok, subst, sym}
-use Rattle.micro_num.specs.declared.unit.Unit.{Unit as LengthUnit}
+use Rattle.std.proofs.Common.{[], ◌∷◌, is_ok, subst, sym}
 use Rattle.stl_text.specs.ChunkParts.{Chunk}
 use Rattle.stl_text.specs.FacetRun.{IsFacetRun}
 use Rattle.stl_text.specs.declared.facet_run.FacetRun.{FacetRun}
