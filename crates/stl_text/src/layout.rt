@@ -1,6 +1,6 @@
 //! The layout of facets: what a file writes before, between and after the numbers of a facet. Most files write it with the
 //! same bytes in each facet, so that these are compared as a whole, and not read word by word.
-ghost use Rattle.std.specs.Prelude.{◌≡◌, ◌≤◌, ◌<◌, [], ◌∷◌, ◌++◌, IfSome, List, Ok, Some, length, not, take, true};
+ghost use Rattle.std.specs.Prelude.{◌≡◌, ◌≢◌, ◌≤◌, ◌<◌, ℕ, [], ◌∷◌, ◌++◌, IfSome, List, None, Ok, Some, length, not, take, true};
 ghost use Rattle.std.specs.List.{list_all};
 ghost use Rattle.micro_num.specs.Micrometres.{coordinate_of};
 ghost use Rattle.stl_text.specs.Layout.{IsClosing, IsSeparator, Skips, separator_tokens};
@@ -117,7 +117,8 @@ impl<'t> Reader<'t> {
 /// The text after these bytes, if it begins with them.
 #[inline(always)]
 fn after_bytes<'t>(text: &'t [u8], bytes: &[u8]) -> Option<&'t [u8]>
-    ensures { IfSome result (λ rest. text.now ≡ bytes.now ++ rest.now) }
+    ensures some { IfSome result (λ rest. text.now ≡ bytes.now ++ rest.now) }
+    ensures none { result ≡ None → (rest : List ℕ) → text.now ≢ bytes.now ++ rest }
 {
     if text.len() < bytes.len() {
         return None;
@@ -133,6 +134,7 @@ fn after_bytes<'t>(text: &'t [u8], bytes: &[u8]) -> Option<&'t [u8]>
 fn after_any_word(bytes: &[u8]) -> Option<&[u8]>
     ensures word { IfSome result (λ rest. 0 < length (first_word bytes.now)) }
     ensures rest { IfSome result (λ rest. rest.now ≡ after_word bytes.now) }
+    ensures none { result ≡ None → first_word bytes.now ≡ [] }
 {
     let (word, rest) = split_word(bytes);
     if word.is_empty() { None } else { Some(rest) }

@@ -1,7 +1,7 @@
 //! The reader of a facet's words, from left to right: keywords, words of a normal and coordinates.
-ghost use Rattle.std.specs.Prelude.{◌≡◌, ◌↔◌, [], ◌∷◌, IfSome, IsTrue};
+ghost use Rattle.std.specs.Prelude.{◌≡◌, ◌↔◌, [], ◌∷◌, IfSome, IsTrue, None};
 ghost use Rattle.stl_text.specs.Reader.{Spells, start};
-ghost use Rattle.stl_text.specs.Text.{after_space, coordinate, keyword_of, HasOneKeyword, normal_word};
+ghost use Rattle.stl_text.specs.Text.{after_space, coordinate, first_word, keyword_of, HasOneKeyword, normal_word};
 
 use crate::scanning::{after_coordinate, after_keyword, skip_space, split_word};
 use crate::word::Word;
@@ -53,7 +53,8 @@ impl<'t> Reader<'t> {
 
     /// Reads a word of a normal, if one is left.
     pub(crate) fn normal_word(&mut self) -> Option<()>
-        ensures { IfSome result (λ _. Spells (normal_word ∷ []) self.old self.new) }
+        ensures some { IfSome result (λ _. Spells (normal_word ∷ []) self.old self.new) }
+        ensures none { result ≡ None → first_word self.old.rest ≡ [] }
     {
         let (word, rest) = split_word(self.rest);
         if word.is_empty() {
