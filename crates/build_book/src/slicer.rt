@@ -15,9 +15,9 @@ use raster::{Filler, Span, area};
 use std::alloc::{AllocError, Allocator};
 use std::marker::Model;
 
-/// Slices stripes of one job, in any order; from the lowest up it takes the least time. It keeps the sweep where the last
-/// stripe ended, so that a higher stripe looks only at the facets in between, and it keeps the memory in which layers
-/// are linked and filled.
+/// Slices stripes of one job, in any order. It keeps the sweep where the last stripe ended, so that a higher stripe looks
+/// only at the facets in between, while a lower one begins a new sweep, and it keeps the memory in which layers are
+/// linked and filled.
 #[derive(Drop)]
 pub struct Slicer<'m, A: Allocator> {
     alloc: A,
@@ -96,7 +96,7 @@ impl<'m, A: Allocator + Copy + Send + Sync> Slicer<'m, A> {
 }
 
 /// Slices stripe s of a job, its layers from the lowest up; s is below `Job::stripes`. `Err` comes only where an
-/// allocation failed. For several stripes a [`Slicer`] takes less time.
+/// allocation failed. A [`Slicer`] keeps its sweep and its memory from stripe to stripe.
 pub fn slice_stripe<'m, A: Allocator + Copy + Send + Sync>(
     alloc: A,
     job: &'m Job<A>,

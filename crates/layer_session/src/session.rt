@@ -171,8 +171,8 @@ impl<A: Allocator + Copy + Send + Sync> Session<A> {
         Ok(layer_image(self.alloc, &self.job, k)?)
     }
 
-    /// The images of the layers of stripe s, from the lowest up, one after the other. This takes less time than to ask
-    /// for each of them.
+    /// The images of the layers of stripe s, from the lowest up, one after the other. One sweep cuts all of them, where
+    /// each call of [`Session::image`] begins anew.
     ///
     /// # Errors
     /// `Outside` exactly where there is no such stripe; `Memory` only where an allocation failed.

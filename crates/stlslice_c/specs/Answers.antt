@@ -3,7 +3,7 @@ use Rattle.std.specs.Prelude.{◌≡◌, ◌⊎◌, ◌<◌, ◌≤◌, ◌∷�
 use Rattle.geometry.specs.Facet.{Facet}
 use Rattle.geometry.specs.declared.limits.TheConstants.{FACET_LIMIT}
 use Rattle.stl_text.specs.Text.{IsFaultOf, Reads}
-use Rattle.micro_num.specs.declared.unit.Unit.{Unit as TextUnit}
+use Rattle.micro_num.specs.declared.unit.Unit.{Unit as LengthUnit}
 use Rattle.raster.specs.Filler.{area_of}
 use Rattle.build_book.specs.Job.{Job, stripe_count}
 use Rattle.layer_session.specs.Answers.{image_of, outside, probed, stripe_images}
@@ -72,7 +72,7 @@ IsFaultLine (fault.Weld cause) old new = (text : List ℕ) × IsLine text old ne
 IsFaultLine (fault.Grid cause) old new = (text : List ℕ) × IsLine text old new
 
 -- what is said of a text that has no box
-abbrev pub IsTextFault : TextUnit → List ℕ → SessionFault → Type 0
+abbrev pub IsTextFault : LengthUnit → List ℕ → SessionFault → Type 0
 IsTextFault unit text (fault.Stl cause) = IsFaultOf FACET_LIMIT unit text cause
 IsTextFault unit text fault.Memory = Unit {0}
 IsTextFault unit text fault.Step = ⊥
@@ -82,7 +82,7 @@ IsTextFault unit text (fault.Outside columns rows layers) = ⊥
 
 -- the number and the box of the facets that a text reads as
 pub record IsBoxed (unit : ℕ) (text : List ℕ) (told : Corners) : Type 0 where
-  pub meant : TextUnit
+  pub meant : LengthUnit
   pub facets : List Facet
   pub means : unit_numbered unit ≡ Some meant
   pub reads : Reads FACET_LIMIT meant text facets
@@ -92,7 +92,7 @@ pub record IsBoxed (unit : ℕ) (text : List ℕ) (told : Corners) : Type 0 wher
 abbrev pub IsUnboxed : ℕ → List ℕ → List ℕ → List ℕ → ℕ → Type 0
 IsUnboxed unit text before after status =
     ((unit_numbered unit ≡ None) × (status ≡ OUT_OF_RANGE) × IsLine (status_text OUT_OF_RANGE) before after)
-    ⊎ ((meant : TextUnit) × (fault : SessionFault) × (unit_numbered unit ≡ Some meant)
+    ⊎ ((meant : LengthUnit) × (fault : SessionFault) × (unit_numbered unit ≡ Some meant)
     × IsTextFault meant text fault × (status ≡ status_of fault) × IsFaultLine fault before after)
 
 -- the box, and no line; or else the line, and no box

@@ -1,7 +1,7 @@
 -- What the numbers stand for that C opens a text with.
 use Rattle.std.specs.Prelude.{◌≡◌, ℕ, Option, Some, None, if◌then◌else◌, nat_eq}
 use Rattle.geometry.specs.Point.{IsMeshPoint}
-use Rattle.micro_num.specs.declared.unit.Unit.{Unit as TextUnit}
+use Rattle.micro_num.specs.declared.unit.Unit.{Unit as LengthUnit}
 use Rattle.micro_num.specs.declared.unit.Unit.TheVariants as unit
 use Rattle.raster.specs.declared.rule.Rule.{Rule}
 use Rattle.raster.specs.declared.rule.Rule.TheVariants as rule
@@ -10,7 +10,7 @@ use Rattle.raster.specs.declared.placing.Placing.TheVariants as placing
 use Rattle.layer_session.specs.declared.setup.Setup.{Setup}
 use Rattle.stlslice_c.specs.declared.options.Options.{Options}
 
-abbrev pub unit_numbered : ℕ → Option TextUnit
+abbrev pub unit_numbered : ℕ → Option LengthUnit
 unit_numbered n = if nat_eq n 0 then Some unit.Millimetre else if nat_eq n 1 then Some unit.Inch else None
 
 abbrev pub rule_numbered : ℕ → Option Rule
