@@ -4,7 +4,7 @@ ghost use Rattle.std.specs.Prelude.{◌≤◌, ◌<◌, ◌+◌};
 use crate::allocations::{Count, first_free_turn};
 use crate::meshes::welded;
 use crate::welders::{agree, fed, fed_by};
-use crate::welding::{counts, open_edge, ring_point, rings};
+use crate::welding::{Counts, counts, open_edge, ring_point, rings};
 use mesh_weld::{Solid, WeldFault};
 use short_memory::ShortMemory;
 use std::alloc::{AllocError, Allocator, Global};
@@ -92,6 +92,63 @@ fn vertices_of_many_facets(rt: HostRuntime) -> Result<(), Fail> {
     Ok(())
 }
 
+// A point of a line on which the table of corners has the same first slot for each, as long as it has at most 2^20 slots.
+fn crowded_point(number: u32) -> Option<Point> {
+    let number = (number % 200) as i32;
+    Point::new(number * 192, number * 742, number * 651)
+}
+
+// The number of tetrahedra that are made of such points, four each: more points than the table looks at slots for one of them.
+const TETRAHEDRA: u32 = 25;
+
+// Adds two facets of a tetrahedron of such points, the first two or else the last two.
+fn push_half<A: Allocator>(
+    list: &mut Vec<Facet, A>,
+    number: u32,
+    is_first: bool,
+) -> Result<(), AllocError> {
+    let before = number % TETRAHEDRA * 4;
+    // the point 0 is one of the rings
+    let a = in_range(crowded_point(before + 1))?;
+    let b = in_range(crowded_point(before + 2))?;
+    let c = in_range(crowded_point(before + 3))?;
+    let d = in_range(crowded_point(before + 4))?;
+    if is_first {
+        list.push(Facet::of(a, b, c))?;
+        list.push(Facet::of(b, a, d))?;
+    } else {
+        list.push(Facet::of(a, c, d))?;
+        list.push(Facet::of(b, d, c))?;
+    }
+    Ok(())
+}
+
+// The rings between the two halves of the tetrahedra, so that the table has grown when their points come again.
+fn crowded_tetrahedra_and_rings<A: Allocator + Copy>(
+    alloc: A,
+) -> Result<Vec<Facet, A>, AllocError> {
+    let mut list = Vec::new(alloc);
+    for number in 0..TETRAHEDRA {
+        push_half(&mut list, number, true)?;
+    }
+    let rings = rings(alloc, 4608)?;
+    list.extend_from_slice(rings.as_slice())?;
+    for number in 0..TETRAHEDRA {
+        push_half(&mut list, number, false)?;
+    }
+    Ok(list)
+}
+
+// The rings' 4608 facets, 2304 points and 6912 edges, and 4, 4 and 6 of each tetrahedron.
+#[test]
+fn points_that_the_table_does_not_hold(rt: HostRuntime) -> Result<(), Fail> {
+    let facets = crowded_tetrahedra_and_rings(rt.alloc())?;
+    let told = Some((4708, 0, 2404, 7062));
+    assert_eq!(rt; counts(fed(rt.alloc(), facets.as_slice(), 1000)), told);
+    assert_eq!(rt; counts(fed_by(&rt, rt.alloc(), facets.as_slice())), told);
+    Ok(())
+}
+
 // Whether several threads weld the facets as one does.
 fn is_welded_alike<R: Threads + Sync>(rt: &R, alloc: Global, facets: &[Facet]) -> bool {
     agree(&fed(alloc, facets, 1000), &fed_by(rt, alloc, facets))
@@ -120,5 +177,38 @@ impl Count for KeptOfFan {
 #[test]
 fn each_allocation_fails_in_turn(rt: HostRuntime) -> Result<(), Fail> {
     assert!(rt; first_free_turn::<KeptOfFan>(rt.alloc(), 100, 4200) > Some(30));
+    Ok(())
+}
+
+// More allocations than a weld asks for.
+const ALLOCATIONS: u64 = 100;
+
+// Fails each allocation in turn of facets that several threads weld, until none is left to fail, and answers which turn that
+// was. `None` where a weld of which an allocation failed answered anything but `Memory`, where the last one has other counts,
+// or where `ALLOCATIONS` turns do not suffice.
+fn first_free_turn_by<R: Threads + Sync>(
+    rt: &R,
+    alloc: Global,
+    facets: &[Facet],
+    usual: Counts,
+) -> Option<u64> {
+    for turn in 1..ALLOCATIONS {
+        let memory = ShortMemory::new(alloc, turn);
+        let found = fed_by(rt, &memory, facets);
+        if !memory.has_failed() {
+            return (counts(found) == Some(usual)).then_some(turn);
+        }
+        if found.err() != Some(WeldFault::Memory) {
+            return None;
+        }
+    }
+    None
+}
+
+#[test]
+fn each_allocation_by_threads_fails_in_turn(rt: HostRuntime) -> Result<(), Fail> {
+    let facets = rings(rt.alloc(), 4608)?;
+    let usual = (4608, 0, 2304, 6912);
+    assert!(rt; first_free_turn_by(&rt, rt.alloc(), facets.as_slice(), usual) > Some(30));
     Ok(())
 }

@@ -25,7 +25,7 @@ const BEFORE: usize = 33_500;
 
 const AFTER: usize = 32_200;
 
-// A piece of a text, and what is read of it: so many of the facets with which a solid begins, or else a byte where `outer` is
+// A piece of a text, and what is read of it: the number of facets with which a solid begins, or else a byte where `outer` is
 // wanted.
 #[derive(Clone, Copy)]
 struct Piece {

@@ -13,7 +13,7 @@ use stl_text::{Facet, Point};
 pub(crate) type Counts = (usize, u32, usize, u32);
 
 /// The counts of a solid; `None` where an allocation failed.
-pub(crate) fn counts(welded: Result<Solid<Global>, WeldFault>) -> Option<Counts> {
+pub(crate) fn counts<A: Allocator>(welded: Result<Solid<A>, WeldFault>) -> Option<Counts> {
     let solid = welded.ok()?;
     Some((
         solid.count(),
