@@ -189,7 +189,7 @@ fn each_allocation_of_loops_fails(rt: HostRuntime) -> Result<(), Fail> {
     Ok(())
 }
 
-// How many loops a plane of a mesh has, linked so many times by one linker.
+// How many loops a plane of a mesh has, linked `times` times by one linker.
 fn count_linked<A: Allocator + Copy + Send + Sync>(
     alloc: A,
     parts: &[Part<'_>],
