@@ -156,9 +156,12 @@ const SLICED: Usual = (Ok(()), b"P4\n2 2\n\xc0\xc0P4\n2 2\n\xc0\xc0");
 /// The least length of a part of a text, in bytes.
 const PART_LEN: usize = 32_768;
 
+/// How many times eight bytes long the names are in a cube of four parts.
+const NAME_OF_PARTS: u32 = 4_096;
+
 #[test]
 fn each_allocation_fails_in_parts(rt: HostRuntime) -> Result<(), Fail> {
-    let cube = long_cube(rt.alloc(), 4_096)?;
+    let cube = long_cube(rt.alloc(), NAME_OF_PARTS)?;
     assert!(rt; 4 * PART_LEN <= cube.len());
     for line in [
         "--pitch 1 --layer 1 --workers 2",
@@ -170,18 +173,46 @@ fn each_allocation_fails_in_parts(rt: HostRuntime) -> Result<(), Fail> {
     Ok(())
 }
 
-/// The length of a round of two workers, without the window that it may have more.
-const ROUND_LEN: usize = 2 << 20;
+/// The length of a round for each of its workers, without the window that it may have more.
+const WORKER_LEN: usize = 1 << 20;
 
-/// The second round has two parts, and the last facets. The fault comes once the mesh is closed: a facet that was left out
-/// would show as an open edge.
+/// The same for a cube of more than a round of two workers, and of three.
+const NAME_OF_TWO_WORKERS: u32 = 68_500;
+
+const NAME_OF_THREE_WORKERS: u32 = 100_400;
+
+/// How a run ends whose grid has no column.
+const NO_CELLS: Usual = (Err(RunFault::Grid(GridFault::NoCells)), b"");
+
+/// Whether each allocation fails in turn of a run over a cube of at least this length, with names of `eights` times eight
+/// bytes. Its second round has two parts, and the last facets. The fault comes once the mesh is closed: a facet that was left
+/// out would show as an open edge.
+fn fails_in_two_rounds<R: Threads + Wait + Sync + AllocGlobal>(
+    rt: &R,
+    line: &str,
+    eights: u32,
+    least_len: usize,
+) -> Result<bool, AllocError> {
+    let cube = long_cube(rt.alloc(), eights)?;
+    let turn = first_free_turn(rt, line, cube.as_str(), &NO_CELLS);
+    Ok(least_len <= cube.len() && turn > 10)
+}
+
+/// One thread welds and fills.
 #[test]
-fn each_allocation_of_two_rounds_fails(rt: HostRuntime) -> Result<(), Fail> {
-    let cube = long_cube(rt.alloc(), 68_500)?;
-    assert!(rt; ROUND_LEN + 2 * PART_LEN <= cube.len());
+fn each_allocation_of_two_rounds_fails_by_two_workers(rt: HostRuntime) -> Result<(), Fail> {
     let line = "--pitch 1 --layer 1 --workers 2 --grid 0,1,1,0,0,0";
-    let usual: Usual = (Err(RunFault::Grid(GridFault::NoCells)), b"");
-    assert!(rt; first_free_turn(&rt, line, cube.as_str(), &usual) > 10);
+    let least_len = 2 * WORKER_LEN + 2 * PART_LEN;
+    assert!(rt; fails_in_two_rounds(&rt, line, NAME_OF_TWO_WORKERS, least_len)?);
+    Ok(())
+}
+
+/// One thread welds, and another one fills.
+#[test]
+fn each_allocation_of_two_rounds_fails_by_three_workers(rt: HostRuntime) -> Result<(), Fail> {
+    let line = "--pitch 1 --layer 1 --workers 3 --grid 0,1,1,0,0,0";
+    let least_len = 3 * WORKER_LEN + 2 * PART_LEN;
+    assert!(rt; fails_in_two_rounds(&rt, line, NAME_OF_THREE_WORKERS, least_len)?);
     Ok(())
 }
 

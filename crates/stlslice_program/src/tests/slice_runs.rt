@@ -284,10 +284,16 @@ fn the_other_spelling(rt: HostRuntime) {
     );
 }
 
+/// The number of columns of the widest grid.
+const WIDEST: u32 = 16_384;
+
+/// The length of its row in an image, in bytes.
+const WIDEST_LEN: u32 = WIDEST / 8;
+
 /// The image of the widest row, all black.
 fn widest_image(alloc: Global) -> Result<Vec<u8>, AllocError> {
     let mut image = b"P4\n16384 1\n".to_vec(alloc)?;
-    for _ in 0..2048 {
+    for _ in 0..WIDEST_LEN {
         image.push(0xff)?;
     }
     Ok(image)
@@ -300,7 +306,7 @@ fn is_widest<R: Threads + Wait + Sync + AllocGlobal>(rt: &R) -> bool {
             rt,
             &(
                 "--pitch 1 --layer 1",
-                Boxes(&[[[0, 0, 0], [16384, 1, 1]]]),
+                Boxes(&[[[0, 0, 0], [WIDEST as i32, 1, 1]]]),
                 image.as_slice(),
                 "layer 0 loops 1 area 16384\ntotal 16384\n",
             ),
@@ -317,13 +323,13 @@ fn the_widest_grid(rt: HostRuntime) {
 /// The length of an image of the widest row.
 fn widest_length() -> Option<u64> {
     let origin = Point::new(0, 0, 0)?;
-    let grid = Grid::given(origin, 1, 1, 16384, 1, 1).ok()?;
+    let grid = Grid::given(origin, 1, 1, WIDEST, 1, 1).ok()?;
     Some(image_len(&grid))
 }
 
 #[test]
 fn the_length_of_the_widest_image(rt: HostRuntime) {
-    assert!(rt; widest_length() == Some(11 + 2048));
+    assert!(rt; widest_length() == Some(11 + u64::from(WIDEST_LEN)));
 }
 
 /// From one layer on to before another: the image of each, its loops and its area.

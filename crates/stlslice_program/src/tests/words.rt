@@ -87,9 +87,12 @@ fn words_that_ask_for_progress(rt: HostRuntime) {
     assert!(rt; asks_for_progress(rt.alloc(), "--pitch 1 --layer 1 --report") == Some(false));
 }
 
+/// The least coordinate of a point, in micrometres.
+const LEAST_COORDINATE: i32 = -128_000_000;
+
 /// A task with each option that belongs to it.
 fn full_task() -> Option<Task> {
-    let origin = Point::new(-1, 0, -128_000_000)?;
+    let origin = Point::new(-1, 0, LEAST_COORDINATE)?;
     Some(Task::Slice {
         unit: Unit::Inch,
         pitch: 5,
