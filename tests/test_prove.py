@@ -1,6 +1,6 @@
 #!/usr/bin/env python3
 """What make does before rt run: libraries side by side, each behind those that it stands on, and those beside the longest
-chain at a lower priority; an end with status 1 where one isn't proved or the quick pass has something to mend; and
+chain at a lower priority, but for one whose chain is nearly as long; an end with status 1 where one isn't proved or the quick pass has something to mend; and
 nothing at all where the toolchain's library is another than expected. It is tried with a library that stands in for the
 toolchain's."""
 
@@ -13,8 +13,8 @@ LIBRARY = '''
 import os, threading, time
 
 LOG, mutex = os.environ["LOG"], threading.Lock()
-DEPS = {"low": [], "middle": ["low"], "high": ["middle", "side"], "side": [], "other": []}
-LINES = {"low": 50, "middle": 50, "high": 50, "side": 20, "other": 10}
+DEPS = {"low": [], "twin": [], "middle": ["low", "twin"], "high": ["middle", "side"], "side": [], "other": []}
+LINES = {"low": 50, "twin": 45, "middle": 50, "high": 50, "side": 20, "other": 10}
 known = {}
 
 
@@ -25,7 +25,7 @@ class Crate:
 
     def below(self):
         return [known.setdefault(it, Crate(f"{os.path.dirname(self.folder)}/{it}", os.path.dirname(self.folder), {}))
-                for it in ("low", "middle", "side", "high", "other")]
+                for it in ("low", "twin", "middle", "side", "high", "other")]
 
     def count(self, pattern):
         return LINES[self.name]
@@ -84,12 +84,13 @@ def main():
         same("status", status, 0)
         at = {line: k for k, line in enumerate(log)}
         names = {line.split()[0]: line for line in log if " begins" in line}
-        same("libraries", sorted(names), ["high", "low", "middle", "other", "side"])
+        same("libraries", sorted(names), ["high", "low", "middle", "other", "side", "twin"])
         flags = {name: line.split(" begins ")[1].split("nice ")[0] for name, line in names.items()}
         same("jobs", [flags[name] for name in ("low", "middle", "high", "side")], ["", "", "", "--jobs 1 "])
+        same("jobs of a chain that is nearly as long", flags["twin"], "--jobs 2 ")
         niceness = {name: int(line.split()[-1]) for name, line in names.items()}
-        same("priority of the chain", [niceness[name] for name in ("low", "middle", "high")], [os.nice(0)] * 3)
-        same("priority beside it", [niceness[name] for name in ("side", "other")], [min(os.nice(0) + 10, 19)] * 2)
+        same("priority of the chain", [niceness[name] for name in ("low", "twin", "middle", "high")], [os.nice(0)] * 4)
+        same("priority beside it", niceness["side"], min(os.nice(0) + 10, 19))
         for above, below in (("middle", "low"), ("high", "middle"), ("high", "side")):
             ends = next(k for line, k in at.items() if line.startswith(f"{below} ends"))
             holds(f"{above} begins behind {below}", at[names[above]] > ends)

@@ -7,10 +7,12 @@ FOLDER is the program's crate. `rt run` there proves the libraries one after ano
 N at a time, but gives each one job, and most of these crates stand on one another. This calls the toolchain's own
 library, as both of them do: of the libraries that can be built, the one with the longest chain of others above it
 chooses its jobs as under `rt run`. The whole takes as long as that chain, so those beside it, one for each two
-processors where memory allows, get one job each and the time that it leaves: theirs is a lower priority. The quick pass
-over all sources, with which `rt run` begins, goes on beside the first proofs. `rt run` takes what is built here as
-built, by its own stamps, and builds the rest itself. So where the toolchain's library is another than expected, this
-says so and leaves all to `rt run`.
+processors where memory allows, get one job each and the time that it leaves: theirs is a lower priority. But one with a
+chain above it that is nearly as long gets half of the processors and the same priority, since what stands on both would
+wait for it, and one with a longer chain, which had to wait for others, chooses its jobs too. The quick pass over all
+sources, with which `rt run` begins, goes on beside the first proofs. `rt run` takes what is built here as built, by its
+own stamps, and builds the rest itself. So where the toolchain's library is another than expected, this says so and leaves
+all to `rt run`.
 """
 
 import importlib.util
@@ -25,6 +27,9 @@ sys.dont_write_bytecode = True
 
 # How far the priority of what runs beside the longest chain is lowered.
 NICENESS = 10
+
+# A chain is nearly as long as another if it has at least this part of its lines.
+NEARLY = 0.9
 
 
 def toolchain():
@@ -77,11 +82,11 @@ def prove(rtlib, folder):
     program = rtlib.Crate(folder, rtlib.root_above(folder), {})
     left = program.below()
     held = rtlib.lock([*left, program])
-    chain, done, running, first = heights(left), [], {}, None
+    chain, done, running, first, second = heights(left), [], {}, None, None
     beside = rtlib.cores() // 2
     # a thread's priority is its own, and what it starts has the same
     spare = ThreadPoolExecutor(max(beside, 1), initializer=os.nice, initargs=(NICENESS,))
-    with ThreadPoolExecutor(2) as pool, spare:
+    with ThreadPoolExecutor(3) as pool, spare:
         reading = pool.submit(read, program)
         while left or running:
             if reading.done() and not reading.result():
@@ -90,6 +95,9 @@ def prove(rtlib, folder):
             for crate in sorted(ready, key=lambda it: -chain[it]):
                 if first is None:
                     first, run = crate, pool.submit(built, crate, [], True)
+                elif second is None and chain[crate] >= NEARLY * chain[first] and rtlib.fits(crate.need()):
+                    few = ["--jobs", str(max(beside, 1))] if chain[crate] < chain[first] else []
+                    second, run = crate, pool.submit(built, crate, few, False)
                 elif len(running) <= beside and rtlib.fits(crate.need()):
                     run = spare.submit(built, crate, ["--jobs", "1"], False)
                 else:
@@ -98,7 +106,7 @@ def prove(rtlib, folder):
                 running[run] = crate
             for it in wait(running, return_when=FIRST_COMPLETED).done:
                 crate = running.pop(it)
-                first = None if crate is first else first
+                first, second = (None if kept is crate else kept for kept in (first, second))
                 if not it.result():
                     print(f"prove.py: {crate.name} is not proved", file=sys.stderr)
                     return False

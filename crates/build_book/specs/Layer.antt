@@ -1,10 +1,10 @@
 -- Layers, and when a layer is lawful: when it is what solid, grid and rule determine.
 use Rattle.std.specs.Prelude.{◌≡◌, ℕ, ◌+◌, ◌<◌, List, [], ◌∷◌, sum_by}
 use Rattle.raster.specs.declared.span.Span.{Span}
-use Rattle.contour.specs.declared.segment.Segment.{Segment}
+use Rattle.plane_segments.specs.declared.segment.Segment.{Segment}
 use Rattle.raster.specs.Grid.{centre, plane}
+use Rattle.plane_segments.specs.Segment.{segments}
 use Rattle.contour.specs.Loops.{AreLoops, loops}
-use Rattle.contour.specs.Segment.{segments}
 use Rattle.raster.specs.Span.{AreSpans, covers}
 use Rattle.raster.specs.Filler.{is_filled, area_of}
 use Rattle.build_book.specs.Job.{Job}

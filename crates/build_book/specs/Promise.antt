@@ -8,9 +8,9 @@ use Rattle.std.specs.List.{AllByRecursion}
 use Rattle.geometry.specs.Facet.{Facet}
 use Rattle.geometry.specs.Winding.{ray}
 use Rattle.mesh_weld.specs.Solid.{kept_facets, solid_of}
-use Rattle.contour.specs.declared.segment.Node.{Node}
-use Rattle.contour.specs.declared.segment.Segment.{Segment}
-use Rattle.contour.specs.Segment.{segments}
+use Rattle.plane_segments.specs.declared.segment.Node.{Node}
+use Rattle.plane_segments.specs.declared.segment.Segment.{Segment}
+use Rattle.plane_segments.specs.Segment.{segments}
 use Rattle.contour.specs.Loops.{AreLoops}
 use Rattle.raster.specs.declared.rule.Rule.{Rule}
 use Rattle.raster.specs.declared.rule.Rule.TheVariants.{EvenOdd, NonZero, Positive}

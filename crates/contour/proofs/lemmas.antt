@@ -1,5 +1,3 @@
-pub mod Cutting
-pub mod Positions
 pub mod Parts
 pub mod Counts
 pub mod Swept
@@ -7,11 +5,9 @@ pub mod Pushes
 pub mod Endings
 pub mod Sweeps
 pub mod Links
-pub mod Within
 pub mod LoopRays
 pub mod Slots
 pub mod Balanced
-pub mod NodeOrder
 pub mod Followers
 pub mod Walks
 pub mod Traces

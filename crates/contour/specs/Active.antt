@@ -7,7 +7,7 @@ use Rattle.std.specs.List.{enumerate_from, list_any, prefix_len}
 use Rattle.geometry.specs.TieRule.{is_below, is_above}
 use Rattle.geometry.specs.Facet.{Facet, corners}
 use Rattle.mesh_weld.specs.Solid.{facet_at, greatest_z, least_z}
-use Rattle.contour.specs.Segment.{height}
+use Rattle.plane_segments.specs.Segment.{height}
 
 -- some corner counts as below the height z
 abbrev pub is_reached : ℤ → Facet → Bool

@@ -6,8 +6,8 @@ use Rattle.geometry.specs.Winding.{total, wind}
 use Rattle.mesh_weld.specs.Balance.{IsBalanced}
 use Rattle.mesh_weld.specs.EdgeNumbers.{AreEdgeNumbers}
 use Rattle.mesh_weld.specs.Solid.{HaveDistinctCorners}
-use Rattle.contour.specs.declared.segment.Segment.{Segment}
-use Rattle.contour.specs.Segment.{HasOrderedNodes, segments}
+use Rattle.plane_segments.specs.declared.segment.Segment.{Segment}
+use Rattle.plane_segments.specs.Segment.{HasOrderedNodes, segments}
 use Rattle.contour.specs.Loops.{AreLoops, IsCycle, follower, loop_facets, loops}
 use Rattle.contour.specs.Outlines.{IsStartOf, end_point, start_point}
 

@@ -3,5 +3,4 @@ pub mod Linker
 pub mod Loops
 pub mod Outlines
 pub mod Laws
-pub mod Segment
 pub mod Sweep

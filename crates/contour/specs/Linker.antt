@@ -5,10 +5,10 @@ use Rattle.std.specs.List.{list_all}
 use Rattle.geometry.specs.Facet.{Facet}
 use Rattle.mesh_weld.specs.EdgeNumbers.{AreEdgeNumbers}
 use Rattle.mesh_weld.specs.Solid.{triples}
-use Rattle.contour.specs.declared.segment.Node.{Node}
-use Rattle.contour.specs.declared.segment.Segment.{Segment}
+use Rattle.plane_segments.specs.declared.segment.Node.{Node}
+use Rattle.plane_segments.specs.declared.segment.Segment.{Segment}
+use Rattle.plane_segments.specs.Segment.{edge_node, is_node}
 use Rattle.contour.specs.declared.linker.TheConstants.{NONE}
-use Rattle.contour.specs.Segment.{edge_node, is_node}
 use Rattle.contour.specs.Loops.{IsCycle, count_of, first_facet, follower}
 
 -- of a facet by the numbers of its corners and of its edges, the number of the edge that is this node

@@ -10,8 +10,8 @@ use Rattle.exact_cut.specs.CutPoint.{cut_x, cut_y, cut_d}
 use Rattle.exact_cut.specs.PlanePoint.{IsNearest, passing_point}
 use Rattle.exact_cut.specs.declared.plane_point.PlanePoint.{PlanePoint}
 use Rattle.mesh_weld.specs.Solid.{facet_at, vertices}
-use Rattle.contour.specs.declared.segment.Segment.{Segment}
-use Rattle.contour.specs.Segment.{is_downward, is_upward, node_of, segments}
+use Rattle.plane_segments.specs.declared.segment.Segment.{Segment}
+use Rattle.plane_segments.specs.Segment.{is_downward, is_upward, node_of, segments}
 use Rattle.contour.specs.Loops.{loops}
 
 -- where an edge passes the height z downward, and where one passes it upward

@@ -5,12 +5,12 @@ ghost use Rattle.std.specs.Prelude.{◌≡◌, ◌<◌, ◌≤◌, ◌++◌, ◌
 ghost use Rattle.std.specs.List.{AllPairs, prefix_len};
 ghost use Rattle.exact_int.specs.Bounds.{IsAtMost};
 ghost use Rattle.geometry.specs.TieRule as TieRule;
-ghost use Rattle.mesh_weld.specs.Solid.{is_lower, least_z};
+ghost use Rattle.mesh_weld.specs.Solid.{is_lower};
 ghost use Rattle.contour.specs.Active.{ends_above, merge, starts_by, top_of};
 ghost use Rattle.geometry.specs.declared.limits.TheConstants.{CENTRE_LIMIT};
 
-use geometry::{Facet, is_below};
-use mesh_weld::{Solid, highest, lowest};
+use geometry::is_below;
+use mesh_weld::Solid;
 use std::alloc::{AllocError, Allocator};
 
 /// The numbers of the facets that a plane cuts, each with the height of its top in micrometres.
@@ -69,7 +69,7 @@ impl<A: Allocator + Copy + Send + Sync> ActiveFacets<A> {
         ensures tops { OnOk result (self.new.tops.items ≡ self.old.tops.items ++ map (top_of s.now.facets) numbers.now) }
     {
         for n in numbers {
-            self.push(*n, highest(&s.facet(*n)))?;
+            self.push(*n, s.height_range(*n).high)?;
         }
         Ok(())
     }
@@ -188,11 +188,11 @@ impl<A: Allocator + Copy + Send + Sync> Arrivals<A> {
     {
         let mut active = Vec::new(alloc);
         for (i, n) in order.iter().enumerate() {
-            let f = s.facet(*n);
-            if !starts_by(&f, z2) {
+            let range = s.height_range(*n);
+            if !starts_by(range.low, z2) {
                 return Ok(Arrivals { count: i, active });
             }
-            if is_above(highest(&f), z2) {
+            if is_above(range.high, z2) {
                 active.push(*n)?;
             }
         }
@@ -217,7 +217,7 @@ fn count_ended<A: Allocator + Copy + Send + Sync>(s: &Solid<A>, order: &[u32], z
     let Some(first) = order.first() else {
         return 0;
     };
-    if !starts_by(&s.facet(*first), low) {
+    if !starts_by(s.height_range(*first).low, low) {
         return 0;
     }
     count_started(s, order, low)
@@ -233,7 +233,7 @@ fn count_started<A: Allocator + Copy + Send + Sync>(s: &Solid<A>, order: &[u32],
     let mut high = order.len();
     while low < high {
         let middle = low + (high - low) / 2;
-        if starts_by(&s.facet(order[middle]), z2) {
+        if starts_by(s.height_range(order[middle]).low, z2) {
             low = middle + 1;
         } else {
             high = middle;
@@ -250,11 +250,12 @@ fn count_before(list: &[u32], number: u32) -> usize
     list.iter().take_while(|m| **m < number).count()
 }
 
-/// Whether a facet starts by the height `z2`: its lowest corner counts as below it, by the tie rule.
-fn starts_by(f: &Facet, z2: i64) -> bool
-    ensures { result ≡ TieRule.is_below (pos 2 *ℤ least_z f.now) z2 }
+/// Whether a facet whose lowest corner is at `start`, in micrometres, starts by the height `z2` in half-micrometres: that
+/// corner counts as below it, by the tie rule.
+fn starts_by(start: i32, z2: i64) -> bool
+    ensures { result ≡ TieRule.is_below (pos 2 *ℤ start) z2 }
 {
-    is_below(2 * i64::from(lowest(f)), z2)
+    is_below(2 * i64::from(start), z2)
 }
 
 /// Whether a top in micrometres is above the height `z2` in half-micrometres, by the tie rule.

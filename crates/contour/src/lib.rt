@@ -11,9 +11,8 @@
 //! }
 //! ```
 //!
-//! - [`Segment`]: where a plane cuts one facet, from one [`Node`] to another. A node is an edge of the mesh, by the
-//!   numbers of its vertices; no coordinate of a cut is computed for it.
-//! - [`segment_at`], [`segments`]: the segment of one facet, and those of all facets, at one height.
+//! - [`Segment`], [`Node`], [`segment_at`], [`segments`]: where a plane cuts one facet, and all facets, handed on from
+//!   `plane_segments`.
 //! - [`Sweep`]: a rising plane with its list of active facets, those that it cuts.
 //! - [`Loops`], [`Linker`], [`loops`]: the loops of a plane's segments. A linker keeps its memory from plane to plane.
 //! - [`Outlines`]: the loops as points, to the nearest half-micrometre, each a [`PlanePoint`].
@@ -29,7 +28,6 @@ mod laws;
 mod linker;
 mod loop_list;
 mod outlines;
-mod segment;
 mod sweep;
 
 pub use exact_cut::PlanePoint;
@@ -38,5 +36,5 @@ pub use linker::{Linker, loops};
 // The module is not called `loops`, since a module and a function of one name are refused.
 pub use loop_list::{Loops, loop_ray};
 pub use outlines::Outlines;
-pub use segment::{Node, Segment, segment_at, segments};
+pub use plane_segments::{Node, Segment, segment_at, segments};
 pub use sweep::Sweep;

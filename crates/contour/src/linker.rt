@@ -7,15 +7,15 @@ ghost use Rattle.std.specs.Prelude.{◌++◌, true, false, ◌≡◌, ◌<◌, �
 ghost use Rattle.exact_int.specs.Bounds.{IsAtMost};
 ghost use Rattle.mesh_weld.specs.Balance.{IsBalanced};
 ghost use Rattle.mesh_weld.specs.EdgeNumbers.{AreEdgeNumbers};
-ghost use Rattle.contour.specs.Segment.{HasOrderedNodes, segments};
+ghost use Rattle.plane_segments.specs.Segment.{HasOrderedNodes, segments};
 ghost use Rattle.contour.specs.Loops.{AreLoops, loops};
 ghost use Rattle.contour.specs.Linker.{AreLinks, AreSegmentEdges, ArePopped, HasFirsts, HasLeft, HasNexts, InFacetOrder, IsClear, IsTracedLoop, KeepsLoopsWhole, edge_at_node, is_visited};
 ghost use Rattle.contour.specs.declared.linker.TheConstants.{NONE};
 ghost use Rattle.geometry.specs.declared.limits.TheConstants.{CENTRE_LIMIT, FACET_LIMIT};
 
 use crate::loop_list::Loops;
-use crate::segment::{Node, Segment};
 use mesh_weld::Solid;
+use plane_segments::{Node, Segment};
 use std::alloc::{AllocError, Allocator};
 use std::marker::Model;
 

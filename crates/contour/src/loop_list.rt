@@ -2,12 +2,12 @@
 //! allocations however many loops there are, one for a single loop, and none where there is no loop.
 ghost use Rattle.std.specs.Prelude.{◌++◌, ◌∷◌, ◌≡◌, ◌≤◌, ◌+◌, [], IfOk, Some, length, option_map, slice_get, slice_index_or, take, ℕ};
 ghost use Rattle.geometry.specs.Winding.{neg_ray_back, ray};
+ghost use Rattle.plane_segments.specs.Segment.{segments};
 ghost use Rattle.contour.specs.Loops.{AreEnds, AreInnerEnds, all_ends, loop_facets, loops, parts_from, start_of};
-ghost use Rattle.contour.specs.Segment.{segments};
 
-use crate::segment::Segment;
 use exact_cut::{Centre, ray_hit};
 use mesh_weld::Solid;
+use plane_segments::Segment;
 use std::alloc::{AllocError, Allocator};
 use std::marker::Model;
 
@@ -22,7 +22,7 @@ pub struct Loops<A: Allocator> {
 
 impl<A: Allocator> Model for Loops<A> {
     ghost use Rattle.std.specs.Prelude.{List, length};
-    ghost use Rattle.contour.specs.declared.segment.Segment.{Segment};
+    ghost use Rattle.plane_segments.specs.declared.segment.Segment.{Segment};
     ghost use Rattle.contour.specs.Loops.{AreInnerEnds, all_ends, parts_from};
 
     ghost Value = { List (List Segment) };

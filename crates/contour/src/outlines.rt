@@ -2,14 +2,14 @@
 ghost use Rattle.std.specs.Prelude.{◌≡◌, ◌<◌, All, IfOk, flat_map, length, map, option_map, slice_get};
 ghost use Rattle.exact_int.specs.Bounds.{IsAtMost};
 ghost use Rattle.geometry.specs.declared.limits.TheConstants.{CENTRE_LIMIT};
+ghost use Rattle.plane_segments.specs.Segment.{segments};
 ghost use Rattle.contour.specs.Loops.{AreEnds, loops, parts_from};
 ghost use Rattle.contour.specs.Outlines.{outlines, start_point};
-ghost use Rattle.contour.specs.Segment.{segments};
 
 use crate::loop_list::{Loops, part};
-use crate::segment::Segment;
 use exact_cut::{PlanePoint, start_point};
 use mesh_weld::Solid;
+use plane_segments::Segment;
 use std::alloc::{AllocError, Allocator};
 use std::marker::Model;
 

@@ -2,13 +2,13 @@
 //! active edges, so that a step up looks only at the facets that are active before it or whose lowest corner it passes.
 ghost use Rattle.std.specs.Prelude.{◌≡◌, ◌<◌, ◌≤ℤ◌, All, IfOk, OnErr, OnOk, filter_map, length};
 ghost use Rattle.exact_int.specs.Bounds.{IsAtMost};
+ghost use Rattle.plane_segments.specs.Segment.{HasOrderedNodes, numbered_segment, segments};
 ghost use Rattle.contour.specs.Active.{active_facets, passed_count};
-ghost use Rattle.contour.specs.Segment.{HasOrderedNodes, numbered_segment, segments};
 ghost use Rattle.geometry.specs.declared.limits.TheConstants.{CENTRE_LIMIT};
 
 use crate::active::{ActiveFacets, Arrivals};
-use crate::segment::{Segment, segment_at};
 use mesh_weld::Solid;
+use plane_segments::{Segment, segment_at};
 use std::alloc::{AllocError, Allocator};
 use std::marker::Model;
 use std::mem::swap;

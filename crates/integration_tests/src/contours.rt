@@ -1,7 +1,7 @@
 //! Loops and sweeps: worked meshes with ample memory, and allocations that fail.
 ghost use Rattle.std.specs.Prelude.{◌≡◌};
+ghost use Rattle.plane_segments.specs.Segment.{segments as all_segments};
 ghost use Rattle.contour.specs.Loops.{loops as all_loops};
-ghost use Rattle.contour.specs.Segment.{segments as all_segments};
 
 use crate::allocations::{Count, first_free_turn};
 use crate::meshes::{CUBE, CUBE_AND_PAIR, OCTAHEDRON, Part, TWO_CUBES, solid_of};

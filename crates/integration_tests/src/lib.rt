@@ -15,6 +15,8 @@ mod claims;
 #[cfg(test)]
 mod contours;
 #[cfg(test)]
+mod counted_heights;
+#[cfg(test)]
 mod cuts;
 #[cfg(test)]
 mod dense_rows;
@@ -45,13 +47,13 @@ mod outlines;
 #[cfg(test)]
 mod part_borders;
 #[cfg(test)]
-mod plane_segments;
-#[cfg(test)]
 mod pool;
 #[cfg(test)]
 mod published;
 #[cfg(test)]
 mod rays;
+#[cfg(test)]
+mod segments;
 #[cfg(test)]
 mod session_chunks;
 #[cfg(test)]

@@ -176,12 +176,12 @@ impl Count for KeptOfFan {
 
 #[test]
 fn each_allocation_fails_in_turn(rt: HostRuntime) -> Result<(), Fail> {
-    assert!(rt; first_free_turn::<KeptOfFan>(rt.alloc(), 100, 4200) > Some(30));
+    assert!(rt; first_free_turn::<KeptOfFan>(rt.alloc(), ALLOCATIONS, 4200) > Some(30));
     Ok(())
 }
 
 // More allocations than a weld asks for.
-const ALLOCATIONS: u64 = 100;
+const ALLOCATIONS: u64 = 200;
 
 // Fails each allocation in turn of facets that several threads weld, until none is left to fail, and answers which turn that
 // was. `None` where a weld of which an allocation failed answered anything but `Memory`, where the last one has other counts,

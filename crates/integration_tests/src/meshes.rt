@@ -178,7 +178,7 @@ pub(crate) fn solid_of<A: Allocator + Copy + Send + Sync>(
 }
 
 /// More facets than the tests weld.
-const ROOM: usize = 10_000;
+const ROOM: usize = 100_000;
 
 /// The solid of at most `ROOM` facets.
 pub(crate) fn welded<A: Allocator + Copy + Send + Sync>(

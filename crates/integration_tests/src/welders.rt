@@ -13,7 +13,7 @@ use std::thread::Threads;
 use stl_text::Facet;
 
 // More facets than the tests add.
-const ROOM: usize = 10_000;
+const ROOM: usize = 100_000;
 
 /// What a welder answers that gets the facets in lists of this many, the last one perhaps shorter.
 pub(crate) fn fed<A: Allocator + Copy + Send + Sync>(

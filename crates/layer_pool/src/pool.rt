@@ -136,11 +136,24 @@ fn run_worker<'m, J: OfJob, R: Wait, A: Allocator + Copy + Send + Sync, G: Gate<
         let Some(stripe) = shared.claims.draw(&mut pass) else {
             return;
         };
-        shared.gate.arrived(worker, stripe);
-        // Where there is no memory for a piece, `finish` makes its layers.
-        if let Ok(piece) = slicer.slice(stripe) {
-            shared.gate.made(worker, &piece);
-            shared.book.lock(shared.rt).file(piece);
-        }
+        slice_and_file(shared, worker, &mut slicer, stripe);
+    }
+}
+
+/// Slices a stripe of the job and files its piece. Where there is no memory for the piece, `finish` makes its layers.
+fn slice_and_file<'m, J: OfJob, R: Wait, A: Allocator + Copy + Send + Sync, G: Gate<A>>(
+    shared: &Shared<'_, 'm, J, R, A, G>,
+    worker: u32,
+    slicer: &mut Slicer<'m, A>,
+    stripe: u64,
+)
+    requires slicer { slicer.old ≡ shared.now.job.now }
+    requires stripe { stripe < stripe_count shared.now.job.now.grid }
+    ensures { slicer.new ≡ slicer.old }
+{
+    shared.gate.arrived(worker, stripe);
+    if let Ok(piece) = slicer.slice(stripe) {
+        shared.gate.made(worker, &piece);
+        shared.book.lock(shared.rt).file(piece);
     }
 }

@@ -11,6 +11,7 @@ pub mod Placing
 pub mod Balances
 pub mod EdgeChains
 pub mod HeightOrder
+pub mod HeightGroups
 pub mod Transfer
 pub mod FacetNumbers
 pub mod EdgeNumbering

@@ -5,6 +5,7 @@ use Rattle.std.specs.Int.{int_min, int_max}
 use Rattle.std.specs.List.{All, position_or_len, range_with_len, AllPairs}
 use Rattle.geometry.specs.Point.{Point, origin, same, is_before}
 use Rattle.geometry.specs.Facet.{Facet, facet_with, corners}
+use Rattle.mesh_weld.specs.declared.height_order.HeightRange.{HeightRange}
 
 pub record Solid : Type 0 where
   pub facets : List Facet
@@ -65,6 +66,13 @@ least_z t = int_min (int_min t.a.z t.b.z) t.c.z
 -- the greatest height of a facet's corners
 abbrev pub greatest_z : Facet → ℤ
 greatest_z t = int_max (int_max t.a.z t.b.z) t.c.z
+
+-- the heights of a facet's lowest and highest corner
+abbrev pub height_range : Facet → HeightRange
+height_range t = record { low = least_z t; high = greatest_z t }
+
+abbrev pub height_ranges : List Facet → List HeightRange
+height_ranges facets = map height_range facets
 
 -- how far a facet reaches, from its lowest corner up to its highest
 abbrev pub rise : Facet → ℤ

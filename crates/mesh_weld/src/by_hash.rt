@@ -1,23 +1,30 @@
 //! The numbering of a solid by hashes, chains and groups: several times as fast as the sorts of `by_sort` on large meshes.
 //!
 //! A hash table gives the corners ids as the facets come, and compares each with the point of its id. Chains by lesser ends
-//! number the edges. A counting sort by groups of x brings the points into order. No contract speaks of a hash or a
-//! group: that would take long proofs, and is not needed, since it is checked that the points strictly ascend; they do
-//! not where a point has two ids. Where that check fails, where chains, in the table or of edges, grow too long, or where
-//! the half-edges do not balance, `by_sort` does the work again.
+//! number the edges of each list of facets when its corners have their ids. At the end counting sorts bring the points into
+//! order by groups of x, and the facets by groups of height. No contract speaks of a hash or a group: that would take long
+//! proofs, and is not needed, since it is checked that the points, and the keys of the facets, strictly ascend; points do
+//! not where one has two ids. Where the check of the points fails, where chains, in the table or of edges, grow too long, or
+//! where the half-edges do not balance, `by_sort` does the work again.
 ghost use Rattle.std.specs.Prelude.{◌≤◌, IfOk, IfSome, length};
+ghost use Rattle.mesh_weld.specs.EdgeChains.{AreInHalfWords};
 ghost use Rattle.mesh_weld.specs.Grouping.{AreEdgesOf, AreOrdersOf};
+ghost use Rattle.mesh_weld.specs.HalfEdge.{half_edges_from, ArePairNumbers};
 ghost use Rattle.mesh_weld.specs.Welder.{AreBelow};
 ghost use Rattle.geometry.specs.declared.limits.TheConstants.{FACET_LIMIT};
 
 mod corner_table;
 mod edges;
+mod height_groups;
 mod histogram;
+mod numbered_facets;
 mod point_order;
 
 pub(crate) use crate::by_hash::corner_table::{BLOCK, CornerTable, facet_ids};
-use crate::by_hash::edges::chained_numbers;
+use crate::by_hash::edges::balanced_edges;
+pub(crate) use crate::by_hash::height_groups::counted_order;
 pub(crate) use crate::by_hash::histogram::NONE;
+pub(crate) use crate::by_hash::numbered_facets::NumberedFacets;
 pub(crate) use crate::by_hash::point_order::PointOrder;
 use crate::by_hash::point_order::rank_points;
 use crate::half_edge::EdgeNumbering;
@@ -25,9 +32,6 @@ use crate::height_order::{HeightOrder, order_by_height};
 use geometry::Point;
 use std::alloc::{AllocError, Allocator};
 use std::thread::{Threads, join};
-
-/// Meshes with fewer kept facets are numbered by sorts, which are as fast there.
-const LEAST_HASHED: usize = 4096;
 
 /// The result of grouping facets that are given by ids: the numbers of their edges, and the orders of points and facets.
 #[derive(Drop)]
@@ -43,23 +47,26 @@ pub(crate) struct Orders<A: Allocator> {
     pub(crate) heights: HeightOrder<A>,
 }
 
-/// Groups the half-edges and the points of facets that are given by ids among points, the half-edges first, since they
-/// take the most room. `None` for fewer than [`LEAST_HASHED`] facets, and where the result of a step does not pass its
-/// check, so that sorts have to serve.
+/// Groups the half-edges and the points of facets that are given by ids among points, from the numbers of the half-edges'
+/// edges, where there are these. `None` without them, where the half-edges do not balance, and where the points have no
+/// order, so that sorts have to serve.
 pub(crate) fn group_facets<A: Allocator + Copy>(
     alloc: A,
     points: &[Point],
     ids: &[[u32; 3]],
+    numbers: Option<EdgeNumbering<A>>,
 ) -> Result<Option<Grouping<A>>, AllocError>
     requires below { AreBelow points.now ids.now }
     requires few { length ids.now ≤ FACET_LIMIT }
+    requires numbers { IfSome numbers (λ own. ArePairNumbers (half_edges_from 0 ids.now) own.numbers.items own.count) }
+    requires small { IfSome numbers (λ own. AreInHalfWords (half_edges_from 0 ids.now)) }
     ensures edges { IfOk result (λ found. IfSome found (λ own. AreEdgesOf ids.now own.edges.numbers.items own.edges.count)) }
-    ensures orders { IfOk result (λ found. IfSome found (λ own. AreOrdersOf points.now ids.now own.orders.points.points.items own.orders.points.ranks.items own.orders.heights.order.items own.orders.heights.greatest_rise)) }
+    ensures orders { IfOk result (λ found. IfSome found (λ own. AreOrdersOf points.now ids.now own.orders.points.points.items own.orders.points.ranks.items own.orders.heights.order.items own.orders.heights.ranges.items own.orders.heights.greatest_rise)) }
 {
-    if ids.len() < LEAST_HASHED {
+    let Some(numbers) = numbers else {
         return Ok(None);
-    }
-    let Some(edges) = chained_numbers(alloc, ids, points.len())? else {
+    };
+    let Some(edges) = balanced_edges(alloc, ids, numbers)? else {
         return Ok(None);
     };
     let Some(orders) = orders_of(alloc, points, ids)? else {
@@ -68,32 +75,36 @@ pub(crate) fn group_facets<A: Allocator + Copy>(
     Ok(Some(Grouping { edges, orders }))
 }
 
-/// The same as [`group_facets`], by three threads at the same time: the edges, which take the longest, on the one that
-/// calls.
+/// The same as [`group_facets`], by three threads at the same time: the balance on the one that calls.
 pub(crate) fn group_facets_by<R: Threads + Sync, A: Allocator + Copy + Send + Sync>(
     rt: &R,
     alloc: A,
     points: &[Point],
     ids: &[[u32; 3]],
+    numbers: Option<EdgeNumbering<A>>,
 ) -> Result<Option<Grouping<A>>, AllocError>
     requires below { AreBelow points.now ids.now }
     requires few { length ids.now ≤ FACET_LIMIT }
+    requires numbers { IfSome numbers (λ own. ArePairNumbers (half_edges_from 0 ids.now) own.numbers.items own.count) }
+    requires small { IfSome numbers (λ own. AreInHalfWords (half_edges_from 0 ids.now)) }
     ensures edges { IfOk result (λ found. IfSome found (λ own. AreEdgesOf ids.now own.edges.numbers.items own.edges.count)) }
-    ensures orders { IfOk result (λ found. IfSome found (λ own. AreOrdersOf points.now ids.now own.orders.points.points.items own.orders.points.ranks.items own.orders.heights.order.items own.orders.heights.greatest_rise)) }
+    ensures orders { IfOk result (λ found. IfSome found (λ own. AreOrdersOf points.now ids.now own.orders.points.points.items own.orders.points.ranks.items own.orders.heights.order.items own.orders.heights.ranges.items own.orders.heights.greatest_rise)) }
 {
-    if ids.len() < LEAST_HASHED {
+    let Some(numbers) = numbers else {
         return Ok(None);
-    }
+    };
     let (heights, (ranked, edges)) = join(
         rt,
         || order_by_height(alloc, points, ids),
         ||
-            requires { length ids.now ≤ FACET_LIMIT }
+            requires few { length ids.now ≤ FACET_LIMIT }
+            requires numbers { ArePairNumbers (half_edges_from 0 ids.now) numbers.numbers.items numbers.count }
+            requires small { AreInHalfWords (half_edges_from 0 ids.now) }
         {
             join(
                 rt,
                 || rank_points(alloc, points),
-                || chained_numbers(alloc, ids, points.len()),
+                || balanced_edges(alloc, ids, numbers),
             )
         },
     );
@@ -116,7 +127,7 @@ fn orders_of<A: Allocator + Copy>(
 ) -> Result<Option<Orders<A>>, AllocError>
     requires below { AreBelow points.now ids.now }
     requires few { length ids.now ≤ FACET_LIMIT }
-    ensures { IfOk result (λ found. IfSome found (λ own. AreOrdersOf points.now ids.now own.points.points.items own.points.ranks.items own.heights.order.items own.heights.greatest_rise)) }
+    ensures { IfOk result (λ found. IfSome found (λ own. AreOrdersOf points.now ids.now own.points.points.items own.points.ranks.items own.heights.order.items own.heights.ranges.items own.heights.greatest_rise)) }
 {
     let heights = order_by_height(alloc, points, ids)?;
     let Some(points) = rank_points(alloc, points)? else {

@@ -1,25 +1,34 @@
-//! Facets in the order in which a sweep from below meets them, and their greatest rise, by which the sweep finds those that
-//! have not ended yet.
+//! Facets in the order in which a sweep from below meets them; the height range of each, which the sweep asks for again
+//! and again; and their greatest rise, by which it finds those that have not ended yet.
 ghost use Rattle.std.specs.Prelude.{◌≡◌, ◌≤◌, ◌%◌, ◌/◌, ◌+ℤ◌, pos, IfOk, length, map};
 ghost use Rattle.std.specs.List.{range_with_len};
 ghost use Rattle.std.specs.List.Sorted.{IsPermutation, IsNonDecreasing};
-ghost use Rattle.mesh_weld.specs.HeightOrder.{AreHeightKeys};
-ghost use Rattle.mesh_weld.specs.Solid.{IsByHeight, IsGreatestRise, facets_by, greatest_z, least_z, rise};
+ghost use Rattle.mesh_weld.specs.HeightOrder.{AreHeightKeys, AreNumbersSorted};
+ghost use Rattle.mesh_weld.specs.Solid.{IsByHeight, IsGreatestRise, facets_by, greatest_z, height_range, height_ranges, least_z, rise};
 ghost use Rattle.mesh_weld.specs.Welder.{AreBelow};
 ghost use Rattle.mesh_weld.specs.declared.height_order.TheConstants.{HEIGHT_OFFSET};
 ghost use Rattle.mesh_weld.specs.declared.packing.TheConstants.{HALF_WORD};
 ghost use Rattle.geometry.specs.declared.limits.TheConstants.{FACET_LIMIT};
 
+use crate::by_hash::counted_order;
 use crate::facets::facet_by;
 use crate::packing::{HALF_WORD, packed};
 use geometry::{Facet, Point};
 use std::alloc::{AllocError, Allocator};
 
-/// The numbers of facets by ascending least height, and by number where least heights are equal; and the facets' greatest
-/// rise.
+/// The heights of a facet's lowest and highest corner, in micrometres.
+#[derive(Clone, Copy, Debug, PartialEq, Eq)]
+pub struct HeightRange {
+    pub low: i32,
+    pub high: i32,
+}
+
+/// The numbers of facets by ascending least height, and by number where least heights are equal; the facets' height ranges,
+/// by number; and their greatest rise.
 #[derive(Drop)]
 pub(crate) struct HeightOrder<A: Allocator> {
     pub(crate) order: Vec<u32, A>,
+    pub(crate) ranges: Vec<HeightRange, A>,
     pub(crate) greatest_rise: u32,
 }
 
@@ -32,34 +41,38 @@ pub(crate) fn order_by_height<A: Allocator + Copy>(
     requires below { AreBelow points.now numbers.now }
     requires few { length numbers.now ≤ FACET_LIMIT }
     ensures order { IfOk result (λ heights. IsByHeight (facets_by points.now numbers.now) heights.order.items) }
+    ensures ranges { IfOk result (λ heights. heights.ranges.items ≡ height_ranges (facets_by points.now numbers.now)) }
     ensures rise { IfOk result (λ heights. IsGreatestRise (facets_by points.now numbers.now) heights.greatest_rise) }
 {
     let Heights {
-        mut keys,
+        keys,
+        ranges,
         greatest_rise,
     } = list_heights(alloc, points, numbers)?;
-    sort_heights(&mut keys);
-    let order = numbers_of(alloc, keys.as_slice())?;
+    let order = order_of(alloc, keys)?;
     Ok(HeightOrder {
         order,
+        ranges,
         greatest_rise,
     })
 }
 
 /// A facet's least height, made no less than 0, in the upper half of a word, and its number in the lower half.
-type HeightKey = u64;
+pub(crate) type HeightKey = u64;
 
 /// Added to a height so that it is no less than 0.
 const HEIGHT_OFFSET: i64 = 1 << 31;
 
-/// The keys of facets, in their order, and the facets' greatest rise.
+/// The keys of facets and their height ranges, both in the facets' order, and their greatest rise.
 #[derive(Drop)]
 struct Heights<A: Allocator> {
     keys: Vec<HeightKey, A>,
+    ranges: Vec<HeightRange, A>,
     greatest_rise: u32,
 }
 
-/// The keys of the facets whose corners have the numbers among the points, and their greatest rise.
+/// The keys of the facets whose corners have the numbers among the points, their height ranges, and their greatest rise, by
+/// one look at each facet.
 fn list_heights<A: Allocator + Copy>(
     alloc: A,
     points: &[Point],
@@ -69,18 +82,22 @@ fn list_heights<A: Allocator + Copy>(
     requires few { length numbers.now ≤ FACET_LIMIT }
     ensures numbers { IfOk result (λ heights. map (λ key. key % HALF_WORD) heights.keys.items ≡ range_with_len 0 (length numbers.now)) }
     ensures heights { IfOk result (λ heights. AreHeightKeys (facets_by points.now numbers.now) heights.keys.items) }
+    ensures ranges { IfOk result (λ heights. heights.ranges.items ≡ height_ranges (facets_by points.now numbers.now)) }
     ensures rise { IfOk result (λ heights. IsGreatestRise (facets_by points.now numbers.now) heights.greatest_rise) }
 {
     let mut keys = Vec::with_capacity(alloc, numbers.len())?;
+    let mut ranges = Vec::with_capacity(alloc, numbers.len())?;
     let mut greatest_rise = 0;
     for own in numbers {
         let facet = facet_by(points, own);
         let number = keys.len() as u32;
         greatest_rise = rise(&facet).max(greatest_rise);
         keys.push(height_key(&facet, number))?;
+        ranges.push(height_range(&facet))?;
     }
     Ok(Heights {
         keys,
+        ranges,
         greatest_rise,
     })
 }
@@ -110,11 +127,37 @@ pub fn highest(facet: &Facet) -> i32
     first.z().max(second.z()).max(third.z())
 }
 
+/// The heights of a facet's lowest and highest corner, in micrometres.
+fn height_range(facet: &Facet) -> HeightRange
+    ensures { result ≡ height_range facet.now }
+{
+    HeightRange {
+        low: lowest(facet),
+        high: highest(facet),
+    }
+}
+
 /// How far a facet reaches, from its lowest corner up to its highest, in micrometres.
 fn rise(facet: &Facet) -> u32
     ensures { pos result ≡ rise facet.now }
 {
     highest(facet).abs_diff(lowest(facet))
+}
+
+/// The numbers of the facets that have the keys, the least key first. Comparisons sort the keys where a counting sort
+/// does not serve.
+fn order_of<A: Allocator + Copy>(
+    alloc: A,
+    mut keys: Vec<HeightKey, A>,
+) -> Result<Vec<u32, A>, AllocError>
+    requires { map (λ key. key % HALF_WORD) keys.items ≡ range_with_len 0 (length keys.items) }
+    ensures { IfOk result (λ order. AreNumbersSorted keys.items order.items) }
+{
+    if let Some(order) = counted_order(alloc, keys.as_slice())? {
+        return Ok(order);
+    }
+    sort_heights(&mut keys);
+    numbers_of(alloc, keys.as_slice())
 }
 
 /// Sorts keys in place, the least first.

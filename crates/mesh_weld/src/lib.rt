@@ -7,18 +7,18 @@
 //! ```
 //!
 //! A [`Welder`] takes facets as they come, drops the degenerate ones (two equal corners) and makes a [`Solid`] of the
-//! others: its vertices, the numbers of corners and edges of each facet, and the order of the facets by height. Where the
-//! half-edges of a mesh do not balance it answers [`WeldFault::Open`] with the least pair of points between which they
-//! do not. [`weld`] is a welder that is fed once. [`lowest`] and [`highest`] tell the least and the greatest height of a
-//! facet's corners.
+//! others: its vertices, the numbers of corners and edges of each facet, the [`HeightRange`] of each, and the order of the
+//! facets by height. Where the half-edges of a mesh do not balance it answers [`WeldFault::Open`] with the least pair of
+//! points between which they do not. [`weld`] is a welder that is fed once. [`lowest`] and [`highest`] tell the least and
+//! the greatest height of a facet's corners.
 //! [`probe`] and [`step`] count the signed crossings of a solid by rays. [`hold_mesh_laws`] states what holds of every
 //! closed mesh: for example, its signed crossings by a whole line sum to 0. [`closed_or_open`] states that each list of
 //! facets is closed or has one least open edge.
 //!
 //! Points are in micrometres, centres of rays in half-micrometres.
 //!
-//! Corners are named by hashes as facets come. In large meshes the points are then put in order by groups, and the edges
-//! are numbered by chains (`by_hash`); otherwise sorts do both (`by_sort`).
+//! Corners are named by hashes as facets come. In large meshes the edges are numbered by chains meanwhile, and at the end
+//! the points are put in order by groups (`by_hash`); otherwise sorts do both (`by_sort`).
 #![tactic(auto)]
 
 mod by_hash;
@@ -36,7 +36,7 @@ mod weld_fault;
 mod welder;
 mod welding;
 
-pub use height_order::{highest, lowest};
+pub use height_order::{HeightRange, highest, lowest};
 pub use laws::{closed_or_open, hold_mesh_laws};
 pub use probing::{probe, step};
 pub use solid::Solid;

@@ -18,8 +18,8 @@ use crate::weld_fault::WeldFault;
 use geometry::{Facet, Point};
 use std::alloc::Allocator;
 
-/// What both ways of numbering give: a solid's vertices, the numbers of its facets' corners and edges, the order of its
-/// facets by height, and their greatest rise.
+/// What both ways of numbering give: a solid's vertices, the numbers of its facets' corners and edges, and its facets'
+/// order by height with what goes with it.
 #[derive(Drop)]
 pub(crate) struct Numbering<A: Allocator> {
     pub(crate) points: Vec<Point, A>,
@@ -42,8 +42,8 @@ pub(crate) fn named_numbering<A: Allocator + Copy>(
     requires kept { length ids.items ≤ FACET_LIMIT }
     requires degenerate { length degenerate.now ≤ FACET_LIMIT }
     requires edges { IfSome found (λ own. AreEdgesOf ids.items own.edges.numbers.items own.edges.count) }
-    requires orders { IfSome found (λ own. AreOrdersOf points.items ids.items own.orders.points.points.items own.orders.points.ranks.items own.orders.heights.order.items own.orders.heights.greatest_rise) }
-    ensures numbering { IfOk result (λ n. IsNumberingOf (facets_by points.items ids.items) n.points.items n.numbers.items n.edges.numbers.items n.edges.count n.heights.order.items n.heights.greatest_rise) }
+    requires orders { IfSome found (λ own. AreOrdersOf points.items ids.items own.orders.points.points.items own.orders.points.ranks.items own.orders.heights.order.items own.orders.heights.ranges.items own.orders.heights.greatest_rise) }
+    ensures numbering { IfOk result (λ n. IsNumberingOf (facets_by points.items ids.items) n.points.items n.numbers.items n.edges.numbers.items n.edges.count n.heights.order.items n.heights.ranges.items n.heights.greatest_rise) }
     ensures open { IfErr result (IsKeptFault (facets_by points.items ids.items) degenerate.now) }
 {
     match found {
@@ -60,8 +60,8 @@ fn numbered<A: Allocator>(
 ) -> Numbering<A>
     requires named { AreNamed points.items ids.items }
     requires edges { AreEdgesOf ids.items found.edges.numbers.items found.edges.count }
-    requires orders { AreOrdersOf points.items ids.items found.orders.points.points.items found.orders.points.ranks.items found.orders.heights.order.items found.orders.heights.greatest_rise }
-    ensures { IsNumberingOf (facets_by points.items ids.items) result.points.items result.numbers.items result.edges.numbers.items result.edges.count result.heights.order.items result.heights.greatest_rise }
+    requires orders { AreOrdersOf points.items ids.items found.orders.points.points.items found.orders.points.ranks.items found.orders.heights.order.items found.orders.heights.ranges.items found.orders.heights.greatest_rise }
+    ensures { IsNumberingOf (facets_by points.items ids.items) result.points.items result.numbers.items result.edges.numbers.items result.edges.count result.heights.order.items result.heights.ranges.items result.heights.greatest_rise }
 {
     drop(points);
     let Grouping {
@@ -108,7 +108,7 @@ fn numbering_by_sorts<A: Allocator + Copy>(
     requires below { AreBelow points.items numbers.items }
     requires kept { length numbers.items ≤ FACET_LIMIT }
     requires degenerate { length degenerate.now ≤ FACET_LIMIT }
-    ensures numbering { IfOk result (λ n. IsNumberingOf (facets_by points.items numbers.items) n.points.items n.numbers.items n.edges.numbers.items n.edges.count n.heights.order.items n.heights.greatest_rise) }
+    ensures numbering { IfOk result (λ n. IsNumberingOf (facets_by points.items numbers.items) n.points.items n.numbers.items n.edges.numbers.items n.edges.count n.heights.order.items n.heights.ranges.items n.heights.greatest_rise) }
     ensures open { IfErr result (IsKeptFault (facets_by points.items numbers.items) degenerate.now) }
 {
     let kept = list_facets(alloc, points.as_slice(), numbers.as_slice())?;

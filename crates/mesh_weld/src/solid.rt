@@ -6,12 +6,12 @@ ghost use Rattle.geometry.specs.Facet.{corners};
 ghost use Rattle.geometry.specs.Point.{Point, is_before};
 ghost use Rattle.mesh_weld.specs.Balance.{IsBalanced};
 ghost use Rattle.mesh_weld.specs.EdgeNumbers.{AreEdgeNumbers};
-ghost use Rattle.mesh_weld.specs.Solid.{HaveDistinctCorners, IsByHeight, IsGreatestRise, triples, vertices};
+ghost use Rattle.mesh_weld.specs.Solid.{HaveDistinctCorners, IsByHeight, IsGreatestRise, facet_at, greatest_z, least_z, triples, vertices};
 ghost use Rattle.geometry.specs.declared.limits.TheConstants.{FACET_LIMIT};
 
 use crate::facets::facet_by;
 use crate::half_edge::EdgeNumbering;
-use crate::height_order::HeightOrder;
+use crate::height_order::{HeightOrder, HeightRange};
 use geometry::{Facet, Point, higher, lower};
 use std::alloc::Allocator;
 use std::marker::Model;
@@ -26,6 +26,8 @@ pub struct Solid<A: Allocator> {
     pub(crate) edges: Vec<u32, A>,
     pub(crate) edge_count: u32,
     pub(crate) order: Vec<u32, A>,
+    /// Of each facet by its number.
+    pub(crate) ranges: Vec<HeightRange, A>,
     pub(crate) greatest_rise: u32,
     pub(crate) dropped: u32,
 }
@@ -40,7 +42,7 @@ impl<A: Allocator> Model for Solid<A> {
 
     ghost view = { λ s. record { facets = facets_by s.points.items s.numbers.items; dropped = s.dropped } };
 
-    ghost invariant = { λ s. IsNumberingOf (facets_by s.points.items s.numbers.items) s.points.items s.numbers.items s.edges.items s.edge_count s.order.items s.greatest_rise
+    ghost invariant = { λ s. IsNumberingOf (facets_by s.points.items s.numbers.items) s.points.items s.numbers.items s.edges.items s.edge_count s.order.items s.ranges.items s.greatest_rise
         × (length s.numbers.items ≤ FACET_LIMIT) × HaveDistinctCorners (facets_by s.points.items s.numbers.items) };
 }
 
@@ -145,5 +147,15 @@ impl<A: Allocator> Solid<A> {
         ensures distinct { (result.a ≢ result.b) × (result.b ≢ result.c) × (result.c ≢ result.a) }
     {
         facet_by(self.points.as_slice(), &self.numbers[number as usize])
+    }
+
+    /// The height range of the kept facet with this number, below `count`: the same as `lowest` and `highest` of the facet,
+    /// without a look at its corners.
+    pub fn height_range(&self, number: u32) -> HeightRange
+        requires { number < length self.now.facets }
+        ensures low { result.low ≡ least_z (facet_at self.now.facets number) }
+        ensures high { result.high ≡ greatest_z (facet_at self.now.facets number) }
+    {
+        self.ranges[number as usize]
     }
 }

@@ -1,14 +1,16 @@
 //! Welding as facets come: corners are named at once, so that no list of facets is kept.
 ghost use Rattle.std.specs.Prelude.{◌≡◌, ◌≤◌, ◌<◌, ◌+◌, ◌++◌, [], ◌∷◌, List, IfSome, OnErr, OnOk, length, true, vec_len};
 ghost use Rattle.geometry.specs.Facet.{Facet};
+ghost use Rattle.mesh_weld.specs.EdgeChains.{AreInHalfWords};
 ghost use Rattle.mesh_weld.specs.Grouping.{AreEdgesOf, AreOrdersOf};
+ghost use Rattle.mesh_weld.specs.HalfEdge.{half_edges_from, ArePairNumbers};
 ghost use Rattle.mesh_weld.specs.Solid.{facets_by, is_kept};
 ghost use Rattle.mesh_weld.specs.Welder.{AreNamed, welder_by, welder_of, with_facets};
 ghost use Rattle.mesh_weld.specs.Welding.{IsWeldOf};
 ghost use Rattle.geometry.specs.declared.limits.TheConstants.{FACET_LIMIT};
 
 use crate::by_hash::{
-    BLOCK, CornerTable, Grouping, NONE, facet_ids, group_facets, group_facets_by,
+    BLOCK, CornerTable, Grouping, NONE, NumberedFacets, facet_ids, group_facets, group_facets_by,
 };
 use crate::facets::has_distinct_corners;
 use crate::half_edge::EdgeNumbering;
@@ -21,14 +23,14 @@ use std::alloc::{AllocError, Allocator};
 use std::marker::Model;
 use std::thread::Threads;
 
-/// The facets that are to be welded. Those with three distinct corners are kept by the ids of their corners, 12 bytes a
-/// facet beside the points; the others are degenerate.
+/// The facets that are to be welded. Those with three distinct corners are kept by the ids of their corners and the numbers
+/// of their edges, 24 bytes a facet beside the points, the chains of edges and the table; the others are degenerate.
 #[derive(Drop)]
 pub struct Welder<A: Allocator> {
     alloc: A,
     table: CornerTable<A>,
     points: Vec<Point, A>,
-    ids: Vec<[u32; 3], A>,
+    kept: NumberedFacets<A>,
     degenerate: Vec<Facet, A>,
 }
 
@@ -40,9 +42,9 @@ impl<A: Allocator> Model for Welder<A> {
 
     ghost Value = { Welder };
 
-    ghost view = { λ w. record { kept = facets_by w.points.items w.ids.items; degenerate = w.degenerate.items } };
+    ghost view = { λ w. record { kept = facets_by w.points.items w.kept; degenerate = w.degenerate.items } };
 
-    ghost invariant = { λ w. AreNamed w.points.items w.ids.items × (length w.ids.items + length w.degenerate.items ≤ FACET_LIMIT) };
+    ghost invariant = { λ w. AreNamed w.points.items w.kept × (length w.kept + length w.degenerate.items ≤ FACET_LIMIT) };
 }
 
 impl<A: Allocator + Copy + Send + Sync> Welder<A> {
@@ -54,7 +56,7 @@ impl<A: Allocator + Copy + Send + Sync> Welder<A> {
             alloc,
             table: CornerTable::new(alloc),
             points: Vec::new(alloc),
-            ids: Vec::new(alloc),
+            kept: NumberedFacets::new(alloc),
             degenerate: Vec::new(alloc),
         }
     }
@@ -65,7 +67,7 @@ impl<A: Allocator + Copy + Send + Sync> Welder<A> {
         ensures whole { (facets : List Facet) → self.now ≡ welder_of facets → result ≡ length facets }
         ensures few { result ≤ FACET_LIMIT }
     {
-        self.ids.len() + self.degenerate.len()
+        self.kept.len() + self.degenerate.len()
     }
 
     /// Adds facets after those so far, at most `FACET_LIMIT` with these.
@@ -89,7 +91,11 @@ impl<A: Allocator + Copy + Send + Sync> Welder<A> {
                 return added;
             }
         }
-        Ok(())
+        let numbered = self.kept.number(self.points.len());
+        if numbered.is_err() {
+            self.clear();
+        }
+        numbered
     }
 
     /// Adds a facet. Where an allocation fails some facets may be lost.
@@ -105,13 +111,13 @@ impl<A: Allocator + Copy + Send + Sync> Welder<A> {
             self.alloc,
             &mut self.table,
             &mut self.points,
-            &mut self.ids,
+            &mut self.kept,
             facet,
             guesses,
         );
         if named.is_err() {
             self.points.clear();
-            self.ids.clear();
+            self.kept.clear();
         }
         named
     }
@@ -121,7 +127,7 @@ impl<A: Allocator + Copy + Send + Sync> Welder<A> {
         ensures { self.new ≡ welder_of [] }
     {
         self.points.clear();
-        self.ids.clear();
+        self.kept.clear();
         self.degenerate.clear();
     }
 
@@ -134,8 +140,13 @@ impl<A: Allocator + Copy + Send + Sync> Welder<A> {
     pub fn finish(self) -> Result<Solid<A>, WeldFault>
         ensures { IsWeldOf self result }
     {
-        let named = self.without_table();
-        let found = group_facets(named.alloc, named.points.as_slice(), named.ids.as_slice())?;
+        let (named, numbers) = self.without_table();
+        let found = group_facets(
+            named.alloc,
+            named.points.as_slice(),
+            named.ids.as_slice(),
+            numbers,
+        )?;
         named.into_solid(found)
     }
 
@@ -143,35 +154,36 @@ impl<A: Allocator + Copy + Send + Sync> Welder<A> {
     pub fn finish_by<R: Threads + Sync>(self, rt: &R) -> Result<Solid<A>, WeldFault>
         ensures { IsWeldOf self result }
     {
-        let named = self.without_table();
-        let found = group_facets_by(
-            rt,
-            named.alloc,
-            named.points.as_slice(),
-            named.ids.as_slice(),
-        )?;
+        let (named, numbers) = self.without_table();
+        let (points, ids) = (named.points.as_slice(), named.ids.as_slice());
+        let found = group_facets_by(rt, named.alloc, points, ids, numbers)?;
         named.into_solid(found)
     }
 
-    /// The facets without the table, which takes more room than they do.
-    fn without_table(self) -> NamedFacets<A>
-        ensures value { welder_by result.points.items result.ids.items result.degenerate.items ≡ self }
-        ensures named { AreNamed result.points.items result.ids.items }
-        ensures few { length result.ids.items + length result.degenerate.items ≤ FACET_LIMIT }
+    /// The facets, and the numbers of their edges where there are these, without the table and the chains, which take more
+    /// room than they do.
+    fn without_table(self) -> (NamedFacets<A>, Option<EdgeNumbering<A>>)
+        ensures value { welder_by result.0.points.items result.0.ids.items result.0.degenerate.items ≡ self }
+        ensures named { AreNamed result.0.points.items result.0.ids.items }
+        ensures few { length result.0.ids.items + length result.0.degenerate.items ≤ FACET_LIMIT }
+        ensures numbers { IfSome result.1 (λ own. ArePairNumbers (half_edges_from 0 result.0.ids.items) own.numbers.items own.count) }
+        ensures small { IfSome result.1 (λ own. AreInHalfWords (half_edges_from 0 result.0.ids.items)) }
     {
         let Welder {
             alloc,
             table: _,
             points,
-            ids,
+            kept,
             degenerate,
         } = self;
-        NamedFacets {
+        let (ids, numbers) = kept.into_parts();
+        let named = NamedFacets {
             alloc,
             points,
             ids,
             degenerate,
-        }
+        };
+        (named, numbers)
     }
 }
 
@@ -191,7 +203,7 @@ impl<A: Allocator + Copy> NamedFacets<A> {
         requires named { AreNamed self.points.items self.ids.items }
         requires few { length self.ids.items + length self.degenerate.items ≤ FACET_LIMIT }
         requires edges { IfSome found (λ own. AreEdgesOf self.ids.items own.edges.numbers.items own.edges.count) }
-        requires orders { IfSome found (λ own. AreOrdersOf self.points.items self.ids.items own.orders.points.points.items own.orders.points.ranks.items own.orders.heights.order.items own.orders.heights.greatest_rise) }
+        requires orders { IfSome found (λ own. AreOrdersOf self.points.items self.ids.items own.orders.points.points.items own.orders.points.ranks.items own.orders.heights.order.items own.orders.heights.ranges.items own.orders.heights.greatest_rise) }
         ensures { IsWeldOf (welder_by self.points.items self.ids.items self.degenerate.items) result }
     {
         let NamedFacets {
@@ -209,6 +221,7 @@ impl<A: Allocator + Copy> NamedFacets<A> {
             },
             heights: HeightOrder {
                 order,
+                ranges,
                 greatest_rise,
             },
         } = named_numbering(alloc, points, ids, degenerate.as_slice(), found)?;
@@ -219,6 +232,7 @@ impl<A: Allocator + Copy> NamedFacets<A> {
             edges,
             edge_count,
             order,
+            ranges,
             greatest_rise,
             dropped,
         })
@@ -230,18 +244,18 @@ fn name_facet<A: Allocator + Copy>(
     alloc: A,
     table: &mut CornerTable<A>,
     points: &mut Vec<Point, A>,
-    ids: &mut Vec<[u32; 3], A>,
+    kept: &mut NumberedFacets<A>,
     facet: &Facet,
     guesses: [u32; 3],
 ) -> Result<(), AllocError>
-    requires few { vec_len ids.old < FACET_LIMIT }
-    requires named { AreNamed points.old.items ids.old.items }
+    requires few { length kept.old < FACET_LIMIT }
+    requires named { AreNamed points.old.items kept.old }
     requires distinct { is_kept facet.now ≡ true }
-    ensures count { OnOk result (length ids.new.items ≡ length ids.old.items + 1) }
-    ensures named { OnOk result (AreNamed points.new.items ids.new.items) }
-    ensures added { OnOk result (facets_by points.new.items ids.new.items ≡ facets_by points.old.items ids.old.items ++ facet.now ∷ []) }
+    ensures count { OnOk result (length kept.new ≡ length kept.old + 1) }
+    ensures named { OnOk result (AreNamed points.new.items kept.new) }
+    ensures added { OnOk result (facets_by points.new.items kept.new ≡ facets_by points.old.items kept.old ++ facet.now ∷ []) }
 {
     let own = facet_ids(alloc, table, points, facet, guesses)?;
-    ids.push(own)?;
+    kept.push(own)?;
     Ok(())
 }

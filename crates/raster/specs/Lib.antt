@@ -6,6 +6,7 @@ pub mod Span
 pub mod Filler
 pub mod Image
 pub mod ImageWriter
+pub mod Page
 pub mod Bits
 pub mod Rows
 pub mod RowCrossing

@@ -1,12 +1,12 @@
 //! The crossings of a layer's rows with the mesh: where each scanline crosses which facet, by column, and with which sign.
-ghost use Rattle.std.specs.Prelude.{◌≡◌, ◌≢◌, ◌<◌, ◌≤◌, ◌++◌, ◌∷◌, ◌+◌, ◌+ℤ◌, ◌-ℤ◌, [], All, OnErr, OnOk, drop, length, nat_le, pos, take, true, ℕ};
+ghost use Rattle.std.specs.Prelude.{◌≡◌, ◌≢◌, ◌<◌, ◌≤◌, ◌++◌, ◌∷◌, ◌+◌, ◌+ℤ◌, ◌-ℤ◌, [], All, IsPermutation, OnErr, OnOk, drop, length, nat_le, pos, take, true, ℕ};
 ghost use Rattle.std.specs.List.{list_all};
 ghost use Rattle.std.specs.Mem.{FitsInMemory};
 ghost use Rattle.std.specs.Ordering.{int_eq};
 ghost use Rattle.exact_int.specs.Bounds.{IsAtMost};
 ghost use Rattle.geometry.specs.Facet.{twice};
 ghost use Rattle.geometry.specs.Winding.{hit, total, wind};
-ghost use Rattle.contour.specs.Segment.{segments};
+ghost use Rattle.plane_segments.specs.Segment.{segments};
 ghost use Rattle.exact_cut.specs.Lattice.{pixel, row_y};
 ghost use Rattle.raster.specs.ColumnSums.{AreZero};
 ghost use Rattle.raster.specs.Crossings.{AreCrossingsWithin, crossings_along, crossings_in, row_passed, row_signs};
@@ -18,10 +18,10 @@ use crate::column_sums::ColumnSums;
 use crate::row_spans::fill_row;
 use crate::rule::Rule;
 use crate::span::Span;
-use contour::Segment;
 use exact_cut::{Lattice, Walk};
 use geometry::Facet;
 use mesh_weld::Solid;
+use plane_segments::Segment;
 use smallvec::SmallVec;
 use std::alloc::{AllocError, Allocator};
 use std::marker::Model;
@@ -130,6 +130,7 @@ impl<A: Allocator> RowCrossings<A> {
         requires between_rows { AreZero columns.old.sums.items }
         ensures between_rows { AreZero columns.new.sums.items }
         ensures rows { length self.new ≡ length self.old }
+        ensures here { IsPermutation (crossings_in self.old row) (crossings_in self.new row) }
         ensures elsewhere { (j : ℕ) → j ≢ row → crossings_in self.new j ≡ crossings_in self.old j }
         ensures kept { OnOk result (take (length out.old.items) out.new.items ≡ out.old.items) }
         ensures added { OnOk result (AreRowSpans rule row (crossings_in self.old row) (drop (length out.old.items) out.new.items)) }
@@ -156,7 +157,8 @@ fn fits_in_memory<T>() -> bool
 
 /// Removes the crossings of all rows.
 fn forget_all<A: Allocator + Copy>(alloc: A, rows: &mut Vec<Row<A>, A>)
-    ensures { All (λ row. row.items ≡ []) rows.new.items }
+    ensures empty { All (λ row. row.items ≡ []) rows.new.items }
+    ensures count { length rows.new.items ≡ length rows.old.items }
 {
     for row in 0..rows.len() {
         forget(alloc, &mut rows[row]);

@@ -16,6 +16,7 @@
 //! - [`Filler`]: fills one layer after another, and keeps its memory; [`fill`] fills one.
 //! - [`ImageWriter`]: writes images one after another, by few calls of the sink; [`write_layer`] writes one; [`image_len`]:
 //!   the length of an image, in bytes.
+//! - [`Page`]: a few images that are drawn before they are written.
 //! - [`Source`], [`Sink`]: the devices that are read and written. A call of them that fails answers [`Failed`], and by
 //!   [`Failures`] a device tells how many have. [`Counted`] makes a device of any reader or writer.
 //! - [`put_all`]: writes a whole chunk of bytes; [`WriteFault`]: how many went out before a failure.
@@ -38,7 +39,7 @@ mod span;
 pub use devices::{Counted, Failed, Failures, Sink, Source, WriteFault, put_all};
 pub use filler::{Filler, fill};
 pub use grid::{Grid, GridFault};
-pub use pbm::{ImageWriter, image_len, write_layer};
+pub use pbm::{ImageWriter, Page, image_len, write_layer};
 pub use placing::Placing;
 pub use rule::Rule;
 pub use span::{Span, area};

@@ -2,9 +2,12 @@
 
 mod bits;
 mod chunk;
+mod header;
 mod image;
 mod image_writer;
+mod page;
 mod rows;
 
 pub use image::{image_len, write_layer};
 pub use image_writer::ImageWriter;
+pub use page::Page;

@@ -1,6 +1,6 @@
 //! The grammar of a facet, each rule a method of the reader. It also reads what stands whole at the front of a text: a facet,
 //! or the end of one solid and the beginning of the next.
-ghost use Rattle.std.specs.Prelude.{◌≡◌, ◌<◌, [], ◌∷◌, IfSome, Some, length};
+ghost use Rattle.std.specs.Prelude.{◌≡◌, ◌<◌, ℕ, [], ◌∷◌, IfSome, List, None, Some, length};
 ghost use Rattle.micro_num.specs.declared.unit.Unit.{Unit as LengthUnit};
 ghost use Rattle.stl_text.specs.Layout.{separator_tokens};
 ghost use Rattle.stl_text.specs.FacetRun.{next_solid};
@@ -30,7 +30,8 @@ impl<'t> Reader<'t> {
     /// Reads the keywords of a separator, if they stand here. Where they do not, the reader may be left anywhere.
     #[inline(always)]
     pub(crate) fn separator(&mut self, separator: Separator) -> Option<()>
-        ensures { IfSome result (λ _. Spells (separator_tokens separator) self.old self.new) }
+        ensures some { IfSome result (λ _. Spells (separator_tokens separator) self.old self.new) }
+        ensures none { result ≡ None → rest_after self.old.unit (separator_tokens separator) self.old.rest ≡ None }
     {
         match separator {
             Separator::Opening => {
@@ -53,7 +54,8 @@ impl<'t> Reader<'t> {
     /// Reads the three words of a normal, if they stand here.
     #[inline(always)]
     pub(crate) fn normal_words(&mut self) -> Option<()>
-        ensures { IfSome result (λ _. Spells (normal_word ∷ normal_word ∷ normal_word ∷ []) self.old self.new) }
+        ensures some { IfSome result (λ _. Spells (normal_word ∷ normal_word ∷ normal_word ∷ []) self.old self.new) }
+        ensures none { result ≡ None → rest_after self.old.unit (normal_word ∷ normal_word ∷ normal_word ∷ []) self.old.rest ≡ None }
     {
         self.normal_word()?;
         self.normal_word()?;
@@ -108,11 +110,12 @@ pub(crate) fn facet_by_words(bytes: &[u8], unit: Unit) -> Option<(Facet, &[u8])>
 }
 
 /// The text after the end of a solid and the beginning of the next, if these are at the front of a text and the text
-/// after them is not empty. `None` says nothing about the text.
+/// after them is not empty.
 pub(crate) fn after_solid(bytes: &[u8]) -> Option<&[u8]>
     ensures read { IfSome result (λ rest. (unit : LengthUnit) → rest_after unit next_solid bytes.now ≡ Some rest.now) }
     ensures some { IfSome result (λ rest. 0 < length rest.now) }
     ensures shorter { IfSome result (λ rest. length rest.now < length bytes.now) }
+    ensures none { result ≡ None → (unit : LengthUnit) (rest : List ℕ) → rest_after unit next_solid bytes.now ≡ Some rest → rest ≡ [] }
 {
     let remark = after_keyword(bytes, END_SOLID)?;
     let name = after_keyword(skip_line(remark), Word::Solid.text().as_bytes())?;

@@ -1,7 +1,7 @@
 //! The layout of facets: what a file writes before, between and after the numbers of a facet. Most files write it with the
 //! same bytes in each facet, so that these are compared as a whole, and not read word by word.
-ghost use Rattle.std.specs.Prelude.{◌≡◌, ◌≢◌, ◌≤◌, ◌<◌, ℕ, [], ◌∷◌, ◌++◌, IfSome, List, None, Ok, Some, length, not, take, true};
-ghost use Rattle.std.specs.List.{list_all};
+ghost use Rattle.std.specs.Prelude.{◌≡◌, ◌≢◌, ◌≤◌, ◌<◌, ℕ, [], ◌∷◌, ◌++◌, IfSome, List, None, Ok, Some, length, nat_le, not, take, true, ℤ};
+ghost use Rattle.std.specs.List.{list_all, prefix_len};
 ghost use Rattle.micro_num.specs.Micrometres.{coordinate_of};
 ghost use Rattle.stl_text.specs.Layout.{IsClosing, IsSeparator, Skips, separator_tokens};
 ghost use Rattle.stl_text.specs.Reader.{Spells};
@@ -67,7 +67,8 @@ impl<'t> Reader<'t> {
     /// Like `normal_words`, and faster where the words stand one blank apart.
     #[inline(always)]
     fn near_normal(&mut self) -> Option<()>
-        ensures { IfSome result (λ _. Spells (normal_word ∷ normal_word ∷ normal_word ∷ []) self.old self.new) }
+        ensures some { IfSome result (λ _. Spells (normal_word ∷ normal_word ∷ normal_word ∷ []) self.old self.new) }
+        ensures none { result ≡ None → rest_after self.old.unit (normal_word ∷ normal_word ∷ normal_word ∷ []) self.old.rest ≡ None }
     {
         self.near_word()?;
         self.near_word()?;
@@ -77,7 +78,8 @@ impl<'t> Reader<'t> {
     /// Like `normal_word`, and faster where the word is short and at most one blank stands before it.
     #[inline(always)]
     fn near_word(&mut self) -> Option<()>
-        ensures { IfSome result (λ _. Spells (normal_word ∷ []) self.old self.new) }
+        ensures some { IfSome result (λ _. Spells (normal_word ∷ []) self.old self.new) }
+        ensures none { result ≡ None → first_word self.old.rest ≡ [] }
     {
         self.rest = match after_short_word(skip_blank(self.rest)) {
             Some(rest) => rest,
@@ -103,7 +105,8 @@ impl<'t> Reader<'t> {
     /// Like `coordinate`, and faster where at most one blank stands before it.
     #[inline(always)]
     fn near_coordinate(&mut self) -> Option<i32>
-        ensures { IfSome result (λ z. Spells (coordinate z ∷ []) self.old self.new) }
+        ensures some { IfSome result (λ z. Spells (coordinate z ∷ []) self.old self.new) }
+        ensures none { result ≡ None → (z : ℤ) → coordinate_of self.old.unit (first_word self.old.rest) ≢ Ok z }
     {
         let (z, rest) = match after_front(skip_blank(self.rest), self.unit) {
             Some(found) => found,
@@ -146,6 +149,7 @@ fn after_any_word(bytes: &[u8]) -> Option<&[u8]>
 fn after_any_coordinate(bytes: &[u8], unit: Unit) -> Option<(i32, &[u8])>
     ensures read { IfSome result (λ found. coordinate_of unit (first_word bytes.now) ≡ Ok found.0) }
     ensures rest { IfSome result (λ found. found.1.now ≡ after_word bytes.now) }
+    ensures none { result ≡ None → (z : ℤ) → coordinate_of unit (first_word bytes.now) ≢ Ok z }
 {
     after_coordinate(bytes, unit)
 }
@@ -154,6 +158,7 @@ fn after_any_coordinate(bytes: &[u8], unit: Unit) -> Option<(i32, &[u8])>
 #[inline(always)]
 fn front_len(bytes: &[u8]) -> usize
     requires { LANES ≤ length bytes.now }
+    ensures count { result ≡ prefix_len (λ byte. not (nat_le byte 32)) (take LANES bytes.now) }
     ensures clear { list_all (λ byte. not (is_white byte)) (take result bytes.now) ≡ true }
     ensures within { result ≤ LANES }
 {

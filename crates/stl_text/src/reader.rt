@@ -1,7 +1,8 @@
 //! The reader of a facet's words, from left to right: keywords, words of a normal and coordinates.
-ghost use Rattle.std.specs.Prelude.{◌≡◌, ◌↔◌, [], ◌∷◌, IfSome, IsTrue, None};
+ghost use Rattle.std.specs.Prelude.{◌≡◌, ◌≢◌, ◌↔◌, [], ◌∷◌, IfSome, IsTrue, None, Ok, false, ℤ};
+ghost use Rattle.micro_num.specs.Micrometres.{coordinate_of};
 ghost use Rattle.stl_text.specs.Reader.{Spells, start};
-ghost use Rattle.stl_text.specs.Text.{after_space, coordinate, first_word, keyword_of, HasOneKeyword, normal_word};
+ghost use Rattle.stl_text.specs.Text.{after_space, begins_with, coordinate, first_word, keyword_of, HasOneKeyword, normal_word};
 
 use crate::scanning::{after_coordinate, after_keyword, skip_space, split_word};
 use crate::word::Word;
@@ -45,7 +46,8 @@ impl<'t> Reader<'t> {
     #[inline(always)]
     pub(crate) fn keyword(&mut self, wanted: Word) -> Option<()>
         requires { HasOneKeyword wanted }
-        ensures { IfSome result (λ _. Spells (keyword_of wanted ∷ []) self.old self.new) }
+        ensures some { IfSome result (λ _. Spells (keyword_of wanted ∷ []) self.old self.new) }
+        ensures none { result ≡ None → begins_with self.old.unit (keyword_of wanted) self.old.rest ≡ false }
     {
         self.rest = after_keyword(self.rest, wanted.text().as_bytes())?;
         Some(())
@@ -67,7 +69,8 @@ impl<'t> Reader<'t> {
     /// Reads a coordinate, in whole micrometres, if one stands here.
     #[inline(always)]
     pub(crate) fn coordinate(&mut self) -> Option<i32>
-        ensures { IfSome result (λ z. Spells (coordinate z ∷ []) self.old self.new) }
+        ensures some { IfSome result (λ z. Spells (coordinate z ∷ []) self.old self.new) }
+        ensures none { result ≡ None → (z : ℤ) → coordinate_of self.old.unit (first_word self.old.rest) ≢ Ok z }
     {
         let (z, rest) = after_coordinate(self.rest, self.unit)?;
         self.rest = rest;

@@ -1,6 +1,6 @@
 //! Scanning the front of a text: white space, words, keywords, coordinates and lines.
 
-ghost use Rattle.std.specs.Prelude.{◌≡◌, ◌↔◌, ◌+◌, ◌≤◌, IfSome, IsTrue, Ok, length, not, true};
+ghost use Rattle.std.specs.Prelude.{◌≡◌, ◌≢◌, ◌↔◌, ◌+◌, ◌≤◌, IfSome, IsTrue, None, Ok, false, length, not, true, ℤ};
 ghost use Rattle.std.specs.Str.{str_to_ascii_lowercase};
 ghost use Rattle.std.specs.List.{list_all, position_or_len, prefix_len};
 ghost use Rattle.micro_num.specs.Micrometres.{coordinate_of};
@@ -109,7 +109,7 @@ pub(crate) fn ends_word(bytes: &[u8]) -> bool
     }
 }
 
-/// The text after the first word, if that is this keyword. `None` says nothing about the text.
+/// The text after the first word, if that is this keyword.
 #[inline(always)]
 pub(crate) fn after_keyword<'t>(bytes: &'t [u8], text: &[u8]) -> Option<&'t [u8]>
     requires lower { str_to_ascii_lowercase text.now ≡ text.now }
@@ -117,6 +117,7 @@ pub(crate) fn after_keyword<'t>(bytes: &'t [u8], text: &[u8]) -> Option<&'t [u8]
     ensures keyword { IfSome result (λ rest. Text.is_keyword text.now (first_word bytes.now) ≡ true) }
     ensures rest { IfSome result (λ rest. rest.now ≡ after_word bytes.now) }
     ensures within { IfSome result (λ rest. length rest.now ≤ length bytes.now) }
+    ensures none { result ≡ None → Text.is_keyword text.now (first_word bytes.now) ≡ false }
 {
     let front = skip_space(bytes);
     if front.len() < text.len() {
@@ -130,14 +131,14 @@ pub(crate) fn after_keyword<'t>(bytes: &'t [u8], text: &[u8]) -> Option<&'t [u8]
     }
 }
 
-/// The coordinate that the word at the front of a text stands for, and the text after the word. `None` says nothing about
-/// the text.
+/// The coordinate that the word at the front of a text stands for, and the text after the word.
 #[inline(always)]
 pub(crate) fn after_front(bytes: &[u8], unit: Unit) -> Option<(i32, &[u8])>
     ensures front { IfSome result (λ found. after_space bytes.now ≡ bytes.now) }
     ensures read { IfSome result (λ found. coordinate_of unit (first_word bytes.now) ≡ Ok found.0) }
     ensures rest { IfSome result (λ found. found.1.now ≡ after_word bytes.now) }
     ensures within { IfSome result (λ found. length found.1.now ≤ length bytes.now) }
+    ensures none { result ≡ None → after_space bytes.now ≡ bytes.now → (z : ℤ) → coordinate_of unit (first_word bytes.now) ≢ Ok z }
 {
     let (z, count) = read_front(bytes, unit)?;
     let (_, rest) = bytes.split_at(count);
@@ -148,12 +149,13 @@ pub(crate) fn after_front(bytes: &[u8], unit: Unit) -> Option<(i32, &[u8])>
     }
 }
 
-/// The coordinate that the first word stands for, and the text after the word. `None` says nothing about the text.
+/// The coordinate that the first word stands for, and the text after the word.
 #[inline(always)]
 pub(crate) fn after_coordinate(bytes: &[u8], unit: Unit) -> Option<(i32, &[u8])>
     ensures read { IfSome result (λ found. coordinate_of unit (first_word bytes.now) ≡ Ok found.0) }
     ensures rest { IfSome result (λ found. found.1.now ≡ after_word bytes.now) }
     ensures within { IfSome result (λ found. length found.1.now ≤ length bytes.now) }
+    ensures none { result ≡ None → (z : ℤ) → coordinate_of unit (first_word bytes.now) ≢ Ok z }
 {
     let (z, rest) = after_front(skip_space(bytes), unit)?;
     Some((z, rest))

@@ -1,9 +1,8 @@
 pub mod RunFault
 pub mod SlicedText
 pub mod Outcome
-pub mod Extent
-pub mod Transcript
+pub mod Unwritten
 pub mod Loading
-pub mod Round
 pub mod Run
 pub mod WrittenPixels
+pub mod Pages

@@ -1,27 +1,12 @@
--- What comes of reading an input to its end: what its text spells, or the fault that it ends with.
-use Rattle.std.specs.Prelude.{◌≡◌, ◌≢◌, ◌≤◌, ◌⊎◌, ◌++◌, ℕ, Bool, Err, IfErr, IfOk, IfSome, List, Ok, OnOk, Option, Result, false, length, true}
-use Rattle.std.specs.Io.KnownBytes.{Consumes, IsAtEnd}
+-- Why a text at hand is no closed mesh.
+use Rattle.std.specs.Prelude.{ℕ, List}
 use Rattle.geometry.specs.Facet.{Facet}
 use Rattle.geometry.specs.declared.limits.TheConstants.{FACET_LIMIT}
-use Rattle.mesh_weld.specs.Balance.{IsBalanced, IsLeastOpen}
-use Rattle.mesh_weld.specs.Welder.{Welder, welder_of}
-use Rattle.mesh_weld.specs.Solid.{Solid, solid_of}
+use Rattle.mesh_weld.specs.Balance.{IsLeastOpen}
 use Rattle.micro_num.specs.declared.unit.Unit.{Unit as LengthUnit}
-use Rattle.raster.specs.Devices.{Fails}
-use Rattle.stl_text.specs.TextReader.{IsAfter, TextReader}
 use Rattle.stl_text.specs.Text.{IsFaultOf, Reads}
-use Rattle.stl_text.specs.declared.stl_fault.StlFault.{StlFault}
-use Rattle.stlslice.specs.Extent.{extent_of}
-use Rattle.stlslice.specs.Round.{Round}
-use Rattle.stlslice.specs.Transcript.{Transcript}
-use Rattle.stlslice.specs.declared.extent.Extent.{Extent}
 use Rattle.stlslice.specs.declared.run_fault.RunFault.{RunFault}
 use Rattle.stlslice.specs.declared.run_fault.RunFault.TheVariants as fault
-
--- the closed mesh that a text is
-abbrev pub IsSolidOf : LengthUnit → List ℕ → Solid → Type 0
-IsSolidOf unit bytes solid =
-    (facets : List Facet) × Reads FACET_LIMIT unit bytes facets × IsBalanced facets × (solid ≡ solid_of facets)
 
 -- a text that is no closed mesh: its fault, or its least open edge
 abbrev pub IsLoadFault : LengthUnit → List ℕ → RunFault → Type 0
@@ -33,79 +18,3 @@ IsLoadFault unit bytes (fault.Grid cause) = ⊥
 IsLoadFault unit bytes fault.Memory = Unit {0}
 IsLoadFault unit bytes (fault.Write written) = ⊥
 IsLoadFault unit bytes (fault.Outside columns rows layers) = ⊥
-
--- the extent of the facets that a text spells
-abbrev pub IsTextExtent : LengthUnit → List ℕ → Extent → Type 0
-IsTextExtent unit bytes extent = (facets : List Facet) × Reads FACET_LIMIT unit bytes facets × (extent ≡ extent_of facets)
-
--- a text that does not read as facets
-abbrev pub IsMisread : LengthUnit → List ℕ → RunFault → Type 0
-IsMisread unit bytes f = (cause : StlFault) × (f ≡ fault.Stl cause) × IsFaultOf FACET_LIMIT unit bytes cause
-
--- the welder has these facets, if they are no more than a mesh may have
-abbrev pub AreWelded : List Facet → Welder → Type 0
-AreWelded taken welder = length taken ≤ FACET_LIMIT → welder ≡ welder_of taken
-
--- one welder has the facets of another, and these after them
-abbrev pub HasWelded : List Facet → Welder → Welder → Type 0
-HasWelded facets old new = (taken : List Facet) → AreWelded taken old → AreWelded (taken ++ facets) new
-
--- A welder and a reader have all facets of a text between them, those that were taken off the reader in the welder: what
--- `says` tells holds of the text.
-abbrev pub OfText : Welder → TextReader → (LengthUnit → List ℕ → Type 0) → Type 0
-OfText welder reader says = (unit : LengthUnit) (taken : List Facet) (fed : List ℕ) → AreWelded taken welder
-    → IsAfter FACET_LIMIT unit taken reader fed → says unit fed
-
--- the reader was fed what a source had at the start and has no more, and these facets were taken off it
-abbrev pub IsFed : LengthUnit → List Facet → TextReader → Option (List ℕ) → Option (List ℕ) → Type 0
-IsFed unit taken reader start now = (fed : List ℕ) × Consumes start now fed × IsAfter FACET_LIMIT unit taken reader fed
-
--- these bytes are all of the input, where that is known
-abbrev pub IsInput : Option (List ℕ) → List ℕ → Type 0
-IsInput known bytes = IfSome known (λ input. bytes ≡ input)
-
--- a failed read, want of memory, or a fault of the input
-abbrev pub IsInputFault : (List ℕ → RunFault → Type 0) → Option (List ℕ) → RunFault → Type 0
-IsInputFault is known f = (f ≡ fault.Read) ⊎ (f ≡ fault.Memory) ⊎ ((input : List ℕ) × IsInput known input × is input f)
-
--- What a call that reads a source to its end promises, by what is made of an input, and by which faults are an input's own.
-pub record IsReadAs {T : Type 0} (is_made : List ℕ → T → Type 0) (is_own : List ℕ → RunFault → Type 0) (result : Result T RunFault)
-    (source : Transcript) : Type 0 where
-  -- what it answers is made of the whole input
-  pub ok : IfOk result (λ made. (input : List ℕ) × IsInput source.old input × is_made input made)
-  pub err : IfErr result (IsInputFault is_own source.old)
-  -- the source is at its end, also after a fault of the input
-  pub whole : result ≢ Err fault.Read → result ≢ Err fault.Memory → IsAtEnd source.new
-  -- just one call of the source failed where a failed read is the answer, else none
-  pub unread : result ≡ Err fault.Read → Fails source.failed_before source.failed
-  pub sound : result ≢ Err fault.Read → source.failed ≡ source.failed_before
-
--- What a call promises of a round that it fills from a source where there is more, and leaves empty where there is none: it answers
--- whether there is more after it. `before` and `after` are the round.
-pub record IsFilled {S : Type 0} (remaining : S → Option (List ℕ)) (failure_count : S → ℕ) (old new : S) (is_more : Bool) (before after : Round)
-    (result : Result Bool RunFault) : Type 0 where
-  -- the round has what was taken off the source, just once and in its order
-  pub taken : OnOk result (Consumes (remaining old) (remaining new) after.bytes)
-  -- where there is more, the round has all that it waits for
-  pub full : result ≡ Ok true → after.wanted ≤ length after.bytes
-  pub waits : after.wanted ≡ before.wanted
-  pub kept : is_more ≡ false → new ≡ old
-  pub whole : result ≡ Ok false → is_more ≡ true → IsAtEnd (remaining new)
-  -- just one call of the source failed where a failed read is the answer, else none
-  pub unread : result ≡ Err fault.Read → Fails (failure_count old) (failure_count new)
-  pub sound : result ≢ Err fault.Read → failure_count new ≡ failure_count old
-  pub only : IfErr result (λ f. (f ≡ fault.Read) ⊎ (f ≡ fault.Memory))
-
--- What a call promises that makes a closed mesh of a whole text.
-pub record IsLoaded (unit : LengthUnit) (bytes : List ℕ) (result : Result Solid RunFault) : Type 0 where
-  pub ok : IfOk result (IsSolidOf unit bytes)
-  pub err : IfErr result (IsLoadFault unit bytes)
-  -- memory aside, a closed mesh is answered as such
-  pub only : (facets : List Facet) → Reads FACET_LIMIT unit bytes facets → IsBalanced facets → IfErr result (λ f. f ≡ fault.Memory)
-
--- What a call promises that makes a welder of all facets of a whole text.
-pub record IsAllWelded (unit : LengthUnit) (bytes : List ℕ) (result : Result Welder RunFault) : Type 0 where
-  pub ok : IfOk result (λ welder. (facets : List Facet) × Reads FACET_LIMIT unit bytes facets × (welder ≡ welder_of facets))
-  pub err : IfErr result (IsLoadFault unit bytes)
-  -- memory aside, a text that reads as facets is answered as such
-  pub only : (facets : List Facet) → Reads FACET_LIMIT unit bytes facets → IfErr result (λ f. f ≡ fault.Memory)

@@ -2,11 +2,11 @@
 use Rattle.std.specs.Prelude.{◌≡◌, ◌≢◌, ◌⊎◌, ℕ, ◌≤◌, Bool, List, MatchResult, Result, Err, IfErr, IfSome, Ok, OnOk, length, true}
 use Rattle.std.specs.Io.KnownBytes.{Appends, IsAtEnd, Keeps}
 use Rattle.raster.specs.Devices.{AppendsFirst, Fails}
+use Rattle.mesh_reading.specs.Transcript.{Transcript}
 use Rattle.task_words.specs.declared.task.Task.{Task}
 use Rattle.stlslice.specs.declared.run_fault.RunFault.{RunFault}
 use Rattle.stlslice.specs.declared.run_fault.RunFault.TheVariants as cause
 use Rattle.stlslice.specs.Outcome.{IsOutcome}
-use Rattle.stlslice.specs.Transcript.{Transcript}
 
 -- a fault of the input is its outcome; the others are of a device or of memory
 abbrev pub IsRunFault : Task → List ℕ → RunFault → Type 0

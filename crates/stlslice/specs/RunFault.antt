@@ -2,12 +2,20 @@
 use Rattle.std.specs.Prelude.{ℕ}
 use Rattle.mesh_weld.specs.declared.weld_fault.WeldFault.{WeldFault}
 use Rattle.mesh_weld.specs.declared.weld_fault.WeldFault.TheVariants as weld
+use Rattle.mesh_reading.specs.declared.read_fault.ReadFault.{ReadFault}
+use Rattle.mesh_reading.specs.declared.read_fault.ReadFault.TheVariants as read
 use Rattle.stlslice.specs.declared.run_fault.RunFault.{RunFault}
 use Rattle.stlslice.specs.declared.run_fault.RunFault.TheVariants as fault
 
 abbrev pub of_weld : WeldFault → RunFault
 of_weld (weld.Open from to there back) = fault.Open from to there back
 of_weld weld.Memory = fault.Memory
+
+abbrev pub of_read : ReadFault → RunFault
+of_read read.Read = fault.Read
+of_read (read.Stl cause) = fault.Stl cause
+of_read (read.Weld cause) = of_weld cause
+of_read read.Memory = fault.Memory
 
 abbrev pub run_status : RunFault → ℕ
 run_status fault.Read = 7

@@ -1,8 +1,8 @@
 -- The outputs of slicing: the images of all layers, or a report with a line for each.
 use Rattle.std.specs.Prelude.{ℕ, Bool, List, ◌++◌, codes, decimal, flat_map, length, sum_by, if◌then◌else◌}
 use Rattle.geometry.specs.Facet.{Facet}
+use Rattle.plane_segments.specs.Segment.{segments}
 use Rattle.contour.specs.Loops.{loops}
-use Rattle.contour.specs.Segment.{segments}
 use Rattle.raster.specs.declared.rule.Rule.{Rule}
 use Rattle.raster.specs.declared.span.Span.{Span}
 use Rattle.raster.specs.Filler.{area_of, below}

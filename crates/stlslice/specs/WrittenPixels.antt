@@ -9,8 +9,8 @@ use Rattle.geometry.specs.Winding.{ray}
 use Rattle.geometry.specs.declared.limits.TheConstants.{FACET_LIMIT}
 use Rattle.mesh_weld.specs.Balance.{IsBalanced}
 use Rattle.mesh_weld.specs.Solid.{kept_facets}
+use Rattle.plane_segments.specs.Segment.{segments}
 use Rattle.contour.specs.Loops.{loops}
-use Rattle.contour.specs.Segment.{segments}
 use Rattle.raster.specs.Filler.{below}
 use Rattle.raster.specs.Grid.{Grid, centre, plane}
 use Rattle.raster.specs.Image.{image_of_pixels}

@@ -22,14 +22,10 @@
 //! Pitch, layer height and the box are in micrometres.
 #![tactic(auto)]
 
-mod extent;
 mod laws;
 mod loading;
-mod round;
-mod round_work;
 mod run_fault;
 mod running;
-mod window;
 mod write;
 
 pub use build_book::Piece;

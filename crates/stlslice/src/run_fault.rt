@@ -1,10 +1,10 @@
 //! Why a run wrote no text, or not all of it.
-ghost use Rattle.std.specs.Prelude.{◌≡◌, ◌≢◌};
-ghost use Rattle.stl_text.specs.declared.stl_fault.StlFault.TheVariants as stl_fault;
-ghost use Rattle.stlslice.specs.RunFault.{of_weld, run_status};
-ghost use Rattle.stlslice.specs.declared.run_fault.RunFault.TheVariants.{Grid, Memory, Stl, Write};
+ghost use Rattle.std.specs.Prelude.{◌≡◌};
+ghost use Rattle.stlslice.specs.RunFault.{of_read, of_weld, run_status};
+ghost use Rattle.stlslice.specs.declared.run_fault.RunFault.TheVariants.{Grid, Memory, Write};
 
 use geometry::Point;
+use mesh_reading::ReadFault;
 use mesh_weld::WeldFault;
 use raster::{GridFault, WriteFault};
 use std::alloc::AllocError;
@@ -72,14 +72,15 @@ impl From<AllocError> for RunFault {
     }
 }
 
-impl From<StlFault> for RunFault {
-    ghost from_gives = { λ cause fault. (cause ≡ stl_fault.Memory → fault ≡ Memory)
-        × (cause ≢ stl_fault.Memory → fault ≡ Stl cause) };
+impl From<ReadFault> for RunFault {
+    ghost from_gives = { λ cause fault. fault ≡ of_read cause };
 
-    fn from(cause: StlFault) -> RunFault {
+    fn from(cause: ReadFault) -> RunFault {
         match cause {
-            StlFault::Memory => RunFault::Memory,
-            _ => RunFault::Stl(cause),
+            ReadFault::Read => RunFault::Read,
+            ReadFault::Stl(of_text) => RunFault::Stl(of_text),
+            ReadFault::Weld(of_mesh) => RunFault::from(of_mesh),
+            ReadFault::Memory => RunFault::Memory,
         }
     }
 }

@@ -1,7 +1,7 @@
 //! A run: reads the whole input, does the task, writes its outcome.
 ghost use Rattle.std.specs.Prelude.{◌≡◌, ◌≤◌, Err, IfErr, IfOk, Ok};
+ghost use Rattle.mesh_reading.specs.Transcript.{transcript};
 ghost use Rattle.stlslice.specs.Outcome.{grid_for, placing_of};
-ghost use Rattle.stlslice.specs.Transcript.{transcript};
 ghost use Rattle.stlslice.specs.Run.{IsRun};
 ghost use Rattle.stlslice.specs.declared.run_fault.RunFault.TheVariants as run_fault;
 ghost use Rattle.raster.specs.declared.grid.GridFault.{GridFault};
@@ -9,7 +9,6 @@ ghost use Rattle.task_words.specs.Task.{IsInRange};
 ghost use Rattle.task_words.specs.declared.task.Task.TheVariants as task;
 ghost use Rattle.geometry.specs.declared.limits.TheConstants.{STEP_LIMIT};
 
-use crate::loading::{read_extent, read_solid, read_solid_by};
 use crate::run_fault::RunFault;
 use crate::write::box_line::box_line;
 use crate::write::flush::write_all;
@@ -17,6 +16,7 @@ use crate::write::probe_line::probe_line;
 use crate::write::{Output, write_build};
 use build_book::Job;
 use layer_pool::{Gate, OpenGate, build};
+use mesh_reading::{read_extent, read_solid, read_solid_by};
 use mesh_weld::Solid;
 use micro_num::Unit;
 use raster::{Grid, Placing, Sink, Source};
@@ -97,7 +97,7 @@ pub fn run_watched<
             let grid = grid_for(&solid, *grid, *pitch, *layer)?;
             let job = Job::new(solid, grid, *rule);
             let build = build(rt, alloc, &job, *workers, gate)?;
-            write_build(alloc, &build, Output::of(*report), sink)
+            write_build(rt, alloc, &build, Output::of(*report), *workers, sink)
         }
     }
 }

@@ -1,24 +1,28 @@
-//! What a run writes: each output has a module of its own, and all are flushed by [`flush`]. Here stands the choice among
-//! the outputs of slicing.
+//! What a run writes: each output has a module of its own (`images`; for several workers `images_by` and `pages`), and all are
+//! flushed by [`flush`]. Here stands the choice among the outputs of slicing.
 ghost use Rattle.std.specs.Prelude.{◌≡◌, ◌⊎◌, IfErr, OnOk, true};
 ghost use Rattle.std.specs.Io.KnownBytes.{Appends};
+ghost use Rattle.mesh_reading.specs.Transcript.{transcript};
 ghost use Rattle.stlslice.specs.declared.run_fault.RunFault.TheVariants.{Memory};
-ghost use Rattle.stlslice.specs.Transcript.{IsUntouched, IsUnwritten, transcript};
+ghost use Rattle.stlslice.specs.Unwritten.{IsUntouched, IsUnwritten};
 ghost use Rattle.stlslice.specs.SlicedText.{output_of, sliced_text};
 
 pub(crate) mod box_line;
 pub(crate) mod flush;
 pub(crate) mod images;
+pub(crate) mod images_by;
+pub(crate) mod pages;
 pub(crate) mod probe_line;
 pub(crate) mod report;
 
 use crate::run_fault::RunFault;
 use crate::write::flush::write_all;
-use crate::write::images::write_images;
+use crate::write::images_by::write_images_by;
 use crate::write::report::report;
 use build_book::Build;
 use raster::Sink;
 use std::alloc::Allocator;
+use std::thread::Threads;
 
 /// What slicing writes.
 #[derive(Clone, Copy)]
@@ -42,12 +46,14 @@ impl Output {
     }
 }
 
-/// Writes and flushes an output of a build. A report is made as a whole before its first byte is written; images take
-/// no memory.
-pub(crate) fn write_build<A: Allocator + Copy + Send + Sync, O: Sink>(
+/// Writes and flushes an output of a build, by up to `workers` workers. A report is made as a whole before its first byte is
+/// written; images are written one after another where there is no memory to draw them before.
+pub(crate) fn write_build<R: Threads + Sync, A: Allocator + Copy + Send + Sync, O: Sink>(
+    rt: &R,
     alloc: A,
     build: &Build<'_, A>,
     output: Output,
+    workers: u32,
     sink: &mut O,
 ) -> Result<(), RunFault>
     ensures flushed { OnOk result (O.is_settled sink.new ≡ true) }
@@ -61,7 +67,7 @@ pub(crate) fn write_build<A: Allocator + Copy + Send + Sync, O: Sink>(
         (sliced_text output build.now.job.grid build.now.job.rule build.now.job.solid.facets) fault) }
 {
     match output {
-        Output::Images => write_images(build, sink),
+        Output::Images => write_images_by(rt, alloc, build, sink, workers),
         Output::Report => {
             let text = report(alloc, build)?;
             write_all(sink, text.as_bytes())

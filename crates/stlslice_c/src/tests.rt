@@ -53,10 +53,13 @@ const MILLIMETRE: Options = Options {
     cells: NO_CELLS,
 };
 
+// Version 1.0.0: major, minor and patch, three digits each.
+const TOLD_VERSION: u32 = 1_000_000;
+
 #[test]
 fn a_mesh_is_opened_asked_and_closed(rt: HostRuntime) -> Result<(), Fail> {
     let alloc = rt.alloc();
-    assert_eq!(rt; stlslice_version(), 1_000_000);
+    assert_eq!(rt; stlslice_version(), TOLD_VERSION);
     let mut handle = Handle::empty();
     let mut shape = NO_SHAPE;
     let mut line = [1u8; 64];

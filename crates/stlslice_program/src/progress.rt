@@ -56,20 +56,30 @@ const CELLS: u64 = 10;
 impl Display for BarText {
     fn fmt<W: fmt::Write>(&self, f: &mut Formatter<W>) -> fmt::Result {
         if self.is_terminal {
-            f.write_str("\r")?;
-            self.fmt_cells(f)?;
-            self.fmt_counts(f)?;
-            // clears what a longer text left there
-            f.write_str("\x1b[K")
+            self.fmt_in_place(f)
         } else {
-            f.write_str("stlslice: ")?;
-            self.fmt_counts(f)?;
-            f.write_str("\n")
+            self.fmt_line(f)
         }
     }
 }
 
 impl BarText {
+    /// Takes the place of the text that a terminal shows on the line.
+    fn fmt_in_place<W: fmt::Write>(&self, f: &mut Formatter<W>) -> fmt::Result {
+        f.write_str("\r")?;
+        self.fmt_cells(f)?;
+        self.fmt_counts(f)?;
+        // clears what a longer text left there
+        f.write_str("\x1b[K")
+    }
+
+    /// A line of its own, where standard error is no terminal.
+    fn fmt_line<W: fmt::Write>(&self, f: &mut Formatter<W>) -> fmt::Result {
+        f.write_str("stlslice: ")?;
+        self.fmt_counts(f)?;
+        f.write_str("\n")
+    }
+
     fn fmt_cells<W: fmt::Write>(&self, f: &mut Formatter<W>) -> fmt::Result {
         let filled = self.bar.steps_done(CELLS);
         f.write_str("[")?;

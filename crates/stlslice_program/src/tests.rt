@@ -6,6 +6,7 @@ mod answers;
 mod box_runs;
 mod byte_runs;
 mod device_runs;
+mod drawn_runs;
 mod lines;
 mod loads;
 mod meshes;

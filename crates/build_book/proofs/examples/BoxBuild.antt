@@ -6,8 +6,8 @@ use Rattle.geometry.proofs.examples.Meshes.{at, cube}
 use Rattle.geometry.specs.Point.{origin}
 use Rattle.geometry.specs.Facet.{Facet, facet_with}
 use Rattle.geometry.specs.Winding.{turn_of, wind, hit}
+use Rattle.plane_segments.specs.Segment.{segments}
 use Rattle.contour.specs.Loops.{AreLoops, loops}
-use Rattle.contour.specs.Segment.{segments}
 use Rattle.raster.specs.declared.rule.Rule.TheVariants.{Positive}
 use Rattle.raster.specs.declared.span.Span.{Span}
 use Rattle.raster.specs.Grid.{Grid, centre, grid_with, plane}

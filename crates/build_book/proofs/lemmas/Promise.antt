@@ -10,9 +10,9 @@ use Rattle.geometry.specs.Facet.{Facet}
 use Rattle.geometry.specs.Winding.{ray}
 use Rattle.mesh_weld.specs.Solid.{kept_facets}
 use Rattle.mesh_weld.proofs.lemmas.Degenerate.{kept_ray}
-use Rattle.contour.specs.declared.segment.Node.{Node}
-use Rattle.contour.specs.declared.segment.Segment.{Segment}
-use Rattle.contour.specs.Segment.{is_node, segments}
+use Rattle.plane_segments.specs.declared.segment.Node.{Node}
+use Rattle.plane_segments.specs.declared.segment.Segment.{Segment}
+use Rattle.plane_segments.specs.Segment.{is_node, segments}
 use Rattle.contour.specs.Loops.{Closes, IsCycle, follower, rank_at_end}
 use Rattle.contour.proofs.lemmas.Unique.{loops-are}
 use Rattle.raster.specs.declared.rule.Rule.{Rule}

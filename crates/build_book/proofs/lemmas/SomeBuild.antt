@@ -13,7 +13,7 @@ use Rattle.mesh_weld.specs.Solid.{is_kept, kept_facets, triples, vertices}
 use Rattle.mesh_weld.proofs.lemmas.Degenerate.{kept_balanced}
 use Rattle.mesh_weld.proofs.lemmas.EdgeNumbering.{edge_numbers}
 use Rattle.mesh_weld.proofs.lemmas.InOrder.{length-in_order}
-use Rattle.contour.specs.Segment.{segments}
+use Rattle.plane_segments.specs.Segment.{segments}
 use Rattle.contour.specs.Loops.{AreLoops, loops}
 use Rattle.contour.proofs.lemmas.LoopsClose.{loops_close}
 use Rattle.raster.specs.declared.rule.Rule.{Rule}

@@ -4,10 +4,10 @@ use Rattle.std.proofs.Common.{◌≡◌, ℕ, List, [], ◌∷◌, refl, map, le
 use Rattle.std.specs.Prelude.{pos}
 use Rattle.geometry.proofs.examples.Meshes.{at, cube, octahedron, two_boxes, box_with_a_pair}
 use Rattle.geometry.specs.Winding.{ray, turn_of, wind, hit}
-use Rattle.contour.specs.Segment.{segments}
+use Rattle.plane_segments.specs.Segment.{segments}
+use Rattle.plane_segments.specs.declared.segment.Segment.{Segment}
 use Rattle.contour.specs.Loops.{loop_facets, loops}
 use Rattle.contour.specs.Active.{active_facets, passed_count}
-use Rattle.contour.specs.declared.segment.Segment.{Segment}
 
 abbrev facets_in : List (List Segment) → List (List ℕ)
 facets_in found = map (λ loop. map (λ s. s.facet) loop) found
@@ -24,9 +24,6 @@ loops_pair = refl
 
 loops_octahedron : facets_in (loops (segments octahedron (pos 0))) ≡ (0 ∷ 1 ∷ 2 ∷ 3 ∷ []) ∷ []
 loops_octahedron = refl
-
-none_octahedron : segments octahedron (pos 4) ≡ []
-none_octahedron = refl
 
 loops_two : map length (loops (segments two_boxes (pos 6))) ≡ 8 ∷ 8 ∷ []
 loops_two = refl

@@ -1,5 +1,5 @@
 -- In a closed mesh as many segments of a height start at an edge as end there.
-use Rattle.std.proofs.Common.{◌≡◌, ℕ, zero, suc, ◌+◌, ◌*◌, ◌<◌, ◌≤◌, min, max, Bool, true, false, cond, not, eqb, ◌&&◌, ◌||◌, List, [], ◌∷◌, ◌++◌, ◌⊎◌, inl, inr, refl, sym, ◌∙◌, ap, subst, length, get_or, arith, map, Some, None}
+use Rattle.std.proofs.Common.{◌≡◌, ℕ, zero, suc, ◌+◌, ◌<◌, ◌≤◌, min, max, Bool, true, false, cond, not, eqb, ◌&&◌, ◌||◌, List, [], ◌∷◌, ◌++◌, ◌⊎◌, inl, inr, refl, sym, ◌∙◌, ap, subst, length, get_or, arith, map, Some, None}
 use Rattle.std.specs.Prelude.{Option, ℤ, filter_map, find, count_by, int_le, int_lt, ◌==◌}
 use Rattle.std.specs.List.{enumerate_from, cons_option}
 use Rattle.std.proofs.lemmas.Int.{ints}
@@ -11,29 +11,18 @@ use Rattle.mesh_weld.specs.Solid.{vertices, number_of, facet_at}
 use Rattle.mesh_weld.specs.EdgeNumbers.{AreEdgeNumbers, HaveSameEnds, edge_of, edge_number}
 use Rattle.mesh_weld.proofs.lemmas.InOrder.{is_in}
 use Rattle.mesh_weld.proofs.lemmas.Order.{same-self}
-use Rattle.mesh_weld.proofs.lemmas.Transfer.{number_found, ends_are_vertices}
 use Rattle.mesh_weld.proofs.lemmas.Edges.{count_by-cons, runs, runs-is}
-use Rattle.contour.specs.declared.segment.Node.{Node}
-use Rattle.contour.specs.declared.segment.Segment.{Segment}
-use Rattle.contour.specs.Segment.{between, both_of, height, is_downward, is_node, is_upward, node_of, segment_of, segments}
+use Rattle.plane_segments.specs.declared.segment.Node.{Node}
+use Rattle.plane_segments.specs.declared.segment.Segment.{Segment}
+use Rattle.plane_segments.specs.Segment.{between, both_of, height, is_downward, is_node, is_upward, node_of, segment_of, segments}
 use Rattle.geometry.specs.TieRule.{rises_through}
+use Rattle.plane_segments.proofs.lemmas.Cutting.{triples_at}
+use Rattle.plane_segments.proofs.lemmas.NodeOrder.{ends_in, same_number}
+use Rattle.plane_segments.proofs.lemmas.FacetOrder.{AreFrom, segments_ascend}
 use Rattle.contour.specs.Linker.{edge_at_node, edge_of_facet, start_edge, finish_edge, AreSegmentEdges}
 use Rattle.contour.proofs.lemmas.Counts.{AreEven, count-append}
-use Rattle.contour.proofs.lemmas.Cutting.{triples_at}
-use Rattle.contour.proofs.lemmas.Links.{AreFrom, edge_below, segments_ascend}
+use Rattle.contour.proofs.lemmas.Links.{edge_below}
 use Rattle.contour.proofs.lemmas.Counts.{times}
-
-edge-at : (fs : List Facet) (k s : ℕ) → k < length fs → s < 3
-    → (3 * k + s < length (edges fs)) × (get_or (edges fs) (3 * k + s) (edge origin origin) ≡ edge_of fs k s)
-edge-at [] k s l m = absurd (omega (arith, l))
-edge-at (t ∷ ts) zero zero l m = (omega arith, refl)
-edge-at (t ∷ ts) zero (suc zero) l m = (omega arith, refl)
-edge-at (t ∷ ts) zero (suc (suc zero)) l m = (omega arith, refl)
-edge-at (t ∷ ts) zero (suc (suc (suc s))) l m = absurd (omega (arith, m))
-edge-at (t ∷ ts) (suc k) s l m =
-    let at : suc (suc (suc (3 * k + s))) ≡ 3 * suc k + s = omega arith in
-    let rest : (3 * k + s < length (edges ts)) × (get_or (edges ts) (3 * k + s) (edge origin origin) ≡ edge_of ts k s) = edge-at ts k s (omega (arith, l)) m in
-    (let low : 3 * k + s < length (edges ts) = rest.0 in omega (arith, low), ap (λ i. get_or (edges (t ∷ ts)) i (edge origin origin)) (sym at) ∙ rest.1)
 
 node-is : (a b : Node) → is_node a b ≡ true → (a.low ≡ b.low) × (a.high ≡ b.high)
 node-is a b h = let parts = and_parts (eqb a.low b.low) (eqb a.high b.high) h in (eqb-true a.low b.low parts.0, eqb-true a.high b.high parts.1)
@@ -48,19 +37,10 @@ module _ (facets : List Facet) where
   abbrev pub node_at : ℕ → ℕ → Node
   node_at n k = node_of (vertices facets) (at n k)
 
-  pub ends_in : (n k : ℕ) → n < length facets → k < 3 → (is_in (at n k).from (vertices facets) ≡ true) × (is_in (at n k).to (vertices facets) ≡ true)
-  ends_in n k l m =
-      let p = edge-at facets n k l m in
-      subst (λ (e : Edge). (is_in e.from (vertices facets) ≡ true) × (is_in e.to (vertices facets) ≡ true)) p.1 (ends_are_vertices facets (3 * n + k) (edge origin origin) p.0)
-
-  pub same_number : (p q : Point) → is_in p (vertices facets) ≡ true → is_in q (vertices facets) ≡ true
-      → number_of (vertices facets) p ≡ number_of (vertices facets) q → p ≡ q
-  same_number p q k l e = sym (number_found p (vertices facets) k).1 ∙ ap (λ n. get_or (vertices facets) n origin) e ∙ (number_found q (vertices facets) l).1
-
   pub same_ends : (n k m j : ℕ) → n < length facets → k < 3 → m < length facets → j < 3 → is_node (node_at n k) (node_at m j) ≡ true
       → HaveSameEnds (at n k) (at m j)
   same_ends n k m j l l' r r' h =
-      by_ends (at n k) (at m j) (ends_in n k l l') (ends_in m j r r') (node-is (node_at n k) (node_at m j) h)
+      by_ends (at n k) (at m j) (ends_in facets n k l l') (ends_in facets m j r r') (node-is (node_at n k) (node_at m j) h)
     where
       by_parts : (a b c d : ℕ) → (min a b ≡ min c d) × (max a b ≡ max c d) → ((a ≡ c) × (b ≡ d)) ⊎ ((a ≡ d) × (b ≡ c))
       by_parts a b c d h = grind arith
@@ -75,8 +55,8 @@ module _ (facets : List Facet) where
           by_numbers : ((number_of (vertices facets) d.from ≡ number_of (vertices facets) e.from) × (number_of (vertices facets) d.to ≡ number_of (vertices facets) e.to))
               ⊎ ((number_of (vertices facets) d.from ≡ number_of (vertices facets) e.to) × (number_of (vertices facets) d.to ≡ number_of (vertices facets) e.from))
               → HaveSameEnds d e
-          by_numbers (inl n) = inl (same_number d.from e.from a.0 b.0 n.0, same_number d.to e.to a.1 b.1 n.1)
-          by_numbers (inr n) = inr (same_number d.from e.to a.0 b.1 n.0, same_number d.to e.from a.1 b.0 n.1)
+          by_numbers (inl n) = inl (same_number facets d.from e.from a.0 b.0 n.0, same_number facets d.to e.to a.1 b.1 n.1)
+          by_numbers (inr n) = inr (same_number facets d.from e.to a.0 b.1 n.0, same_number facets d.to e.from a.1 b.0 n.1)
 
   pub same_nodes : (d e : Edge) → HaveSameEnds d e → node_of (vertices facets) d ≡ node_of (vertices facets) e
   same_nodes d e (inl h) = λ i. node_of (vertices facets) (edge (h.0 i) (h.1 i))

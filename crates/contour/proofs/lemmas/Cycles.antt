@@ -2,8 +2,8 @@
 use Rattle.std.proofs.Common.{◌≡◌, ℕ, zero, suc, ◌≤◌, false, eqb, cond, List, [], ◌∷◌, refl, ◌∙◌, ap, length, arith, Some, None}
 use Rattle.std.specs.Prelude.{Option}
 use Rattle.std.proofs.lemmas.Bool.{eq-eqb}
-use Rattle.contour.specs.declared.segment.Segment.{Segment}
-use Rattle.contour.specs.Segment.{is_segment}
+use Rattle.plane_segments.specs.declared.segment.Segment.{Segment}
+use Rattle.plane_segments.specs.Segment.{is_segment}
 use Rattle.contour.specs.Loops.{Closes, run_from}
 
 -- none of these is of a facet

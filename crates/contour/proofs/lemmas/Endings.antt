@@ -1,8 +1,8 @@
 -- Facets in the order of their least heights: a test splits them in two, and those that start far below a height have ended
 -- there, by the greatest rise.
-use Rattle.std.proofs.Common.{◌≡◌, ℕ, zero, suc, ◌+◌, ◌*◌, ◌^◌, ◌<◌, ◌≤◌, ◌++◌, Bool, true, false, cond, List, [], ◌∷◌, ◌⊎◌, inl, inr, refl, sym, ◌∙◌, ap, subst, length, take, drop, get_or, Some, arith, to_z, of_z, w64}
+use Rattle.std.proofs.Common.{◌≡◌, ℕ, zero, suc, ◌+◌, ◌*◌, ◌^◌, ◌<◌, ◌≤◌, ◌++◌, Bool, true, false, cond, List, [], ◌∷◌, ◌⊎◌, inl, inr, refl, sym, ◌∙◌, ap, subst, length, take, drop, get_or, arith, to_z, of_z, w64}
 use Rattle.std.proofs.Math.Seq.{take-add}
-use Rattle.std.specs.Prelude.{All, filter, slice_get, ℤ, pos, neg_ℤ, unsigned_abs, ◌*ℤ◌, ◌-ℤ◌, ◌≤ℤ◌}
+use Rattle.std.specs.Prelude.{All, filter, ℤ, pos, neg_ℤ, unsigned_abs, ◌*ℤ◌, ◌-ℤ◌, ◌≤ℤ◌}
 use Rattle.std.specs.List.{AllPairs, AllByRecursion, prefix_len}
 use Rattle.std.proofs.lemmas.Bool.{cases_lt}
 use Rattle.std.proofs.lemmas.Int.{fits_signed_from_abs, ints, to_z-of_z}
@@ -16,8 +16,8 @@ use Rattle.geometry.specs.TieRule.{is_below, is_above}
 use Rattle.geometry.specs.Facet.{Facet, facet_with}
 use Rattle.geometry.specs.declared.limits.TheConstants.{CENTRE_LIMIT}
 use Rattle.mesh_weld.specs.Solid.{IsGreatestRise, facet_at, greatest_z, is_lower, least_z, rise}
+use Rattle.plane_segments.proofs.lemmas.Cutting.{facet_at-is}
 use Rattle.contour.specs.Active.{ends_above, starts_by}
-use Rattle.contour.proofs.lemmas.Cutting.{facet_at-is}
 use Rattle.contour.proofs.lemmas.Swept.{Fades, none_pass, order_fades, starts_by_wider}
 
 -- ---- a test that fails for good, by indices
@@ -40,7 +40,7 @@ fades-before {X} p (x ∷ xs) (suc k) d h l e =
     by_test less true f = omega (arith, less)
     by_test less false f = absurd (f refl)
 
-fades-from : {X : Type 0} (p : X → Bool) (xs : List X) (k : ℕ) (d : X) → p (get_or xs k d) ≡ false → prefix_len p xs ≤ k
+pub fades-from : {X : Type 0} (p : X → Bool) (xs : List X) (k : ℕ) (d : X) → p (get_or xs k d) ≡ false → prefix_len p xs ≤ k
 fades-from p xs k d e = by_cases (cases_lt k (prefix_len p xs))
   where
     by_cases : (k < prefix_len p xs) ⊎ (prefix_len p xs ≤ k) → prefix_len p xs ≤ k
@@ -48,20 +48,11 @@ fades-from p xs k d e = by_cases (cases_lt k (prefix_len p xs))
     by_cases (inr not_less) = not_less
 
 -- the order by height, on either side of a facet in it
-pub before_start : (facets : List Facet) (order : List ℕ) (z : ℤ) (k : ℕ) (t : Facet) (answer : Bool) → AllPairs (λ m n. is_lower facets m n ≡ true) order
-    → k < length order → slice_get facets (get_or order k 0) ≡ Some t → answer ≡ is_below (pos 2 *ℤ least_z t) z → answer ≡ true
-    → k + 1 ≤ prefix_len (starts_by facets z) order
-before_start facets order z k t answer ordered l e said is =
-    let less = fades-before (starts_by facets z) order k 0 (order_fades facets order z ordered) l
-    (ap (λ u. is_below (pos 2 *ℤ least_z u) z) (facet_at-is facets (get_or order k 0) t e) ∙ sym said ∙ is) in
+pub before_start : (facets : List Facet) (order : List ℕ) (z : ℤ) (k : ℕ) → AllPairs (λ m n. is_lower facets m n ≡ true) order
+    → k < length order → starts_by facets z (get_or order k 0) ≡ true → k + 1 ≤ prefix_len (starts_by facets z) order
+before_start facets order z k ordered l e =
+    let less = fades-before (starts_by facets z) order k 0 (order_fades facets order z ordered) l e in
     omega (arith, less)
-
-pub from_start : (facets : List Facet) (order : List ℕ) (z : ℤ) (k : ℕ) (t : Facet) (answer : Bool)
-    → slice_get facets (get_or order k 0) ≡ Some t → answer ≡ is_below (pos 2 *ℤ least_z t) z → answer ≡ false
-    → prefix_len (starts_by facets z) order ≤ k
-from_start facets order z k t answer e said is =
-    fades-from (starts_by facets z) order k 0
-    (ap (λ u. is_below (pos 2 *ℤ least_z u) z) (facet_at-is facets (get_or order k 0) t e) ∙ sym said ∙ is)
 
 -- ---- the rest of an order
 pub ordered_rest : {X : Type 0} (R : X → X → Type 0) (k : ℕ) (xs : List X) → AllPairs R xs → AllPairs R (drop k xs)

@@ -8,14 +8,14 @@ use Rattle.geometry.specs.Facet.{Facet, facet_with}
 use Rattle.mesh_weld.specs.EdgeNumbers.{edge_of}
 use Rattle.mesh_weld.specs.Solid.{HaveDistinctCorners, facet_at}
 use Rattle.mesh_weld.proofs.lemmas.Degenerate.{kept-distinct}
-use Rattle.contour.specs.declared.segment.Node.{Node}
-use Rattle.contour.specs.declared.segment.Segment.{Segment}
-use Rattle.contour.specs.Segment.{HasOrderedNodes, segments}
+use Rattle.plane_segments.specs.declared.segment.Node.{Node}
+use Rattle.plane_segments.specs.declared.segment.Segment.{Segment}
+use Rattle.plane_segments.specs.Segment.{HasOrderedNodes, segments}
+use Rattle.plane_segments.proofs.lemmas.NodeOrder.{ends_in, node_of-ordered}
 use Rattle.contour.specs.Loops.{AreLoops, IsCycle}
-use Rattle.contour.proofs.lemmas.Balanced.{ends_in, node_at}
+use Rattle.contour.proofs.lemmas.Balanced.{node_at}
 use Rattle.contour.proofs.lemmas.LoopLaws.{at_all, at_member}
 use Rattle.contour.proofs.lemmas.LoopWinds.{Runs, segments_run}
-use Rattle.contour.proofs.lemmas.NodeOrder.{node_of-ordered}
 use Rattle.contour.proofs.lemmas.Unique.{cycle-has}
 
 module _ (facets : List Facet) (distinct : HaveDistinctCorners facets) where

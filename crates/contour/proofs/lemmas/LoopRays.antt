@@ -12,11 +12,11 @@ use Rattle.geometry.specs.Facet.{Facet, twice}
 use Rattle.geometry.specs.Winding.{hit, ray}
 use Rattle.mesh_weld.specs.Solid.{facet_at}
 use Rattle.mesh_weld.proofs.lemmas.Sums.{total-append}
-use Rattle.contour.specs.declared.segment.Segment.{Segment}
-use Rattle.contour.specs.Segment.{segments, is_segment, is_node}
+use Rattle.plane_segments.specs.declared.segment.Segment.{Segment}
+use Rattle.plane_segments.specs.Segment.{segments, is_segment, is_node}
+use Rattle.plane_segments.proofs.lemmas.Cutting.{facet_at-is}
+use Rattle.plane_segments.proofs.lemmas.FacetOrder.{segments_below, segments_few}
 use Rattle.contour.specs.Loops.{loop_facets, loops, cycle, run_from, follower, is_leader, rank_at_end}
-use Rattle.contour.proofs.lemmas.Cutting.{facet_at-is}
-use Rattle.contour.proofs.lemmas.Within.{facet_within, few_segments}
 use Rattle.geometry.specs.declared.limits.TheConstants.{FACET_LIMIT}
 
 -- ---- a loop is of the list's segments, and at most one longer
@@ -81,8 +81,8 @@ pub record IsLoopOf (facets : List Facet) (list : List Segment) : Type 0 where
 pub is_loop : (facets : List Facet) (z : ℤ) (list : List Segment) (k : ℕ) → slice_get (loops (segments facets z)) k ≡ Some list
     → IsLoopOf facets list
 is_loop facets z list k e =
-    let here = in_loop (segments facets z) (λ s. s.facet < length facets) (facet_within facets (segments facets z) (z, refl)) k list e in
-    let few = few_segments facets (segments facets z) (z, refl) in
+    let here = in_loop (segments facets z) (λ s. s.facet < length facets) (segments_below facets (segments facets z) (z, refl)) k list e in
+    let few = segments_few facets (segments facets z) (z, refl) in
     let length_is = here.1 in
     record { within = All-from_recursion (λ s. s.facet < length facets) list here.0; few = omega arith }
 

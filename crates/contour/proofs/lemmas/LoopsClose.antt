@@ -7,8 +7,8 @@ use Rattle.std.proofs.lemmas.List.FromFn.{get_or-range_with_len, length-range_wi
 use Rattle.geometry.specs.Facet.{Facet}
 use Rattle.mesh_weld.specs.Balance.{IsBalanced}
 use Rattle.mesh_weld.specs.EdgeNumbers.{AreEdgeNumbers}
-use Rattle.contour.specs.declared.segment.Segment.{Segment}
-use Rattle.contour.specs.Segment.{segments}
+use Rattle.plane_segments.specs.declared.segment.Segment.{Segment}
+use Rattle.plane_segments.specs.Segment.{segments}
 use Rattle.contour.specs.Loops.{AreLoops, loops, parts_from}
 use Rattle.contour.specs.Linker.{AreLinks, ArePopped, IsTracedLoop, InFacetOrder, finish_edge, is_visited, slot_after, start_edge}
 use Rattle.contour.specs.declared.linker.TheConstants.{NONE}

@@ -8,8 +8,10 @@ use Rattle.std.proofs.lemmas.List.Elements.{All-filter, All-from_recursion, recu
 use Rattle.geometry.specs.Point.{Point, half_micrometres_of}
 use Rattle.geometry.specs.TieRule.{rises_through}
 use Rattle.geometry.specs.Facet.{Facet, Edge, half_edges, twice}
-use Rattle.contour.specs.declared.segment.Segment.{Segment}
-use Rattle.contour.specs.Segment.{height, is_downward, is_node, is_upward, segments}
+use Rattle.plane_segments.specs.declared.segment.Segment.{Segment}
+use Rattle.plane_segments.specs.Segment.{height, is_downward, is_node, is_upward, segments}
+use Rattle.plane_segments.proofs.lemmas.Cutting.{facet_at-is, found_down, not_found_down, to_rises, twice_finish, twice_start}
+use Rattle.plane_segments.proofs.lemmas.FacetOrder.{segments_below}
 use Rattle.contour.specs.Loops.{AreEnds, follower, is_leader, loops, parts_from}
 use Rattle.exact_cut.specs.Cut.{IsBetween, Rises}
 use Rattle.exact_cut.specs.CutPoint.{cut_d, cut_x, cut_y}
@@ -18,12 +20,10 @@ use Rattle.mesh_weld.specs.EdgeNumbers.{HaveSameEnds, edge_of}
 use Rattle.exact_cut.specs.PlanePoint.{IsStart, passing_point}
 use Rattle.exact_cut.specs.declared.plane_point.PlanePoint.{PlanePoint}
 use Rattle.contour.specs.Outlines.{IsStartOf, end_point, falling_point, point_or_origin, rising_point, start_point}
-use Rattle.contour.proofs.lemmas.Cutting.{facet_at-is, found_down, not_found_down, to_rises, twice_finish, twice_start}
 use Rattle.contour.proofs.lemmas.LoopRays.{follower_in, loops_in}
 use Rattle.contour.proofs.lemmas.LoopWinds.{Runs, at_node, never_both, segments_run}
 use Rattle.contour.proofs.lemmas.Balanced.{same_ends}
 use Rattle.contour.proofs.lemmas.Parts.{parts-whole}
-use Rattle.contour.proofs.lemmas.Within.{facet_within}
 
 -- parts of a list that is mapped
 pub parts-map : {X Y : Type 0} (f : X → Y) (at : ℕ) (ends : List ℕ) (xs : List X)
@@ -57,7 +57,7 @@ flat_within facets z flat ends h e =
     P t = t.facet < length facets
 
     all : All P list
-    all = facet_within facets list (z, refl)
+    all = segments_below facets list (z, refl)
 
     kept : AllByRecursion P (filter (is_leader list) list)
     kept = recursion_from_All P (filter (is_leader list) list) (All-filter (is_leader list) P list all)

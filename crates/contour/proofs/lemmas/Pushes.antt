@@ -1,25 +1,23 @@
 -- One step of a loop over facets: a map, a filter and a prefix with one more element, and one step of the merge.
 use Rattle.std.proofs.Common.{◌≡◌, ℕ, ◌+◌, ◌<◌, ◌≤◌, Bool, true, false, cond, List, [], ◌∷◌, ◌++◌, sym, subst, ◌∙◌, ap, length, take, drop, get_or, map, Some, None, arith}
-use Rattle.std.specs.Prelude.{Option, ℤ, pos, ◌*ℤ◌, filter, filter_map, slice_get, nat_lt}
+use Rattle.std.specs.Prelude.{Option, ℤ, pos, ◌*ℤ◌, filter, filter_map, nat_lt}
 use Rattle.std.specs.List.{prefix_len, cons_option}
 use Rattle.std.proofs.lemmas.List.{take_more, map_more, map-append, append_assoc, append-nil, drop_more, drop_all, get_or-map}
 use Rattle.std.proofs.lemmas.List.Elements.{filter_map-append, filter_more}
 use Rattle.std.proofs.lemmas.List.Sums.{prefix_len-drop_yes, prefix_len-drop_no}
 use Rattle.geometry.specs.TieRule.{is_below, is_above}
 use Rattle.geometry.specs.Facet.{Facet}
-use Rattle.mesh_weld.specs.Solid.{vertices, facet_at, greatest_z, least_z}
-use Rattle.contour.specs.declared.segment.Segment.{Segment}
-use Rattle.contour.specs.Segment.{segment_of, numbered_segment}
+use Rattle.mesh_weld.specs.Solid.{vertices, facet_at, least_z}
+use Rattle.plane_segments.specs.declared.segment.Segment.{Segment}
+use Rattle.plane_segments.specs.Segment.{segment_of, numbered_segment}
 use Rattle.contour.specs.Active.{top_of, starts_by, ends_above, merge}
-use Rattle.contour.proofs.lemmas.Cutting.{facet_at-is}
 
-pub pushed_tops : (facets : List Facet) (old : List ℤ) (xs : List ℕ) (i : ℕ) (t : Facet) (top : ℤ) → i < length xs
-    → slice_get facets (get_or xs i 0) ≡ Some t → top ≡ greatest_z t
-    → old ++ map (top_of facets) (take (i + 1) xs) ≡ (old ++ map (top_of facets) (take i xs)) ++ top ∷ []
-pushed_tops facets old xs i t top h e f =
-    ap (λ ts. old ++ ts) (map_more (top_of facets) xs i 0 h)
-    ∙ sym (append_assoc old (map (top_of facets) (take i xs)) (top_of facets (get_or xs i 0) ∷ []))
-    ∙ ap (λ z. (old ++ map (top_of facets) (take i xs)) ++ z ∷ []) (ap greatest_z (facet_at-is facets (get_or xs i 0) t e) ∙ sym f)
+pub pushed_tops : (facets : List Facet) (old now new : List ℤ) (xs : List ℕ) (i : ℕ) (top read : ℤ) → i < length xs → now ≡ old ++ map (top_of facets) (take i xs)
+    → new ≡ now ++ read ∷ [] → read ≡ top → top ≡ top_of facets (get_or xs i 0) → new ≡ old ++ map (top_of facets) (take (i + 1) xs)
+pushed_tops facets old now new xs i top read h before pushed e f =
+    pushed ∙ (λ j. before j ++ (e ∙ f) j ∷ [])
+    ∙ append_assoc old (map (top_of facets) (take i xs)) (top_of facets (get_or xs i 0) ∷ [])
+    ∙ ap (λ ts. old ++ ts) (sym (map_more (top_of facets) xs i 0 h))
 
 pub pushed_numbers : (old xs : List ℕ) (i : ℕ) → i < length xs → old ++ take (i + 1) xs ≡ (old ++ take i xs) ++ get_or xs i 0 ∷ []
 pushed_numbers old xs i h = ap (λ ns. old ++ ns) (take_more xs i 0 h) ∙ sym (append_assoc old (take i xs) (get_or xs i 0 ∷ []))
@@ -44,56 +42,20 @@ picked-none facets z xs i l e =
     ∙ ap (λ o. filter_map (numbered_segment facets z) (take i xs) ++ cons_option o []) (sym e)
     ∙ append-nil (filter_map (numbered_segment facets z) (take i xs))
 
--- ---- facets in order of their least heights
-starts_by-stops : (facets : List Facet) (z : ℤ) (xs : List ℕ) (i : ℕ) (t : Facet) → i < length xs
-    → slice_get facets (get_or xs i 0) ≡ Some t → is_below (pos 2 *ℤ least_z t) z ≡ false
-    → prefix_len (starts_by facets z) (drop i xs) ≡ 0
-starts_by-stops facets z xs i t l e f =
-    prefix_len-drop_no (starts_by facets z) xs i 0 l
-    (ap (λ u. is_below (pos 2 *ℤ least_z u) z) (facet_at-is facets (get_or xs i 0) t e) ∙ f)
-
-starts_by-goes : (facets : List Facet) (z : ℤ) (xs : List ℕ) (i : ℕ) (t : Facet) → i < length xs
-    → slice_get facets (get_or xs i 0) ≡ Some t → is_below (pos 2 *ℤ least_z t) z ≡ true
-    → prefix_len (starts_by facets z) (drop i xs) ≡ 1 + prefix_len (starts_by facets z) (drop (i + 1) xs)
-starts_by-goes facets z xs i t l e f =
-    prefix_len-drop_yes (starts_by facets z) xs i 0 l
-    (ap (λ u. is_below (pos 2 *ℤ least_z u) z) (facet_at-is facets (get_or xs i 0) t e) ∙ f)
-
-ends_above-at : (facets : List Facet) (z : ℤ) (n : ℕ) (t : Facet) (b : Bool) → slice_get facets n ≡ Some t
-    → is_above (pos 2 *ℤ greatest_z t) z ≡ b → ends_above facets z n ≡ b
-ends_above-at facets z n t b e f = ap (λ u. is_above (pos 2 *ℤ greatest_z u) z) (facet_at-is facets n t e) ∙ f
-
-ends_above-some : (facets : List Facet) (z : ℤ) (xs : List ℕ) (i : ℕ) (t : Facet) → i < length xs
-    → slice_get facets (get_or xs i 0) ≡ Some t → is_above (pos 2 *ℤ greatest_z t) z ≡ true
-    → filter (ends_above facets z) (take (i + 1) xs) ≡ filter (ends_above facets z) (take i xs) ++ get_or xs i 0 ∷ []
-ends_above-some facets z xs i t l e f =
-    filter_more (ends_above facets z) xs i 0 l
-    ∙ ap (λ b. filter (ends_above facets z) (take i xs) ++ cond b (get_or xs i 0 ∷ []) []) (ends_above-at facets z (get_or xs i 0) t true e f)
-
-ends_above-none : (facets : List Facet) (z : ℤ) (xs : List ℕ) (i : ℕ) (t : Facet) → i < length xs
-    → slice_get facets (get_or xs i 0) ≡ Some t → is_above (pos 2 *ℤ greatest_z t) z ≡ false
-    → filter (ends_above facets z) (take (i + 1) xs) ≡ filter (ends_above facets z) (take i xs)
-ends_above-none facets z xs i t l e f =
-    filter_more (ends_above facets z) xs i 0 l
-    ∙ ap (λ b. filter (ends_above facets z) (take i xs) ++ cond b (get_or xs i 0 ∷ []) []) (ends_above-at facets z (get_or xs i 0) t false e f)
-    ∙ append-nil (filter (ends_above facets z) (take i xs))
-
--- the same in the form that a loop over the facets needs, where `height` is the value of the machine word that holds z
-pub starts_by-ends : (facets : List Facet) (z height : ℤ) (xs : List ℕ) (i : ℕ) (t : Facet) (answer : Bool) → height ≡ z → i < length xs
-    → slice_get facets (get_or xs i 0) ≡ Some t → answer ≡ is_below (pos 2 *ℤ least_z t) height → answer ≡ false
+-- ---- facets in order of their least heights: a loop over them, where `height` is the value of the machine word that holds z
+pub starts_by-ends : (facets : List Facet) (z height : ℤ) (xs : List ℕ) (i : ℕ) → height ≡ z → i < length xs → starts_by facets height (get_or xs i 0) ≡ false
     → i + prefix_len (starts_by facets height) (drop i xs) ≡ prefix_len (starts_by facets height) xs → i ≡ prefix_len (starts_by facets z) xs
-starts_by-ends facets z height xs i t answer same l e said is before =
-    stop i (prefix_len (starts_by facets height) (drop i xs)) (prefix_len (starts_by facets height) xs) (starts_by-stops facets height xs i t l e (sym said ∙ is)) before
+starts_by-ends facets z height xs i same l e before =
+    stop i (prefix_len (starts_by facets height) (drop i xs)) (prefix_len (starts_by facets height) xs) (prefix_len-drop_no (starts_by facets height) xs i 0 l e) before
     ∙ ap (λ y. prefix_len (starts_by facets y) xs) same
   where
     stop : (i p q : ℕ) → p ≡ 0 → i + p ≡ q → i ≡ q
     stop i p q h k = omega arith
 
-pub starts_by-on : (facets : List Facet) (z : ℤ) (xs : List ℕ) (i all : ℕ) (t : Facet) (answer : Bool) → i < length xs
-    → slice_get facets (get_or xs i 0) ≡ Some t → answer ≡ is_below (pos 2 *ℤ least_z t) z → answer ≡ true
+pub starts_by-on : (facets : List Facet) (z : ℤ) (xs : List ℕ) (i all : ℕ) → i < length xs → starts_by facets z (get_or xs i 0) ≡ true
     → i + prefix_len (starts_by facets z) (drop i xs) ≡ all → i + 1 + prefix_len (starts_by facets z) (drop (i + 1) xs) ≡ all
-starts_by-on facets z xs i all t answer l e said is before =
-    on i (prefix_len (starts_by facets z) (drop i xs)) (prefix_len (starts_by facets z) (drop (i + 1) xs)) all (starts_by-goes facets z xs i t l e (sym said ∙ is)) before
+starts_by-on facets z xs i all l e before =
+    on i (prefix_len (starts_by facets z) (drop i xs)) (prefix_len (starts_by facets z) (drop (i + 1) xs)) all (prefix_len-drop_yes (starts_by facets z) xs i 0 l e) before
   where
     on : (i p q all : ℕ) → p ≡ 1 + q → i + p ≡ all → i + 1 + q ≡ all
     on i p q all h k = omega arith
@@ -116,21 +78,18 @@ ends_above-all facets z height xs cut i same low high h =
     both : (i n : ℕ) → i ≤ n → n ≤ i → i ≡ n
     both i n a b = omega arith
 
-top-read : (z : ℤ) (t : Facet) (top read : ℤ) (answer b : Bool) → read ≡ top → top ≡ greatest_z t → answer ≡ is_above (pos 2 *ℤ read) z → answer ≡ b
-    → is_above (pos 2 *ℤ greatest_z t) z ≡ b
-top-read z t top read answer b f h said is = ap (λ y. is_above (pos 2 *ℤ y) z) (sym h ∙ sym f) ∙ sym said ∙ is
-
-pub ends_above-kept : (facets : List Facet) (z : ℤ) (xs cut new : List ℕ) (i : ℕ) (t : Facet) (top read : ℤ) (answer : Bool) → i < length xs
-    → slice_get facets (get_or xs i 0) ≡ Some t → read ≡ top → top ≡ greatest_z t → answer ≡ is_above (pos 2 *ℤ read) z → answer ≡ true
+pub ends_above-kept : (facets : List Facet) (z : ℤ) (xs cut new : List ℕ) (i : ℕ) → i < length xs → ends_above facets z (get_or xs i 0) ≡ true
     → new ≡ cut ++ get_or xs i 0 ∷ [] → cut ≡ filter (ends_above facets z) (take i xs) → new ≡ filter (ends_above facets z) (take (i + 1) xs)
-ends_above-kept facets z xs cut new i t top read answer l e f h said is pushed before =
-    pushed ∙ ap (λ ks. ks ++ get_or xs i 0 ∷ []) before ∙ sym (ends_above-some facets z xs i t l e (top-read z t top read answer true f h said is))
+ends_above-kept facets z xs cut new i l e pushed before =
+    pushed ∙ ap (λ ks. ks ++ get_or xs i 0 ∷ []) before
+    ∙ sym (filter_more (ends_above facets z) xs i 0 l ∙ ap (λ b. filter (ends_above facets z) (take i xs) ++ cond b (get_or xs i 0 ∷ []) []) e)
 
-pub ends_above-left : (facets : List Facet) (z : ℤ) (xs cut new : List ℕ) (i : ℕ) (t : Facet) (top read : ℤ) (answer : Bool) → i < length xs
-    → slice_get facets (get_or xs i 0) ≡ Some t → read ≡ top → top ≡ greatest_z t → answer ≡ is_above (pos 2 *ℤ read) z → answer ≡ false
+pub ends_above-left : (facets : List Facet) (z : ℤ) (xs cut new : List ℕ) (i : ℕ) → i < length xs → ends_above facets z (get_or xs i 0) ≡ false
     → new ≡ cut → cut ≡ filter (ends_above facets z) (take i xs) → new ≡ filter (ends_above facets z) (take (i + 1) xs)
-ends_above-left facets z xs cut new i t top read answer l e f h said is same before =
-    same ∙ before ∙ sym (ends_above-none facets z xs i t l e (top-read z t top read answer false f h said is))
+ends_above-left facets z xs cut new i l e same before =
+    same ∙ before
+    ∙ sym (filter_more (ends_above facets z) xs i 0 l ∙ ap (λ b. filter (ends_above facets z) (take i xs) ++ cond b (get_or xs i 0 ∷ []) []) e
+    ∙ append-nil (filter (ends_above facets z) (take i xs)))
 
 -- ---- two ascending lists as one
 top_read : (facets : List Facet) (tops : List ℤ) (ns : List ℕ) (i : ℕ) (top : ℤ) → i < length ns
@@ -154,7 +113,12 @@ merge-takes old ms later n b e =
     ∙ ap (λ ks. old ++ ks) (append_assoc (take (prefix_len (λ m. nat_lt m n) ms) ms) (n ∷ []) _)
     ∙ ap (λ c. old ++ merge (cond c (n ∷ later) later) ms) (sym e)
 
--- the comparison of a top with a height, both as values of machine words
+-- the comparison of a facet's start or top with a height, both as values of machine words
+pub below-read : (facets : List Facet) (n : ℕ) (z height start read : ℤ) (answer b : Bool) → height ≡ z → read ≡ start → start ≡ least_z (facet_at facets n)
+    → answer ≡ is_below (pos 2 *ℤ read) height → answer ≡ b → starts_by facets z n ≡ b
+below-read facets n z height start read answer b e f h said is =
+    ap (λ t. is_below (pos 2 *ℤ t) z) (sym h ∙ sym f) ∙ ap (λ y. is_below (pos 2 *ℤ read) y) (sym e) ∙ sym said ∙ is
+
 pub above-read : (facets : List Facet) (n : ℕ) (z height top read : ℤ) (answer b : Bool) → height ≡ z → read ≡ top → top ≡ top_of facets n
     → answer ≡ is_above (pos 2 *ℤ read) height → answer ≡ b → ends_above facets z n ≡ b
 above-read facets n z height top read answer b e f h said is =

@@ -13,7 +13,7 @@ use Rattle.geometry.specs.TieRule.{is_below, is_above}
 use Rattle.geometry.specs.Facet.{Facet, facet_with, corners}
 use Rattle.mesh_weld.specs.Solid.{facet_at, greatest_z, least_z, IsByHeight, is_lower}
 use Rattle.mesh_weld.proofs.lemmas.Edges.{count_by-cons}
-use Rattle.contour.specs.Segment.{height}
+use Rattle.plane_segments.specs.Segment.{height}
 use Rattle.contour.specs.Active.{is_cut, active_facets, passed_count, top_of, starts_by, ends_above, merge}
 use Rattle.contour.proofs.lemmas.Counts.{times, times-filter, times-merge, count-permutation, Ascends, Ascends-filter, Ascends-range, Ascends-merge, Ascends-from_sorted, same_from_counts}
 

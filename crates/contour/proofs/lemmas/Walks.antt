@@ -5,7 +5,7 @@ use Rattle.std.specs.List.{list_all}
 use Rattle.std.proofs.lemmas.List.{length-set}
 use Rattle.std.proofs.lemmas.Bool.Decides.{nat_tests}
 use Rattle.mesh_weld.proofs.lemmas.Edges.{count_by-cons}
-use Rattle.contour.specs.declared.segment.Segment.{Segment}
+use Rattle.plane_segments.specs.declared.segment.Segment.{Segment}
 use Rattle.contour.specs.Loops.{Closes, IsCycle, count_of, first_facet, follower}
 use Rattle.contour.specs.Linker.{AreLinks, IsTracedLoop, KeepsLoopsWhole, InFacetOrder, facet_of, is_visited, unvisited, no_segment}
 use Rattle.contour.specs.declared.linker.TheConstants.{NONE}

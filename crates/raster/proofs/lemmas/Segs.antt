@@ -11,11 +11,11 @@ use Rattle.exact_cut.specs.Lattice.{pixel, row_y}
 use Rattle.exact_cut.specs.declared.dda.lattice.Lattice.{Lattice}
 use Rattle.exact_cut.proofs.lemmas.Sections.{unpassed}
 use Rattle.mesh_weld.specs.Solid.{facet_at, vertices}
-use Rattle.contour.specs.declared.segment.Segment.{Segment}
-use Rattle.contour.specs.Segment.{both_of, height, is_downward, is_upward, node_of, segment_of, segments}
+use Rattle.plane_segments.specs.declared.segment.Segment.{Segment}
+use Rattle.plane_segments.specs.Segment.{both_of, height, is_downward, is_upward, node_of, segment_of, segments}
 use Rattle.geometry.specs.TieRule.{rises_through}
-use Rattle.contour.proofs.lemmas.Cutting.{facet_at-is}
-use Rattle.contour.proofs.lemmas.Links.{segments_below}
+use Rattle.plane_segments.proofs.lemmas.Cutting.{facet_at-is}
+use Rattle.plane_segments.proofs.lemmas.FacetOrder.{segments_below}
 use Rattle.raster.specs.declared.crossings.RowCrossing.{RowCrossing}
 use Rattle.raster.specs.RowCrossing.{passed, signs}
 use Rattle.raster.specs.Crossings.{AreCrossingsWithin, crossings_in, row_passed, row_signs}

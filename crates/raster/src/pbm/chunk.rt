@@ -1,25 +1,25 @@
 //! The bytes of images on their way to a sink, gathered so that one call of the sink takes many rows and images.
-ghost use Rattle.std.specs.Prelude.{◌≡◌, ◌<◌, ◌≤◌, ◌+◌, ◌-◌, [], ◌∷◌, ◌++◌, decimal, drop, length, OnOk, OnErr, IfErr, IfOk, true};
+ghost use Rattle.std.specs.Prelude.{◌≡◌, ◌<◌, ◌≤◌, ◌+◌, ◌-◌, [], ◌++◌, drop, length, OnOk, OnErr, IfErr, IfOk};
 ghost use Rattle.std.specs.Int.{div_ceil};
 ghost use Rattle.std.specs.Io.KnownBytes.{Appends};
 ghost use Rattle.raster.specs.Devices.{AppendsFirst, Fails, greatest_count};
 ghost use Rattle.raster.specs.Image.{header, row_bytes};
-ghost use Rattle.raster.specs.Rows.{are_within, crosses};
-ghost use Rattle.raster.specs.declared.pbm.chunk.TheConstants.{CHUNK_LEN, HEADER_LIMIT};
+ghost use Rattle.raster.specs.Rows.{IsSplit};
+ghost use Rattle.raster.specs.Span.{AreSpans, covers};
+ghost use Rattle.raster.specs.declared.pbm.chunk.TheConstants.{CHUNK_LEN};
+ghost use Rattle.raster.specs.declared.pbm.header.TheConstants.{HEADER_LIMIT};
 ghost use Rattle.geometry.specs.declared.limits.TheConstants.{COLUMN_LIMIT};
 
 use crate::devices::{Sink, WriteFault, put_all};
-use crate::pbm::rows::draw_row;
+use crate::grid::Grid;
+use crate::pbm::header::{HEADER_LIMIT, Header};
+use crate::pbm::rows::draw_layer_row;
 use crate::span::Span;
 use geometry::COLUMN_LIMIT;
 use std::marker::Model;
 
 /// The greatest number of bytes that one call of a sink is given: room for eight rows of the greatest width.
 const CHUNK_LEN: usize = 8 * (COLUMN_LIMIT as usize / 8);
-
-/// The greatest length of an image's header: `P4`, a line break, the width, a blank, the height and a line break, where each
-/// of both numbers has at most five digits.
-pub(crate) const HEADER_LIMIT: usize = 15;
 
 /// Bytes on their way to a sink. They lie on the stack, so that writing allocates no memory. All bytes of the free room
 /// after them are 0, so that a row is drawn by setting bits.
@@ -58,15 +58,6 @@ impl Chunk {
         CHUNK_LEN - self.filled
     }
 
-    /// Appends a byte.
-    fn push(&mut self, byte: u8)
-        requires { length self.old < CHUNK_LEN }
-        ensures { self.new ≡ self.old ++ byte ∷ [] }
-    {
-        self.bytes[self.filled] = byte;
-        self.filled += 1;
-    }
-
     /// Appends bytes.
     fn push_all(&mut self, text: &[u8])
         requires { length self.old + length text.now ≤ CHUNK_LEN }
@@ -77,18 +68,6 @@ impl Chunk {
         self.filled = end;
     }
 
-    /// Appends a number in plain decimal.
-    // `write!` into a slice will not do: its contract in std does not say which bytes it writes.
-    fn push_decimal(&mut self, n: u32)
-        requires { length self.old + length (decimal n) ≤ CHUNK_LEN }
-        ensures { self.new ≡ self.old ++ decimal n }
-    {
-        if n >= 10 {
-            self.push_decimal(n / 10);
-        }
-        self.push(b'0' + (n % 10) as u8);
-    }
-
     /// Appends the header of an image of this width and height.
     pub(crate) fn push_header(&mut self, width: u32, height: u32)
         requires room { length self.old + HEADER_LIMIT ≤ CHUNK_LEN }
@@ -96,22 +75,22 @@ impl Chunk {
         requires height { height ≤ COLUMN_LIMIT }
         ensures { self.new ≡ self.old ++ header width height }
     {
-        self.push_all(b"P4\n");
-        self.push_decimal(width);
-        self.push(b' ');
-        self.push_decimal(height);
-        self.push(b'\n');
+        self.push_all(Header::of(width, height).bytes());
     }
 
-    /// Appends a packed row of this width, in which exactly the columns in these spans are black.
-    pub(crate) fn push_row(&mut self, width: u32, spans: &[Span])
-        requires room { length self.old + div_ceil width 8 ≤ CHUNK_LEN }
-        requires within { are_within width spans.now ≡ true }
-        ensures { self.new ≡ self.old ++ row_bytes width (crosses spans.now) }
+    /// Appends row `number` of a layer. The first `end` spans are those of this row and of the rows below; answers how many
+    /// are in the rows below.
+    pub(crate) fn push_row(&mut self, g: &Grid, spans: &[Span], number: u32, end: usize) -> usize
+        requires form { AreSpans g.now.columns g.now.rows spans.now }
+        requires split { IsSplit spans.now end (number + 1) }
+        requires room { length self.old + div_ceil g.now.columns 8 ≤ CHUNK_LEN }
+        ensures split { IsSplit spans.now result number }
+        ensures drawn { self.new ≡ self.old ++ row_bytes g.now.columns (λ i. covers spans.now i number) }
     {
-        let end = self.filled + width.div_ceil(8) as usize;
-        draw_row(&mut self.bytes[self.filled..end], width, spans);
-        self.filled = end;
+        let filled = self.filled + g.columns().div_ceil(8) as usize;
+        let start = draw_layer_row(&mut self.bytes[self.filled..filled], g, spans, number, end);
+        self.filled = filled;
+        start
     }
 
     /// Makes room for `needed` more bytes: sends the chunk where it has less. `before` is the number of bytes that were sent

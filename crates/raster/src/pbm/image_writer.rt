@@ -1,19 +1,16 @@
 //! Writes the images of layers one after another, each row by row from the greatest row to the least, through one chunk on
 //! the stack.
 ghost use Rattle.std.specs.Prelude.{◌≡◌, ◌<◌, ◌≤◌, ◌+◌, ◌-◌, [], ◌++◌, drop, length, IfErr, IfOk, OnErr, OnOk};
-ghost use Rattle.std.specs.Int.{div_ceil};
 ghost use Rattle.std.specs.Io.KnownBytes.{Appends};
 ghost use Rattle.raster.specs.Devices.{AppendsFirst, Fails, greatest_count};
 ghost use Rattle.raster.specs.Span.{AreSpans, covers};
-ghost use Rattle.raster.specs.Image.{image_limit, row_bytes};
+ghost use Rattle.raster.specs.Image.{image_limit};
 ghost use Rattle.raster.specs.ImageWriter.{pending};
-ghost use Rattle.raster.specs.Rows.{IsSplit};
-ghost use Rattle.raster.specs.declared.pbm.chunk.TheConstants.{CHUNK_LEN};
 
 use crate::devices::{Sink, WriteFault};
 use crate::grid::Grid;
-use crate::pbm::chunk::{Chunk, HEADER_LIMIT};
-use crate::pbm::rows::start_of_row;
+use crate::pbm::chunk::Chunk;
+use crate::pbm::header::HEADER_LIMIT;
 use crate::span::Span;
 use std::marker::Model;
 
@@ -124,22 +121,7 @@ fn push_image<W: Sink>(
     while row > 0 {
         row -= 1;
         written = chunk.make_room(needed, w, written)?;
-        end = push_row(chunk, g, spans, row, end);
+        end = chunk.push_row(g, spans, row, end);
     }
     Ok(written)
-}
-
-/// Adds a row of the layer to the chunk. The first `end` spans are those of this row and of the rows below; answers how
-/// many are in the rows below.
-fn push_row(chunk: &mut Chunk, g: &Grid, spans: &[Span], row: u32, end: usize) -> usize
-    requires form { AreSpans g.now.columns g.now.rows spans.now }
-    requires row { row < g.now.rows }
-    requires split { IsSplit spans.now end (row + 1) }
-    requires room { length chunk.old + div_ceil g.now.columns 8 ≤ CHUNK_LEN }
-    ensures split { IsSplit spans.now result row }
-    ensures drawn { chunk.new ≡ chunk.old ++ row_bytes g.now.columns (λ i. covers spans.now i row) }
-{
-    let start = start_of_row(g, spans, row, end);
-    chunk.push_row(g.columns(), &spans[start..end]);
-    start
 }

@@ -1,7 +1,7 @@
 //! Draws the rows of an image: finds the spans of a row among those of its layer, and sets their pixels.
 ghost use Rattle.std.specs.Prelude.{◌≡◌, ◌≤◌, ◌+◌, ℕ, length, slice_index, true};
 ghost use Rattle.std.specs.Int.{div_ceil};
-ghost use Rattle.raster.specs.Span.{AreSpans};
+ghost use Rattle.raster.specs.Span.{AreSpans, covers};
 ghost use Rattle.raster.specs.Image.{row_bytes};
 ghost use Rattle.raster.specs.Rows.{IsSplit, are_within, crosses};
 
@@ -10,7 +10,7 @@ use crate::pbm::bits::set_pixels;
 use crate::span::Span;
 
 /// Sets the pixels of these spans in a packed row of this width, in which no pixel is set yet.
-pub(crate) fn draw_row(row: &mut [u8], width: u32, spans: &[Span])
+fn draw_row(row: &mut [u8], width: u32, spans: &[Span])
     requires size { length row.old ≡ div_ceil width 8 }
     requires blank { (k : ℕ) → slice_index row.old k ≡ 0 }
     requires within { are_within width spans.now ≡ true }
@@ -21,8 +21,29 @@ pub(crate) fn draw_row(row: &mut [u8], width: u32, spans: &[Span])
     }
 }
 
+/// Draws row `number` of a layer into a packed row, in which no pixel is set yet. The first `end` spans are those of this row
+/// and of the rows below; answers how many are in the rows below.
+pub(crate) fn draw_layer_row(
+    row: &mut [u8],
+    g: &Grid,
+    spans: &[Span],
+    number: u32,
+    end: usize,
+) -> usize
+    requires form { AreSpans g.now.columns g.now.rows spans.now }
+    requires split { IsSplit spans.now end (number + 1) }
+    requires size { length row.old ≡ div_ceil g.now.columns 8 }
+    requires blank { (k : ℕ) → slice_index row.old k ≡ 0 }
+    ensures split { IsSplit spans.now result number }
+    ensures drawn { row.new ≡ row_bytes g.now.columns (λ i. covers spans.now i number) }
+{
+    let start = start_of_row(g, spans, number, end);
+    draw_row(row, g.columns(), &spans[start..end]);
+    start
+}
+
 /// The number of spans in the rows below row `number`. The first `end` spans are those in it and in the rows below.
-pub(crate) fn start_of_row(g: &Grid, spans: &[Span], number: u32, end: usize) -> usize
+fn start_of_row(g: &Grid, spans: &[Span], number: u32, end: usize) -> usize
     requires form { AreSpans g.now.columns g.now.rows spans.now }
     requires split { IsSplit spans.now end (number + 1) }
     ensures split { IsSplit spans.now result number }

@@ -1,20 +1,23 @@
 -- The first word of a text, found by a cut before white space.
-use Rattle.std.proofs.Common.{◌≡◌, ◌⊎◌, inl, inr, ℕ, ◌<◌, ◌≤◌, Bool, true, false, not, ◌&&◌, List, [], ◌∷◌, ◌++◌, zero, suc, take, drop, length, refl, sym, ◌∙◌, ap, arith}
+use Rattle.std.proofs.Common.{◌≡◌, ◌⊎◌, inl, inr, ℕ, ◌<◌, ◌≤◌, Bool, true, false, not, ◌&&◌, List, [], ◌∷◌, ◌++◌, zero, suc, take, drop, length, refl, sym, ◌∙◌, ap, subst, arith}
 use Rattle.std.specs.Prelude.{Option, Some, None, Ok, Err, ℤ, ◌==◌, nat_lt, nat_le, if◌then◌else◌}
 use Rattle.std.specs.Char.{is_ascii_digit, to_ascii_lowercase}
 use Rattle.std.specs.Str.{str_to_ascii_lowercase}
-use Rattle.std.specs.List.{list_all, before_first}
+use Rattle.std.specs.List.{list_all, before_first, position_or_len}
 use Rattle.std.proofs.lemmas.Bool.{and_parts, cases_lt, lt-leb, ne_eqb, not-true, eqb-true}
-use Rattle.std.proofs.lemmas.List.{take-append-drop}
+use Rattle.std.proofs.lemmas.List.{length-map, length-take-le, take-append-drop}
+use Rattle.std.proofs.lemmas.List.Sums.{prefix_len-le-length}
 use Rattle.std.proofs.lemmas.List.Folds.{list_all-append}
 use Rattle.std.proofs.lemmas.Slice.Eq.{bytes_eq-Decides}
 use Rattle.std.proofs.lemmas.Str.Ascii.{lowercase_is}
+use Rattle.std.proofs.Math.Numerals.{one-add}
 use Rattle.micro_num.specs.declared.unit.Unit.{Unit as LengthUnit}
 use Rattle.micro_num.specs.declared.num_fault.NumFault.TheVariants.{TooLong}
-use Rattle.micro_num.specs.Numeral.{Sign, unsigned, plus, minus, Exponent, Numeral, IsNumeral, is_exponent_mark, sign_text, fraction_text, exponent_text, numeral_text, fraction_digits, is_exponent, from_first, numeral_of}
+use Rattle.micro_num.specs.Numeral.{Sign, unsigned, plus, minus, Exponent, Numeral, IsNumeral, is_exponent_mark, is_point, sign_text, fraction_text, exponent_text, numeral_text, fraction_digits, is_exponent, from_first, numeral_of}
 use Rattle.micro_num.specs.Micrometres.{coordinate_of, numeral_coordinate}
+use Rattle.micro_num.specs.Scan.{IsEnded}
 use Rattle.exact_int.proofs.lemmas.Lists.{all-weaker}
-use Rattle.micro_num.proofs.lemmas.Grammar.{Starts, before-is, from-is, bounds, numeral_of-is}
+use Rattle.micro_num.proofs.lemmas.Grammar.{Starts, before-is, from-is, from_starts, bounds, numeral_of-is}
 use Rattle.stl_text.specs.Text.{after_space, is_white, is_keyword}
 use Rattle.stl_text.specs.Written.{IsApart}
 use Rattle.micro_num.specs.declared.limits.TheConstants.{WORD_LIMIT}
@@ -64,6 +67,34 @@ lower_clear (c ∷ cs) = λ i. white_lower c i && lower_clear cs i
 pub keyword_clear : (text word : List ℕ) → list_all is_clear text ≡ true → is_keyword text word ≡ true → list_all is_clear word ≡ true
 keyword_clear text word clear is =
     sym (lower_clear word) ∙ ap (list_all is_clear) ((bytes_eq-Decides (str_to_ascii_lowercase word) text).0 is) ∙ clear
+
+-- a first word that is a keyword is as long as the keyword
+keyword_len : (text front : List ℕ) → is_keyword text (before_first is_white front) ≡ true → position_or_len is_white front ≡ length text
+keyword_len text front is =
+    let same : str_to_ascii_lowercase (before_first is_white front) ≡ text =
+    (bytes_eq-Decides (str_to_ascii_lowercase (before_first is_white front)) text).0 is in
+    let whole : length (before_first is_white front) ≡ position_or_len is_white front =
+    length-take-le (position_or_len is_white front) front (prefix_len-le-length (λ byte. not (is_white byte)) front) in
+    sym whole ∙ sym (length-map (before_first is_white front) to_ascii_lowercase) ∙ ap length same
+
+-- what follows the first word begins with white space
+pub word_apart : (front : List ℕ) → IsApart (from_first is_white front)
+word_apart front = apart (from_first is_white front) (from_starts is_white front)
+  where
+    apart : (xs : List ℕ) → Starts is_white xs → IsApart xs
+    apart [] h = h
+    apart (x ∷ xs) h = h
+
+-- where a text does not begin with a keyword, or the word goes on after it, the first word is another one
+pub no_keyword : (text front : List ℕ) → (is_keyword text (take (length text) front) ≡ true → IsApart (drop (length text) front) → ⊥)
+    → is_keyword text (before_first is_white front) ≡ false
+no_keyword text front other = by_test (is_keyword text (before_first is_white front)) refl
+  where
+    by_test : (b : Bool) → is_keyword text (before_first is_white front) ≡ b → is_keyword text (before_first is_white front) ≡ false
+    by_test true is =
+        let len : position_or_len is_white front ≡ length text = keyword_len text front is in
+        absurd (other (subst (λ n. is_keyword text (take n front) ≡ true) len is) (subst (λ n. IsApart (drop n front)) len (word_apart front)))
+    by_test false is = is
 
 -- Numbers.
 
@@ -129,3 +160,51 @@ clear_front (suc n) (byte ∷ bytes) some clear = rw (not-true (is_white byte) (
 pub coordinate_front : (unit : LengthUnit) (n : ℕ) (bytes : List ℕ) (z : ℤ) → coordinate_of unit (take n bytes) ≡ Ok z → after_space bytes ≡ bytes
 coordinate_front unit zero bytes z is = cc
 coordinate_front unit (suc n) bytes z is = clear_front (suc n) bytes (omega arith) (coordinate_clear unit (take (suc n) bytes) z is)
+
+-- What follows a word is no more of a number.
+
+not_white : (p : ℕ → Bool) → ((byte : ℕ) → p byte ≡ true → is_clear byte ≡ true) → (byte : ℕ) → is_white byte ≡ true → p byte ≡ false
+not_white p clear byte white = by_test (p byte) refl
+  where
+    by_test : (t : Bool) → p byte ≡ t → p byte ≡ false
+    by_test true is = is ∙ sym white ∙ not-true (is_white byte) (clear byte is)
+    by_test false is = is
+
+pub number_ended : (rest : List ℕ) → IsApart rest → IsEnded rest
+number_ended [] apart = apart
+number_ended (byte ∷ rest) white = (
+  not_white is_ascii_digit (λ d is. above_clear d (omega (arith, (bounds d is).0))) byte white,
+  not_white is_point (λ d is. above_clear d (omega (arith, eqb-true d 46 is))) byte white,
+  not_white is_exponent_mark mark_clear byte white,
+)
+
+-- a text with a word at its front
+pub word_whole : (front : List ℕ) → front ≡ before_first is_white front ++ from_first is_white front
+word_whole front = sym (take-append-drop (position_or_len is_white front) front)
+
+abbrev count_of : Option (ℤ × ℕ) → ℕ
+count_of None = 0
+count_of (Some found) = found.1
+
+pub same_count : (x y : ℤ) (m n : ℕ) → ◌≡◌ {A = Option (ℤ × ℕ)} (Some (x, m)) (Some (y, n)) → m ≡ n
+same_count x y m n same = ap count_of same
+
+pub word_end : (front : List ℕ) (n : ℕ) → n ≡ length (before_first is_white front) → IsApart (drop n front)
+word_end front n is =
+    let len : length (before_first is_white front) ≡ position_or_len is_white front =
+    length-take-le (position_or_len is_white front) front (prefix_len-le-length (λ byte. not (is_white byte)) front) in
+    subst (λ m. IsApart (drop m front)) (sym (is ∙ len)) (word_apart front)
+
+-- there is no white space after that at the front
+pub space_once : (bytes : List ℕ) → after_space (after_space bytes) ≡ after_space bytes
+space_once [] = refl
+space_once (byte ∷ bytes) = by_test (is_white byte) refl (space_once bytes)
+  where
+    by_test : (b : Bool) → is_white byte ≡ b → after_space (after_space bytes) ≡ after_space bytes
+        → after_space (after_space (byte ∷ bytes)) ≡ after_space (byte ∷ bytes)
+    by_test true is rest =
+        let over : after_space (byte ∷ bytes) ≡ after_space bytes = rw (is, one-add) refl in
+        ap after_space over ∙ rest ∙ sym over
+    by_test false is rest =
+        let here : after_space (byte ∷ bytes) ≡ byte ∷ bytes = rw is refl in
+        ap after_space here

@@ -41,12 +41,14 @@ module _ (bytes : List ℕ) (room : 16 ≤ length bytes) where
   mask_is : low_mask bytes ≡ mask_l (map is_low (take 16 bytes))
   mask_is = bitmask_splat w8 leb (take 16 bytes) 16 32 long (omega arith)
 
+  pub none_count : low_mask bytes ≡ 0 → high_len bytes ≡ 16
+  none_count none = leading_from_mask_l is_low (take 16 bytes) (sym mask_is ∙ none) ∙ long
+
   pub none_low : low_mask bytes ≡ 0 → list_all (λ byte. not (is_white byte)) (take 16 bytes) ≡ true
   none_low none =
-      let all : high_len bytes ≡ 16 = leading_from_mask_l is_low (take 16 bytes) (sym mask_is ∙ none) ∙ long in
-      subst (λ n. list_all (λ byte. not (is_white byte)) (take n bytes) ≡ true) all (high_clear 16 bytes)
+      subst (λ n. list_all (λ byte. not (is_white byte)) (take n bytes) ≡ true) (none_count none) (high_clear 16 bytes)
 
-  lowest : 0 < low_mask bytes → count_trailing_zeros 64 (low_mask bytes) ≡ high_len bytes
+  pub lowest : 0 < low_mask bytes → count_trailing_zeros 64 (low_mask bytes) ≡ high_len bytes
   lowest some =
       ap (count_trailing_zeros 64) mask_is
       ∙ trailing_mask_l is_low 64 (take 16 bytes) (omega (arith, long)) (subst (λ m. 0 < m) mask_is some)

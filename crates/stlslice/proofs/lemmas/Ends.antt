@@ -11,13 +11,17 @@ use Rattle.build_book.specs.Job.{Job}
 use Rattle.task_words.specs.declared.task.Given.{Given}
 use Rattle.task_words.specs.declared.task.Task.{Task}
 use Rattle.task_words.specs.declared.task.Task.TheVariants as task
+use Rattle.mesh_reading.specs.Loading.{IsInput, IsInputFault, IsSolidOf}
+use Rattle.mesh_reading.specs.Transcript.{Transcript}
+use Rattle.mesh_reading.specs.declared.read_fault.ReadFault.{ReadFault}
+use Rattle.mesh_reading.specs.declared.read_fault.ReadFault.TheVariants as read
 use Rattle.stlslice.specs.declared.run_fault.RunFault.{RunFault}
 use Rattle.stlslice.specs.declared.run_fault.RunFault.TheVariants as fault
 use Rattle.stlslice.specs.Outcome.{IsOutcome, grid_for}
-use Rattle.stlslice.specs.Loading.{IsInput, IsInputFault, IsSolidOf}
 use Rattle.stlslice.specs.Run.{IsRun, IsRunFault}
-use Rattle.stlslice.specs.Transcript.{IsUntouched, IsUnwritten, Transcript}
-use Rattle.stlslice.proofs.lemmas.Faults.{IsWorkFault, made_there}
+use Rattle.stlslice.specs.RunFault.{of_read}
+use Rattle.stlslice.specs.Unwritten.{IsUntouched, IsUnwritten}
+use Rattle.stlslice.proofs.lemmas.Faults.{IsReadingFault, IsWorkFault, failed_read, made_there, not_written}
 use Rattle.stlslice.specs.SlicedText.{output_of, sliced_text}
 use Rattle.std.proofs.lemmas.Result.{IfErr-at_err, on_ok_weaker}
 use Rattle.stlslice.proofs.lemmas.Bytes.{each, of_input}
@@ -116,45 +120,41 @@ sound_end (Err f) t input transcript same (inr h) differ = absurd (differ h.2.0 
 -- A run.
 
 -- a run ends with a fault of reading its input
-pub unready : {T : Type 0} (r : Result T RunFault) (t : Task) (source sink : Transcript) (settled : Bool) (f : RunFault)
-    → IsErrAnd r (λ x. x ≡ f) → IsInputFault (IsWorkFault t) source.old f
-    → (f ≢ fault.Read → f ≢ fault.Memory → IsAtEnd source.new)
-    → (f ≡ fault.Read → Fails source.failed_before source.failed) → (f ≢ fault.Read → source.failed ≡ source.failed_before)
+pub unready : {T : Type 0} (r : Result T RunFault) (t : Task) (source sink : Transcript) (settled : Bool) (f : ReadFault)
+    → IsErrAnd r (λ x. x ≡ of_read f) → IsInputFault (IsReadingFault t) source.old f
+    → (f ≢ read.Read → f ≢ read.Memory → IsAtEnd source.new)
+    → (f ≡ read.Read → Fails source.failed_before source.failed) → (f ≢ read.Read → source.failed ≡ source.failed_before)
     → IsUntouched sink → IsRun t r source sink settled
 unready (Ok x) t source sink settled f is known whole unread sound kept = absurd is
 unready (Err x) t source sink settled f is known whole unread sound kept =
-    let unwritten : (written : ℕ) → x ≢ fault.Write written = λ written e. not_written known written (sym is ∙ e) in
+    let unwritten : (written : ℕ) → x ≢ fault.Write written = λ written e. not_written f written (sym is ∙ e) in
     record {
-      whole = λ not_read enough. whole (λ e. not_read (ap Err (is ∙ e))) (λ e. enough (ap Err (is ∙ e)));
+      whole = λ not_read enough. whole (λ e. not_read (ap Err (is ∙ ap of_read e))) (λ e. enough (ap Err (is ∙ ap of_read e)));
       flushed = tt;
       ok = tt;
       fault = rw is (run_fault known);
       only = rw is (own known);
-      source_sound = λ other. sound (λ e. other (ap Err (is ∙ e)));
+      source_sound = λ other. sound (λ e. other (ap Err (is ∙ ap of_read e)));
       sink_sound = λ _. kept.1;
-      unread = λ e. unread (let same : x ≡ fault.Read = cc in sym is ∙ same);
+      unread = λ e. unread (failed_read f (let same : x ≡ fault.Read = cc in sym is ∙ same));
       unwritten = λ written e. absurd (unwritten written (let same : x ≡ fault.Write written = cc in same));
       first = λ written e. absurd (unwritten written (let same : x ≡ fault.Write written = cc in same));
       nothing = λ _. kept.0;
     }
   where
-    not_written : IsInputFault (IsWorkFault t) source.old f → (written : ℕ) → f ≢ fault.Write written
-    not_written (inl e) written same = let no : fault.Read ≡ fault.Write written = sym e ∙ same in cc
-    not_written (inr (inl e)) written same = let no : fault.Memory ≡ fault.Write written = sym e ∙ same in cc
-    not_written (inr (inr h)) written same = h.2.2 written same
-
-    run_fault : IsInputFault (IsWorkFault t) source.old f → IfSome source.old (λ input. IsRunFault t input f)
+    run_fault : IsInputFault (IsReadingFault t) source.old f → IfSome source.old (λ input. IsRunFault t input (of_read f))
     run_fault (inl e) = rw e (each source.old (λ input. IsRunFault t input fault.Read) (λ input. tt))
     run_fault (inr (inl e)) = rw e (each source.old (λ input. IsRunFault t input fault.Memory) (λ input. tt))
-    run_fault (inr (inr h)) = of_input source.old h.0 (λ input. IsRunFault t input f) h.1 h.2.0
+    run_fault (inr (inr h)) = of_input source.old h.0 (λ input. IsRunFault t input (of_read f)) h.1 h.2.0
 
-    own : IsInputFault (IsWorkFault t) source.old f
-        → IfSome source.old (λ input. (o : RunFault) → IsOutcome t input (Err o) → (f ≡ o) ⊎ (f ≡ fault.Read) ⊎ (f ≡ fault.Memory))
-    own (inl e) = each source.old _ (λ input o is. inr (inl e))
-    own (inr (inl e)) = each source.old _ (λ input o is. inr (inr e))
+    own : IsInputFault (IsReadingFault t) source.old f
+        → IfSome source.old (λ input. (o : RunFault) → IsOutcome t input (Err o)
+        → (of_read f ≡ o) ⊎ (of_read f ≡ fault.Read) ⊎ (of_read f ≡ fault.Memory))
+    own (inl e) = each source.old _ (λ input o is. inr (inl (ap of_read e)))
+    own (inr (inl e)) = each source.old _ (λ input o is. inr (inr (ap of_read e)))
     own (inr (inr h)) = of_input source.old h.0
-        (λ input. (o : RunFault) → IsOutcome t input (Err o) → (f ≡ o) ⊎ (f ≡ fault.Read) ⊎ (f ≡ fault.Memory)) h.1
-        (λ o is. own_fault t h.0 f o is h.2)
+        (λ input. (o : RunFault) → IsOutcome t input (Err o) → (of_read f ≡ o) ⊎ (of_read f ≡ fault.Read) ⊎ (of_read f ≡ fault.Memory)) h.1
+        (λ o is. own_fault t h.0 (of_read f) o is h.2)
 
 run_faults : {T : Type 0} (r : Result T RunFault) (t : Task) (known : Option (List ℕ)) (input : List ℕ) (sink : Transcript) → IsInput known input
     → IfErr r (IsEnd t input sink) → IfErr r (λ f. IfSome known (λ bytes. IsRunFault t bytes f))

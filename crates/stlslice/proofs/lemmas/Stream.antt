@@ -4,9 +4,9 @@ use Rattle.std.specs.Prelude.{flat_map, sum_by}
 use Rattle.std.specs.List.{range_with_len}
 use Rattle.std.proofs.lemmas.List.Concat.{flat_map-cons}
 use Rattle.std.proofs.lemmas.List.Sums.{sum_by-cons}
+use Rattle.plane_segments.specs.Segment.{segments}
+use Rattle.plane_segments.specs.declared.segment.Segment.{Segment}
 use Rattle.contour.specs.Loops.{loops}
-use Rattle.contour.specs.Segment.{segments}
-use Rattle.contour.specs.declared.segment.Segment.{Segment}
 use Rattle.raster.specs.Filler.{area_of, below}
 use Rattle.raster.specs.Grid.{plane}
 use Rattle.raster.specs.Image.{images, layer_image}

@@ -7,8 +7,8 @@ use Rattle.geometry.specs.Facet.{Facet}
 use Rattle.geometry.specs.Winding.{ray}
 use Rattle.mesh_weld.specs.Solid.{kept_facets}
 use Rattle.mesh_weld.proofs.lemmas.Degenerate.{kept_ray}
+use Rattle.plane_segments.specs.Segment.{segments}
 use Rattle.contour.specs.Loops.{loops}
-use Rattle.contour.specs.Segment.{segments}
 use Rattle.raster.specs.Filler.{below, is_filled}
 use Rattle.raster.specs.Grid.{Grid, centre, plane}
 use Rattle.raster.specs.Image.{image_of_pixels}

@@ -2,8 +2,8 @@
 ghost use Rattle.std.specs.Prelude.{◌≡◌, IfOk, Some, string_bytes};
 ghost use Rattle.stlslice.specs.Outcome.{line_text, point_text};
 
-use crate::extent::Extent;
 use geometry::Point;
+use mesh_reading::Extent;
 use std::alloc::{AllocError, Allocator};
 use std::fmt::{self, Display, Formatter, Write};
 

@@ -1,9 +1,9 @@
 //! The output of slicing: the images of all layers, one after the other.
-ghost use Rattle.std.specs.Prelude.{◌≡◌, ◌≤◌, IfErr, OnOk, length, true, ℕ};
+ghost use Rattle.std.specs.Prelude.{◌≡◌, IfErr, OnOk, true};
 ghost use Rattle.std.specs.Io.KnownBytes.{Appends};
-ghost use Rattle.raster.specs.Devices.{AppendsFirst, Fails};
-ghost use Rattle.raster.specs.Image.{images};
-ghost use Rattle.stlslice.specs.declared.run_fault.RunFault.TheVariants.{Write};
+ghost use Rattle.mesh_reading.specs.Transcript.{transcript};
+ghost use Rattle.stlslice.specs.Pages.{images_of};
+ghost use Rattle.stlslice.specs.Unwritten.{IsUnwritten};
 
 use crate::run_fault::RunFault;
 use crate::write::flush::settle;
@@ -18,14 +18,9 @@ pub(crate) fn write_images<A: Allocator, O: Sink>(
     sink: &mut O,
 ) -> Result<(), RunFault>
     ensures flushed { OnOk result (O.is_settled sink.new ≡ true) }
-    ensures ok { OnOk result (Appends (O.contents sink.old) (O.contents sink.new)
-        (images build.now.job.grid build.now.job.rule build.now.job.solid.facets)) }
+    ensures ok { OnOk result (Appends (O.contents sink.old) (O.contents sink.new) (images_of build.now.job)) }
     ensures same { OnOk result (O.Failures.failure_count sink.new ≡ O.Failures.failure_count sink.old) }
-    ensures err { IfErr result (λ fault. (written : ℕ) × (fault ≡ Write written)
-        × (written ≤ length (images build.now.job.grid build.now.job.rule build.now.job.solid.facets))
-        × AppendsFirst (O.contents sink.old) (O.contents sink.new) written
-        (images build.now.job.grid build.now.job.rule build.now.job.solid.facets)
-        × Fails (O.Failures.failure_count sink.old) (O.Failures.failure_count sink.new)) }
+    ensures err { IfErr result (IsUnwritten (transcript (O.contents sink.old) (O.contents sink.new) (O.Failures.failure_count sink.old) (O.Failures.failure_count sink.new)) (images_of build.now.job)) }
 {
     let grid = build.job().grid();
     // wakes the invariant: the counts of columns, rows and layers bound the count of the bytes

@@ -1,7 +1,8 @@
 //! Runs in which one allocation fails, each in turn: no clause says that a run with enough memory succeeds, nor that an
 //! allocation that fails comes out as `Memory`.
 use super::answers::outcome;
-use super::meshes::Mesh::Facets;
+use super::drawn_runs::{COMB, COMB_IMAGES};
+use super::meshes::Mesh::{Boxes, Facets};
 use super::meshes::{CUBE, OPEN, gap, mesh_text};
 use raster::GridFault;
 use short_memory::ShortMemory;
@@ -126,6 +127,20 @@ fn all_free<R: Threads + Wait + Sync + AllocGlobal>(rt: &R, rows: &[Row<'_>]) ->
 #[test]
 fn each_allocation_fails_in_turn(rt: HostRuntime) -> Result<(), usize> {
     all_free(&rt, &ROWS)
+}
+
+/// Where there is no memory to draw by several workers, one worker writes the images.
+#[test]
+fn each_allocation_fails_where_several_draw(rt: HostRuntime) -> Result<(), Fail> {
+    let comb = mesh_text(rt.alloc(), Boxes(&COMB))?;
+    let usual: Usual = (Ok(()), COMB_IMAGES);
+    for line in [
+        "--pitch 1 --layer 1 --workers 2",
+        "--pitch 1 --layer 1 --workers 4",
+    ] {
+        assert!(rt; first_free_turn(&rt, line, comb.as_str(), &usual) > 20);
+    }
+    Ok(())
 }
 
 /// A solid of no facets with a name of `eights` times eight bytes.

@@ -16,6 +16,9 @@ fn all_tasks(alloc: Global, rows: &[(&str, Task)]) -> Result<(), usize> {
     Ok(())
 }
 
+/// The greatest number of nine digits, the most that a count has.
+const GREATEST_COUNT: u32 = 999_999_999;
+
 const BOX: Task = Task::Box {
     unit: Unit::Millimetre,
 };
@@ -64,7 +67,7 @@ const TASKS: [(&str, Task); 8] = [
             layer: 1,
             grid: None,
             i: 3,
-            j: 999_999_999,
+            j: GREATEST_COUNT,
             k: 0,
         },
     ),
@@ -103,7 +106,7 @@ fn full_task() -> Option<Task> {
         grid: Some(Given {
             columns: 4,
             rows: 0,
-            layers: 999_999_999,
+            layers: GREATEST_COUNT,
             origin,
         }),
     })

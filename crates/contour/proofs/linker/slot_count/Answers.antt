@@ -1,5 +1,5 @@
 use Rattle.std.proofs.Common.{◌≤◌, length, arith}
-use Rattle.contour.proofs.lemmas.Links.{segments_few}
+use Rattle.plane_segments.proofs.lemmas.FacetOrder.{segments_few}
 use Rattle.contour.proofs.linker.slot_count.Goals as goal
 
 pub returns-clause-count : goal.returns-clause-count

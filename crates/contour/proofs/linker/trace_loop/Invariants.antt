@@ -1,6 +1,6 @@
 use Rattle.std.proofs.Common.{◌≡◌, ◌++◌, List, not}
 use Rattle.std.specs.Prelude.{count_by}
-use Rattle.contour.specs.declared.segment.Segment.{Segment}
+use Rattle.plane_segments.specs.declared.segment.Segment.{Segment}
 use Rattle.contour.proofs.lemmas.Walks.{IsWalk}
 use Rattle.contour.proofs.linker.trace_loop.Given as goal
 

@@ -1,9 +1,9 @@
 use Rattle.std.proofs.Common.{◌∙◌, ap, sym, subst, arith}
 use Rattle.std.specs.Prelude.{All}
 use Rattle.std.proofs.lemmas.Int.{to_z-of_z}
+use Rattle.plane_segments.specs.Segment.{HasOrderedNodes}
+use Rattle.plane_segments.proofs.lemmas.NodeOrder.{ordered-more}
 use Rattle.contour.proofs.lemmas.Pushes.{picked-some, picked-none}
-use Rattle.contour.specs.Segment.{HasOrderedNodes}
-use Rattle.contour.proofs.lemmas.NodeOrder.{ordered-more}
 use Rattle.contour.proofs.sweep.segments_of.Goals as goal
 use Rattle.contour.proofs.sweep.segments_of.Goals.{in-Some+in_ok-push, in_default}
 

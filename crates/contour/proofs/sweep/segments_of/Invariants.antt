@@ -1,6 +1,6 @@
 use Rattle.std.proofs.Common.{◌≡◌, take}
 use Rattle.std.specs.Prelude.{All, filter_map}
-use Rattle.contour.specs.Segment.{HasOrderedNodes, numbered_segment}
+use Rattle.plane_segments.specs.Segment.{HasOrderedNodes, numbered_segment}
 use Rattle.contour.proofs.sweep.segments_of.Given as goal
 
 abbrev pub invariant-loop-n : goal.invariant-loop-n

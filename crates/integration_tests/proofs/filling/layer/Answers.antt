@@ -2,7 +2,7 @@ use Rattle.std.proofs.Common.{rules, ◌∙◌, ap}
 use Rattle.std.specs.Prelude.{FitsSigned}
 use Rattle.std.proofs.lemmas.Int.{to_z-of_z}
 use mir.Syntax.{w64}
-use Rattle.contour.specs.Segment.{segments}
+use Rattle.plane_segments.specs.Segment.{segments}
 use Rattle.integration_tests.proofs.filling.layer.Goals as goal
 
 pub fill-requires-clause-list : goal.fill-requires-clause-list

@@ -3,7 +3,7 @@ use Rattle.std.proofs.lemmas.List.{get_or-map, length-map}
 use Rattle.geometry.specs.Point.{origin}
 use Rattle.geometry.specs.Facet.{facet_with}
 use Rattle.mesh_weld.specs.Solid.{facet_at, facet_by, facets_by}
-use Rattle.mesh_weld.proofs.lemmas.HeightOrder.{keys_more, rise_more}
+use Rattle.mesh_weld.proofs.lemmas.HeightOrder.{keys_more, ranges_more, rise_more}
 use Rattle.mesh_weld.proofs.height_order.list_heights.Goals as goal
 
 pub facet_by-facet-requires : goal.facet_by-facet-requires
@@ -19,6 +19,8 @@ loop-own-preserved g c =
     rw c.in_ok-push.ensures.items (record {
       numbers = more.0;
       heights = more.1;
+      ranges = ranges_more (facets_by points numbers) at.own-index at.ranges.items c.push-in-loop-own.new.self.items c.height_range.result c.facet_by-facet.result (facet_with origin origin origin)
+          (omega (arith, c.loop-own-test.true, length-map numbers (facet_by points))) at.invariant.ranges c.height_range.ensures is c.in_ok-push-2.ensures.items;
       rise = rise_more (facets_by points numbers) at.own-index at.greatest_rise c.rise.result c.max-greatest_rise.result c.facet_by-facet.result (facet_with origin origin origin)
           (omega (arith, c.loop-own-test.true, length-map numbers (facet_by points))) at.invariant.rise c.rise.ensures is c.max-greatest_rise.ensures;
       count = omega (arith, c.in_ok-push.ensures.len, at.invariant.count);

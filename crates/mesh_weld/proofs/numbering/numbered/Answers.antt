@@ -24,5 +24,6 @@ returns g c =
       numbers_are = numbers_are g (goal.at.returns g c).After-renumber;
       edges_are = edges_by_ids (facets_by points ids) ids own c.args.found.edges.numbers.items c.args.found.edges.count c.requires.edges.numbers_are;
       order_is = orders.order_is;
+      ranges_are = orders.ranges_are;
       rise_is = orders.rise_is;
     }

@@ -12,7 +12,7 @@ returns-clause-read c =
     rw c.of.ensures
     (read_from (facet_tokens (facet_with c.in_ok-a.a c.in_ok-b.b c.in_ok-c.c)) c.args.unit c.args.bytes.now c.reader.inside.rest.now c.new-reader.ensures
     (in_layout c.in_ok-a.a c.in_ok-b.b c.in_ok-c.c
-    (c.in_ok-skip.ensures (separator_tokens separator.Opening) is.opening) c.in_ok-near_normal.ensures
+    (c.in_ok-skip.ensures (separator_tokens separator.Opening) is.opening) c.in_ok-near_normal.ensures.some
     (c.in_ok-skip-2.ensures (separator_tokens separator.First) is.first) c.in_ok-a.ensures
     (c.in_ok-skip-3.ensures (separator_tokens separator.Next) is.next) c.in_ok-b.ensures
     (c.in_ok-skip-4.ensures (separator_tokens separator.Next) is.next) c.in_ok-c.ensures c.in_ok-close.ensures)

@@ -1,15 +1,17 @@
-use Rattle.std.proofs.Common.{[]}
-use Rattle.geometry.specs.declared.limits.TheConstants.{FACET_LIMIT}
+use Rattle.std.proofs.Common.{◌∙◌, ap, subst, sym}
+use Rattle.mesh_reading.proofs.lemmas.Faults.{passed_on}
+use Rattle.stlslice.specs.Loading.{IsLoadFault}
+use Rattle.stlslice.specs.RunFault.{of_read}
+use Rattle.stlslice.proofs.lemmas.Faults.{load_fault}
 use Rattle.stlslice.proofs.loading.load.Goals as goal
 
-pub returns-clause-ok : goal.returns-clause-ok
-returns-clause-ok g c =
-    (c.weld_end.ensures c.args.unit [] c.args.bytes.now (λ few. c.new-welder.ensures) (c.feed.ensures FACET_LIMIT c.args.unit [] [] c.new-reader.ensures)).ok
+pub returns-in_err-load-clause-fault : goal.returns-in_err-load-clause-fault
+returns-in_err-load-clause-fault g c =
+    passed_on c.from_residual.result _ _
+    (λ f is. subst (IsLoadFault c.args.unit c.args.bytes.now) (sym is)
+    (load_fault c.args.unit c.args.bytes.now c.in_err-load.field-0.0 c.in_err-load.ensures.err))
+    c.from_residual.ensures.1
 
-pub returns-clause-fault : goal.returns-clause-fault
-returns-clause-fault g c =
-    (c.weld_end.ensures c.args.unit [] c.args.bytes.now (λ few. c.new-welder.ensures) (c.feed.ensures FACET_LIMIT c.args.unit [] [] c.new-reader.ensures)).err
-
-pub returns-clause-only : goal.returns-clause-only
-returns-clause-only g c =
-    (c.weld_end.ensures c.args.unit [] c.args.bytes.now (λ few. c.new-welder.ensures) (c.feed.ensures FACET_LIMIT c.args.unit [] [] c.new-reader.ensures)).only
+pub returns-in_err-load-clause-only : goal.returns-in_err-load-clause-only
+returns-in_err-load-clause-only g c = λ facets reads closed.
+    passed_on c.from_residual.result _ _ (λ f is. is ∙ ap of_read (c.in_err-load.ensures.only facets reads closed)) c.from_residual.ensures.1

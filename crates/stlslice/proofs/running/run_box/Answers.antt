@@ -1,10 +1,11 @@
 use Rattle.std.proofs.Common.{◌≡◌, ◌∙◌, List, ℕ, ap, inr, refl}
 use Rattle.std.specs.Prelude.{Err, Ok, string_bytes}
 use Rattle.std.proofs.lemmas.Result.{IfErr-weaker, on_ok_weaker}
-use Rattle.stlslice.specs.Loading.{IsMisread}
-use Rattle.stlslice.proofs.lemmas.Faults.{IsWorkFault, by_input, misread_box}
+use Rattle.mesh_reading.specs.Loading.{IsMisread}
+use Rattle.mesh_reading.specs.declared.read_fault.ReadFault.TheVariants as read
+use Rattle.stlslice.proofs.lemmas.Faults.{IsReadingFault, by_input, misread_box}
 use Rattle.stlslice.specs.Outcome.{IsOutcome, box_text, boxed, line_text}
-use Rattle.stlslice.specs.declared.extent.Extent.{Extent}
+use Rattle.mesh_reading.specs.declared.extent.Extent.{Extent}
 use Rattle.stlslice.specs.declared.run_fault.RunFault.TheVariants as fault
 use Rattle.task_words.specs.declared.task.Task.TheVariants as task
 use Rattle.stlslice.proofs.lemmas.Ends.{ended_early, keeps_self, no_memory, ran, unready}
@@ -15,9 +16,9 @@ returns-in_err-extent g c =
     let f = c.in_err-extent.field-0.0 in
     let t = task.Box c.args.unit in
     unready c.from_residual.result t _ _ _ f c.from_residual.ensures.1
-    (by_input _ (IsMisread c.args.unit) (IsWorkFault t) f (λ input h. misread_box c.args.unit input f h) c.in_err-extent.ensures.err)
-    (λ not_read enough. c.in_err-extent.ensures.whole (λ e. not_read (let same : f ≡ fault.Read = cc in same)) (λ e. enough (let same : f ≡ fault.Memory = cc in same)))
-    (λ e. c.in_err-extent.ensures.unread (ap Err e)) (λ other. c.in_err-extent.ensures.sound (λ e. other (let same : f ≡ fault.Read = cc in same)))
+    (by_input _ (IsMisread c.args.unit) (IsReadingFault t) f (λ input h. misread_box c.args.unit input f h) c.in_err-extent.ensures.err)
+    (λ not_read enough. c.in_err-extent.ensures.whole (λ e. not_read (let same : f ≡ read.Read = cc in same)) (λ e. enough (let same : f ≡ read.Memory = cc in same)))
+    (λ e. c.in_err-extent.ensures.unread (ap Err e)) (λ other. c.in_err-extent.ensures.sound (λ e. other (let same : f ≡ read.Read = cc in same)))
     (keeps_self _, refl)
 
 pub returns-in_err-line : goal.returns-in_err-line

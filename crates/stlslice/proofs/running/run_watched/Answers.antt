@@ -1,9 +1,10 @@
-use Rattle.std.proofs.Common.{◌≡◌, ◌∙◌, ap, inr, refl}
+use Rattle.std.proofs.Common.{◌≡◌, ◌∙◌, ap, refl}
 use Rattle.std.specs.Prelude.{Err, Ok}
 use Rattle.std.proofs.lemmas.Result.{IfErr-weaker, on_ok_weaker}
 use Rattle.build_book.specs.Job.{Job}
-use Rattle.stlslice.specs.Loading.{IsLoadFault}
-use Rattle.stlslice.proofs.lemmas.Faults.{IsWorkFault, by_input, unloaded, unplaced}
+use Rattle.mesh_reading.specs.Loading.{IsLoadFault}
+use Rattle.mesh_reading.specs.declared.read_fault.ReadFault.TheVariants as read
+use Rattle.stlslice.proofs.lemmas.Faults.{IsReadingFault, by_input, unloaded, unplaced}
 use Rattle.stlslice.specs.Outcome.{IsOutcome}
 use Rattle.stlslice.specs.SlicedText.{sliced_text}
 use Rattle.stlslice.specs.declared.run_fault.RunFault.TheVariants as fault
@@ -24,10 +25,10 @@ returns-in_err-solid-in-Slice g c =
     let t = task.Slice s.unit s.pitch s.layer s.rule s.workers s.report s.grid in
     rw s.is
     (unready c.from_residual.result t _ _ _ f c.from_residual.ensures.1
-    (by_input _ (IsLoadFault s.unit) (IsWorkFault t) f (λ input h. unloaded t input f refl h) c.in_err-solid-in-Slice.ensures.err)
-    (λ not_read enough. c.in_err-solid-in-Slice.ensures.whole (λ e. not_read (let same : f ≡ fault.Read = cc in same)) (λ e. enough (let same : f ≡ fault.Memory = cc in same)))
+    (by_input _ (IsLoadFault s.unit) (IsReadingFault t) f (λ input h. unloaded t input f refl h) c.in_err-solid-in-Slice.ensures.err)
+    (λ not_read enough. c.in_err-solid-in-Slice.ensures.whole (λ e. not_read (let same : f ≡ read.Read = cc in same)) (λ e. enough (let same : f ≡ read.Memory = cc in same)))
     (λ e. c.in_err-solid-in-Slice.ensures.unread (ap Err e))
-    (λ other. c.in_err-solid-in-Slice.ensures.sound (λ e. other (let same : f ≡ fault.Read = cc in same)))
+    (λ other. c.in_err-solid-in-Slice.ensures.sound (λ e. other (let same : f ≡ read.Read = cc in same)))
     (keeps_self _, refl))
 
 pub returns-in_err-grid-in-Slice : goal.returns-in_err-grid-in-Slice
@@ -35,12 +36,11 @@ returns-in_err-grid-in-Slice g c =
     let s = c.in-Slice in
     let from = c.in_ok-solid-in-Slice.ensures.ok in
     let t = task.Slice s.unit s.pitch s.layer s.rule s.workers s.report s.grid in
-    let e = c.in_err-grid-in-Slice.ensures.err in
     rw s.is
     (ended_early c.from_residual-in_err-grid-in-Slice.result t from.0 _ _ _ c.in_err-grid-in-Slice.field-0.0 from.1
     (c.in_ok-solid-in-Slice.ensures.whole (λ e. cc) (λ e. cc)) (c.in_ok-solid-in-Slice.ensures.sound (λ e. cc)) (keeps_self _, refl)
-    (unplaced t s.pitch s.layer s.grid from.0 c.in_err-grid-in-Slice.field-0.0 refl (λ solid cause none. rw none refl)
-    (inr (c.in_ok-solid-in-Slice.solid, from.2, e.0, e.1, e.2)))
+    (unplaced t s.pitch s.layer s.grid from.0 c.in_ok-solid-in-Slice.solid c.in_err-grid-in-Slice.field-0.0 refl (λ cause none. rw none refl) from.2
+    c.in_err-grid-in-Slice.ensures.err)
     c.from_residual-in_err-grid-in-Slice.ensures.1)
 
 pub returns-in_err-build-in-Slice : goal.returns-in_err-build-in-Slice

@@ -1,7 +1,7 @@
 use Rattle.std.proofs.Common.{◌≡◌, ◌∙◌, arith, subst, sym}
 use Rattle.std.specs.Prelude.{All}
+use Rattle.plane_segments.specs.Segment.{HasOrderedNodes}
 use Rattle.contour.specs.Loops.{AreLoops, loops}
-use Rattle.contour.specs.Segment.{HasOrderedNodes}
 use Rattle.contour.specs.Linker.{IsClear}
 use Rattle.contour.proofs.lemmas.Followers.{ok_from}
 use Rattle.contour.proofs.lemmas.LoopOrder.{loops-ordered}

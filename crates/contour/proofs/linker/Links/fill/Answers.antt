@@ -1,6 +1,7 @@
 use Rattle.std.proofs.Common.{◌≡◌, ◌<◌, ◌≤◌, ◌∙◌, List, ℕ, subst, sym, length, arith, get_or}
+use Rattle.plane_segments.proofs.lemmas.FacetOrder.{segments_below}
 use Rattle.contour.specs.Linker.{AreLinks, ArePopped}
-use Rattle.contour.proofs.lemmas.Links.{few-fits, segments_below, segment_edges-below, segment_edges-length}
+use Rattle.contour.proofs.lemmas.Links.{few-fits, segment_edges-below, segment_edges-length}
 use Rattle.contour.proofs.lemmas.Balanced.{segment_edges-even}
 use Rattle.contour.proofs.lemmas.Followers.{segment_edges-links}
 use Rattle.contour.proofs.lemmas.Traces.{cut}

@@ -7,4 +7,4 @@ use Rattle.mesh_weld.proofs.welder.Welder.count.Goals as goal
 
 pub returns-clause-whole : goal.returns-clause-whole
 returns-clause-whole g c facets e =
-    omega (arith, ap (λ (p : Welder). length p.kept + length p.degenerate) (c.self.view_is ∙ e), welder_length facets, length-map c.self.inside.ids.items (facet_by c.self.inside.points.items), c.self.inside.ids.ok.0, c.self.inside.degenerate.ok.0)
+    omega (arith, ap (λ (p : Welder). length p.kept + length p.degenerate) (c.self.view_is ∙ e), welder_length facets, length-map c.self.inside.kept (facet_by c.self.inside.points.items), c.self.inside.degenerate.ok.0)

@@ -76,7 +76,7 @@ loop-row-preserved g c =
       split = c.push_row-end.ensures.split;
       text = taken-on (g.W.Sink.contents c.args.w.now) (g.W.Sink.contents c.make_room-in-loop-row.new.w)
           (pending c.args.chunk.now at c.args.spans.now) c.args.before c.in_ok-written-2.written c.make_room-in-loop-row.new.self
-          c.push_row-end.new.chunk (row_bytes at.columns (λ i. covers c.args.spans.now i (c.loop-row.row - 1)))
+          c.push_row-end.new.self (row_bytes at.columns (λ i. covers c.args.spans.now i (c.loop-row.row - 1)))
           (lower_rows at.columns (covers c.args.spans.now) (c.loop-row.row - 1)) rest now
           (next-row at.columns c.loop-row.row (c.loop-row.row - 1) (covers c.args.spans.now) (omega arith)) c.push_row-end.ensures.drawn;
       same = out.same ∙ inv.same;

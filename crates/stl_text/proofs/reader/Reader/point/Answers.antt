@@ -8,8 +8,8 @@ use Rattle.stl_text.proofs.reader.Reader.point.Goals as goal
 
 pub returns : goal.returns
 returns c =
-    let to_y = spells_then (coordinate c.in_ok-x.x ∷ []) (coordinate c.in_ok-y.y ∷ []) c.in_ok-x.ensures c.in_ok-y.ensures in
-    let to_z = spells_then (coordinate c.in_ok-x.x ∷ coordinate c.in_ok-y.y ∷ []) (coordinate c.in_ok-z.z ∷ []) to_y c.in_ok-z.ensures in
+    let to_y = spells_then (coordinate c.in_ok-x.x ∷ []) (coordinate c.in_ok-y.y ∷ []) c.in_ok-x.ensures.some c.in_ok-y.ensures.some in
+    let to_z = spells_then (coordinate c.in_ok-x.x ∷ coordinate c.in_ok-y.y ∷ []) (coordinate c.in_ok-z.z ∷ []) to_y c.in_ok-z.ensures.some in
     let x_fits : FitsSigned w32 c.in_ok-x.x = search rules in
     let y_fits : FitsSigned w32 c.in_ok-y.y = search rules in
     let z_fits : FitsSigned w32 c.in_ok-z.z = search rules in

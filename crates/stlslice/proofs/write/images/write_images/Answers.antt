@@ -9,10 +9,10 @@ use Rattle.raster.specs.ImageWriter.{pending}
 use Rattle.raster.proofs.lemmas.Images.{small-images}
 use Rattle.raster.proofs.lemmas.Sent.{appends-kept}
 use Rattle.raster.proofs.lemmas.Written.{all-counted, all-out, more-out, moved, written-within}
+use Rattle.mesh_reading.proofs.lemmas.Faults.{passed_on}
 use Rattle.build_book.specs.Layer.{Layer}
 use Rattle.build_book.specs.Job.{Job}
 use Rattle.stlslice.specs.SlicedText.{image}
-use Rattle.stlslice.proofs.lemmas.Faults.{passed_on}
 use Rattle.stlslice.proofs.lemmas.Stream.{image_at, images_from, layer_at, none_left, with_image}
 use Rattle.stlslice.proofs.write.images.write_images.Goals as goal
 

@@ -1,0 +1,3 @@
+pub mod Extents
+pub mod Faults
+pub mod Reading

@@ -1,0 +1,4 @@
+pub mod Extent
+pub mod Transcript
+pub mod Round
+pub mod Loading

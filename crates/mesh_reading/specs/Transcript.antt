@@ -1,0 +1,12 @@
+-- What is known of a device before and after calls of it.
+use Rattle.std.specs.Prelude.{ℕ, List, Option}
+
+-- the bytes that a sink holds or a source has left, where they are known, and the count of failed calls
+pub record Transcript : Type 0 where
+  pub old : Option (List ℕ)
+  pub new : Option (List ℕ)
+  pub failed_before : ℕ
+  pub failed : ℕ
+
+abbrev pub transcript : Option (List ℕ) → Option (List ℕ) → ℕ → ℕ → Transcript
+transcript old new failed_before failed = record { old = old; new = new; failed_before = failed_before; failed = failed }

@@ -1,0 +1,220 @@
+//! Reads a text to its end: the facets that it spells, and the closed mesh that they make.
+ghost use Rattle.std.specs.Prelude.{◌≡◌, ◌<◌, ◌++◌, IfErr, List, Ok, OnOk, Option, false, length, ℕ};
+ghost use Rattle.std.specs.Io.KnownBytes.{IsAtEnd};
+ghost use Rattle.geometry.specs.Facet.{Facet};
+ghost use Rattle.micro_num.specs.declared.unit.Unit.{Unit as LengthUnit};
+ghost use Rattle.raster.specs.Devices.{Fails};
+ghost use Rattle.mesh_reading.specs.Loading.{IsAllWelded, IsFed, IsLoadFault, IsLoaded, IsMisread, IsReadAs, IsSolidOf, IsTextExtent, OfText};
+ghost use Rattle.mesh_reading.specs.Transcript.{transcript};
+ghost use Rattle.mesh_reading.specs.declared.read_fault.ReadFault.TheVariants.{Read};
+
+use crate::extent::Extent;
+use crate::read_fault::ReadFault;
+use crate::round::Round;
+use crate::round_work::{read_and_weld, weld_next};
+use crate::window::{WINDOW_LEN, fill};
+use geometry::{FACET_LIMIT, Facet};
+use mesh_weld::{Solid, Welder};
+use micro_num::Unit;
+use raster::Source;
+use std::alloc::Allocator;
+use std::mem::swap;
+use std::thread::Threads;
+use stl_text::TextReader;
+
+/// The number of bytes for each worker, where several read at the same time.
+const WORKER_LEN: usize = 1 << 20;
+
+/// The greatest number of bytes that a round waits for. It may have up to a window more.
+const ROUND_LIMIT: usize = 1 << 23;
+
+/// The closed mesh of an ASCII STL text whose numbers are in `unit`. Facets with two equal corners are dropped.
+///
+/// Memory aside, a text has one answer: `Stl` where it does not read as facets, else `Weld` where the edges of all its
+/// facets do not balance, else the mesh. `Memory` comes only where an allocation failed. No other fault comes.
+pub fn load<A: Allocator + Copy + Send + Sync>(
+    alloc: A,
+    bytes: &[u8],
+    unit: Unit,
+) -> Result<Solid<A>, ReadFault>
+    ensures { IsLoaded unit bytes.now result }
+{
+    let welder = Welder::new(alloc);
+    let mut reader = TextReader::new(alloc, FACET_LIMIT, unit);
+    reader.feed(bytes);
+    weld_end(reader, welder)
+}
+
+/// The closed mesh that a source spells, which is read to its end and welded as its facets come. Of the text no more is held
+/// than a window and the front of a word that it cuts; of the facets that are not welded yet, those of a window.
+///
+/// # Errors
+/// Those of [`load`], and `Read` where a call of the source failed, which is not tried again. The source is read to its end
+/// unless the fault is `Read` or `Memory`.
+pub fn read_solid<A: Allocator + Copy + Send + Sync, I: Source>(
+    alloc: A,
+    source: &mut I,
+    unit: Unit,
+) -> Result<Solid<A>, ReadFault>
+    ensures { IsReadAs (IsSolidOf unit) (IsLoadFault unit) result
+        (transcript (I.remaining source.old) (I.remaining source.new) (I.Failures.failure_count source.old) (I.Failures.failure_count source.new)) }
+{
+    let mut fresh = Vec::new(alloc);
+    let mut reader = TextReader::new(alloc, FACET_LIMIT, unit);
+    let mut welder = Welder::new(alloc);
+    let mut window = [0; WINDOW_LEN];
+    // the bound shows that the loop ends; no input is so long
+    for _ in 0..u64::MAX {
+        let is_more = next_facets(source, &mut window, &mut reader, &mut fresh)?;
+        weld_next(&mut welder, fresh.as_slice())?;
+        if !is_more {
+            return weld_end(reader, welder);
+        }
+    }
+    // never reached
+    Err(ReadFault::Memory)
+}
+
+/// The same as [`read_solid`], read by up to `workers` workers at the same time. Where they are several, rounds stand
+/// in place of windows. Two rounds are held, the one that is read and the one that is filled, and the facets of two: those that
+/// are welded, and those that are read meanwhile.
+///
+/// # Errors
+/// Those of [`read_solid`].
+pub fn read_solid_by<R: Threads + Sync, A: Allocator + Copy + Send + Sync, I: Source>(
+    rt: &R,
+    alloc: A,
+    source: &mut I,
+    unit: Unit,
+    workers: u32,
+) -> Result<Solid<A>, ReadFault>
+    ensures { IsReadAs (IsSolidOf unit) (IsLoadFault unit) result
+        (transcript (I.remaining source.old) (I.remaining source.new) (I.Failures.failure_count source.old) (I.Failures.failure_count source.new)) }
+{
+    if workers < 2 {
+        return read_solid(alloc, source, unit);
+    }
+    let mut reader = TextReader::new(alloc, FACET_LIMIT, unit);
+    let mut welder = Welder::new(alloc);
+    let mut round = Round::new(alloc, round_len(workers))?;
+    let mut next = Round::new(alloc, round_len(workers))?;
+    let mut facets = Vec::new(alloc);
+    let mut is_more = true;
+    // the bound shows that the loop ends; no input is so long
+    for _ in 0..u64::MAX {
+        let is_next = read_and_weld(
+            rt,
+            workers,
+            &mut reader,
+            round.bytes(),
+            &mut welder,
+            facets.as_slice(),
+            source,
+            &mut next,
+            is_more,
+        )?;
+        reader.take_facets(&mut facets);
+        if !is_more {
+            weld_next(&mut welder, facets.as_slice())?;
+            return weld_end_by(rt, reader, welder);
+        }
+        swap(&mut round, &mut next);
+        is_more = is_next;
+    }
+    // never reached
+    Err(ReadFault::Memory)
+}
+
+/// The closed mesh of the facets that a welder has, and of those after them that a reader still has at the end of its
+/// text.
+fn weld_end<A: Allocator + Copy + Send + Sync>(
+    reader: TextReader<A>,
+    welder: Welder<A>,
+) -> Result<Solid<A>, ReadFault>
+    ensures { OfText welder reader (λ unit fed. IsLoaded unit fed result) }
+{
+    let all = weld_last(reader, welder)?;
+    Ok(all.finish()?)
+}
+
+/// The same as [`weld_end`], where several threads work at the same time.
+fn weld_end_by<R: Threads + Sync, A: Allocator + Copy + Send + Sync>(
+    rt: &R,
+    reader: TextReader<A>,
+    welder: Welder<A>,
+) -> Result<Solid<A>, ReadFault>
+    ensures { OfText welder reader (λ unit fed. IsLoaded unit fed result) }
+{
+    let all = weld_last(reader, welder)?;
+    Ok(all.finish_by(rt)?)
+}
+
+/// The welder with the facets that a reader still has at the end of its text.
+fn weld_last<A: Allocator + Copy + Send + Sync>(
+    reader: TextReader<A>,
+    mut welder: Welder<A>,
+) -> Result<Welder<A>, ReadFault>
+    ensures { OfText welder reader (λ unit fed. IsAllWelded unit fed result) }
+{
+    let last = reader.finish()?;
+    weld_next(&mut welder, last.as_slice())?;
+    Ok(welder)
+}
+
+/// The number of bytes that a round of these workers waits for.
+fn round_len(workers: u32) -> usize {
+    WORKER_LEN.saturating_mul(workers as usize).min(ROUND_LIMIT)
+}
+
+/// How many facets a source spells, and their bounding box. It is read to its end; neither its text nor its facets are
+/// held.
+///
+/// # Errors
+/// Those of [`read_solid`], but for `Weld`: the facets need not be closed.
+pub fn read_extent<A: Allocator + Copy + Send + Sync, I: Source>(
+    alloc: A,
+    source: &mut I,
+    unit: Unit,
+) -> Result<Extent, ReadFault>
+    ensures { IsReadAs (IsTextExtent unit) (IsMisread unit) result
+        (transcript (I.remaining source.old) (I.remaining source.new) (I.Failures.failure_count source.old) (I.Failures.failure_count source.new)) }
+{
+    let mut reader = TextReader::new(alloc, FACET_LIMIT, unit);
+    let mut extent = Extent::none();
+    let mut facets = Vec::new(alloc);
+    let mut window = [0; WINDOW_LEN];
+    // the bound shows that the loop ends; no input is so long
+    for _ in 0..u64::MAX {
+        let is_more = next_facets(source, &mut window, &mut reader, &mut facets)?;
+        extent = extent.with(facets.as_slice());
+        if !is_more {
+            let last = reader.finish()?;
+            return Ok(extent.with(&last));
+        }
+    }
+    // never reached
+    Err(ReadFault::Memory)
+}
+
+/// Feeds a reader with a window that is filled from a source, and takes the facets off it that are whole then: `false` at
+/// the end of the source.
+fn next_facets<A: Allocator, I: Source>(
+    source: &mut I,
+    window: &mut [u8],
+    reader: &mut TextReader<A>,
+    facets: &mut Vec<Facet, A>,
+) -> Result<bool, ReadFault>
+    requires { 0 < length window.old }
+    ensures len { length window.new ≡ length window.old }
+    ensures fed { OnOk result ((unit : LengthUnit) (taken : List Facet) (start : Option (List ℕ))
+        → IsFed unit taken reader.old start (I.remaining source.old)
+        → IsFed unit (taken ++ facets.new.items) reader.new start (I.remaining source.new)) }
+    ensures whole { result ≡ Ok false → IsAtEnd (I.remaining source.new) }
+    ensures err { IfErr result (λ fault. (fault ≡ Read) × Fails (I.Failures.failure_count source.old) (I.Failures.failure_count source.new)) }
+    ensures sound { OnOk result (I.Failures.failure_count source.new ≡ I.Failures.failure_count source.old) }
+{
+    let count = fill(source, window)?;
+    reader.feed(&window[..count]);
+    reader.take_facets(facets);
+    Ok(count > 0)
+}

@@ -1,0 +1,13 @@
+use Rattle.std.proofs.Common.{◌≡◌, length, take, subst, sym, arith}
+use Rattle.std.proofs.lemmas.List.{take_all}
+use Rattle.mesh_weld.specs.HalfEdge.{half_edges_from, ArePairNumbers}
+use Rattle.mesh_weld.proofs.lemmas.EdgeChains.{numbered_pairs}
+use Rattle.mesh_weld.proofs.by_hash.numbered_facets.FirstNumbers.of_all.Goals as goal
+
+pub returns-clause-numbers : goal.returns-clause-numbers
+returns-clause-numbers g c =
+    let own = c.args.self in let ts = c.args.ids.now in
+    let count : c.len.result ≡ length own.chains.edges.items = omega (arith, own.chains.edges.ok.0) in
+    subst (λ l. ArePairNumbers (half_edges_from 0 l) own.numbers.items c.len.result) (take_all own.facets ts (omega arith))
+    (subst (ArePairNumbers (half_edges_from 0 (take own.facets ts)) own.numbers.items) (sym count)
+    (numbered_pairs (half_edges_from 0 (take own.facets ts)) own.chains.heads.items own.chains.edges.items own.numbers.items c.requires.first))

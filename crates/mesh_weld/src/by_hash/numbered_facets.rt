@@ -1,0 +1,161 @@
+//! Facets by the ids of their corners, whose half-edges get the numbers of their edges while further facets come. In each
+//! list all corners are named first and all edges numbered then. Naming waits for memory, and numbering in between would
+//! hold it up.
+ghost use Rattle.std.specs.Prelude.{◌≡◌, ◌≤◌, ◌++◌, [], ◌∷◌, ℕ, List, IfOk, IfSome, IsTrue, OnOk, length, take};
+ghost use Rattle.mesh_weld.specs.EdgeChains.{AreInHalfWords, AreNumbered};
+ghost use Rattle.mesh_weld.specs.HalfEdge.{half_edges_from, ArePairNumbers};
+
+use crate::by_hash::edges::EdgeChains;
+use crate::half_edge::EdgeNumbering;
+use std::alloc::{AllocError, Allocator};
+use std::marker::Model;
+
+/// Meshes with fewer kept facets are numbered by sorts, which are as fast there.
+const LEAST_CHAINED: usize = 4096;
+
+/// The numbers of the edges of the first facets of a list, three a facet.
+#[derive(Drop)]
+struct FirstNumbers<A: Allocator> {
+    chains: EdgeChains<A>,
+    numbers: Vec<u32, A>,
+    /// The number of facets.
+    facets: usize,
+}
+
+impl<A: Allocator + Copy> FirstNumbers<A> {
+    /// Numbers the half-edges of the further facets, between `count` vertices. The answer is whether the chains gave all
+    /// their numbers.
+    fn number(&mut self, ids: &[[u32; 3]], count: usize) -> Result<bool, AllocError>
+        requires few { self.old.facets ≤ length ids.now }
+        requires first { AreNumbered (half_edges_from 0 (take self.old.facets ids.now)) self.old.chains.heads.items self.old.chains.edges.items self.old.numbers.items }
+        ensures all { IfOk result (λ served. IsTrue served → self.new.facets ≡ length ids.now) }
+        ensures numbers { IfOk result (λ served. IsTrue served → AreNumbered (half_edges_from 0 ids.now) self.new.chains.heads.items self.new.chains.edges.items self.new.numbers.items) }
+    {
+        self.chains.add_vertices(count)?;
+        for at in self.facets..ids.len() {
+            let Some(own) = self.chains.numbers(&ids[at])? else {
+                return Ok(false);
+            };
+            self.numbers.extend_from_slice(&own)?;
+        }
+        self.facets = ids.len();
+        Ok(true)
+    }
+
+    /// The numbers, if they are those of all facets. The chains are dropped.
+    fn of_all(self, ids: &[[u32; 3]]) -> Option<EdgeNumbering<A>>
+        requires first { AreNumbered (half_edges_from 0 (take self.facets ids.now)) self.chains.heads.items self.chains.edges.items self.numbers.items }
+        ensures numbers { IfSome result (λ own. ArePairNumbers (half_edges_from 0 ids.now) own.numbers.items own.count) }
+        ensures small { IfSome result (λ own. AreInHalfWords (half_edges_from 0 ids.now)) }
+    {
+        let FirstNumbers {
+            chains,
+            numbers,
+            facets,
+        } = self;
+        if facets < ids.len() {
+            return None;
+        }
+        Some(EdgeNumbering {
+            numbers,
+            count: chains.edges.len() as u32,
+        })
+    }
+}
+
+/// Facets by ids, and the numbers of the first ones' edges.
+#[derive(Drop)]
+pub(crate) struct NumberedFacets<A: Allocator> {
+    alloc: A,
+    ids: Vec<[u32; 3], A>,
+    /// `None` where the chains did not give all numbers.
+    first: Option<FirstNumbers<A>>,
+}
+
+impl<A: Allocator> Model for NumberedFacets<A> {
+    ghost use Rattle.std.specs.Prelude.{◌≤◌, ℕ, List, IfSome, length, take};
+    ghost use Rattle.mesh_weld.specs.EdgeChains.{AreNumbered};
+    ghost use Rattle.mesh_weld.specs.HalfEdge.{half_edges_from};
+
+    ghost Value = { List (List ℕ) };
+
+    ghost view = { λ f. f.ids.items };
+
+    ghost invariant = { λ f. IfSome f.first (λ own. (own.facets ≤ length f.ids.items) × AreNumbered (half_edges_from 0 (take own.facets f.ids.items)) own.chains.heads.items own.chains.edges.items own.numbers.items) };
+}
+
+impl<A: Allocator + Copy> NumberedFacets<A> {
+    /// No facet.
+    pub(crate) fn new(alloc: A) -> NumberedFacets<A>
+        ensures { result ≡ [] }
+    {
+        NumberedFacets {
+            alloc,
+            ids: Vec::new(alloc),
+            first: Some(FirstNumbers {
+                chains: EdgeChains::new(alloc),
+                numbers: Vec::new(alloc),
+                facets: 0,
+            }),
+        }
+    }
+
+    /// The number of facets.
+    pub(crate) fn len(&self) -> usize
+        ensures { result ≡ length self.now }
+    {
+        self.ids.len()
+    }
+
+    /// Puts a facet after the others.
+    pub(crate) fn push(&mut self, own: [u32; 3]) -> Result<(), AllocError>
+        ensures { OnOk result (self.new ≡ self.old ++ own ∷ []) }
+    {
+        self.ids.push(own)?;
+        Ok(())
+    }
+
+    /// Numbers the half-edges of facets that have no numbers yet, between `count` vertices. Where chains do not serve, all
+    /// numbers are dropped, and none are made any more.
+    pub(crate) fn number(&mut self, count: usize) -> Result<(), AllocError>
+        ensures { self.new ≡ self.old }
+    {
+        if self.ids.len() < LEAST_CHAINED {
+            return Ok(());
+        }
+        let Some(first) = &mut self.first else {
+            return Ok(());
+        };
+        let served = first.number(self.ids.as_slice(), count);
+        if served != Ok(true) {
+            self.first = None;
+        }
+        served?;
+        Ok(())
+    }
+
+    /// Takes all facets away.
+    pub(crate) fn clear(&mut self)
+        ensures { self.new ≡ [] }
+    {
+        *self = NumberedFacets::new(self.alloc);
+    }
+
+    /// The ids, and the numbers of the edges of all facets where there are these.
+    pub(crate) fn into_parts(self) -> (Vec<[u32; 3], A>, Option<EdgeNumbering<A>>)
+        ensures ids { result.0.items ≡ self }
+        ensures numbers { IfSome result.1 (λ own. ArePairNumbers (half_edges_from 0 self) own.numbers.items own.count) }
+        ensures small { IfSome result.1 (λ own. AreInHalfWords (half_edges_from 0 self)) }
+    {
+        let NumberedFacets {
+            alloc: _,
+            ids,
+            first,
+        } = self;
+        let numbers = match first {
+            Some(first) => first.of_all(ids.as_slice()),
+            None => None,
+        };
+        (ids, numbers)
+    }
+}

@@ -1,0 +1,4 @@
+pub mod Cutting
+pub mod Positions
+pub mod FacetOrder
+pub mod NodeOrder

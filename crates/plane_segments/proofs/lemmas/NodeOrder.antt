@@ -1,0 +1,75 @@
+-- The nodes of a segment are ordered: the corners of a kept facet have three distinct numbers.
+use Rattle.std.proofs.Common.{◌≡◌, ◌≢◌, ℕ, zero, suc, ◌+◌, ◌*◌, ◌<◌, min, max, true, List, [], ◌∷◌, ◌++◌, ◌∙◌, refl, ap, sym, subst, length, get_or, arith, map, Some}
+use Rattle.std.proofs.lemmas.List.Elements.{All-append, All-cons, All-nil}
+use Rattle.std.specs.Prelude.{All, slice_get}
+use Rattle.geometry.specs.Point.{Point, origin}
+use Rattle.geometry.specs.Facet.{Facet, Edge, corners, edge, edges}
+use Rattle.mesh_weld.specs.Solid.{number_of, triples, vertices}
+use Rattle.mesh_weld.specs.EdgeNumbers.{edge_of}
+use Rattle.mesh_weld.proofs.lemmas.InOrder.{is_in}
+use Rattle.mesh_weld.proofs.lemmas.Transfer.{number_found, ends_are_vertices}
+use Rattle.plane_segments.specs.declared.segment.Node.{Node}
+use Rattle.plane_segments.specs.declared.segment.Segment.{Segment}
+use Rattle.plane_segments.specs.Segment.{HasOrderedNodes, edge_node, node_of}
+use Rattle.plane_segments.proofs.lemmas.Cutting.{edge_at, edge_node-is, facet_at-is, triples_at}
+
+between-ordered : (m n : ℕ) → (m ≡ n → ⊥) → min m n < max m n
+between-ordered m n h = grind arith
+
+edge-at : (fs : List Facet) (k s : ℕ) → k < length fs → s < 3
+    → (3 * k + s < length (edges fs)) × (get_or (edges fs) (3 * k + s) (edge origin origin) ≡ edge_of fs k s)
+edge-at [] k s l m = absurd (omega (arith, l))
+edge-at (t ∷ ts) zero zero l m = (omega arith, refl)
+edge-at (t ∷ ts) zero (suc zero) l m = (omega arith, refl)
+edge-at (t ∷ ts) zero (suc (suc zero)) l m = (omega arith, refl)
+edge-at (t ∷ ts) zero (suc (suc (suc s))) l m = absurd (omega (arith, m))
+edge-at (t ∷ ts) (suc k) s l m =
+    let at : suc (suc (suc (3 * k + s))) ≡ 3 * suc k + s = omega arith in
+    let rest : (3 * k + s < length (edges ts)) × (get_or (edges ts) (3 * k + s) (edge origin origin) ≡ edge_of ts k s) = edge-at ts k s (omega (arith, l)) m in
+    (let low : 3 * k + s < length (edges ts) = rest.0 in omega (arith, low), ap (λ i. get_or (edges (t ∷ ts)) i (edge origin origin)) (sym at) ∙ rest.1)
+
+module _ (facets : List Facet) where
+  -- two points that are vertices
+  abbrev pub Within : Point → Point → Type 0
+  Within p q = (is_in p (vertices facets) ≡ true) × (is_in q (vertices facets) ≡ true)
+
+  pub ends_in : (n k : ℕ) → n < length facets → k < 3 → Within (edge_of facets n k).from (edge_of facets n k).to
+  ends_in n k l m =
+      let p = edge-at facets n k l m in
+      subst (λ (e : Edge). Within e.from e.to) p.1 (ends_are_vertices facets (3 * n + k) (edge origin origin) p.0)
+
+  pub same_number : (p q : Point) → is_in p (vertices facets) ≡ true → is_in q (vertices facets) ≡ true
+      → number_of (vertices facets) p ≡ number_of (vertices facets) q → p ≡ q
+  same_number p q k l e = sym (number_found p (vertices facets) k).1 ∙ ap (λ n. get_or (vertices facets) n origin) e ∙ (number_found q (vertices facets) l).1
+
+  pub node_of-ordered : (e : Edge) → e.from ≢ e.to → Within e.from e.to
+      → (node_of (vertices facets) e).low < (node_of (vertices facets) e).high
+  node_of-ordered e apart there =
+      between-ordered (number_of (vertices facets) e.from) (number_of (vertices facets) e.to)
+      (λ h. apart (same_number e.from e.to there.0 there.1 h))
+
+  -- the node of edge 0, 1 or 2 of a facet with distinct corners
+  pub edge_node-ordered : (n : ℕ) (t : Facet) (numbers : List ℕ) (e : ℕ) → n < length facets → e < 3 → slice_get facets n ≡ Some t
+      → numbers ≡ get_or (triples facets) n [] → (t.a ≢ t.b) × (t.b ≢ t.c) × (t.c ≢ t.a)
+      → (edge_node numbers e).low < (edge_node numbers e).high
+  edge_node-ordered n t numbers e l below is numbered distinct =
+      let same = facet_at-is facets n t is in
+      let own : numbers ≡ map (number_of (vertices facets)) (corners t) =
+      numbered ∙ triples_at facets n l ∙ ap (λ u. map (number_of (vertices facets)) (corners u)) same in
+      subst (λ (m : Node). m.low < m.high) (sym (ap (λ ns. edge_node ns e) own ∙ edge_node-is (vertices facets) t e below))
+      (node_of-ordered (edge_at t e) (apart e below) (there e below))
+    where
+      apart : (k : ℕ) → k < 3 → (edge_at t k).from ≢ (edge_at t k).to
+      apart zero m = distinct.0
+      apart (suc zero) m = distinct.1
+      apart (suc (suc k)) m = distinct.2
+
+      there : (k : ℕ) → k < 3 → Within (edge_at t k).from (edge_at t k).to
+      there zero m = subst (λ (u : Facet). Within u.a u.b) (facet_at-is facets n t is) (ends_in n 0 l m)
+      there (suc zero) m = subst (λ (u : Facet). Within u.b u.c) (facet_at-is facets n t is) (ends_in n 1 l m)
+      there (suc (suc zero)) m = subst (λ (u : Facet). Within u.c u.a) (facet_at-is facets n t is) (ends_in n 2 l m)
+      there (suc (suc (suc k))) m = absurd (omega arith)
+
+-- one more segment
+pub ordered-more : (segments : List Segment) (s : Segment) → All HasOrderedNodes segments → HasOrderedNodes s → All HasOrderedNodes (segments ++ s ∷ [])
+ordered-more segments s h own = All-append HasOrderedNodes segments (s ∷ []) h (All-cons HasOrderedNodes s [] own (All-nil HasOrderedNodes))

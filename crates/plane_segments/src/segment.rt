@@ -1,0 +1,94 @@
+//! A segment is where a plane cuts a facet. It runs between edges of the mesh and not between points, so that it is
+//! exact, and so that two segments meet exactly where they name the same edge.
+ghost use Rattle.std.specs.Prelude.{◌≡◌, ◌<◌, ◌↔◌, All, IfOk, IfSome, IsSome, length};
+ghost use Rattle.exact_int.specs.Bounds.{IsAtMost};
+ghost use Rattle.geometry.specs.Facet.{twice};
+ghost use Rattle.exact_cut.specs.Cut.{IsBetween};
+ghost use Rattle.mesh_weld.specs.Solid.{facet_at, vertices};
+ghost use Rattle.plane_segments.specs.Segment.{HasOrderedNodes, between, edge_node, segment_of, segments};
+ghost use Rattle.geometry.specs.declared.limits.TheConstants.{CENTRE_LIMIT};
+
+use exact_cut::cuts;
+use mesh_weld::Solid;
+use std::alloc::{AllocError, Allocator};
+
+/// An edge without direction, by the numbers of its vertices. In the segments of a mesh `low` is below `high`.
+#[derive(Clone, Copy, Debug, PartialEq, Eq)]
+pub struct Node {
+    pub low: u32,
+    pub high: u32,
+}
+
+impl Node {
+    /// The node of the edge between two vertices.
+    pub fn between(a: u32, b: u32) -> Node
+        ensures { result ≡ between a b }
+    {
+        Node {
+            low: a.min(b),
+            high: a.max(b),
+        }
+    }
+}
+
+/// Where a plane cuts a facet: from the node of its downward edge to that of its upward edge.
+/// `facet` is the facet's number among the kept ones, from 0.
+#[derive(Clone, Copy, Debug, PartialEq, Eq)]
+pub struct Segment {
+    pub facet: u32,
+    pub from: Node,
+    pub to: Node,
+}
+
+/// The segment of the kept facet with this number, at the height `z2` in half-micrometres; `None` where the plane
+/// does not cut the facet: no corner counts as below `z2`, by the tie rule, or none is above it. The number is below the
+/// solid's `count`, and `z2` at most `geometry::CENTRE_LIMIT` from 0. Of each node `low` is below `high`, since the corners
+/// are distinct.
+pub fn segment_at<A: Allocator>(s: &Solid<A>, facet: u32, z2: i64) -> Option<Segment>
+    requires facet { facet < length s.now.facets }
+    requires height { IsAtMost CENTRE_LIMIT z2 }
+    ensures segment { result ≡ segment_of (vertices s.now.facets) z2 (record { 0 = facet; 1 = facet_at s.now.facets facet }) }
+    ensures some { IsSome result ↔ IsBetween (twice (facet_at s.now.facets facet)) z2 }
+    ensures ordered { IfSome result HasOrderedNodes }
+{
+    let cut = cuts(&s.facet(facet), z2)?;
+    let corners = s.triples()[facet as usize];
+    Some(Segment {
+        facet,
+        from: edge_node(&corners, cut.down),
+        to: edge_node(&corners, cut.up),
+    })
+}
+
+/// The node of a facet's edge with this number, by the numbers of the facet's corners.
+fn edge_node(corners: &[u32; 3], edge: usize) -> Node
+    requires edge { edge < 3 }
+    ensures { result ≡ edge_node corners.now edge }
+{
+    match edge {
+        0 => Node::between(corners[0], corners[1]),
+        1 => Node::between(corners[1], corners[2]),
+        _ => Node::between(corners[2], corners[0]),
+    }
+}
+
+/// The segments at the height `z2` in half-micrometres, at most `geometry::CENTRE_LIMIT` from 0, in order of facets.
+/// It looks at every kept facet; a `Sweep` of `contour`, through many heights, does not. `Err` comes only where an
+/// allocation failed.
+pub fn segments<A: Allocator + Copy + Send + Sync>(
+    alloc: A,
+    s: &Solid<A>,
+    z2: i64,
+) -> Result<Vec<Segment, A>, AllocError>
+    requires { IsAtMost CENTRE_LIMIT z2 }
+    ensures segments { IfOk result (λ list. list.items ≡ segments s.now.facets z2) }
+    ensures ordered { IfOk result (λ list. All HasOrderedNodes list.items) }
+{
+    let mut list = Vec::new(alloc);
+    for facet in 0..s.count() as u32 {
+        if let Some(segment) = segment_at(s, facet, z2) {
+            list.push(segment)?;
+        }
+    }
+    Ok(list)
+}

@@ -1,0 +1,49 @@
+use Rattle.std.proofs.Common.{◌≡◌, ◌≤◌, ◌+◌, ◌-◌, ◌++◌, ◌∙◌, Bool, List, ℕ, suc, ap, arith, append_assoc, length, length-append, sym}
+use Rattle.std.specs.Int.{div_ceil}
+use Rattle.raster.specs.Image.{image_of_pixels, row_bytes}
+use Rattle.raster.specs.Span.{covers}
+use Rattle.raster.proofs.lemmas.Written.{length-row, lower_rows, next-row}
+use Rattle.raster.proofs.pbm.page.Page.draw.Goals as goal
+
+-- a row more is drawn
+row-added : (width m n : ℕ) (pixel : ℕ → ℕ → Bool) (bytes new text : List ℕ) → m ≡ suc n
+    → bytes ++ lower_rows width pixel m ≡ text → new ≡ bytes ++ row_bytes width (λ i. pixel i n) → new ++ lower_rows width pixel n ≡ text
+row-added width m n pixel bytes new text next before is =
+    ap (λ (l : List ℕ). l ++ lower_rows width pixel n) is
+    ∙ append_assoc bytes (row_bytes width (λ i. pixel i n)) (lower_rows width pixel n)
+    ∙ ap (λ (l : List ℕ). bytes ++ l) (sym (next-row width m n pixel next))
+    ∙ before
+
+-- the next row has room
+row-fits : (width m n room : ℕ) (pixel : ℕ → ℕ → Bool) (bytes text : List ℕ) → m ≡ suc n
+    → bytes ++ lower_rows width pixel m ≡ text → length text ≤ room → length bytes + div_ceil width 8 ≤ room
+row-fits width m n room pixel bytes text next before fits =
+    omega (
+      arith,
+      fits,
+      ap (λ (l : List ℕ). length l) before,
+      length-append bytes (lower_rows width pixel m),
+      ap (λ (l : List ℕ). length l) (next-row width m n pixel next),
+      length-append (row_bytes width (λ i. pixel i n)) (lower_rows width pixel n),
+      length-row width (λ i. pixel i n),
+    )
+
+pub push_row-end-requires-clause-room : goal.push_row-end-requires-clause-room
+push_row-end-requires-clause-room g c =
+    let at = c.args.g.now in
+    let image : List ℕ = image_of_pixels at.columns at.rows (covers c.args.spans.now) in
+    let fits : length (c.args.self.now.bytes ++ image) ≤ c.loop-row.self.room = omega (arith, c.requires.room, c.loop-row.invariant.room, length-append c.args.self.now.bytes image) in
+    row-fits at.columns c.loop-row.row (c.loop-row.row - 1) c.loop-row.self.room (covers c.args.spans.now) c.loop-row.self.bytes
+    (c.args.self.now.bytes ++ image) (omega arith) c.loop-row.invariant.text fits
+
+pub loop-row-preserved : goal.loop-row-preserved
+loop-row-preserved g c =
+    let at = c.args.g.now in
+    let inv = c.loop-row.invariant in
+    record {
+      rows = omega (arith, inv.rows);
+      split = c.push_row-end.ensures.split;
+      text = row-added at.columns c.loop-row.row (c.loop-row.row - 1) (covers c.args.spans.now) c.loop-row.self.bytes c.push_row-end.new.self.bytes
+          (c.args.self.now.bytes ++ image_of_pixels at.columns at.rows (covers c.args.spans.now)) (omega arith) inv.text c.push_row-end.ensures.drawn;
+      room = c.push_row-end.ensures.room ∙ inv.room;
+    }

@@ -1,0 +1,78 @@
+//! The images of all layers where a build has several workers: whether they draw at the same time.
+ghost use Rattle.std.specs.Prelude.{◌≡◌, IfErr, OnOk, true};
+ghost use Rattle.std.specs.Io.KnownBytes.{Appends};
+ghost use Rattle.mesh_reading.specs.Transcript.{transcript};
+ghost use Rattle.stlslice.specs.Pages.{images_of};
+ghost use Rattle.stlslice.specs.Unwritten.{IsUnwritten};
+
+use crate::run_fault::RunFault;
+use crate::write::flush::settle;
+use crate::write::images::write_images;
+use crate::write::pages::{page_sets, put_by_pages};
+use build_book::Build;
+use raster::{Grid, Sink, image_len};
+use std::alloc::Allocator;
+use std::thread::Threads;
+
+/// The number of bytes of images that a page has, unless a single image is longer.
+const PAGE_LEN: usize = 1 << 18;
+
+/// The greatest length of an image that is drawn into a page.
+const DRAWN_LIMIT: u64 = 1 << 20;
+
+/// Where a row has more spans than this on average, drawing images takes longer than writing them.
+const FEW_SPANS: u64 = 8;
+
+/// The same as [`write_images`], for a build by several workers. Where the layers have many spans, so that drawing takes longer
+/// than writing, up to `workers` workers draw images at the same time, while others are written. The memory for that is
+/// allocated before the first byte is written; where there is none, one worker does all.
+pub(crate) fn write_images_by<R: Threads + Sync, A: Allocator + Copy + Send + Sync, O: Sink>(
+    rt: &R,
+    alloc: A,
+    build: &Build<'_, A>,
+    sink: &mut O,
+    workers: u32,
+) -> Result<(), RunFault>
+    ensures flushed { OnOk result (O.is_settled sink.new ≡ true) }
+    ensures ok { OnOk result (Appends (O.contents sink.old) (O.contents sink.new) (images_of build.now.job)) }
+    ensures same { OnOk result (O.Failures.failure_count sink.new ≡ O.Failures.failure_count sink.old) }
+    ensures err { IfErr result (IsUnwritten (transcript (O.contents sink.old) (O.contents sink.new) (O.Failures.failure_count sink.old) (O.Failures.failure_count sink.new)) (images_of build.now.job)) }
+{
+    let per = images_a_page(build.job().grid(), workers);
+    if workers < 2 || per == 0 || !has_many_spans(build) {
+        return write_images(build, sink);
+    }
+    let pages = build
+        .layers()
+        .len()
+        .div_ceil(per)
+        .min(workers as usize)
+        .max(1);
+    let Ok((now, next)) = page_sets(alloc, build.job().grid(), per, pages) else {
+        return write_images(build, sink);
+    };
+    let written = put_by_pages(rt, build, per, now, next, sink)?;
+    settle(sink, written)
+}
+
+/// How many images of this grid a page has, where a set has a page for each of these workers: 0 where an image is too long for
+/// a page.
+fn images_a_page(grid: &Grid, workers: u32) -> usize {
+    let len = image_len(grid);
+    if len > DRAWN_LIMIT {
+        return 0;
+    }
+    let share = grid.layers().div_ceil(workers.max(1)) as usize;
+    (PAGE_LEN / (len as usize).max(1)).min(share).max(1)
+}
+
+/// Whether drawing the images of a build takes longer than writing them.
+fn has_many_spans<A: Allocator>(build: &Build<'_, A>) -> bool {
+    let grid = build.job().grid();
+    let rows = u64::from(grid.rows()).saturating_mul(u64::from(grid.layers()));
+    let mut spans: u64 = 0;
+    for layer in build.layers() {
+        spans = spans.saturating_add(layer.spans().len() as u64);
+    }
+    spans > rows.saturating_mul(FEW_SPANS)
+}

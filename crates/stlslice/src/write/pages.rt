@@ -1,0 +1,276 @@
+//! Images of several layers that are drawn at the same time, while those drawn before are written in order.
+ghost use Rattle.std.specs.Prelude.{◌≡◌, ◌<◌, ◌≤◌, ◌+◌, ◌-◌, ◌*◌, All, [], IfErr, IfOk, OnErr, OnOk, length, min, vec_len};
+ghost use Rattle.std.specs.Io.KnownBytes.{Appends};
+ghost use Rattle.raster.specs.Devices.{AppendsFirst, Fails, greatest_count};
+ghost use Rattle.stlslice.specs.Pages.{image_size, images_between, images_of, pages_text};
+
+use build_book::Build;
+use raster::{Grid, Page, Sink, WriteFault, image_len, put_all};
+use std::alloc::{AllocError, Allocator};
+use std::mem::swap;
+use std::thread::{Threads, for_each_mut, join_mut};
+
+/// Two sets of `count` pages without images. Each page has room for `per` images of this grid.
+pub(crate) fn page_sets<A: Allocator + Copy>(
+    alloc: A,
+    grid: &Grid,
+    per: usize,
+    count: usize,
+) -> Result<(Vec<Page<A>, A>, Vec<Page<A>, A>), AllocError>
+    ensures count_now { IfOk result (λ sets. vec_len sets.0 ≡ count) }
+    ensures count_next { IfOk result (λ sets. vec_len sets.1 ≡ count) }
+    ensures blank_now { IfOk result (λ sets. All (λ page. page.bytes ≡ []) sets.0.items) }
+    ensures room_now { IfOk result (λ sets. All (λ page. per * image_size grid.now ≤ page.room) sets.0.items) }
+    ensures room_next { IfOk result (λ sets. All (λ page. per * image_size grid.now ≤ page.room) sets.1.items) }
+{
+    let now = blank_pages(alloc, grid, per, count)?;
+    let next = blank_pages(alloc, grid, per, count)?;
+    Ok((now, next))
+}
+
+/// Pages without images, which have room for `per` images of this grid each.
+fn blank_pages<A: Allocator + Copy>(
+    alloc: A,
+    grid: &Grid,
+    per: usize,
+    count: usize,
+) -> Result<Vec<Page<A>, A>, AllocError>
+    ensures count { IfOk result (λ pages. vec_len pages ≡ count) }
+    ensures blank { IfOk result (λ pages. All (λ page. page.bytes ≡ []) pages.items) }
+    ensures room { IfOk result (λ pages. All (λ page. per * image_size grid.now ≤ page.room) pages.items) }
+{
+    let mut pages = Vec::with_capacity(alloc, count)?;
+    for _ in 0..count {
+        let page = blank_page(alloc, grid, per)?;
+        pages.push(page)?;
+    }
+    Ok(pages)
+}
+
+/// A page without images, which has room for `per` images of this grid.
+fn blank_page<A: Allocator>(alloc: A, grid: &Grid, per: usize) -> Result<Page<A>, AllocError>
+    ensures blank { IfOk result (λ page. page.bytes ≡ []) }
+    ensures room { IfOk result (λ page. per * image_size grid.now ≤ page.room) }
+{
+    match image_len(grid).checked_mul(per as u64) {
+        Some(room) => Page::new(alloc, room as usize),
+        None => Err(AllocError),
+    }
+}
+
+/// Writes the images of all layers of a build. They are drawn into the pages `next`, `per` a page, by as many workers as there
+/// are pages, while those in the pages `now` are written. Answers how many bytes were written.
+pub(crate) fn put_by_pages<R: Threads + Sync, A: Allocator + Copy + Send + Sync, O: Sink>(
+    rt: &R,
+    build: &Build<'_, A>,
+    per: usize,
+    mut now: Vec<Page<A>, A>,
+    mut next: Vec<Page<A>, A>,
+    sink: &mut O,
+) -> Result<u64, WriteFault>
+    requires per { 0 < per }
+    requires blank { All (λ page. page.bytes ≡ []) now.items }
+    requires some_now { 0 < vec_len now }
+    requires some_next { 0 < vec_len next }
+    requires room_now { All (λ page. per * image_size build.now.job.grid ≤ page.room) now.items }
+    requires room_next { All (λ page. per * image_size build.now.job.grid ≤ page.room) next.items }
+    ensures ok { OnOk result (Appends (O.contents sink.old) (O.contents sink.new)
+        (images_of build.now.job)) }
+    ensures total { IfOk result (λ total. total ≡ length (images_of build.now.job)) }
+    ensures same { OnOk result (O.Failures.failure_count sink.new ≡ O.Failures.failure_count sink.old) }
+    ensures written { IfErr result (λ fault. AppendsFirst (O.contents sink.old) (O.contents sink.new) fault.written
+        (images_of build.now.job)) }
+    ensures within { IfErr result (λ fault. fault.written < length (images_of build.now.job)) }
+    ensures failed { OnErr result (Fails (O.Failures.failure_count sink.old) (O.Failures.failure_count sink.new)) }
+{
+    // wakes the invariant: the counts of columns, rows and layers bound the count of the bytes
+    let grid = build.job().grid();
+    let _columns = grid.columns();
+    let _rows = grid.rows();
+    let _layers = grid.layers();
+    let count = build.layers().len();
+    let mut drawn = 0;
+    let mut written = 0;
+    while drawn < count {
+        let end = end_of_set(&next, drawn, per, count);
+        written = draw_and_put(
+            rt,
+            build,
+            drawn,
+            per,
+            &mut next,
+            now.as_slice(),
+            sink,
+            written,
+        )?;
+        swap(&mut now, &mut next);
+        drawn = end;
+    }
+    put_pages(now.as_slice(), sink, written)
+}
+
+/// Draws the images of the layers from `first` on into the pages `next`, `per` a page, while the pages `now` are written.
+/// `before` is the number of bytes that were written so far; answers how many were written then.
+fn draw_and_put<R: Threads + Sync, A: Allocator + Copy + Send + Sync, O: Sink>(
+    rt: &R,
+    build: &Build<'_, A>,
+    first: usize,
+    per: usize,
+    next: &mut Vec<Page<A>, A>,
+    now: &[Page<A>],
+    sink: &mut O,
+    before: u64,
+) -> Result<u64, WriteFault>
+    requires low { first ≤ build.now.job.grid.layers }
+    requires some { 0 < vec_len next.old }
+    requires room { All (λ page. per * image_size build.now.job.grid ≤ page.room) next.old.items }
+    requires count { before + length (pages_text now.now) ≤ greatest_count }
+    ensures drawn { pages_text next.new.items ≡ images_between build.now.job first (min (first + vec_len next.old * per) build.now.job.grid.layers) }
+    ensures room { All (λ page. per * image_size build.now.job.grid ≤ page.room) next.new.items }
+    ensures count { vec_len next.new ≡ vec_len next.old }
+    ensures ok { OnOk result (Appends (O.contents sink.old) (O.contents sink.new) (pages_text now.now)) }
+    ensures total { IfOk result (λ total. total ≡ before + length (pages_text now.now)) }
+    ensures same { OnOk result (O.Failures.failure_count sink.new ≡ O.Failures.failure_count sink.old) }
+    ensures written { IfErr result (λ fault. AppendsFirst (O.contents sink.old) (O.contents sink.new) (fault.written - before) (pages_text now.now)) }
+    ensures some { IfErr result (λ fault. before ≤ fault.written) }
+    ensures within { IfErr result (λ fault. fault.written < before + length (pages_text now.now)) }
+    ensures failed { OnErr result (Fails (O.Failures.failure_count sink.old) (O.Failures.failure_count sink.new)) }
+{
+    let ((), put) = join_mut(
+        rt,
+        &mut ||
+            requires low { first ≤ build.now.job.grid.layers }
+            requires some { 0 < vec_len next.now }
+            requires room { All (λ page. per * image_size build.now.job.grid ≤ page.room) next.now.items }
+        { draw_set(rt, build, first, per, next) },
+        &mut || put_pages(now, sink, before),
+    );
+    put
+}
+
+/// The same as [`draw_pages`], for a whole set of pages.
+fn draw_set<R: Threads + Sync, A: Allocator + Copy + Send + Sync>(
+    rt: &R,
+    build: &Build<'_, A>,
+    first: usize,
+    per: usize,
+    set: &mut Vec<Page<A>, A>,
+)
+    requires low { first ≤ build.now.job.grid.layers }
+    requires some { 0 < vec_len set.old }
+    requires room { All (λ page. per * image_size build.now.job.grid ≤ page.room) set.old.items }
+    ensures drawn { pages_text set.new.items ≡ images_between build.now.job first (min (first + vec_len set.old * per) build.now.job.grid.layers) }
+    ensures room { All (λ page. per * image_size build.now.job.grid ≤ page.room) set.new.items }
+    ensures count { vec_len set.new ≡ vec_len set.old }
+{
+    draw_pages(rt, build, first, per, set.as_mut_slice());
+}
+
+/// Draws the images of the layers from `first` on into pages, `per` a page, each page by a worker of its own.
+fn draw_pages<R: Threads + Sync, A: Allocator + Copy + Send + Sync>(
+    rt: &R,
+    build: &Build<'_, A>,
+    first: usize,
+    per: usize,
+    pages: &mut [Page<A>],
+)
+    requires low { first ≤ build.now.job.grid.layers }
+    requires some { 0 < length pages.old }
+    requires room { All (λ page. per * image_size build.now.job.grid ≤ page.room) pages.old }
+    ensures drawn { pages_text pages.new ≡ images_between build.now.job first (min (first + length pages.old * per) build.now.job.grid.layers) }
+    ensures room { All (λ page. per * image_size build.now.job.grid ≤ page.room) pages.new }
+{
+    let workers = pages.len();
+    for_each_mut(
+        rt,
+        pages,
+        workers,
+        &|i, page| draw_page(build, first, per, i, page),
+    );
+}
+
+/// Draws the images of page `i` in place of those that the page has. Page 0 begins with layer `first`, and each has up to `per`
+/// images.
+fn draw_page<A: Allocator>(
+    build: &Build<'_, A>,
+    first: usize,
+    per: usize,
+    i: usize,
+    page: &mut Page<A>,
+)
+    requires { per * image_size build.now.job.grid ≤ page.old.room }
+    ensures drawn { let layers = build.now.job.grid.layers in let start = min (first + i * per) layers in
+        page.new.bytes ≡ images_between build.now.job start (min (start + per) layers) }
+    ensures room { page.new.room ≡ page.old.room }
+{
+    let grid = build.job().grid();
+    let layers = build.layers();
+    let start = start_of_page(first, per, i, layers.len());
+    let end = start_of_page(start, per, 1, layers.len());
+    page.clear();
+    for k in start..end {
+        page.draw(grid, layers[k].spans());
+    }
+}
+
+/// The layer with which page `i` begins, where page 0 begins with layer `first`, and each has `per` layers. There are `count`
+/// layers: pages after the last layer begin there.
+fn start_of_page(first: usize, per: usize, i: usize, count: usize) -> usize
+    ensures { result ≡ min (first + i * per) count }
+{
+    i.saturating_mul(per).saturating_add(first).min(count)
+}
+
+/// The layer after those that a set of pages has, which begins with layer `first`.
+fn end_of_set<A: Allocator>(set: &Vec<Page<A>, A>, first: usize, per: usize, count: usize) -> usize
+    ensures { result ≡ min (first + vec_len set.now * per) count }
+{
+    start_of_page(first, per, set.len(), count)
+}
+
+/// Writes pages one after another. `before` is the number of bytes that were written so far; answers how many were written
+/// then.
+fn put_pages<A: Allocator, O: Sink>(
+    pages: &[Page<A>],
+    sink: &mut O,
+    before: u64,
+) -> Result<u64, WriteFault>
+    requires { before + length (pages_text pages.now) ≤ greatest_count }
+    ensures ok { OnOk result (Appends (O.contents sink.old) (O.contents sink.new) (pages_text pages.now)) }
+    ensures total { IfOk result (λ total. total ≡ before + length (pages_text pages.now)) }
+    ensures same { OnOk result (O.Failures.failure_count sink.new ≡ O.Failures.failure_count sink.old) }
+    ensures written { IfErr result (λ fault. AppendsFirst (O.contents sink.old) (O.contents sink.new) (fault.written - before) (pages_text pages.now)) }
+    ensures some { IfErr result (λ fault. before ≤ fault.written) }
+    ensures within { IfErr result (λ fault. fault.written < before + length (pages_text pages.now)) }
+    ensures failed { OnErr result (Fails (O.Failures.failure_count sink.old) (O.Failures.failure_count sink.new)) }
+{
+    let mut written = before;
+    for page in pages {
+        written = put_page(page, sink, written)?;
+    }
+    Ok(written)
+}
+
+/// Writes a page. `before` is the number of bytes that were written so far; answers how many were written then.
+fn put_page<A: Allocator, O: Sink>(
+    page: &Page<A>,
+    sink: &mut O,
+    before: u64,
+) -> Result<u64, WriteFault>
+    requires { before + length page.now.bytes ≤ greatest_count }
+    ensures ok { OnOk result (Appends (O.contents sink.old) (O.contents sink.new) page.now.bytes) }
+    ensures total { IfOk result (λ total. total ≡ before + length page.now.bytes) }
+    ensures same { OnOk result (O.Failures.failure_count sink.new ≡ O.Failures.failure_count sink.old) }
+    ensures written { IfErr result (λ fault. AppendsFirst (O.contents sink.old) (O.contents sink.new) (fault.written - before) page.now.bytes) }
+    ensures some { IfErr result (λ fault. before ≤ fault.written) }
+    ensures within { IfErr result (λ fault. fault.written < before + length page.now.bytes) }
+    ensures failed { OnErr result (Fails (O.Failures.failure_count sink.old) (O.Failures.failure_count sink.new)) }
+{
+    let bytes = page.bytes();
+    match put_all(sink, bytes) {
+        Ok(()) => Ok(before + bytes.len() as u64),
+        Err(fault) => Err(WriteFault {
+            written: before + fault.written,
+        }),
+    }
+}
