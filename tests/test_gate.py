@@ -28,7 +28,7 @@ def main():
         for name in ("gate", "run"):
             shutil.copy(os.path.join(ROOT, "tests", name), room.file("tests", name))
 
-        def gate(builds, last, status, tests):
+        def gate(builds, last, status, tests, lines=1):
             for name in os.listdir(room.file("tests")):
                 if name.startswith("test_"):
                     os.remove(room.file("tests", name))
@@ -37,13 +37,16 @@ def main():
             put(room.file("bin", "rt"), RT.format(builds=builds, last=last, status=status))
             ran = room.run(room.file("tests", "gate"), "out/program", cwd=room.path)
             holds("what rt ci says is shown", "what rt ci says on its way" in ran.stdout and last in ran.stdout)
-            return ran.stdout.splitlines()[-1], ran.returncode
+            return "\n".join(ran.stdout.splitlines()[-lines:]), ran.returncode
 
         same("all well", gate(BUILDS, "12 passed, 0 failed", 0, [0, 0]), ("14 passed, 0 failed", 0))
         same("a skipped test", gate(BUILDS, "12 passed, 0 failed", 0, [0, 77]), ("13 passed, 0 failed", 0))
         same("a failed test", gate(BUILDS, "12 passed, 0 failed", 0, [0, 3]), ("13 passed, 1 failed", 1))
         same("no test that ran", gate(BUILDS, "12 passed, 0 failed", 0, [77]), ("12 passed, 1 failed", 1))
         same("a failed proof", gate(BUILDS, "11 passed, 1 failed", 1, [0, 0]), ("13 passed, 1 failed", 1))
+        named = "rt: FAILED: a_crate/an.edit"
+        same("what failed is named at the end", gate(BUILDS, f"{named}\n11 passed, 1 failed", 1, [0, 0], lines=2),
+             (f"{named}\n13 passed, 1 failed", 1))
         same("rt ci that fails without a count", gate(BUILDS, "rt: stopped", 2, [0]), ("1 passed, 1 failed", 1))
         same("rt ci that fails and counts none", gate(BUILDS, "12 passed, 0 failed", 1, [0]), ("13 passed, 1 failed", 1))
         # the program of the run before stands there
