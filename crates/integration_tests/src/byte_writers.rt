@@ -69,7 +69,7 @@ fn each_beginning_of_an_image(rt: HostRuntime) -> Result<(), Fail> {
 fn push_wide_row(image: &mut Vec<u8>, row: u32) -> Result<(), AllocError> {
     for byte in 0..2048 {
         image.push(match (row, byte) {
-            (0, _) | (19, 2047) => 0xff,
+            (0, _) | (27, 2047) => 0xff,
             (5, 1) => 0xc0,
             _ => 0,
         })?;
@@ -80,15 +80,15 @@ fn push_wide_row(image: &mut Vec<u8>, row: u32) -> Result<(), AllocError> {
 // The image of wide rows, which is longer than what goes out at once.
 fn wide_image(alloc: Global) -> Result<Vec<u8>, AllocError> {
     let mut image = Vec::new(alloc);
-    image.extend_from_slice(b"P4\n16384 20\n")?;
-    for row in (0..20).rev() {
+    image.extend_from_slice(b"P4\n16384 28\n")?;
+    for row in (0..28).rev() {
         push_wide_row(&mut image, row)?;
     }
     Ok(image)
 }
 
 /// The length of the image of wide rows, in bytes.
-const WIDE_LEN: usize = 40_972;
+const WIDE_LEN: usize = 57_356;
 
 /// The length of the image's header, in bytes.
 const HEADER_LEN: usize = 12;
@@ -97,13 +97,13 @@ const HEADER_LEN: usize = 12;
 const ROW_LEN: usize = 2048;
 
 /// The greatest length of a chunk in which an image goes out, in bytes.
-pub(crate) const CHUNK_LEN: usize = 16_384;
+pub(crate) const CHUNK_LEN: usize = 24_576;
 
-/// Where the first chunk ends: after the header and seven rows, since an eighth would go beyond `CHUNK_LEN`.
-const FIRST_END: usize = HEADER_LEN + 7 * ROW_LEN;
+/// Where the first chunk ends: after the header and eleven rows, since a twelfth would go beyond `CHUNK_LEN`.
+const FIRST_END: usize = HEADER_LEN + 11 * ROW_LEN;
 
-/// Where the second chunk ends: it has eight rows, as many as fit.
-const SECOND_END: usize = FIRST_END + 8 * ROW_LEN;
+/// Where the second chunk ends: it has twelve rows, as many as fit.
+const SECOND_END: usize = FIRST_END + 12 * ROW_LEN;
 
 #[test]
 fn an_image_beyond_one_chunk(rt: HostRuntime) -> Result<(), Fail> {

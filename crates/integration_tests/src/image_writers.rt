@@ -145,31 +145,31 @@ fn images_at_the_ends_of_chunks(rt: HostRuntime) {
         // a byte less than a chunk, just a chunk, and a byte more: the last row of the second image comes later then
         ends_at(
             alloc,
+            2025,
+            &spans![0: 0, 8],
+            11,
+            &[CHUNK_LEN - 1, CHUNK_LEN + 2034],
+        ),
+        ends_at(
+            alloc,
             2026,
             &spans![0: 0, 8],
-            7,
-            &[CHUNK_LEN - 1, CHUNK_LEN + 2035],
+            11,
+            &[CHUNK_LEN, CHUNK_LEN + 2036],
         ),
         ends_at(
             alloc,
             2027,
             &spans![0: 0, 8],
-            7,
-            &[CHUNK_LEN, CHUNK_LEN + 2037],
-        ),
-        ends_at(
-            alloc,
-            2028,
-            &spans![0: 0, 8],
-            7,
-            &[CHUNK_LEN - 2047, CHUNK_LEN + 2039],
+            11,
+            &[CHUNK_LEN - 2047, CHUNK_LEN + 2038],
         ),
         // a large image after a small one
         ends_at(
             alloc,
             1,
             &spans![0: 0, 8],
-            16,
+            24,
             &[CHUNK_LEN - 2028, 2 * CHUNK_LEN - 2028, 2 * CHUNK_LEN + 28],
         ),
     ];

@@ -98,7 +98,7 @@ pub(crate) const SHEET: &[Part] = &[(CORNERS, &[[0, 4, 2], [0, 2, 4]])];
 /// A box of nine voxels in a row.
 pub(crate) const NINE_IN_A_ROW: &[Part] = &[(corners![0 0 0 to 9 1 1], BOX)];
 
-/// A row of all columns, two voxels of row 5, and the last eight of row 19.
+/// A row of all columns, two voxels of row 5, and the last eight of row 27.
 pub(crate) const WIDE_ROWS: &[Part] = &[
     (ROW_OF_ALL, BOX),
     (corners![8 5 0 to 10 6 1], BOX),
@@ -107,7 +107,7 @@ pub(crate) const WIDE_ROWS: &[Part] = &[
 
 const ROW_OF_ALL: &[[i32; 3]] = corners![0 0 0 to 16384 1 1];
 
-const LAST_EIGHT: &[[i32; 3]] = corners![16376 19 0 to 16384 20 1];
+const LAST_EIGHT: &[[i32; 3]] = corners![16376 27 0 to 16384 28 1];
 
 /// A box of 17 layers of one voxel, in stripes of 8, 8 and 1.
 pub(crate) const COLUMN: &[Part] = &[(corners![0 0 0 to 1 1 17], BOX)];

@@ -18,8 +18,8 @@ use crate::span::Span;
 use geometry::COLUMN_LIMIT;
 use std::marker::Model;
 
-/// The greatest number of bytes that one call of a sink is given: room for eight rows of the greatest width.
-const CHUNK_LEN: usize = 8 * (COLUMN_LIMIT as usize / 8);
+/// The greatest number of bytes that one call of a sink is given: room for twelve rows of the greatest width.
+const CHUNK_LEN: usize = 12 * (COLUMN_LIMIT as usize / 8);
 
 /// Bytes on their way to a sink. They lie on the stack, so that writing allocates no memory. All bytes of the free room
 /// after them are 0, so that a row is drawn by setting bits.
@@ -80,6 +80,7 @@ impl Chunk {
 
     /// Appends row `number` of a layer. The first `end` spans are those of this row and of the rows below; answers how many
     /// are in the rows below.
+    #[inline(always)]
     pub(crate) fn push_row(&mut self, g: &Grid, spans: &[Span], number: u32, end: usize) -> usize
         requires form { AreSpans g.now.columns g.now.rows spans.now }
         requires split { IsSplit spans.now end (number + 1) }
@@ -95,6 +96,7 @@ impl Chunk {
 
     /// Makes room for `needed` more bytes: sends the chunk where it has less. `before` is the number of bytes that were sent
     /// so far; answers how many were sent then.
+    #[inline(always)]
     pub(crate) fn make_room<W: Sink>(
         &mut self,
         needed: usize,

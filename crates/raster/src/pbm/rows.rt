@@ -10,6 +10,7 @@ use crate::pbm::bits::set_pixels;
 use crate::span::Span;
 
 /// Sets the pixels of these spans in a packed row of this width, in which no pixel is set yet.
+#[inline(always)]
 fn draw_row(row: &mut [u8], width: u32, spans: &[Span])
     requires size { length row.old ≡ div_ceil width 8 }
     requires blank { (k : ℕ) → slice_index row.old k ≡ 0 }
@@ -23,6 +24,7 @@ fn draw_row(row: &mut [u8], width: u32, spans: &[Span])
 
 /// Draws row `number` of a layer into a packed row, in which no pixel is set yet. The first `end` spans are those of this row
 /// and of the rows below; answers how many are in the rows below.
+#[inline(always)]
 pub(crate) fn draw_layer_row(
     row: &mut [u8],
     g: &Grid,

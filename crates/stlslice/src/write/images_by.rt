@@ -14,8 +14,8 @@ use raster::{Grid, Sink, image_len};
 use std::alloc::Allocator;
 use std::thread::Threads;
 
-/// The number of bytes of images that a page has, unless a single image is longer.
-const PAGE_LEN: usize = 1 << 18;
+/// The number of bytes of images that a set of pages has, unless an image for each page is longer.
+const SET_LEN: usize = 1 << 24;
 
 /// The greatest length of an image that is drawn into a page.
 const DRAWN_LIMIT: u64 = 1 << 20;
@@ -63,7 +63,9 @@ fn images_a_page(grid: &Grid, workers: u32) -> usize {
         return 0;
     }
     let share = grid.layers().div_ceil(workers.max(1)) as usize;
-    (PAGE_LEN / (len as usize).max(1)).min(share).max(1)
+    (SET_LEN / workers.max(1) as usize / (len as usize).max(1))
+        .min(share)
+        .max(1)
 }
 
 /// Whether drawing the images of a build takes longer than writing them.

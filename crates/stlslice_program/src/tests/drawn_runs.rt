@@ -32,18 +32,18 @@ pub(crate) const COMB_IMAGES: &[u8] =
 /// The image of its middle layer.
 const ONE_IMAGE: &[u8] = b"P4\n19 2\n\xaa\xaa\xa0\xaa\xaa\xa0";
 
-/// The same with wide teeth: an image is longer than half of a page, so a page has one.
+/// The same with teeth so wide that an image is nearly a mebibyte: two to four workers draw sixteen at most at a time.
 const WIDE_COMB: [Corners; 10] = [
-    [[0, 0, 0], [800, 90, 9]],
-    [[1600, 0, 0], [2400, 90, 9]],
-    [[3200, 0, 0], [4000, 90, 9]],
-    [[4800, 0, 0], [5600, 90, 9]],
-    [[6400, 0, 0], [7200, 90, 9]],
-    [[8000, 0, 0], [8800, 90, 9]],
-    [[9600, 0, 0], [10400, 90, 9]],
-    [[11200, 0, 0], [12000, 90, 9]],
-    [[12800, 0, 0], [13600, 90, 9]],
-    [[14400, 0, 0], [15200, 90, 9]],
+    [[0, 0, 0], [800, 550, 34]],
+    [[1600, 0, 0], [2400, 550, 34]],
+    [[3200, 0, 0], [4000, 550, 34]],
+    [[4800, 0, 0], [5600, 550, 34]],
+    [[6400, 0, 0], [7200, 550, 34]],
+    [[8000, 0, 0], [8800, 550, 34]],
+    [[9600, 0, 0], [10400, 550, 34]],
+    [[11200, 0, 0], [12000, 550, 34]],
+    [[12800, 0, 0], [13600, 550, 34]],
+    [[14400, 0, 0], [15200, 550, 34]],
 ];
 
 /// The words that slice by this number of workers.
@@ -80,7 +80,7 @@ fn sets_of_long_images(rt: HostRuntime) -> Result<(), Fail> {
     let comb = mesh_text(rt.alloc(), Boxes(&WIDE_COMB))?;
     match written(&rt, "--pitch 1 --layer 1", comb.as_str()) {
         Some(images) => {
-            assert_eq!(rt; images.len(), 9 * (12 + 90 * 1900));
+            assert_eq!(rt; images.len(), 34 * (13 + 550 * 1900));
             assert!(rt; each_writes(&rt, 1, comb.as_str(), images.as_slice())?);
         }
         None => assert!(rt; false),
