@@ -9,8 +9,12 @@ use Rattle.geometry.specs.declared.limits.TheConstants.{FACET_LIMIT}
 use Rattle.micro_num.specs.declared.unit.Unit.{Unit as LengthUnit}
 use Rattle.raster.specs.Devices.{Fails}
 use Rattle.stl_text.specs.TextReader.{IsAfter, TextReader}
-use Rattle.mesh_reading.specs.Loading.{IsFed, IsInput, IsInputFault, IsReadAs}
-use Rattle.mesh_reading.specs.Transcript.{Transcript}
+use Rattle.mesh_weld.specs.Solid.{Solid}
+use Rattle.mesh_weld.specs.Welder.{Welder}
+use Rattle.mesh_reading.specs.Loading.{AreWelded, IsFed, IsInput, IsInputFault, IsLoadFault, IsLoaded, IsMisread, IsReadAs, IsSolidOf, IsTextExtent, OfText}
+use Rattle.mesh_reading.specs.Transcript.{Transcript, transcript}
+use Rattle.mesh_reading.specs.declared.extent.Extent.{Extent}
+use Rattle.mesh_reading.proofs.lemmas.Faults.{IsTextFault, not_read}
 use Rattle.mesh_reading.specs.declared.read_fault.ReadFault.{ReadFault}
 use Rattle.mesh_reading.specs.declared.read_fault.ReadFault.TheVariants as fault
 
@@ -19,11 +23,9 @@ pub at_start : (unit : LengthUnit) (reader : TextReader) (start : Option (List �
     → IsFed unit [] reader start start
 at_start unit reader start is = ([], Consumes-nil start, is)
 
--- at the end of the source, what the reader was fed with is the input
-pub at_end : (unit : LengthUnit) (taken : List Facet) (reader : TextReader) (start now : Option (List ℕ)) → IsFed unit taken reader start now
-    → IsAtEnd now → (input : List ℕ) × IsInput start input × IsAfter FACET_LIMIT unit taken reader input
-at_end unit taken reader start now fed end =
-    (fed.0, Consumes-whole start now fed.0 (λ (input : List ℕ). fed.0 ≡ input) fed.1 end refl, fed.2)
+-- what is known of a device before and after calls of it, by its bytes and by its count of failed calls
+abbrev pub transcript_of : {S : Type 0} → (S → Option (List ℕ)) → (S → ℕ) → S → S → Transcript
+transcript_of bytes failure_count old new = transcript (bytes old) (bytes new) (failure_count old) (failure_count new)
 
 pub none_made : {T : Type 0} (r : Result T ReadFault) (P : ReadFault → Type 0) (Q : T → Type 0) → IsErrAnd r P → IfOk r Q
 none_made (Ok x) P Q h = absurd h
@@ -34,7 +36,7 @@ no_read P none (inl e) = cc
 no_read P none (inr h) = none h
 
 -- where all was read, the answer is made of the input, or a fault of it, or memory is short
-pub read_as : {T : Type 0} (r : Result T ReadFault) (is_made : List ℕ → T → Type 0) (is_own : List ℕ → ReadFault → Type 0) (source : Transcript)
+read_as : {T : Type 0} (r : Result T ReadFault) (is_made : List ℕ → T → Type 0) (is_own : List ℕ → ReadFault → Type 0) (source : Transcript)
     (input : List ℕ) → IsInput source.old input → IsAtEnd source.new → source.failed ≡ source.failed_before → (is_own input fault.Read → ⊥)
     → IfOk r (is_made input) → IfErr r (λ f. (f ≡ fault.Memory) ⊎ is_own input f) → IsReadAs is_made is_own r source
 read_as r is_made is_own source input is end sound none ok err = record {
@@ -48,6 +50,38 @@ read_as r is_made is_own source input is end sound none ok err = record {
     known : (f : ReadFault) → (f ≡ fault.Memory) ⊎ is_own input f → IsInputFault is_own source.old f
     known f (inl e) = inr (inl e)
     known f (inr h) = inr (inr (input, is, h))
+
+-- at the end of the source, what the reader was fed with is the input
+pub read_whole : {T : Type 0} (r : Result T ReadFault) (is_made : List ℕ → T → Type 0) (is_own : List ℕ → ReadFault → Type 0) (source : Transcript)
+    (unit : LengthUnit) (taken : List Facet) (reader : TextReader) → IsFed unit taken reader source.old source.new → IsAtEnd source.new
+    → source.failed ≡ source.failed_before → ((input : List ℕ) → is_own input fault.Read → ⊥)
+    → ((input : List ℕ) → IsAfter FACET_LIMIT unit taken reader input
+    → IfOk r (is_made input) × IfErr r (λ f. (f ≡ fault.Memory) ⊎ is_own input f))
+    → IsReadAs is_made is_own r source
+read_whole r is_made is_own source unit taken reader fed end sound none comes =
+    let input : List ℕ = fed.0 in
+    let is : IsInput source.old input = Consumes-whole source.old source.new input (λ (known : List ℕ). input ≡ known) fed.1 end refl in
+    let made = comes input fed.2 in
+    read_as r is_made is_own source input is end sound (none input) made.0 made.1
+
+-- a mesh is made of all that was read
+pub solid_read : (r : Result Solid ReadFault) (source : Transcript) (unit : LengthUnit) (taken : List Facet) (reader : TextReader) (welder : Welder)
+    → OfText welder reader (λ of fed. IsLoaded of fed r) → AreWelded taken welder → IsFed unit taken reader source.old source.new
+    → IsAtEnd source.new → source.failed ≡ source.failed_before → IsReadAs (IsSolidOf unit) (IsLoadFault unit) r source
+solid_read r source unit taken reader welder loads welded fed end sound =
+    read_whole r (IsSolidOf unit) (IsLoadFault unit) source unit taken reader fed end sound (λ input h. not_read unit input fault.Read h refl)
+    (λ input is.
+    let loaded = loads unit taken input welded is in
+    (loaded.ok, IfErr-weaker r (IsLoadFault unit input) (λ f. (f ≡ fault.Memory) ⊎ IsLoadFault unit input f) (λ f h. inr h) loaded.err))
+
+-- an extent is that of all that was read
+pub extent_read : (r : Result Extent ReadFault) (source : Transcript) (unit : LengthUnit) (taken : List Facet) (reader : TextReader)
+    → IsFed unit taken reader source.old source.new → IsAtEnd source.new → source.failed ≡ source.failed_before
+    → ((input : List ℕ) → IsAfter FACET_LIMIT unit taken reader input → IfOk r (IsTextExtent unit input) × IfErr r (IsTextFault unit input))
+    → IsReadAs (IsTextExtent unit) (IsMisread unit) r source
+extent_read r source unit taken reader fed end sound comes =
+    read_whole r (IsTextExtent unit) (IsMisread unit) source unit taken reader fed end sound
+    (λ input h. let no : fault.Read ≡ fault.Stl h.0 = h.1 in cc) comes
 
 -- where reading stopped, a read failed or memory is short
 pub stopped_as : {T : Type 0} (r : Result T ReadFault) (is_made : List ℕ → T → Type 0) (is_own : List ℕ → ReadFault → Type 0) (source : Transcript)

@@ -2,15 +2,14 @@ use Rattle.std.proofs.Common.{◌≡◌, ◌∙◌, ◌++◌, List, [], ap, inr,
 use Rattle.std.specs.Prelude.{Err}
 use Rattle.std.specs.Io.KnownBytes.{Consumes, IsAtEnd}
 use Rattle.std.proofs.KnownBytes.{Consumes-nil, Consumes-trans}
-use Rattle.std.proofs.lemmas.Result.{IfErr-weaker}
 use Rattle.geometry.specs.Facet.{Facet}
 use Rattle.geometry.specs.declared.limits.TheConstants.{FACET_LIMIT}
 use Rattle.raster.specs.Devices.{Fails}
 use Rattle.stl_text.specs.TextReader.{IsAfter}
 use Rattle.mesh_reading.specs.Loading.{AreWelded, IsFed, IsLoadFault, IsSolidOf}
+use Rattle.mesh_reading.specs.Transcript.{Transcript}
 use Rattle.mesh_reading.specs.declared.read_fault.ReadFault.TheVariants.{Memory, Read}
-use Rattle.mesh_reading.proofs.lemmas.Faults.{not_read}
-use Rattle.mesh_reading.proofs.lemmas.Reading.{at_end, read_as, stopped_as}
+use Rattle.mesh_reading.proofs.lemmas.Reading.{solid_read, stopped_as, transcript_of}
 use Rattle.mesh_reading.proofs.loading.read_solid_by.Goals as goal
 
 pub loop-init : goal.loop-init
@@ -43,8 +42,8 @@ loop-preserved g c =
             (c.in_ok-is_next.ensures.welded so_far.0 so_far.1),
         (
           read,
-          rw c.swap.ensures.x_after (Consumes-trans (g.I.Source.remaining c.args.source.now) _ _ read c.read_and_weld.new.next.bytes fed.1
-              c.in_ok-is_next.ensures.filled.taken),
+          rw c.swap.ensures.x_after (Consumes-trans (g.I.Source.remaining c.args.source.now) (g.I.Source.remaining c.loop.source)
+              (g.I.Source.remaining c.read_and_weld.new.source) read c.read_and_weld.new.next.bytes fed.1 c.in_ok-is_next.ensures.filled.taken),
           rw c.take_facets.ensures.given (c.take_facets.ensures.after FACET_LIMIT c.args.unit taken read after),
         ),
       );
@@ -75,17 +74,15 @@ returns-then-not-is_more g c =
     ) in
     let end : IsAtEnd (g.I.Source.remaining c.read_and_weld.new.source) =
     subst (λ s. IsAtEnd (g.I.Source.remaining s)) (sym kept) (c.loop.invariant.end c.if-not-is_more.true) in
-    let all = at_end unit (taken ++ last) _ _ _ read end in
-    let loaded = c.weld_end_by.ensures unit (taken ++ last) all.0 welded all.2 in
-    read_as c.weld_end_by.result (IsSolidOf unit) (IsLoadFault unit) _ all.0 all.1 end
+    let source : Transcript = transcript_of g.I.Source.remaining g.I.Failures.failure_count c.args.source.now c.read_and_weld.new.source in
+    solid_read c.weld_end_by.result source unit (taken ++ last) c.take_facets.new.self c.weld_next.new.welder c.weld_end_by.ensures welded read end
     (c.in_ok-is_next.ensures.filled.sound (λ e. cc) ∙ c.loop.invariant.counted)
-    (λ h. not_read unit all.0 Read h refl) loaded.ok
-    (IfErr-weaker c.weld_end_by.result _ _ (λ f h. inr h) loaded.err)
 
 pub returns-in_err-is_next : goal.returns-in_err-is_next
 returns-in_err-is_next g c =
     let f = c.in_err-is_next.field-0.0 in
-    stopped_as c.from_residual-in_err-is_next.result (IsSolidOf c.args.unit) (IsLoadFault c.args.unit) _ f c.from_residual-in_err-is_next.ensures.1
+    let source : Transcript = transcript_of g.I.Source.remaining g.I.Failures.failure_count c.args.source.now c.read_and_weld.new.source in
+    stopped_as c.from_residual-in_err-is_next.result (IsSolidOf c.args.unit) (IsLoadFault c.args.unit) source f c.from_residual-in_err-is_next.ensures.1
     c.in_err-is_next.ensures.filled.only
     (λ e. subst (λ n. Fails n (g.I.Failures.failure_count c.read_and_weld.new.source)) c.loop.invariant.counted
     (c.in_err-is_next.ensures.filled.unread (ap Err e)))
@@ -93,7 +90,8 @@ returns-in_err-is_next g c =
 
 pub returns-in_err-weld_next : goal.returns-in_err-weld_next
 returns-in_err-weld_next g c =
-    stopped_as c.from_residual-in_err-weld_next.result (IsSolidOf c.args.unit) (IsLoadFault c.args.unit) _ c.in_err-weld_next.field-0.0
+    let source : Transcript = transcript_of g.I.Source.remaining g.I.Failures.failure_count c.args.source.now c.read_and_weld.new.source in
+    stopped_as c.from_residual-in_err-weld_next.result (IsSolidOf c.args.unit) (IsLoadFault c.args.unit) source c.in_err-weld_next.field-0.0
     c.from_residual-in_err-weld_next.ensures.1 (inr c.in_err-weld_next.ensures.only)
     (λ e. let no : Memory ≡ Read = sym c.in_err-weld_next.ensures.only ∙ e in cc)
     (λ other. c.in_ok-is_next.ensures.filled.sound (λ e. cc) ∙ c.loop.invariant.counted)
