@@ -19,7 +19,7 @@ use layer_pool::{Gate, OpenGate, build};
 use mesh_reading::{read_extent, read_solid, read_solid_by};
 use mesh_weld::Solid;
 use micro_num::Unit;
-use raster::{Grid, Placing, Sink, Source};
+use raster::{Grid, Placing, Rule, Sink, Source};
 use std::alloc::Allocator;
 use std::sync::Wait;
 use std::thread::Threads;
@@ -92,14 +92,44 @@ pub fn run_watched<
             workers,
             report,
             grid,
-        } => {
-            let solid = read_solid_by(rt, alloc, source, *unit, *workers)?;
-            let grid = grid_for(&solid, *grid, *pitch, *layer)?;
-            let job = Job::new(solid, grid, *rule);
-            let build = build(rt, alloc, &job, *workers, gate)?;
-            write_build(rt, alloc, &build, Output::of(*report), *workers, sink)
-        }
+        } => run_slice(
+            rt, alloc, *unit, *pitch, *layer, *rule, *workers, *report, *grid, source, sink, gate,
+        ),
     }
+}
+
+/// Writes and flushes the images of all layers, or their report, and tells a gate of the workers that slice.
+fn run_slice<
+    R: Threads + Wait + Sync,
+    A: Allocator + Copy + Send + Sync,
+    I: Source,
+    O: Sink,
+    G: Gate<A> + Sync,
+>(
+    rt: &R,
+    alloc: A,
+    unit: Unit,
+    pitch: u32,
+    layer: u32,
+    rule: Rule,
+    workers: u32,
+    report: bool,
+    given: Option<Given>,
+    source: &mut I,
+    sink: &mut O,
+    gate: &G,
+) -> Result<(), RunFault>
+    requires { IsInRange (task.Slice unit pitch layer rule workers report given) }
+    ensures { IsRun (task.Slice unit pitch layer rule workers report given) result
+        (transcript (I.remaining source.old) (I.remaining source.new) (I.Failures.failure_count source.old) (I.Failures.failure_count source.new))
+        (transcript (O.contents sink.old) (O.contents sink.new) (O.Failures.failure_count sink.old) (O.Failures.failure_count sink.new))
+        (O.is_settled sink.new) }
+{
+    let solid = read_solid_by(rt, alloc, source, unit, workers)?;
+    let grid = grid_for(&solid, given, pitch, layer)?;
+    let job = Job::new(solid, grid, rule);
+    let build = build(rt, alloc, &job, workers, gate)?;
+    write_build(rt, alloc, &build, Output::of(report), workers, sink)
 }
 
 /// Writes and flushes the box line of the input. It takes no handle, so that it returns is proved.

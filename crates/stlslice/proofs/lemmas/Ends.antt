@@ -11,7 +11,7 @@ use Rattle.build_book.specs.Job.{Job}
 use Rattle.task_words.specs.declared.task.Given.{Given}
 use Rattle.task_words.specs.declared.task.Task.{Task}
 use Rattle.task_words.specs.declared.task.Task.TheVariants as task
-use Rattle.mesh_reading.specs.Loading.{IsInput, IsInputFault, IsSolidOf}
+use Rattle.mesh_reading.specs.Loading.{IsInput, IsInputFault, IsReadAs, IsSolidOf}
 use Rattle.mesh_reading.specs.Transcript.{Transcript}
 use Rattle.mesh_reading.specs.declared.read_fault.ReadFault.{ReadFault}
 use Rattle.mesh_reading.specs.declared.read_fault.ReadFault.TheVariants as read
@@ -21,9 +21,9 @@ use Rattle.stlslice.specs.Outcome.{IsOutcome, grid_for}
 use Rattle.stlslice.specs.Run.{IsRun, IsRunFault}
 use Rattle.stlslice.specs.RunFault.{of_read}
 use Rattle.stlslice.specs.Unwritten.{IsUntouched, IsUnwritten}
-use Rattle.stlslice.proofs.lemmas.Faults.{IsReadingFault, IsWorkFault, failed_read, made_there, not_written}
+use Rattle.stlslice.proofs.lemmas.Faults.{IsReadingFault, IsWorkFault, by_input, failed_read, made_there, not_written}
 use Rattle.stlslice.specs.SlicedText.{output_of, sliced_text}
-use Rattle.std.proofs.lemmas.Result.{IfErr-at_err, on_ok_weaker}
+use Rattle.std.proofs.lemmas.Result.{IfErr-at_err, IfErr-weaker, on_ok_weaker}
 use Rattle.stlslice.proofs.lemmas.Bytes.{each, of_input}
 use Rattle.stlslice.proofs.lemmas.OneAnswer.{one_outcome}
 
@@ -56,7 +56,7 @@ sliced_there unit pitch layer rule workers report given input solid g job s plac
     (rw placed (ap (λ (w : Job). Ok (sliced_text (output_of report) w.grid w.rule w.solid.facets)) is))
 
 -- where writing an outcome failed, a part of it was written, or nothing for want of memory
-pub ended : (t : Task) (input : List ℕ) (transcript : Transcript) (text : List ℕ) (f : RunFault) → IsOutcome t input (Ok text)
+ended : (t : Task) (input : List ℕ) (transcript : Transcript) (text : List ℕ) (f : RunFault) → IsOutcome t input (Ok text)
     → ((f ≡ fault.Memory) × IsUntouched transcript) ⊎ IsUnwritten transcript text f → IsEnd t input transcript f
 ended t input transcript text f outcome (inl h) = inl (no_memory t input f h.0, h.1)
 ended t input transcript text f outcome (inr h) = inr (text, outcome, h)
@@ -119,14 +119,13 @@ sound_end (Err f) t input transcript same (inr h) differ = absurd (differ h.2.0 
 
 -- A run.
 
--- a run ends with a fault of reading its input
-pub unready : {T : Type 0} (r : Result T RunFault) (t : Task) (source sink : Transcript) (settled : Bool) (f : ReadFault)
+failed_reading : {T : Type 0} (r : Result T RunFault) (t : Task) (source sink : Transcript) (settled : Bool) (f : ReadFault)
     → IsErrAnd r (λ x. x ≡ of_read f) → IsInputFault (IsReadingFault t) source.old f
     → (f ≢ read.Read → f ≢ read.Memory → IsAtEnd source.new)
     → (f ≡ read.Read → Fails source.failed_before source.failed) → (f ≢ read.Read → source.failed ≡ source.failed_before)
     → IsUntouched sink → IsRun t r source sink settled
-unready (Ok x) t source sink settled f is known whole unread sound kept = absurd is
-unready (Err x) t source sink settled f is known whole unread sound kept =
+failed_reading (Ok x) t source sink settled f is known whole unread sound kept = absurd is
+failed_reading (Err x) t source sink settled f is known whole unread sound kept =
     let unwritten : (written : ℕ) → x ≢ fault.Write written = λ written e. not_written f written (sym is ∙ e) in
     record {
       whole = λ not_read enough. whole (λ e. not_read (ap Err (is ∙ ap of_read e))) (λ e. enough (ap Err (is ∙ ap of_read e)));
@@ -156,6 +155,15 @@ unready (Err x) t source sink settled f is known whole unread sound kept =
         (λ input. (o : RunFault) → IsOutcome t input (Err o) → (of_read f ≡ o) ⊎ (of_read f ≡ fault.Read) ⊎ (of_read f ≡ fault.Memory)) h.1
         (λ o is. own_fault t h.0 (of_read f) o is h.2)
 
+-- a run ends with a fault of reading its input
+pub unready : {T U : Type 0} (r : Result T RunFault) (t : Task) (source sink : Transcript) (settled : Bool) (is_made : List ℕ → U → Type 0)
+    (is_own : List ℕ → ReadFault → Type 0) (f : ReadFault) → IsErrAnd r (λ x. x ≡ of_read f) → IsReadAs is_made is_own (Err f) source
+    → ((input : List ℕ) → is_own input f → IsReadingFault t input f) → IsUntouched sink → IsRun t r source sink settled
+unready r t source sink settled is_made is_own f is reading own kept =
+    failed_reading r t source sink settled f is (by_input source.old is_own (IsReadingFault t) f own reading.err)
+    (λ not_read enough. reading.whole (λ e. not_read (let same : f ≡ read.Read = cc in same)) (λ e. enough (let same : f ≡ read.Memory = cc in same)))
+    (λ e. reading.unread (ap Err e)) (λ other. reading.sound (λ e. other (let same : f ≡ read.Read = cc in same))) kept
+
 run_faults : {T : Type 0} (r : Result T RunFault) (t : Task) (known : Option (List ℕ)) (input : List ℕ) (sink : Transcript) → IsInput known input
     → IfErr r (IsEnd t input sink) → IfErr r (λ f. IfSome known (λ bytes. IsRunFault t bytes f))
 run_faults (Ok x) t known input sink is err = tt
@@ -183,12 +191,11 @@ wrote_nothing (Ok x) t input sink err = tt
 wrote_nothing (Err f) t input sink (inl h) = λ other. h.1.0
 wrote_nothing (Err f) t input sink (inr h) = λ other. absurd (other h.2.0 h.2.1)
 
--- a run has read its input to its end, and ends so
-pub ran : {T : Type 0} (r : Result T RunFault) (t : Task) (input : List ℕ) (source sink : Transcript) (settled : Bool)
+has_run : {T : Type 0} (r : Result T RunFault) (t : Task) (input : List ℕ) (source sink : Transcript) (settled : Bool)
     → IsInput source.old input → IsAtEnd source.new → source.failed ≡ source.failed_before
     → OnOk r (settled ≡ true) → OnOk r ((text : List ℕ) × IsOutcome t input (Ok text) × Appends sink.old sink.new text)
     → OnOk r (sink.failed ≡ sink.failed_before) → IfErr r (IsEnd t input sink) → IsRun t r source sink settled
-ran r t input source sink settled is whole sound flushed ok same err = record {
+has_run r t input source sink settled is whole sound flushed ok same err = record {
   whole = λ _ _. whole;
   flushed = flushed;
   ok = on_ok_weaker r (of_input source.old input (λ bytes. (text : List ℕ) × IsOutcome t bytes (Ok text) × Appends sink.old sink.new text) is) ok;
@@ -210,8 +217,34 @@ no_answer P (Ok x) f e = absurd e
 no_answer P (Err x) f e = tt
 
 -- a run ends with a fault after its reading, before the first byte is written
-pub ended_early : {T : Type 0} (r : Result T RunFault) (t : Task) (input : List ℕ) (source sink : Transcript) (settled : Bool) (f : RunFault)
-    → IsInput source.old input → IsAtEnd source.new → source.failed ≡ source.failed_before → IsUntouched sink → IsWorkFault t input f
-    → IsErrAnd r (λ x. x ≡ f) → IsRun t r source sink settled
-ended_early r t input source sink settled f is whole sound kept known e =
-    ran r t input source sink settled is whole sound (no_answer _ r f e) (no_answer _ r f e) (no_answer _ r f e) (stopped r t input sink f kept known e)
+pub ended_early : {T U : Type 0} (r : Result T RunFault) (t : Task) (source sink : Transcript) (settled : Bool) (is_made : List ℕ → U → Type 0)
+    (is_own : List ℕ → ReadFault → Type 0) (made : U) (f : RunFault) → IsReadAs is_made is_own (Ok made) source → IsUntouched sink
+    → ((input : List ℕ) → is_made input made → IsWorkFault t input f) → IsErrAnd r (λ x. x ≡ f) → IsRun t r source sink settled
+ended_early r t source sink settled is_made is_own made f reading kept known e =
+    let from = reading.ok in
+    has_run r t from.0 source sink settled from.1 (reading.whole (λ e. cc) (λ e. cc)) (reading.sound (λ e. cc))
+    (no_answer _ r f e) (no_answer _ r f e) (no_answer _ r f e) (stopped r t from.0 sink f kept (known from.0 from.2) e)
+
+-- a run writes this text after its reading
+pub ran : {T U : Type 0} (r : Result T RunFault) (t : Task) (source sink : Transcript) (settled : Bool) (is_made : List ℕ → U → Type 0)
+    (is_own : List ℕ → ReadFault → Type 0) (made : U) (text : List ℕ) → IsReadAs is_made is_own (Ok made) source
+    → ((input : List ℕ) → is_made input made → IsOutcome t input (Ok text))
+    → OnOk r (settled ≡ true) → OnOk r (Appends sink.old sink.new text) → OnOk r (sink.failed ≡ sink.failed_before)
+    → IfErr r (λ f. ((f ≡ fault.Memory) × IsUntouched sink) ⊎ IsUnwritten sink text f) → IsRun t r source sink settled
+ran r t source sink settled is_made is_own made text reading outcome flushed ok same err =
+    let from = reading.ok in
+    let known : IsOutcome t from.0 (Ok text) = outcome from.0 from.2 in
+    has_run r t from.0 source sink settled from.1 (reading.whole (λ e. cc) (λ e. cc)) (reading.sound (λ e. cc)) flushed
+    (on_ok_weaker r (λ out. (text, known, out)) ok) same
+    (IfErr-weaker r (λ f. ((f ≡ fault.Memory) × IsUntouched sink) ⊎ IsUnwritten sink text f) (IsEnd t from.0 sink)
+    (λ f h. ended t from.0 sink text f known h) err)
+
+-- the same, where memory is no fault of the writing
+pub ran_line : {T U : Type 0} (r : Result T RunFault) (t : Task) (source sink : Transcript) (settled : Bool) (is_made : List ℕ → U → Type 0)
+    (is_own : List ℕ → ReadFault → Type 0) (made : U) (text : List ℕ) → IsReadAs is_made is_own (Ok made) source
+    → ((input : List ℕ) → is_made input made → IsOutcome t input (Ok text))
+    → OnOk r (settled ≡ true) → OnOk r (Appends sink.old sink.new text) → OnOk r (sink.failed ≡ sink.failed_before)
+    → IfErr r (IsUnwritten sink text) → IsRun t r source sink settled
+ran_line r t source sink settled is_made is_own made text reading outcome flushed ok same err =
+    ran r t source sink settled is_made is_own made text reading outcome flushed ok same
+    (IfErr-weaker r (IsUnwritten sink text) (λ f. ((f ≡ fault.Memory) × IsUntouched sink) ⊎ IsUnwritten sink text f) (λ f h. inr h) err)

@@ -31,8 +31,8 @@ add-requires-clause-count g c =
     omega (
       arith,
       small-images job.grid job.rule job.solid.facets narrow short few,
-      all-counted _ _ (images job.grid job.rule job.solid.facets) 0 c.loop-layer.writer.sent c.loop-layer.writer.held
-          (images_from job c.loop-layer.layer-index) c.loop-layer.invariant.text,
+      all-counted (g.O.Sink.contents c.args.sink.now) (g.O.Sink.contents c.loop-layer.sink) (images job.grid job.rule job.solid.facets) 0
+          c.loop-layer.writer.sent c.loop-layer.writer.held (images_from job c.loop-layer.layer-index) c.loop-layer.invariant.text,
     )
 
 pub loop-layer-preserved : goal.loop-layer-preserved
@@ -52,7 +52,8 @@ loop-layer-preserved g c =
           (images job.grid job.rule job.solid.facets) 0 c.loop-layer.writer.sent c.add.new.self.sent
           (pending c.loop-layer.writer.held c.grid-grid.result.now c.spans.result.now) c.add.new.self.held
           (images_from job (c.loop-layer.layer-index + 1))
-          (with_image job c.loop-layer.layer-index c.loop-layer.writer.sent _ _ c.loop-layer.writer.held _ low here c.loop-layer.invariant.text)
+          (with_image job c.loop-layer.layer-index c.loop-layer.writer.sent (g.O.Sink.contents c.args.sink.now) (g.O.Sink.contents c.loop-layer.sink) c.loop-layer.writer.held
+          (image c.grid-grid.result.now c.spans.result.now) low here c.loop-layer.invariant.text)
           out.low out.high out.ok out.held;
       counted = out.same ∙ c.loop-layer.invariant.counted;
     }
@@ -70,8 +71,10 @@ returns-in_err-add-clause-err g c =
     omega (arith, c.loop-layer-test.true, same, c.layers-layer-items.ensures.complete.whole) in
     let out = c.in_err-add.ensures in
     let next : List ℕ = pending c.loop-layer.writer.held c.grid-grid.result.now c.spans.result.now in
-    let now = with_image job c.loop-layer.layer-index c.loop-layer.writer.sent _ _ c.loop-layer.writer.held _ low here c.loop-layer.invariant.text in
-    let within = written-within _ _ (images job.grid job.rule job.solid.facets) 0 c.loop-layer.writer.sent c.in_err-add.field-0.0.written next
+    let now = with_image job c.loop-layer.layer-index c.loop-layer.writer.sent (g.O.Sink.contents c.args.sink.now) (g.O.Sink.contents c.loop-layer.sink)
+    c.loop-layer.writer.held (image c.grid-grid.result.now c.spans.result.now) low here c.loop-layer.invariant.text in
+    let within = written-within (g.O.Sink.contents c.args.sink.now) (g.O.Sink.contents c.loop-layer.sink) (images job.grid job.rule job.solid.facets) 0
+    c.loop-layer.writer.sent c.in_err-add.field-0.0.written next
     (images_from job (c.loop-layer.layer-index + 1)) now out.within in
     let all : c.in_err-add.field-0.0.written - 0 ≡ c.in_err-add.field-0.0.written = omega arith in
     let first = rw all at (more-out (g.O.Sink.contents c.args.sink.now) (g.O.Sink.contents c.loop-layer.sink) (g.O.Sink.contents c.add.new.w)
@@ -89,15 +92,16 @@ finish-requires g c =
     omega (
       arith,
       small-images job.grid job.rule job.solid.facets narrow short few,
-      all-counted _ _ (images job.grid job.rule job.solid.facets) 0 c.loop-layer.writer.sent c.loop-layer.writer.held
-          (images_from job c.loop-layer.layer-index) c.loop-layer.invariant.text,
+      all-counted (g.O.Sink.contents c.args.sink.now) (g.O.Sink.contents c.loop-layer.sink) (images job.grid job.rule job.solid.facets) 0
+          c.loop-layer.writer.sent c.loop-layer.writer.held (images_from job c.loop-layer.layer-index) c.loop-layer.invariant.text,
     )
 
 pub returns-in_err-written-clause-err : goal.returns-in_err-written-clause-err
 returns-in_err-written-clause-err g c =
     let job : Job = c.args.build.now.job in
     let out = c.in_err-written.ensures in
-    let within = written-within _ _ (images job.grid job.rule job.solid.facets) 0 c.loop-layer.writer.sent
+    let within = written-within (g.O.Sink.contents c.args.sink.now) (g.O.Sink.contents c.loop-layer.sink) (images job.grid job.rule job.solid.facets) 0
+    c.loop-layer.writer.sent
     c.in_err-written.field-0.0.written c.loop-layer.writer.held (images_from job c.loop-layer.layer-index)
     c.loop-layer.invariant.text out.within in
     let all : c.in_err-written.field-0.0.written - 0 ≡ c.in_err-written.field-0.0.written = omega arith in
@@ -114,9 +118,11 @@ returns-clause-ok g c =
     ap (λ (l : List Layer). length l) c.layers-layer-items.ensures.value in
     let none : images_from job c.loop-layer.layer-index ≡ [] =
     none_left job c.loop-layer.layer-index (omega (arith, c.loop-layer-test.false, same, c.layers-layer-items.ensures.complete.whole)) in
-    let out = all-out _ _ _ (images job.grid job.rule job.solid.facets) 0 c.loop-layer.writer.sent c.loop-layer.writer.held
+    let out = all-out (g.O.Sink.contents c.args.sink.now) (g.O.Sink.contents c.loop-layer.sink) (g.O.Sink.contents c.finish.new.w) (images job.grid job.rule job.solid.facets) 0
+    c.loop-layer.writer.sent c.loop-layer.writer.held
     (rw none at c.loop-layer.invariant.text) c.in_ok-written.ensures.ok in
-    on_ok_weaker c.settle.result (λ _. appends-kept _ _ _ _ out c.settle.ensures.kept) c.settle.ensures.flushed
+    on_ok_weaker c.settle.result (λ _. appends-kept (g.O.Sink.contents c.args.sink.now) (g.O.Sink.contents c.finish.new.w) (g.O.Sink.contents c.settle.new.sink)
+    (images job.grid job.rule job.solid.facets) out c.settle.ensures.kept) c.settle.ensures.flushed
 
 pub returns-clause-err : goal.returns-clause-err
 returns-clause-err g c =
@@ -126,13 +132,16 @@ returns-clause-err g c =
     let none : images_from job c.loop-layer.layer-index ≡ [] =
     none_left job c.loop-layer.layer-index (omega (arith, c.loop-layer-test.false, same, c.layers-layer-items.ensures.complete.whole)) in
     let text = rw none at c.loop-layer.invariant.text in
-    let out = all-out _ _ _ (images job.grid job.rule job.solid.facets) 0 c.loop-layer.writer.sent c.loop-layer.writer.held text c.in_ok-written.ensures.ok in
-    let kept = appends-kept _ _ _ _ out c.settle.ensures.kept in
+    let out = all-out (g.O.Sink.contents c.args.sink.now) (g.O.Sink.contents c.loop-layer.sink) (g.O.Sink.contents c.finish.new.w) (images job.grid job.rule job.solid.facets) 0
+    c.loop-layer.writer.sent c.loop-layer.writer.held text c.in_ok-written.ensures.ok in
+    let kept = appends-kept (g.O.Sink.contents c.args.sink.now) (g.O.Sink.contents c.finish.new.w) (g.O.Sink.contents c.settle.new.sink)
+    (images job.grid job.rule job.solid.facets) out c.settle.ensures.kept in
     let whole : c.in_ok-written.written ≡ length (images job.grid job.rule job.solid.facets) =
     omega (
       arith,
       c.in_ok-written.ensures.total,
-      all-counted _ _ (images job.grid job.rule job.solid.facets) 0 c.loop-layer.writer.sent c.loop-layer.writer.held [] text,
+      all-counted (g.O.Sink.contents c.args.sink.now) (g.O.Sink.contents c.loop-layer.sink) (images job.grid job.rule job.solid.facets) 0
+          c.loop-layer.writer.sent c.loop-layer.writer.held [] text,
     ) in
     let first : AppendsFirst (g.O.Sink.contents c.args.sink.now) (g.O.Sink.contents c.settle.new.sink) c.in_ok-written.written (images job.grid job.rule job.solid.facets) =
     subst (λ (l : List ℕ). Appends (g.O.Sink.contents c.args.sink.now) (g.O.Sink.contents c.settle.new.sink) l)

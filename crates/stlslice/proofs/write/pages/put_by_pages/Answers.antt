@@ -40,7 +40,7 @@ draw_and_put-requires-clause-count g c κs within =
     omega (
       arith,
       small-images job.grid job.rule job.solid.facets narrow short few,
-      all-counted _ _ all 0 c.loop-drawn.written (pages_text c.as_slice.result.now) (images_between job c.loop-drawn.drawn job.grid.layers) text,
+      all-counted (g.O.Sink.contents c.args.sink.now) (g.O.Sink.contents c.loop-drawn.sink) all 0 c.loop-drawn.written (pages_text c.as_slice.result.now) (images_between job c.loop-drawn.drawn job.grid.layers) text,
     )
 
 pub loop-drawn-preserved : goal.loop-drawn-preserved
@@ -117,7 +117,7 @@ put_pages-requires g c =
     omega (
       arith,
       small-images job.grid job.rule job.solid.facets narrow short few,
-      all-counted _ _ all 0 c.loop-drawn.written (pages_text c.as_slice-2.result.now) (images_between job c.loop-drawn.drawn job.grid.layers) text,
+      all-counted (g.O.Sink.contents c.args.sink.now) (g.O.Sink.contents c.loop-drawn.sink) all 0 c.loop-drawn.written (pages_text c.as_slice-2.result.now) (images_between job c.loop-drawn.drawn job.grid.layers) text,
     )
 
 pub returns-clause-ok : goal.returns-clause-ok
@@ -146,7 +146,7 @@ returns-clause-total g c =
     let last = rw none at c.loop-drawn.invariant.text in
     let text : IsUnderWay (g.O.Sink.contents c.args.sink.now) (g.O.Sink.contents c.loop-drawn.sink) all 0 c.loop-drawn.written
     (pages_text c.as_slice-2.result.now) [] = rw c.as_slice-2.ensures.value last in
-    let counted = all-counted _ _ all 0 c.loop-drawn.written (pages_text c.as_slice-2.result.now) [] text in
+    let counted = all-counted (g.O.Sink.contents c.args.sink.now) (g.O.Sink.contents c.loop-drawn.sink) all 0 c.loop-drawn.written (pages_text c.as_slice-2.result.now) [] text in
     IfOk-weaker c.put_pages.result _ _ (λ total is. omega (arith, is, counted)) c.put_pages.ensures.total
 
 pub returns-clause-written : goal.returns-clause-written
