@@ -1,5 +1,5 @@
 -- Which faults of a run come of its input, and what a probe answers.
-use Rattle.std.proofs.Common.{◌≡◌, ◌≢◌, ◌⊎◌, ℕ, List, Option, inl, inr, refl, subst}
+use Rattle.std.proofs.Common.{◌≡◌, ◌≢◌, ◌⊎◌, ℕ, List, Option, ap, inl, inr, refl, subst}
 use Rattle.std.specs.Prelude.{Err, Result, Ok, false}
 use Rattle.micro_num.specs.declared.unit.Unit.{Unit as LengthUnit}
 use Rattle.mesh_weld.specs.Solid.{Solid}
@@ -9,13 +9,14 @@ use Rattle.raster.specs.Grid.{Grid}
 use Rattle.task_words.specs.declared.task.Given.{Given}
 use Rattle.task_words.specs.declared.task.Task.{Task}
 use Rattle.task_words.specs.declared.task.Task.TheVariants as task
-use Rattle.mesh_reading.specs.Loading.{IsInputFault, IsMisread, IsSolidOf}
+use Rattle.mesh_reading.specs.Loading.{IsInputFault, IsMisread, IsSolidOf, IsTextExtent}
 use Rattle.mesh_reading.specs.Loading as reading
+use Rattle.mesh_reading.specs.declared.extent.Extent.{Extent}
 use Rattle.mesh_reading.specs.declared.read_fault.ReadFault.{ReadFault}
 use Rattle.mesh_reading.specs.declared.read_fault.ReadFault.TheVariants as read
 use Rattle.stlslice.specs.declared.run_fault.RunFault.{RunFault}
 use Rattle.stlslice.specs.declared.run_fault.RunFault.TheVariants as fault
-use Rattle.stlslice.specs.Outcome.{IsMade, IsOutcome, closed, grid_for, is_box, misread, open_mesh, outside, probed_text, unit_of}
+use Rattle.stlslice.specs.Outcome.{IsMade, IsOutcome, boxed, closed, grid_for, is_box, line_text, misread, open_mesh, outside, probed_text, unit_of}
 use Rattle.stlslice.specs.RunFault.{of_read}
 use Rattle.stlslice.specs.Loading.{IsLoadFault}
 use Rattle.stlslice.specs.Run.{IsRunFault}
@@ -54,6 +55,12 @@ IsReadingFault t input f = IsWorkFault t input (of_read f)
 -- where a text does not read as facets, its fault is the outcome of a box
 pub misread_box : (unit : LengthUnit) (input : List ℕ) (f : ReadFault) → IsMisread unit input f → IsReadingFault (task.Box unit) input f
 misread_box unit input f h = rw h.1 (misread h.0 h.2 refl, (λ e. cc), (λ w e. cc))
+
+-- the line of the extent that a text spells is the outcome of a box
+pub box_there : (unit : LengthUnit) (input : List ℕ) (extent : Extent) (line : List ℕ) → IsTextExtent unit input extent
+    → line ≡ line_text extent.count extent.corners → IsOutcome (task.Box unit) input (Ok line)
+box_there unit input extent line from is =
+    boxed from.0 from.1 refl (rw is (ap (λ (e : Extent). Ok (line_text e.count e.corners)) from.2))
 
 -- where a text is no closed mesh, its fault is the outcome of a task that needs one
 pub unloaded : (t : Task) (input : List ℕ) (f : ReadFault) → is_box t ≡ false → reading.IsLoadFault (unit_of t) input f

@@ -1,13 +1,15 @@
 -- Images that are drawn into pages: which bytes they have, and how many.
 use Rattle.std.proofs.Common.{◌≡◌, ℕ, zero, suc, ◌+◌, ◌*◌, ◌-◌, ◌<◌, ◌≤◌, List, [], ◌∷◌, ◌++◌, min, length, length-append, append_assoc, ap, sym, ◌∙◌, arith, refl, slice_index_or, drop, subst, Option}
-use Rattle.std.specs.Prelude.{Bool, false, Err, IfErr, Ok, Result, flat_map}
+use Rattle.std.specs.Prelude.{Bool, false, Err, IfErr, IfOk, Ok, Result, flat_map}
 use Rattle.std.specs.List.{All, range_with_len}
 use Rattle.std.proofs.lemmas.List.Concat.{flat_map-cons}
 use Rattle.std.proofs.lemmas.List.{drop_all, take_all}
 use Rattle.std.proofs.Math.Seq.{drop-cons}
 use Rattle.std.proofs.Math.Nat.{mul-le-mul_left}
 use Rattle.std.specs.Io.KnownBytes.{Appends}
-use Rattle.raster.proofs.lemmas.Written.{IsUnderWay, all-counted, begun, moved, taken-on}
+use Rattle.raster.proofs.lemmas.Written.{IsUnderWay, all-counted, begun, more-out, moved, taken-on, written-within}
+use Rattle.raster.specs.Devices.{AppendsFirst}
+use Rattle.raster.specs.declared.devices.WriteFault.{WriteFault}
 use Rattle.raster.specs.Grid.{Grid, centre}
 use Rattle.raster.specs.Filler.{is_filled}
 use Rattle.raster.specs.Image.{image_of_pixels, images, layer_image}
@@ -186,7 +188,26 @@ fewer-left count drawn m per next some few h is =
     let one : per * 1 ≤ per * m = mul-le-mul_left per some in
     omega (arith, one, few, h, is)
 
--- two facts on one fault
-pub both-faults : {T E : Type 0} (r : Result T E) (P Q : E → Type 0) → IfErr r P → IfErr r Q → IfErr r (λ f. P f × Q f)
-both-faults (Ok x) P Q h k = tt
-both-faults (Err f) P Q h k = (h, k)
+-- Where the last pages could not be written, a front of all images went out.
+
+pub last-written : (r : Result ℕ WriteFault) (old now new : Option (List ℕ)) (all : List ℕ) (written : ℕ) (chunk rest : List ℕ)
+    → IsUnderWay old now all 0 written chunk rest → IfErr r (λ f. written ≤ f.written) → IfErr r (λ f. f.written < written + length chunk)
+    → IfErr r (λ f. AppendsFirst now new (f.written - written) chunk) → IfErr r (λ f. AppendsFirst old new f.written all)
+last-written (Ok x) old now new all written chunk rest text some within sent = tt
+last-written (Err f) old now new all written chunk rest text some within sent =
+    let same : f.written - 0 ≡ f.written = omega arith in
+    rw same at (more-out old now new all 0 written f.written chunk rest text some (omega (arith, within)) sent)
+
+pub last-within : (r : Result ℕ WriteFault) (old now : Option (List ℕ)) (all : List ℕ) (written : ℕ) (chunk rest : List ℕ)
+    → IsUnderWay old now all 0 written chunk rest → IfErr r (λ f. f.written < written + length chunk) → IfErr r (λ f. f.written < length all)
+last-within (Ok x) old now all written chunk rest text within = tt
+last-within (Err f) old now all written chunk rest text within =
+    let less = written-within old now all 0 written f.written chunk rest text within in
+    omega (arith, less)
+
+pub last-total : (r : Result ℕ WriteFault) (old now : Option (List ℕ)) (all : List ℕ) (written : ℕ) (chunk : List ℕ)
+    → IsUnderWay old now all 0 written chunk [] → IfOk r (λ total. total ≡ written + length chunk) → IfOk r (λ total. total ≡ length all)
+last-total (Ok x) old now all written chunk text is =
+    let counted = all-counted old now all 0 written chunk [] text in
+    omega (arith, is, counted)
+last-total (Err f) old now all written chunk text is = tt

@@ -1,11 +1,9 @@
-use Rattle.std.proofs.Common.{◌≡◌, ◌∙◌, List, ℕ, ap, refl}
+use Rattle.std.proofs.Common.{List, ℕ, refl}
 use Rattle.std.specs.Prelude.{string_bytes}
 use Rattle.mesh_reading.specs.Loading.{IsMisread, IsTextExtent}
 use Rattle.mesh_reading.specs.Transcript.{Transcript}
 use Rattle.mesh_reading.proofs.lemmas.Reading.{transcript_of}
-use Rattle.stlslice.proofs.lemmas.Faults.{misread_box}
-use Rattle.mesh_reading.specs.declared.extent.Extent.{Extent}
-use Rattle.stlslice.specs.Outcome.{box_text, boxed, line_text}
+use Rattle.stlslice.proofs.lemmas.Faults.{box_there, misread_box}
 use Rattle.task_words.specs.declared.task.Task.TheVariants as task
 use Rattle.stlslice.specs.declared.run_fault.RunFault.TheVariants as fault
 use Rattle.stlslice.proofs.lemmas.Ends.{ended_early, keeps_self, no_memory, ran_line, unready}
@@ -36,8 +34,6 @@ returns g c =
     let sink : Transcript = transcript_of g.O.Sink.contents g.O.Failures.failure_count c.args.sink.now c.write_all.new.sink in
     ran_line c.write_all.result t source sink (g.O.Sink.is_settled c.write_all.new.sink) (IsTextExtent c.args.unit) (IsMisread c.args.unit) c.in_ok-extent.extent text
     c.in_ok-extent.ensures
-    (λ input from.
-    let told : text ≡ box_text from.0 =
-    c.as_bytes.ensures.value ∙ (c.in_ok-line.ensures ∙ ap (λ (e : Extent). line_text e.count e.corners) from.2) in
-    boxed from.0 from.1 refl (rw told refl))
+    (λ input from. rw c.as_bytes.ensures.value
+    (box_there c.args.unit input c.in_ok-extent.extent (string_bytes c.in_ok-line.line) from c.in_ok-line.ensures))
     c.write_all.ensures.flushed c.write_all.ensures.ok c.write_all.ensures.same c.write_all.ensures.err

@@ -3,16 +3,20 @@ use Rattle.std.proofs.lemmas.Result.{IfErr-weaker, on_ok_weaker}
 use Rattle.std.proofs.lemmas.List.{take_all}
 use Rattle.std.specs.Io.KnownBytes.{Appends}
 use Rattle.geometry.specs.declared.limits.TheConstants.{COLUMN_LIMIT, LAYER_LIMIT}
-use Rattle.raster.specs.Devices.{AppendsFirst}
+use Rattle.raster.specs.Devices.{AppendsFirst, Fails}
 use Rattle.raster.specs.Image.{images, layer_image}
 use Rattle.raster.specs.ImageWriter.{pending}
 use Rattle.raster.proofs.lemmas.Images.{small-images}
 use Rattle.raster.proofs.lemmas.Sent.{appends-kept}
 use Rattle.raster.proofs.lemmas.Written.{all-counted, all-out, more-out, moved, written-within}
+use Rattle.mesh_reading.specs.Transcript.{Transcript}
 use Rattle.mesh_reading.proofs.lemmas.Faults.{passed_on}
+use Rattle.mesh_reading.proofs.lemmas.Reading.{transcript_of}
 use Rattle.build_book.specs.Layer.{Layer}
 use Rattle.build_book.specs.Job.{Job}
 use Rattle.stlslice.specs.SlicedText.{image}
+use Rattle.stlslice.specs.Unwritten.{IsUnwritten}
+use Rattle.stlslice.specs.declared.run_fault.RunFault.TheVariants as fault
 use Rattle.stlslice.proofs.lemmas.Stream.{image_at, images_from, layer_at, none_left, with_image}
 use Rattle.stlslice.proofs.write.images.write_images.Goals as goal
 
@@ -80,7 +84,8 @@ returns-in_err-add-clause-err g c =
     let first = rw all at (more-out (g.O.Sink.contents c.args.sink.now) (g.O.Sink.contents c.loop-layer.sink) (g.O.Sink.contents c.add.new.w)
     (images job.grid job.rule job.solid.facets) 0 c.loop-layer.writer.sent c.in_err-add.field-0.0.written next
     (images_from job (c.loop-layer.layer-index + 1)) now out.some (omega (arith, out.within)) out.written) in
-    passed_on c.from_residual.result _ _
+    let sink : Transcript = transcript_of g.O.Sink.contents g.O.Failures.failure_count c.args.sink.now c.add.new.w in
+    passed_on c.from_residual.result (λ f. f ≡ fault.Write c.in_err-add.field-0.0.written) (IsUnwritten sink (images job.grid job.rule job.solid.facets))
     (λ f is. (c.in_err-add.field-0.0.written, is, omega (arith, within), first, search rules)) c.from_residual.ensures.1
 
 pub finish-requires : goal.finish-requires
@@ -108,7 +113,8 @@ returns-in_err-written-clause-err g c =
     let first = rw all at (more-out (g.O.Sink.contents c.args.sink.now) (g.O.Sink.contents c.loop-layer.sink) (g.O.Sink.contents c.finish.new.w)
     (images job.grid job.rule job.solid.facets) 0 c.loop-layer.writer.sent c.in_err-written.field-0.0.written c.loop-layer.writer.held
     (images_from job c.loop-layer.layer-index) c.loop-layer.invariant.text out.some (omega (arith, out.within)) out.written) in
-    passed_on c.from_residual-in_err-written.result _ _
+    let sink : Transcript = transcript_of g.O.Sink.contents g.O.Failures.failure_count c.args.sink.now c.finish.new.w in
+    passed_on c.from_residual-in_err-written.result (λ f. f ≡ fault.Write c.in_err-written.field-0.0.written) (IsUnwritten sink (images job.grid job.rule job.solid.facets))
     (λ f is. (c.in_err-written.field-0.0.written, is, omega (arith, within), first, search rules)) c.from_residual-in_err-written.ensures.1
 
 pub returns-clause-ok : goal.returns-clause-ok
@@ -146,4 +152,7 @@ returns-clause-err g c =
     let first : AppendsFirst (g.O.Sink.contents c.args.sink.now) (g.O.Sink.contents c.settle.new.sink) c.in_ok-written.written (images job.grid job.rule job.solid.facets) =
     subst (λ (l : List ℕ). Appends (g.O.Sink.contents c.args.sink.now) (g.O.Sink.contents c.settle.new.sink) l)
     (sym (take_all c.in_ok-written.written (images job.grid job.rule job.solid.facets) (omega (arith, whole)))) kept in
-    IfErr-weaker c.settle.result _ _ (λ f h. (c.in_ok-written.written, h.0, omega (arith, whole), first, search rules)) c.settle.ensures.err
+    let sink : Transcript = transcript_of g.O.Sink.contents g.O.Failures.failure_count c.args.sink.now c.settle.new.sink in
+    IfErr-weaker c.settle.result
+    (λ f. (f ≡ fault.Write c.in_ok-written.written) × Fails (g.O.Failures.failure_count c.finish.new.w) (g.O.Failures.failure_count c.settle.new.sink))
+    (IsUnwritten sink (images job.grid job.rule job.solid.facets)) (λ f h. (c.in_ok-written.written, h.0, omega (arith, whole), first, search rules)) c.settle.ensures.err

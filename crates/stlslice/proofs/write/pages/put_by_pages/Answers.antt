@@ -1,5 +1,5 @@
 use Rattle.std.proofs.Common.{◌≡◌, ◌≤◌, ◌+◌, ◌*◌, ◌-◌, ◌++◌, ◌∙◌, List, ℕ, [], ap, arith, length, min, refl, rules, sym, vec_len}
-use Rattle.std.proofs.lemmas.Result.{IfErr-weaker, IfOk-weaker, err_from_is_err_and, on_ok_weaker}
+use Rattle.std.proofs.lemmas.Result.{err_from_is_err_and, on_ok_weaker}
 use Rattle.geometry.specs.declared.limits.TheConstants.{COLUMN_LIMIT, LAYER_LIMIT}
 use Rattle.raster.specs.Image.{images}
 use Rattle.raster.proofs.lemmas.Images.{small-images}
@@ -7,7 +7,7 @@ use Rattle.raster.proofs.lemmas.Written.{IsUnderWay, all-counted, all-out, more-
 use Rattle.build_book.specs.Job.{Job}
 use Rattle.build_book.specs.Layer.{Layer}
 use Rattle.stlslice.specs.Pages.{images_between, pages_text}
-use Rattle.stlslice.proofs.lemmas.Pages.{all-begun, all-put, blank-text, both-faults, fewer-left, images-parts, no-images, with-part}
+use Rattle.stlslice.proofs.lemmas.Pages.{all-begun, all-put, blank-text, fewer-left, images-parts, last-total, last-within, last-written, no-images, with-part}
 use Rattle.stlslice.proofs.write.pages.put_by_pages.Goals as goal
 
 pub loop-drawn-init : goal.loop-drawn-init
@@ -146,8 +146,8 @@ returns-clause-total g c =
     let last = rw none at c.loop-drawn.invariant.text in
     let text : IsUnderWay (g.O.Sink.contents c.args.sink.now) (g.O.Sink.contents c.loop-drawn.sink) all 0 c.loop-drawn.written
     (pages_text c.as_slice-2.result.now) [] = rw c.as_slice-2.ensures.value last in
-    let counted = all-counted (g.O.Sink.contents c.args.sink.now) (g.O.Sink.contents c.loop-drawn.sink) all 0 c.loop-drawn.written (pages_text c.as_slice-2.result.now) [] text in
-    IfOk-weaker c.put_pages.result _ _ (λ total is. omega (arith, is, counted)) c.put_pages.ensures.total
+    last-total c.put_pages.result (g.O.Sink.contents c.args.sink.now) (g.O.Sink.contents c.loop-drawn.sink) all c.loop-drawn.written
+    (pages_text c.as_slice-2.result.now) text c.put_pages.ensures.total
 
 pub returns-clause-written : goal.returns-clause-written
 returns-clause-written g c =
@@ -156,13 +156,9 @@ returns-clause-written g c =
     let text : IsUnderWay (g.O.Sink.contents c.args.sink.now) (g.O.Sink.contents c.loop-drawn.sink) all 0 c.loop-drawn.written
     (pages_text c.as_slice-2.result.now) (images_between job c.loop-drawn.drawn job.grid.layers) =
     rw c.as_slice-2.ensures.value c.loop-drawn.invariant.text in
-    IfErr-weaker c.put_pages.result _ _
-    (λ f h.
-    let same : f.written - 0 ≡ f.written = omega arith in
-    rw same at (more-out (g.O.Sink.contents c.args.sink.now) (g.O.Sink.contents c.loop-drawn.sink) (g.O.Sink.contents c.put_pages.new.sink)
-    all 0 c.loop-drawn.written f.written (pages_text c.as_slice-2.result.now)
-    (images_between job c.loop-drawn.drawn job.grid.layers) text h.0.0 (omega (arith, h.0.1)) h.1))
-    (both-faults c.put_pages.result _ _ (both-faults c.put_pages.result _ _ c.put_pages.ensures.some c.put_pages.ensures.within) c.put_pages.ensures.written)
+    last-written c.put_pages.result (g.O.Sink.contents c.args.sink.now) (g.O.Sink.contents c.loop-drawn.sink) (g.O.Sink.contents c.put_pages.new.sink) all
+    c.loop-drawn.written (pages_text c.as_slice-2.result.now) (images_between job c.loop-drawn.drawn job.grid.layers) text
+    c.put_pages.ensures.some c.put_pages.ensures.within c.put_pages.ensures.written
 
 pub returns-clause-within : goal.returns-clause-within
 returns-clause-within g c =
@@ -171,10 +167,5 @@ returns-clause-within g c =
     let text : IsUnderWay (g.O.Sink.contents c.args.sink.now) (g.O.Sink.contents c.loop-drawn.sink) all 0 c.loop-drawn.written
     (pages_text c.as_slice-2.result.now) (images_between job c.loop-drawn.drawn job.grid.layers) =
     rw c.as_slice-2.ensures.value c.loop-drawn.invariant.text in
-    IfErr-weaker c.put_pages.result _ _
-    (λ f h. omega (
-      arith,
-      written-within (g.O.Sink.contents c.args.sink.now) (g.O.Sink.contents c.loop-drawn.sink) all 0 c.loop-drawn.written
-          f.written (pages_text c.as_slice-2.result.now) (images_between job c.loop-drawn.drawn job.grid.layers) text h,
-    ))
-    c.put_pages.ensures.within
+    last-within c.put_pages.result (g.O.Sink.contents c.args.sink.now) (g.O.Sink.contents c.loop-drawn.sink) all c.loop-drawn.written
+    (pages_text c.as_slice-2.result.now) (images_between job c.loop-drawn.drawn job.grid.layers) text c.put_pages.ensures.within
