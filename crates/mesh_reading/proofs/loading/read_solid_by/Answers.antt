@@ -82,7 +82,8 @@ pub returns-in_err-is_next : goal.returns-in_err-is_next
 returns-in_err-is_next g c =
     let f = c.in_err-is_next.field-0.0 in
     let source : Transcript = transcript_of g.I.Source.remaining g.I.Failures.failure_count c.args.source.now c.read_and_weld.new.source in
-    stopped_as c.from_residual-in_err-is_next.result (IsSolidOf c.args.unit) (IsLoadFault c.args.unit) source f c.from_residual-in_err-is_next.ensures.1
+    stopped_as c.from_residual-in_err-is_next.result (IsSolidOf c.args.unit) (IsLoadFault c.args.unit) source f
+    c.from_residual-in_err-is_next.ensures.1
     c.in_err-is_next.ensures.filled.only
     (λ e. subst (λ n. Fails n (g.I.Failures.failure_count c.read_and_weld.new.source)) c.loop.invariant.counted
     (c.in_err-is_next.ensures.filled.unread (ap Err e)))

@@ -16,7 +16,8 @@ returns-in_err-solid g c =
     let f = c.in_err-solid.field-0.0 in
     let source : Transcript = transcript_of g.I.Source.remaining g.I.Failures.failure_count c.args.source.now c.read_solid_by.new.source in
     let sink : Transcript = transcript_of g.O.Sink.contents g.O.Failures.failure_count c.args.sink.now c.args.sink.now in
-    unready c.from_residual.result t source sink (g.O.Sink.is_settled c.args.sink.now) (IsSolidOf c.args.unit) (IsLoadFault c.args.unit) f c.from_residual.ensures.1
+    unready c.from_residual.result t source sink (g.O.Sink.is_settled c.args.sink.now) (IsSolidOf c.args.unit) (IsLoadFault c.args.unit) f
+    c.from_residual.ensures.1
     c.in_err-solid.ensures (λ input h. unloaded t input f refl h) (keeps_self (g.O.Sink.contents c.args.sink.now), refl)
 
 pub returns-in_err-grid : goal.returns-in_err-grid
@@ -25,9 +26,11 @@ returns-in_err-grid g c =
     let f = c.in_err-grid.field-0.0 in
     let source : Transcript = transcript_of g.I.Source.remaining g.I.Failures.failure_count c.args.source.now c.read_solid_by.new.source in
     let sink : Transcript = transcript_of g.O.Sink.contents g.O.Failures.failure_count c.args.sink.now c.args.sink.now in
-    ended_early c.from_residual-in_err-grid.result t source sink (g.O.Sink.is_settled c.args.sink.now) (IsSolidOf c.args.unit) (IsLoadFault c.args.unit) c.in_ok-solid.solid f
+    ended_early c.from_residual-in_err-grid.result t source sink (g.O.Sink.is_settled c.args.sink.now) (IsSolidOf c.args.unit)
+    (IsLoadFault c.args.unit) c.in_ok-solid.solid f
     c.in_ok-solid.ensures (keeps_self (g.O.Sink.contents c.args.sink.now), refl)
-    (λ input from. unplaced t c.args.pitch c.args.layer c.args.given input c.in_ok-solid.solid f refl (λ cause none. rw none refl) from c.in_err-grid.ensures.err)
+    (λ input from. unplaced t c.args.pitch c.args.layer c.args.given input c.in_ok-solid.solid f refl (λ cause none. rw none refl) from
+    c.in_err-grid.ensures.err)
     c.from_residual-in_err-grid.ensures.1
 
 pub returns-in_err-build : goal.returns-in_err-build
@@ -35,8 +38,10 @@ returns-in_err-build g c =
     let t = task.Slice c.args.unit c.args.pitch c.args.layer c.args.rule c.args.workers c.args.report c.args.given in
     let source : Transcript = transcript_of g.I.Source.remaining g.I.Failures.failure_count c.args.source.now c.read_solid_by.new.source in
     let sink : Transcript = transcript_of g.O.Sink.contents g.O.Failures.failure_count c.args.sink.now c.args.sink.now in
-    ended_early c.from_residual-in_err-build.result t source sink (g.O.Sink.is_settled c.args.sink.now) (IsSolidOf c.args.unit) (IsLoadFault c.args.unit) c.in_ok-solid.solid fault.Memory
-    c.in_ok-solid.ensures (keeps_self (g.O.Sink.contents c.args.sink.now), refl) (λ input from. no_memory t input fault.Memory refl) c.from_residual-in_err-build.ensures.1
+    ended_early c.from_residual-in_err-build.result t source sink (g.O.Sink.is_settled c.args.sink.now) (IsSolidOf c.args.unit)
+    (IsLoadFault c.args.unit) c.in_ok-solid.solid fault.Memory
+    c.in_ok-solid.ensures (keeps_self (g.O.Sink.contents c.args.sink.now), refl) (λ input from. no_memory t input fault.Memory refl)
+    c.from_residual-in_err-build.ensures.1
 
 pub returns : goal.returns
 returns g c =
@@ -45,7 +50,8 @@ returns g c =
     let text : List ℕ = sliced_text c.of.result job.grid job.rule job.solid.facets in
     let source : Transcript = transcript_of g.I.Source.remaining g.I.Failures.failure_count c.args.source.now c.read_solid_by.new.source in
     let sink : Transcript = transcript_of g.O.Sink.contents g.O.Failures.failure_count c.args.sink.now c.write_build.new.sink in
-    ran c.write_build.result t source sink (g.O.Sink.is_settled c.write_build.new.sink) (IsSolidOf c.args.unit) (IsLoadFault c.args.unit) c.in_ok-solid.solid text
+    ran c.write_build.result t source sink (g.O.Sink.is_settled c.write_build.new.sink) (IsSolidOf c.args.unit) (IsLoadFault c.args.unit)
+    c.in_ok-solid.solid text
     c.in_ok-solid.ensures
     (λ input from. rw c.of.ensures
     (sliced_there c.args.unit c.args.pitch c.args.layer c.args.rule c.args.workers c.args.report c.args.given input c.in_ok-solid.solid

@@ -56,7 +56,8 @@ loop-layer-preserved g c =
           (images job.grid job.rule job.solid.facets) 0 c.loop-layer.writer.sent c.add.new.self.sent
           (pending c.loop-layer.writer.held c.grid-grid.result.now c.spans.result.now) c.add.new.self.held
           (images_from job (c.loop-layer.layer-index + 1))
-          (with_image job c.loop-layer.layer-index c.loop-layer.writer.sent (g.O.Sink.contents c.args.sink.now) (g.O.Sink.contents c.loop-layer.sink) c.loop-layer.writer.held
+          (with_image job c.loop-layer.layer-index c.loop-layer.writer.sent (g.O.Sink.contents c.args.sink.now)
+          (g.O.Sink.contents c.loop-layer.sink) c.loop-layer.writer.held
           (image c.grid-grid.result.now c.spans.result.now) low here c.loop-layer.invariant.text)
           out.low out.high out.ok out.held;
       counted = out.same ∙ c.loop-layer.invariant.counted;
@@ -75,9 +76,11 @@ returns-in_err-add-clause-err g c =
     omega (arith, c.loop-layer-test.true, same, c.layers-layer-items.ensures.complete.whole) in
     let out = c.in_err-add.ensures in
     let next : List ℕ = pending c.loop-layer.writer.held c.grid-grid.result.now c.spans.result.now in
-    let now = with_image job c.loop-layer.layer-index c.loop-layer.writer.sent (g.O.Sink.contents c.args.sink.now) (g.O.Sink.contents c.loop-layer.sink)
+    let now = with_image job c.loop-layer.layer-index c.loop-layer.writer.sent (g.O.Sink.contents c.args.sink.now)
+    (g.O.Sink.contents c.loop-layer.sink)
     c.loop-layer.writer.held (image c.grid-grid.result.now c.spans.result.now) low here c.loop-layer.invariant.text in
-    let within = written-within (g.O.Sink.contents c.args.sink.now) (g.O.Sink.contents c.loop-layer.sink) (images job.grid job.rule job.solid.facets) 0
+    let within = written-within (g.O.Sink.contents c.args.sink.now) (g.O.Sink.contents c.loop-layer.sink)
+    (images job.grid job.rule job.solid.facets) 0
     c.loop-layer.writer.sent c.in_err-add.field-0.0.written next
     (images_from job (c.loop-layer.layer-index + 1)) now out.within in
     let all : c.in_err-add.field-0.0.written - 0 ≡ c.in_err-add.field-0.0.written = omega arith in
@@ -85,7 +88,8 @@ returns-in_err-add-clause-err g c =
     (images job.grid job.rule job.solid.facets) 0 c.loop-layer.writer.sent c.in_err-add.field-0.0.written next
     (images_from job (c.loop-layer.layer-index + 1)) now out.some (omega (arith, out.within)) out.written) in
     let sink : Transcript = transcript_of g.O.Sink.contents g.O.Failures.failure_count c.args.sink.now c.add.new.w in
-    passed_on c.from_residual.result (λ f. f ≡ fault.Write c.in_err-add.field-0.0.written) (IsUnwritten sink (images job.grid job.rule job.solid.facets))
+    passed_on c.from_residual.result (λ f. f ≡ fault.Write c.in_err-add.field-0.0.written)
+    (IsUnwritten sink (images job.grid job.rule job.solid.facets))
     (λ f is. (c.in_err-add.field-0.0.written, is, omega (arith, within), first, search rules)) c.from_residual.ensures.1
 
 pub finish-requires : goal.finish-requires
@@ -105,7 +109,8 @@ pub returns-in_err-written-clause-err : goal.returns-in_err-written-clause-err
 returns-in_err-written-clause-err g c =
     let job : Job = c.args.build.now.job in
     let out = c.in_err-written.ensures in
-    let within = written-within (g.O.Sink.contents c.args.sink.now) (g.O.Sink.contents c.loop-layer.sink) (images job.grid job.rule job.solid.facets) 0
+    let within = written-within (g.O.Sink.contents c.args.sink.now) (g.O.Sink.contents c.loop-layer.sink)
+    (images job.grid job.rule job.solid.facets) 0
     c.loop-layer.writer.sent
     c.in_err-written.field-0.0.written c.loop-layer.writer.held (images_from job c.loop-layer.layer-index)
     c.loop-layer.invariant.text out.within in
@@ -114,7 +119,8 @@ returns-in_err-written-clause-err g c =
     (images job.grid job.rule job.solid.facets) 0 c.loop-layer.writer.sent c.in_err-written.field-0.0.written c.loop-layer.writer.held
     (images_from job c.loop-layer.layer-index) c.loop-layer.invariant.text out.some (omega (arith, out.within)) out.written) in
     let sink : Transcript = transcript_of g.O.Sink.contents g.O.Failures.failure_count c.args.sink.now c.finish.new.w in
-    passed_on c.from_residual-in_err-written.result (λ f. f ≡ fault.Write c.in_err-written.field-0.0.written) (IsUnwritten sink (images job.grid job.rule job.solid.facets))
+    passed_on c.from_residual-in_err-written.result (λ f. f ≡ fault.Write c.in_err-written.field-0.0.written)
+    (IsUnwritten sink (images job.grid job.rule job.solid.facets))
     (λ f is. (c.in_err-written.field-0.0.written, is, omega (arith, within), first, search rules)) c.from_residual-in_err-written.ensures.1
 
 pub returns-clause-ok : goal.returns-clause-ok
@@ -124,10 +130,12 @@ returns-clause-ok g c =
     ap (λ (l : List Layer). length l) c.layers-layer-items.ensures.value in
     let none : images_from job c.loop-layer.layer-index ≡ [] =
     none_left job c.loop-layer.layer-index (omega (arith, c.loop-layer-test.false, same, c.layers-layer-items.ensures.complete.whole)) in
-    let out = all-out (g.O.Sink.contents c.args.sink.now) (g.O.Sink.contents c.loop-layer.sink) (g.O.Sink.contents c.finish.new.w) (images job.grid job.rule job.solid.facets) 0
+    let out = all-out (g.O.Sink.contents c.args.sink.now) (g.O.Sink.contents c.loop-layer.sink) (g.O.Sink.contents c.finish.new.w)
+    (images job.grid job.rule job.solid.facets) 0
     c.loop-layer.writer.sent c.loop-layer.writer.held
     (rw none at c.loop-layer.invariant.text) c.in_ok-written.ensures.ok in
-    on_ok_weaker c.settle.result (λ _. appends-kept (g.O.Sink.contents c.args.sink.now) (g.O.Sink.contents c.finish.new.w) (g.O.Sink.contents c.settle.new.sink)
+    on_ok_weaker c.settle.result (λ _. appends-kept (g.O.Sink.contents c.args.sink.now) (g.O.Sink.contents c.finish.new.w)
+    (g.O.Sink.contents c.settle.new.sink)
     (images job.grid job.rule job.solid.facets) out c.settle.ensures.kept) c.settle.ensures.flushed
 
 pub returns-clause-err : goal.returns-clause-err
@@ -138,7 +146,8 @@ returns-clause-err g c =
     let none : images_from job c.loop-layer.layer-index ≡ [] =
     none_left job c.loop-layer.layer-index (omega (arith, c.loop-layer-test.false, same, c.layers-layer-items.ensures.complete.whole)) in
     let text = rw none at c.loop-layer.invariant.text in
-    let out = all-out (g.O.Sink.contents c.args.sink.now) (g.O.Sink.contents c.loop-layer.sink) (g.O.Sink.contents c.finish.new.w) (images job.grid job.rule job.solid.facets) 0
+    let out = all-out (g.O.Sink.contents c.args.sink.now) (g.O.Sink.contents c.loop-layer.sink) (g.O.Sink.contents c.finish.new.w)
+    (images job.grid job.rule job.solid.facets) 0
     c.loop-layer.writer.sent c.loop-layer.writer.held text c.in_ok-written.ensures.ok in
     let kept = appends-kept (g.O.Sink.contents c.args.sink.now) (g.O.Sink.contents c.finish.new.w) (g.O.Sink.contents c.settle.new.sink)
     (images job.grid job.rule job.solid.facets) out c.settle.ensures.kept in
@@ -149,10 +158,13 @@ returns-clause-err g c =
       all-counted (g.O.Sink.contents c.args.sink.now) (g.O.Sink.contents c.loop-layer.sink) (images job.grid job.rule job.solid.facets) 0
           c.loop-layer.writer.sent c.loop-layer.writer.held [] text,
     ) in
-    let first : AppendsFirst (g.O.Sink.contents c.args.sink.now) (g.O.Sink.contents c.settle.new.sink) c.in_ok-written.written (images job.grid job.rule job.solid.facets) =
+    let first : AppendsFirst (g.O.Sink.contents c.args.sink.now) (g.O.Sink.contents c.settle.new.sink) c.in_ok-written.written
+    (images job.grid job.rule job.solid.facets) =
     subst (λ (l : List ℕ). Appends (g.O.Sink.contents c.args.sink.now) (g.O.Sink.contents c.settle.new.sink) l)
     (sym (take_all c.in_ok-written.written (images job.grid job.rule job.solid.facets) (omega (arith, whole)))) kept in
     let sink : Transcript = transcript_of g.O.Sink.contents g.O.Failures.failure_count c.args.sink.now c.settle.new.sink in
     IfErr-weaker c.settle.result
-    (λ f. (f ≡ fault.Write c.in_ok-written.written) × Fails (g.O.Failures.failure_count c.finish.new.w) (g.O.Failures.failure_count c.settle.new.sink))
-    (IsUnwritten sink (images job.grid job.rule job.solid.facets)) (λ f h. (c.in_ok-written.written, h.0, omega (arith, whole), first, search rules)) c.settle.ensures.err
+    (λ f. (f ≡ fault.Write c.in_ok-written.written) × Fails (g.O.Failures.failure_count c.finish.new.w)
+    (g.O.Failures.failure_count c.settle.new.sink))
+    (IsUnwritten sink (images job.grid job.rule job.solid.facets))
+    (λ f h. (c.in_ok-written.written, h.0, omega (arith, whole), first, search rules)) c.settle.ensures.err

@@ -40,7 +40,8 @@ draw_and_put-requires-clause-count g c κs within =
     omega (
       arith,
       small-images job.grid job.rule job.solid.facets narrow short few,
-      all-counted (g.O.Sink.contents c.args.sink.now) (g.O.Sink.contents c.loop-drawn.sink) all 0 c.loop-drawn.written (pages_text c.as_slice.result.now) (images_between job c.loop-drawn.drawn job.grid.layers) text,
+      all-counted (g.O.Sink.contents c.args.sink.now) (g.O.Sink.contents c.loop-drawn.sink) all 0 c.loop-drawn.written
+          (pages_text c.as_slice.result.now) (images_between job c.loop-drawn.drawn job.grid.layers) text,
     )
 
 pub loop-drawn-preserved : goal.loop-drawn-preserved
@@ -86,7 +87,8 @@ returns-in_err-written-clause-written g c =
     (pages_text c.as_slice.result.now) (images_between job c.loop-drawn.drawn job.grid.layers) =
     rw c.as_slice.ensures.value c.loop-drawn.invariant.text in
     let same : c.in_err-written.field-0.0.written - 0 ≡ c.in_err-written.field-0.0.written = omega arith in
-    let first = rw same at (more-out (g.O.Sink.contents c.args.sink.now) (g.O.Sink.contents c.loop-drawn.sink) (g.O.Sink.contents c.draw_and_put.new.sink)
+    let first = rw same at (more-out (g.O.Sink.contents c.args.sink.now) (g.O.Sink.contents c.loop-drawn.sink)
+    (g.O.Sink.contents c.draw_and_put.new.sink)
     all 0 c.loop-drawn.written c.in_err-written.field-0.0.written (pages_text c.as_slice.result.now)
     (images_between job c.loop-drawn.drawn job.grid.layers) text out.some (omega (arith, out.within)) out.written) in
     rw (p.1, p.2) first
@@ -117,7 +119,8 @@ put_pages-requires g c =
     omega (
       arith,
       small-images job.grid job.rule job.solid.facets narrow short few,
-      all-counted (g.O.Sink.contents c.args.sink.now) (g.O.Sink.contents c.loop-drawn.sink) all 0 c.loop-drawn.written (pages_text c.as_slice-2.result.now) (images_between job c.loop-drawn.drawn job.grid.layers) text,
+      all-counted (g.O.Sink.contents c.args.sink.now) (g.O.Sink.contents c.loop-drawn.sink) all 0 c.loop-drawn.written
+          (pages_text c.as_slice-2.result.now) (images_between job c.loop-drawn.drawn job.grid.layers) text,
     )
 
 pub returns-clause-ok : goal.returns-clause-ok
@@ -156,7 +159,8 @@ returns-clause-written g c =
     let text : IsUnderWay (g.O.Sink.contents c.args.sink.now) (g.O.Sink.contents c.loop-drawn.sink) all 0 c.loop-drawn.written
     (pages_text c.as_slice-2.result.now) (images_between job c.loop-drawn.drawn job.grid.layers) =
     rw c.as_slice-2.ensures.value c.loop-drawn.invariant.text in
-    last-written c.put_pages.result (g.O.Sink.contents c.args.sink.now) (g.O.Sink.contents c.loop-drawn.sink) (g.O.Sink.contents c.put_pages.new.sink) all
+    last-written c.put_pages.result (g.O.Sink.contents c.args.sink.now) (g.O.Sink.contents c.loop-drawn.sink)
+    (g.O.Sink.contents c.put_pages.new.sink) all
     c.loop-drawn.written (pages_text c.as_slice-2.result.now) (images_between job c.loop-drawn.drawn job.grid.layers) text
     c.put_pages.ensures.some c.put_pages.ensures.within c.put_pages.ensures.written
 

@@ -14,7 +14,8 @@ put_page-requires g c =
     omega (
       arith,
       c.requires,
-      all-counted _ _ (pages_text pages) c.args.before c.loop-page.written [] (pages_text (drop c.loop-page.page-index pages)) c.loop-page.invariant.text,
+      all-counted (g.O.Sink.contents c.args.sink.now) (g.O.Sink.contents c.loop-page.sink) (pages_text pages)
+          c.args.before c.loop-page.written [] (pages_text (drop c.loop-page.page-index pages)) c.loop-page.invariant.text,
       ap (λ (l : List ℕ). length l) next,
       length-append c.page-item.result.bytes (pages_text (drop (c.loop-page.page-index + 1) pages)),
     )
@@ -27,7 +28,8 @@ loop-page-preserved g c =
     record {
       text = all-put (g.O.Sink.contents c.args.sink.now) (g.O.Sink.contents c.loop-page.sink) (g.O.Sink.contents c.put_page.new.sink)
           (pages_text pages) c.args.before c.loop-page.written c.in_ok-written.written c.page-item.result.bytes rest
-          (with-part _ _ (pages_text pages) c.args.before c.loop-page.written c.page-item.result.bytes rest
+          (with-part (g.O.Sink.contents c.args.sink.now) (g.O.Sink.contents c.loop-page.sink) (pages_text pages)
+          c.args.before c.loop-page.written c.page-item.result.bytes rest
           (pages_text (drop c.loop-page.page-index pages)) c.loop-page.invariant.text next)
           c.in_ok-written.ensures.ok c.in_ok-written.ensures.total;
       counted = c.in_ok-written.ensures.same ∙ c.loop-page.invariant.counted;
@@ -43,7 +45,8 @@ returns-in_err-written-clause-written g c =
     rw (p.1, p.2)
     (more-out (g.O.Sink.contents c.args.sink.now) (g.O.Sink.contents c.loop-page.sink) (g.O.Sink.contents c.put_page.new.sink)
     (pages_text pages) c.args.before c.loop-page.written c.in_err-written.field-0.0.written c.page-item.result.bytes rest
-    (with-part _ _ (pages_text pages) c.args.before c.loop-page.written c.page-item.result.bytes rest
+    (with-part (g.O.Sink.contents c.args.sink.now) (g.O.Sink.contents c.loop-page.sink) (pages_text pages)
+    c.args.before c.loop-page.written c.page-item.result.bytes rest
     (pages_text (drop c.loop-page.page-index pages)) c.loop-page.invariant.text next)
     out.some (omega (arith, out.within)) out.written)
 
@@ -56,7 +59,8 @@ returns-in_err-written-clause-within g c =
     rw (p.1, p.2)
     (written-within (g.O.Sink.contents c.args.sink.now) (g.O.Sink.contents c.loop-page.sink)
     (pages_text pages) c.args.before c.loop-page.written c.in_err-written.field-0.0.written c.page-item.result.bytes rest
-    (with-part _ _ (pages_text pages) c.args.before c.loop-page.written c.page-item.result.bytes rest
+    (with-part (g.O.Sink.contents c.args.sink.now) (g.O.Sink.contents c.loop-page.sink) (pages_text pages)
+    c.args.before c.loop-page.written c.page-item.result.bytes rest
     (pages_text (drop c.loop-page.page-index pages)) c.loop-page.invariant.text next) c.in_err-written.ensures.within)
 
 pub returns-clause-ok : goal.returns-clause-ok
@@ -73,4 +77,8 @@ returns-clause-total g c =
     let none : pages_text (drop c.loop-page.page-index pages) ≡ [] =
     ap (λ (l : List Page). pages_text l) (drop_all c.loop-page.page-index pages c.loop-page-test.false) in
     let text = rw none at c.loop-page.invariant.text in
-    omega (arith, all-counted _ _ (pages_text pages) c.args.before c.loop-page.written [] [] text)
+    omega (
+      arith,
+      all-counted (g.O.Sink.contents c.args.sink.now) (g.O.Sink.contents c.loop-page.sink) (pages_text pages)
+          c.args.before c.loop-page.written [] [] text,
+    )
