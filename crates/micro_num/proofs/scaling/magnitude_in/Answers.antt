@@ -1,12 +1,55 @@
-use Rattle.std.proofs.Common.{◌≡◌, ◌≤◌, ◌*◌, ◌++◌, ◌^◌, ◌<◌, List, ℕ, ℤ, pos, ◌+ℤ◌, ◌-ℤ◌, length, arith, subst, length-append}
-use Rattle.std.proofs.lemmas.Int.{ints}
-use Rattle.micro_num.specs.declared.limits.TheConstants.{WORD_LIMIT}
+use Rattle.std.proofs.Common.{◌≡◌, ◌≤◌, ◌*◌, ◌++◌, ◌^◌, ◌<◌, ◌+◌, List, ℕ, ℤ, pos, ◌+ℤ◌, ◌-ℤ◌, SFits, to_z, of_z, w64, length, arith, subst, length-append, unsigned_abs}
+use Rattle.std.proofs.lemmas.Int.{ints, fits_signed_from_abs, to_z-of_z}
+use Rattle.micro_num.specs.declared.limits.TheConstants.{LEADING_LIMIT, WORD_LIMIT}
 use Rattle.micro_num.specs.Micrometres.{digits_value, magnitude, unit_factor, unit_power}
 use Rattle.micro_num.specs.Scan.{IsCapped}
 use Rattle.micro_num.proofs.lemmas.DigitRows.{digits_below}
 use Rattle.micro_num.proofs.lemmas.Inches.{power_small, times_below}
 use Rattle.micro_num.proofs.lemmas.Capped.{IsCapped-next, IsCapped_near, IsCapped-cut}
 use Rattle.micro_num.proofs.scaling.magnitude_in.Goals as goal
+
+-- The power is a sum of small numbers, so that no part of it overflows.
+
+small_fits : (z : ℤ) → unsigned_abs z < LEADING_LIMIT + 3 * WORD_LIMIT → SFits w64 z
+small_fits z small = fits_signed_from_abs w64 z (omega arith)
+
+less : (e : ℤ) (k : ℕ) → unsigned_abs e < LEADING_LIMIT → k ≤ WORD_LIMIT → to_z w64 (of_z w64 e) -ℤ to_z w64 k ≡ e -ℤ pos k
+less e k small few = rw (to_z-of_z w64 e (small_fits e (omega arith))) (omega (arith, ints))
+
+more : (z : ℤ) (j : ℕ) → unsigned_abs z < LEADING_LIMIT + WORD_LIMIT → j ≤ WORD_LIMIT → to_z w64 (of_z w64 z) +ℤ to_z w64 j ≡ z +ℤ pos j
+more z j small few = rw (to_z-of_z w64 z (small_fits z (omega arith))) (omega (arith, ints))
+
+pub overflow_sub-power : goal.overflow_sub-power
+overflow_sub-power c =
+    let k : ℕ = length c.args.mantissa.now.fraction.now in
+    let few : k ≤ WORD_LIMIT = omega (arith, c.requires.mantissa.within) in
+    rw (less c.args.exponent k c.requires.small few) (small_fits (c.args.exponent -ℤ pos k) (omega (arith, ints)))
+
+pub overflow_add-power : goal.overflow_add-power
+overflow_add-power c =
+    let k : ℕ = length c.args.mantissa.now.fraction.now in
+    let j : ℕ = c.args.mantissa.now.leading.dropped in
+    let few : k ≤ WORD_LIMIT = omega (arith, c.requires.mantissa.within) in
+    let fewer : j ≤ WORD_LIMIT = omega (arith, c.requires.mantissa.few, c.requires.mantissa.within) in
+    rw (less c.args.exponent k c.requires.small few, more (c.args.exponent -ℤ pos k) j (omega (arith, ints)) fewer)
+    (small_fits ((c.args.exponent -ℤ pos k) +ℤ pos j) (omega (arith, ints)))
+
+pub overflow_add-power-2 : goal.overflow_add-power-2
+overflow_add-power-2 c =
+    let k : ℕ = length c.args.mantissa.now.fraction.now in
+    let j : ℕ = c.args.mantissa.now.leading.dropped in
+    let u : ℕ = unit_power c.args.unit in
+    let few : k ≤ WORD_LIMIT = omega (arith, c.requires.mantissa.within) in
+    let fewer : j ≤ WORD_LIMIT = omega (arith, c.requires.mantissa.few, c.requires.mantissa.within) in
+    let up : u ≤ 3 = power_small c.args.unit in
+    rw (
+      less c.args.exponent k c.requires.small few,
+      more (c.args.exponent -ℤ pos k) j (omega (arith, ints)) fewer,
+      c.power_in.ensures,
+      to_z-of_z w64 ((c.args.exponent -ℤ pos k) +ℤ pos j) (small_fits _ (omega (arith, ints))),
+      to_z-of_z w64 (pos u) (small_fits (pos u) (omega (arith, ints))),
+    )
+    (small_fits (((c.args.exponent -ℤ pos k) +ℤ pos j) +ℤ pos u) (omega (arith, ints)))
 
 pub returns : goal.returns
 returns c = λ z is_near.
