@@ -20,3 +20,32 @@ returns-clause-read c =
 
 pub returns-clause-shorter : goal.returns-clause-shorter
 returns-clause-shorter c = facet-some c.of.result c.args.unit c.args.bytes.now c.reader.inside.rest.now (returns-clause-read c)
+
+-- Where a part is missing, there is no facet, of which a clause would say something.
+
+pub returns-in_err-skip : goal.returns-in_err-skip
+returns-in_err-skip c = rw c.from_residual.ensures (record { read = tt; some = tt; shorter = tt })
+
+pub returns-in_err-near_normal : goal.returns-in_err-near_normal
+returns-in_err-near_normal c = rw c.from_residual-in_err-near_normal.ensures (record { read = tt; some = tt; shorter = tt })
+
+pub returns-in_err-skip-2 : goal.returns-in_err-skip-2
+returns-in_err-skip-2 c = rw c.from_residual-in_err-skip-2.ensures (record { read = tt; some = tt; shorter = tt })
+
+pub returns-in_err-a : goal.returns-in_err-a
+returns-in_err-a c = rw c.from_residual-in_err-a.ensures (record { read = tt; some = tt; shorter = tt })
+
+pub returns-in_err-skip-3 : goal.returns-in_err-skip-3
+returns-in_err-skip-3 c = rw c.from_residual-in_err-skip-3.ensures (record { read = tt; some = tt; shorter = tt })
+
+pub returns-in_err-b : goal.returns-in_err-b
+returns-in_err-b c = rw c.from_residual-in_err-b.ensures (record { read = tt; some = tt; shorter = tt })
+
+pub returns-in_err-skip-4 : goal.returns-in_err-skip-4
+returns-in_err-skip-4 c = rw c.from_residual-in_err-skip-4.ensures (record { read = tt; some = tt; shorter = tt })
+
+pub returns-in_err-c : goal.returns-in_err-c
+returns-in_err-c c = rw c.from_residual-in_err-c.ensures (record { read = tt; some = tt; shorter = tt })
+
+pub returns-in_err-close : goal.returns-in_err-close
+returns-in_err-close c = rw c.from_residual-in_err-close.ensures (record { read = tt; some = tt; shorter = tt })
