@@ -39,3 +39,6 @@ returns-clause-reads c = λ x rest is spelled ended.
     let read = marked_rest c.args.bytes.now x rest is spelled ended c.in-Some.mark.now c.in-Some.text.now ds c.in-Some.ensures.cases.0 (is_mark c)
     c.split_sign-negative.ensures.after in
     c.split_at.ensures.back ∙ ap (λ n. drop n ds) c.in_ok-digits.ensures.count ∙ read.1
+
+pub returns-in_err-digits : goal.returns-in_err-digits
+returns-in_err-digits c = rw c.from_residual.ensures (record { front = tt; small = tt; reads = tt; within = tt })

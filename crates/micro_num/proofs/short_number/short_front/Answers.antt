@@ -26,3 +26,9 @@ returns-clause-reads c = λ word rest z spelled ended is.
     (λ short. omega (arith, ap length spelled, length-append word rest)) c.split_sign-negative.ensures.after c.in_ok-magnitude.ensures.reads in
     found_pair c.args.unit text word rest _ spelled
     (omega (arith, ap length number.1, ap length number.2, length-append word number.0)) _ z (returns-clause-exact c) is
+
+pub returns-in_err-magnitude : goal.returns-in_err-magnitude
+returns-in_err-magnitude c = rw c.from_residual.ensures (record { exact = tt; within = tt; reads = tt })
+
+pub returns-in_err-coordinate : goal.returns-in_err-coordinate
+returns-in_err-coordinate c = rw c.from_residual-in_err-coordinate.ensures (record { exact = tt; within = tt; reads = tt })

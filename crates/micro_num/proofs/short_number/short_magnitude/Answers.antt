@@ -31,3 +31,6 @@ pub returns-clause-reads : goal.returns-clause-reads
 returns-clause-reads c = λ n rest is no_sign spelled ended.
     c.in_ok-exponent.ensures.reads n.exponent rest is.1
     (c.in_ok-mantissa.ensures.after ∙ after_met c.args.text.now n rest is no_sign spelled ended) ended
+
+pub returns-in_err-mantissa : goal.returns-in_err-mantissa
+returns-in_err-mantissa c = rw c.from_residual.ensures (record { front = tt; reads = tt; within = tt })
