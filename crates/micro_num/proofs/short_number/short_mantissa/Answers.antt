@@ -15,9 +15,6 @@ returns-in_err-more c = rw c.from_residual-in_err-more.ensures (record { whole =
 pub returns-in_ok-more-clause-whole : goal.returns-in_ok-more-clause-whole
 returns-in_ok-more-clause-whole c = c.split_at.ensures.front ∙ ap (λ n. take n c.args.bytes.now) c.in_ok-digits.ensures.count
 
-pub returns-in_ok-more-clause-few : goal.returns-in_ok-more-clause-few
-returns-in_ok-more-clause-few c = c.in_ok-more.ensures.few ∙ c.in_ok-digits.ensures.few
-
 pub returns-in_default-clause-whole : goal.returns-in_default-clause-whole
 returns-in_default-clause-whole c = c.split_at.ensures.front ∙ ap (λ n. take n c.args.bytes.now) c.in_ok-digits.ensures.count
 
