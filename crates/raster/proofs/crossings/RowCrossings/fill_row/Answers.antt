@@ -1,23 +1,44 @@
-use Rattle.std.proofs.Common.{◌≡◌, List, ap, length, subst, sym, ◌∙◌}
-use Rattle.std.specs.Prelude.{IsPermutation}
+use Rattle.std.proofs.Common.{◌≡◌, List, ap, length, subst, sym, true, ◌∙◌, drop}
+use Rattle.std.specs.Prelude.{IsPermutation, OnOk, nat_le}
+use Rattle.std.specs.List.{list_all}
 use Rattle.std.proofs.lemmas.List.Sorted.{length_permutation}
 use Rattle.smallvec.specs.SmallVec.{with_items}
 use Rattle.smallvec.proofs.SmallVecLemmas.{items-with_items}
 use Rattle.raster.specs.declared.crossings.RowCrossing.{RowCrossing}
 use Rattle.raster.specs.Crossings.{crossings_in}
+use Rattle.raster.specs.RowCrossing.{signs}
+use Rattle.raster.specs.RowSpans.{AreRowSpans}
 use Rattle.raster.proofs.lemmas.RowCrossings.{changed-elsewhere, changed-here, read-row}
+use Rattle.raster.proofs.crossings.RowCrossings.fill_row.Given.{Over}
+use Rattle.raster.proofs.crossings.RowCrossings.fill_row.Goals.{After-as_mut_slice-crossings}
 use Rattle.raster.proofs.crossings.RowCrossings.fill_row.Goals as goal
+
+read : (g : Over) (c : After-as_mut_slice-crossings g) → c.as_mut_slice-crossings.result.now ≡ crossings_in c.args.self.now c.args.row
+read g c =
+    c.as_mut_slice-crossings.ensures.value
+    ∙ read-row (λ v. v.items) c.self.inside.rows.items c.args.self.now c.args.row c.index_mut.result.now c.self.view_is c.requires.row c.index_mut.ensures.value
+
+pub fill_row-requires-clause-within : goal.fill_row-requires-clause-within
+fill_row-requires-clause-within g c =
+    subst (λ (l : List RowCrossing). list_all (λ m. nat_le m.column c.args.width) l ≡ true) (sym (read g (goal.at.fill_row-requires-clause-within g c).After-as_mut_slice-crossings)) c.requires.within
+
+pub fill_row-requires-clause-balanced : goal.fill_row-requires-clause-balanced
+fill_row-requires-clause-balanced g c = ap signs (read g (goal.at.fill_row-requires-clause-balanced g c).After-as_mut_slice-crossings) ∙ c.requires.balanced
 
 pub returns-clause-here : goal.returns-clause-here
 returns-clause-here g c =
     let held = c.as_mut_slice-crossings.ensures.value in
     let size : length c.fill_row.new.crossings ≡ length c.index_mut.result.now.items = length_permutation c.as_mut_slice-crossings.result.now c.fill_row.new.crossings c.fill_row.ensures.permutation ∙ ap length held in
-    let before = read-row (λ v. v.items) c.self.inside.rows.items c.args.self.now c.args.row c.index_mut.result.now c.self.view_is c.requires.row c.index_mut.ensures.value in
     let after = changed-here (λ v. v.items) c.self.inside.rows.items c.args.self.now c.args.row (with_items c.index_mut.result.now c.fill_row.new.crossings) c.self.view_is c.requires.row
     ∙ items-with_items c.index_mut.result.now c.fill_row.new.crossings size in
     subst (λ (l : List RowCrossing). IsPermutation (crossings_in c.args.self.now c.args.row) l) (sym after)
-    (subst (λ (l : List RowCrossing). IsPermutation l c.fill_row.new.crossings) (held ∙ before) c.fill_row.ensures.permutation)
+    (subst (λ (l : List RowCrossing). IsPermutation l c.fill_row.new.crossings) (read g (goal.at.returns-clause-here g c).After-as_mut_slice-crossings) c.fill_row.ensures.permutation)
 
 pub returns-clause-elsewhere : goal.returns-clause-elsewhere
 returns-clause-elsewhere g c =
     changed-elsewhere (λ v. v.items) c.self.inside.rows.items c.args.self.now c.args.row (with_items c.index_mut.result.now c.fill_row.new.crossings) c.self.view_is
+
+pub returns-clause-added : goal.returns-clause-added
+returns-clause-added g c =
+    subst (λ (l : List RowCrossing). OnOk c.fill_row.result (AreRowSpans c.args.rule c.args.row l (drop (length c.args.out.now.items) c.fill_row.new.out.items)))
+    (read g (goal.at.returns-clause-added g c).After-as_mut_slice-crossings) c.fill_row.ensures.added
