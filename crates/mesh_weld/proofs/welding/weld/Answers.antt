@@ -18,9 +18,16 @@ pub add-requires : goal.add-requires
 add-requires g c =
     let more = length c.as_slice.result.now in
     let few : more ≤ FACET_LIMIT = subst (λ (n : ℕ). n ≤ FACET_LIMIT) (sym c.as_slice.ensures.len) c.requires in
-    let of_none : 0 + more ≤ FACET_LIMIT = omega (arith, few) in
-    (c.type_bounds.send-A, (c.type_bounds.sync-A, (c.type_bounds.frees-A-Allocator,
-    subst (λ (w : Welder). length w.kept + length w.degenerate + more ≤ FACET_LIMIT) (sym c.new-welder.ensures) of_none)))
+    let of_none : 0 + more ≤ FACET_LIMIT = omega (arith, few) in (
+      c.type_bounds.send-A,
+      (
+        c.type_bounds.sync-A,
+        (
+          c.type_bounds.frees-A-Allocator,
+          subst (λ (w : Welder). length w.kept + length w.degenerate + more ≤ FACET_LIMIT) (sym c.new-welder.ensures) of_none,
+        ),
+      ),
+    )
 
 pub returns-clause-kept : goal.returns-clause-kept
 returns-clause-kept g c = c.finish.ensures.kept c.args.facets.items (added g (goal.at.returns-clause-kept g c).After-finish)
