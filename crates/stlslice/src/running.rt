@@ -93,7 +93,7 @@ pub fn run_watched<
             report,
             grid,
         } => run_slice(
-            rt, alloc, *unit, *pitch, *layer, *rule, *workers, *report, *grid, source, sink, gate,
+            rt, alloc, *unit, *pitch, *layer, *grid, *rule, *report, *workers, source, sink, gate,
         ),
     }
 }
@@ -111,10 +111,10 @@ fn run_slice<
     unit: Unit,
     pitch: u32,
     layer: u32,
-    rule: Rule,
-    workers: u32,
-    report: bool,
     given: Option<Given>,
+    rule: Rule,
+    report: bool,
+    workers: u32,
     source: &mut I,
     sink: &mut O,
     gate: &G,

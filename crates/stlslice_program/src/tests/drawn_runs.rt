@@ -32,7 +32,8 @@ pub(crate) const COMB_IMAGES: &[u8] =
 /// The image of its middle layer.
 const ONE_IMAGE: &[u8] = b"P4\n19 2\n\xaa\xaa\xa0\xaa\xaa\xa0";
 
-/// The same with teeth so wide that an image is nearly a mebibyte: two to four workers draw sixteen at most at a time.
+/// The same with teeth so wide that an image is nearly a mebibyte: two to four workers draw 16 at most at a time, in a set of
+/// pages. So there are three sets, and the third is drawn into the pages of the first.
 const WIDE_COMB: [Corners; 10] = [
     [[0, 0, 0], [800, 550, 34]],
     [[1600, 0, 0], [2400, 550, 34]],
@@ -45,6 +46,9 @@ const WIDE_COMB: [Corners; 10] = [
     [[12800, 0, 0], [13600, 550, 34]],
     [[14400, 0, 0], [15200, 550, 34]],
 ];
+
+/// The number of its layers.
+const WIDE_LAYERS: usize = 34;
 
 /// The words that slice by this number of workers.
 fn line_by(alloc: Global, layer: u32, workers: u32) -> Result<String, AllocError> {
@@ -80,7 +84,7 @@ fn sets_of_long_images(rt: HostRuntime) -> Result<(), Fail> {
     let comb = mesh_text(rt.alloc(), Boxes(&WIDE_COMB))?;
     match written(&rt, "--pitch 1 --layer 1", comb.as_str()) {
         Some(images) => {
-            assert_eq!(rt; images.len(), 34 * (13 + 550 * 1900));
+            assert_eq!(rt; images.len(), WIDE_LAYERS * (13 + 550 * 1900));
             assert!(rt; each_writes(&rt, 1, comb.as_str(), images.as_slice())?);
         }
         None => assert!(rt; false),
@@ -148,15 +152,16 @@ fn writers_with_little_room_for_drawn_images(rt: HostRuntime) -> Result<(), Fail
 /// The greatest number of bytes that a writer takes in one call there.
 const MOST_PER_CALL: usize = 100_000;
 
-/// Whether a run fills writers up to rooms at the borders of the first pages, and about the end.
+/// Whether a run by two workers fills writers up to rooms at the border of the first page and of the first set, and about the
+/// end.
 fn is_filled_at_borders<R: Threads + Wait + Sync + AllocGlobal>(
     rt: &R,
     line: &str,
     input: &str,
     images: &[u8],
 ) -> bool {
-    let one = images.len() / 9;
-    for border in [one, 2 * one, 3 * one, 4 * one, 9 * one] {
+    let one = images.len() / WIDE_LAYERS;
+    for border in [8 * one, 16 * one, WIDE_LAYERS * one] {
         for shift in 0..3usize {
             let room = border.saturating_add(shift).saturating_sub(1);
             if !is_filled(
