@@ -10,7 +10,8 @@
 //! - [`read_extent`]: how many facets a source spells, and their bounding box, an [`Extent`].
 //! - [`ReadFault`]: why there is no mesh, or no extent.
 //!
-//! A source is read to its end, also after a fault of its text. Coordinates are in micrometres.
+//! A source is read to its end, also after a fault of its text, unless a read or an allocation fails. Coordinates are in
+//! micrometres.
 #![tactic(auto)]
 
 mod extent;

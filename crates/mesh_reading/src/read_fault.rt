@@ -1,4 +1,4 @@
-//! Why reading ends without a mesh, or without the count of its facets.
+//! Why reading ends without a mesh, or without the count and the box of the facets.
 ghost use Rattle.std.specs.Prelude.{◌≡◌, ◌≢◌};
 ghost use Rattle.mesh_weld.specs.declared.weld_fault.WeldFault.TheVariants as weld_fault;
 ghost use Rattle.stl_text.specs.declared.stl_fault.StlFault.TheVariants as stl_fault;
@@ -9,7 +9,7 @@ use std::alloc::AllocError;
 use stl_text::StlFault;
 use thiserror::Error;
 
-/// Why reading ends without a mesh, or without the count of its facets.
+/// Why reading ends without a mesh, or without the count and the box of the facets.
 #[derive(Clone, Copy, Debug, PartialEq, Eq, Error)]
 pub enum ReadFault {
     /// The source could not be read.

@@ -3,9 +3,9 @@
 //! A hash table gives the corners ids as the facets come, and compares each with the point of its id. Chains by lesser ends
 //! number the edges of each list of facets when its corners have their ids. At the end counting sorts bring the points into
 //! order by groups of x, and the facets by groups of height. No contract speaks of a hash or a group: that would take long
-//! proofs, and is not needed, since it is checked that the points, and the keys of the facets, strictly ascend; points do
-//! not where one has two ids. Where the check of the points fails, where chains, in the table or of edges, grow too long, or
-//! where the half-edges do not balance, `by_sort` does the work again.
+//! proofs, and is not needed. The points, and the keys of the facets, are checked to ascend strictly; where a point has two
+//! ids, the check fails. Where it fails, where chains, in the table or of edges, grow too long, or where the half-edges do
+//! not balance, `by_sort` does the work again.
 ghost use Rattle.std.specs.Prelude.{◌≤◌, IfOk, IfSome, length};
 ghost use Rattle.mesh_weld.specs.EdgeChains.{AreInHalfWords};
 ghost use Rattle.mesh_weld.specs.Grouping.{AreEdgesOf, AreOrdersOf};

@@ -132,7 +132,7 @@ fn run_slice<
     write_build(rt, alloc, &build, Output::of(report), workers, sink)
 }
 
-/// Writes and flushes the box line of the input. It takes no handle, so that it returns is proved.
+/// Writes and flushes the box line of the input. It takes no handle, so it is proved to return.
 fn run_box<A: Allocator + Copy + Send + Sync, I: Source, O: Sink>(
     alloc: A,
     unit: Unit,
@@ -149,8 +149,8 @@ fn run_box<A: Allocator + Copy + Send + Sync, I: Source, O: Sink>(
     write_all(sink, line.as_bytes())
 }
 
-/// Writes and flushes the rays at a voxel, which is given by its column, row and layer. It takes no handle, so that it
-/// returns is proved.
+/// Writes and flushes the rays at a voxel, which is given by its column, row and layer. It takes no handle, so it is
+/// proved to return.
 fn run_probe<A: Allocator + Copy + Send + Sync, I: Source, O: Sink>(
     alloc: A,
     unit: Unit,

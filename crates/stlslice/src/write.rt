@@ -47,7 +47,7 @@ impl Output {
 }
 
 /// Writes and flushes an output of a build, by up to `workers` workers. A report is made as a whole before its first byte is
-/// written; images are written one after another where there is no memory to draw them before.
+/// written; images are written one after another where there is no memory to draw them first.
 pub(crate) fn write_build<R: Threads + Sync, A: Allocator + Copy + Send + Sync, O: Sink>(
     rt: &R,
     alloc: A,

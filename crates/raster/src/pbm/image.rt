@@ -36,7 +36,7 @@ pub fn image_len(grid: &Grid) -> u64
     ensures value { (pixel : ℕ → ℕ → Bool) → length (image_of_pixels grid.now.columns grid.now.rows pixel) ≡ result }
     ensures small { result ≤ image_limit }
 {
-    // `P4`, a blank and two line ends are 5 bytes
+    // `P4`, a blank and two line breaks are 5 bytes
     let header = 5 + digit_count(grid.columns()) + digit_count(grid.rows());
     header + u64::from(grid.rows()) * u64::from(grid.columns().div_ceil(8))
 }

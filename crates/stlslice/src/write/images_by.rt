@@ -1,4 +1,4 @@
-//! The images of all layers where a build has several workers: whether they draw at the same time.
+//! Writes the images of all layers where a build has several workers, and decides whether these draw at the same time.
 ghost use Rattle.std.specs.Prelude.{◌≡◌, IfErr, OnOk, true};
 ghost use Rattle.std.specs.Io.KnownBytes.{Appends};
 ghost use Rattle.mesh_reading.specs.Transcript.{transcript};
@@ -14,7 +14,7 @@ use raster::{Grid, Sink, image_len};
 use std::alloc::Allocator;
 use std::thread::Threads;
 
-/// The number of bytes of images that a set of pages has, unless an image for each page is longer.
+/// The greatest number of bytes of images in a set of pages, unless one image a page takes more.
 const SET_LEN: usize = 1 << 24;
 
 /// The greatest length of an image that is drawn into a page.
@@ -24,8 +24,8 @@ const DRAWN_LIMIT: u64 = 1 << 20;
 const FEW_SPANS: u64 = 8;
 
 /// The same as [`write_images`], for a build by several workers. Where the layers have many spans, so that drawing takes longer
-/// than writing, up to `workers` workers draw images at the same time, while others are written. The memory for that is
-/// allocated before the first byte is written; where there is none, one worker does all.
+/// than writing, up to `workers` workers draw images at the same time, beside the thread that writes those drawn before. The
+/// memory for that is allocated before the first byte is written; where there is none, one worker does all.
 pub(crate) fn write_images_by<R: Threads + Sync, A: Allocator + Copy + Send + Sync, O: Sink>(
     rt: &R,
     alloc: A,
@@ -68,7 +68,7 @@ fn images_a_page(grid: &Grid, workers: u32) -> usize {
         .max(1)
 }
 
-/// Whether drawing the images of a build takes longer than writing them.
+/// Whether the rows of a build have more than `FEW_SPANS` spans on average, so that drawing takes longer than writing.
 fn has_many_spans<A: Allocator>(build: &Build<'_, A>) -> bool {
     let grid = build.job().grid();
     let rows = u64::from(grid.rows()).saturating_mul(u64::from(grid.layers()));

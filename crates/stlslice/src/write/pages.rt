@@ -54,12 +54,13 @@ fn blank_page<A: Allocator>(alloc: A, grid: &Grid, per: usize) -> Result<Page<A>
 {
     match image_len(grid).checked_mul(per as u64) {
         Some(room) => Page::new(alloc, room as usize),
+        // no memory is so large
         None => Err(AllocError),
     }
 }
 
 /// Writes the images of all layers of a build. They are drawn into the pages `next`, `per` a page, by as many workers as there
-/// are pages, while those in the pages `now` are written. Answers how many bytes were written.
+/// are pages, while those in the pages `now`, which have none at first, are written. Answers how many bytes were written.
 pub(crate) fn put_by_pages<R: Threads + Sync, A: Allocator + Copy + Send + Sync, O: Sink>(
     rt: &R,
     build: &Build<'_, A>,
