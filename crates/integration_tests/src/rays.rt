@@ -1,7 +1,7 @@
 //! Rays of meshes with known answers. Centres are in half-micrometres.
 use crate::meshes::{INWARD_CUBE, OCTAHEDRON, Part, TOUCHING, TWO_CUBES, solid_of};
 use exact_cut::Centre;
-use mesh_weld::{probe, step};
+use mesh_weld::{Solid, probe, step};
 use std::alloc::Global;
 use std::test::Fail;
 
@@ -46,14 +46,22 @@ static STEPS: [([i64; 2], [i64; 2], (i32, i32)); 3] = [
     ([0, 0], [4, 0], (1, 0)),
 ];
 
+// The rays at two centres, where these differ in x or in y alone.
+fn stepped_in(solid: &Solid<Global>, start: &Centre, end: &Centre) -> Option<(i32, i32)> {
+    if start.z2() != end.z2() {
+        return None;
+    }
+    if start.x2() != end.x2() && start.y2() != end.y2() {
+        return None;
+    }
+    Some(step(solid, start, end))
+}
+
 fn stepped(alloc: Global, from: [i64; 2], to: [i64; 2]) -> Option<(i32, i32)> {
     let start = Centre::new(from[0], from[1], 0)?;
     let end = Centre::new(to[0], to[1], 0)?;
-    if start.z2() != end.z2() || start.x2() != end.x2() && start.y2() != end.y2() {
-        return None;
-    }
     let solid = solid_of(alloc, OCTAHEDRON).ok()?;
-    Some(step(&solid, &start, &end))
+    stepped_in(&solid, &start, &end)
 }
 
 // The number of the first row with other rays.
