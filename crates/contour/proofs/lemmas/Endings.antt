@@ -16,7 +16,6 @@ use Rattle.geometry.specs.TieRule.{is_below, is_above}
 use Rattle.geometry.specs.Facet.{Facet, facet_with}
 use Rattle.geometry.specs.declared.limits.TheConstants.{CENTRE_LIMIT}
 use Rattle.mesh_weld.specs.Solid.{IsGreatestRise, facet_at, greatest_z, is_lower, least_z, rise}
-use Rattle.plane_segments.proofs.lemmas.Cutting.{facet_at-is}
 use Rattle.contour.specs.Active.{ends_above, starts_by}
 use Rattle.contour.proofs.lemmas.Swept.{Fades, none_pass, order_fades, starts_by_wider}
 
