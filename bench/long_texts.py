@@ -4,7 +4,7 @@
     bench/long_texts.py PROGRAM [PART]
 
 The full sizes are 2 GB of white space, names and lines of 300 MB, words and numbers of 100 MB; PART takes one part in
-PART of them. Each text is written to the program as it takes it, and stands nowhere. The answer has to be right, and
+PART of them. Each text is written to the program as it takes it, and is held nowhere. The answer has to be right, and
 the memory at most 20 MB, 4 for --box, beside the word's own length where a whole word is long. A line a text: its length, seconds,
 seconds a gigabyte, the most memory. A text of half the length tells whether the time grows with the length alone.
 """
@@ -51,7 +51,7 @@ def texts(part):
         return 3, b"", b"stlslice: " + said + b"\n"
 
     number = b"solid part\nfacet normal 0 0 0 outer loop vertex 0 0 "
-    for words, good in ((["--box"], done), ([*SLICE, "--workers", "4"], image)):
+    for words, good in ((["--box"], done), ([*SLICE, "--workers", "4"], image), ([*SLICE, "--workers", "64"], image)):
         yield Text("white space in a mesh", MESH[:-len(b"endsolid part\n")], b" ", space, b"endsolid part\n", 0, words, good)
         yield Text("a name", b"solid ", b"a", line, b"\n" + FACETS + b"endsolid\n", 0, words, good)
         yield Text("the rest of a line", MESH[:-1], b"b", line, b"\n", 0, words, good)
@@ -107,7 +107,7 @@ def try_all(program, part):
     for text in texts(part):
         half, _, _ = run(program, text, text.length // 2)
         seconds, memory, answer = run(program, text, text.length)
-        label = f"{text.name}, {text.words[0]}"
+        label = f"{text.name}, {' '.join(text.words[-2:])}"
         print(f"{label:40} {text.length / MB:8.0f} MB {seconds:7.2f} s {seconds / text.length * 1000 * MB:6.2f} s/GB "
               f"{memory / MB:7.1f} MB", flush=True)
         if answer != text.answer:

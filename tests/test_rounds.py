@@ -1,6 +1,6 @@
 #!/usr/bin/env -S python3 -B
 """A text that is read in several rounds by several workers answers what one worker answers: reports, and faults wherever
-they stand. The rounds are of a mebibyte for each worker and at most 8, and this text is longer than one."""
+they stand. The rounds are of a mebibyte for each worker and at most 7, and this text is longer than one."""
 
 import os
 import sys
