@@ -17,7 +17,7 @@ pub enum SessionFault {
     /// Pitch or layer height is out of range.
     #[error("pitch and layer height take 1 to 100000 micrometres")]
     Step,
-    /// The text is no mesh. It is not `StlFault::Memory`.
+    /// The text does not read as facets. It is not `StlFault::Memory`.
     #[error("{0}")]
     Stl(StlFault),
     /// The mesh is not closed. It is not `WeldFault::Memory`.

@@ -4,7 +4,7 @@
 //! - [`read_stl_by`]: the same, read in parts by several workers.
 //! - [`TextReader`]: the same of a text that arrives in chunks, and is not held; several workers may read each chunk.
 //! - [`ChunkParts`], [`FacetRuns`]: such a chunk in parts that workers draw, and what they find in them.
-//! - [`StlFault`]: why a text is no mesh, with the byte offset of the fault; [`Word`]: what is wanted there.
+//! - [`StlFault`]: why a text does not read as facets, with the byte offset of the fault; [`Word`]: what is wanted there.
 //! - [`one_outcome`], [`reads_as_written`]: laws. Each text has one outcome, and it reads as facets exactly where it is
 //!   these facets written as STL.
 //! - [`Point`], [`Facet`], [`extent`], [`points_in_order`] and [`FACET_LIMIT`], handed on from `geometry`.

@@ -17,7 +17,7 @@ use std::thread::Threads;
 /// `unit`; points are in whole micrometres. `limit` is at most [`FACET_LIMIT`].
 ///
 /// # Errors
-/// A text that spells no mesh has exactly one fault, which is the answer unless memory runs out. It is at the first
+/// A text that does not read as facets has exactly one fault, which is the answer unless memory runs out. It is at the first
 /// word that does not fit:
 /// - `Expected` where a keyword is wanted there,
 /// - `Number` where a coordinate of a vertex is wanted there,

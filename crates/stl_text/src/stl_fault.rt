@@ -7,7 +7,7 @@ use micro_num::NumFault;
 use std::alloc::{AllocError, AllocFailed};
 use thiserror::Error;
 
-/// Why a text is no mesh. `at` is a byte offset, from 0.
+/// Why a text does not read as facets. `at` is a byte offset, from 0.
 #[derive(Clone, Copy, Debug, PartialEq, Eq, Error)]
 pub enum StlFault {
     /// `word` is wanted, and the word at `at` is another one.

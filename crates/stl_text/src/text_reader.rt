@@ -233,7 +233,7 @@ impl<A: Allocator> TextReader<A> {
     /// The facets of the text that was fed, in file order, without those that were taken.
     ///
     /// # Errors
-    /// A text that spells no mesh has exactly one fault, which is the answer unless memory runs out, as of
+    /// A text that does not read as facets has exactly one fault, which is the answer unless memory runs out, as of
     /// [`read_stl_at_most`](crate::read_stl_at_most). `Memory` comes only if an allocation failed, or after
     /// `usize::MAX` bytes.
     pub fn finish(self) -> Result<Vec<Facet, A>, StlFault>

@@ -1,7 +1,7 @@
 //! The program `stlslice`, but for its `main`: a run of one task, over any source of bytes and any sink.
 //!
 //! ```text
-//! let task = read_words(words)?;                    // --pitch 50 --layer 100
+//! let task = read_words(alloc, words)?;             // --pitch 50 --layer 100
 //! run(&rt, alloc, &task, &mut source, &mut sink)?;  // a P4 image a layer
 //! ```
 //!

@@ -17,7 +17,7 @@ pub enum RunFault {
     /// The input could not be read. Nothing was written.
     #[error("stlslice: read failed")]
     Read,
-    /// The input is no mesh. Nothing was written.
+    /// The input does not read as facets. Nothing was written.
     #[error("stlslice: {0}")]
     Stl(StlFault),
     /// The mesh is not closed: the numbers of half-edges from `from` to `to` and back differ. Of all such pairs with

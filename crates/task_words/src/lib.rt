@@ -2,8 +2,8 @@
 //!
 //! ```text
 //! match read_words(alloc, words) {
-//!     Ok(task) => run(&rt, alloc, &task, &mut source, &mut sink),
-//!     Err(fault) => fault.status(),
+//!     Ok(task) => ..,                        // run it
+//!     Err(fault) => exit(fault.status()),
 //! }
 //! ```
 //!
