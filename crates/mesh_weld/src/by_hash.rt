@@ -54,19 +54,19 @@ pub(crate) fn group_facets<A: Allocator + Copy>(
     alloc: A,
     points: &[Point],
     ids: &[[u32; 3]],
-    numbers: Option<EdgeNumbering<A>>,
+    numbering: Option<EdgeNumbering<A>>,
 ) -> Result<Option<Grouping<A>>, AllocError>
     requires below { AreBelow points.now ids.now }
     requires few { length ids.now ≤ FACET_LIMIT }
-    requires numbers { IfSome numbers (λ own. ArePairNumbers (half_edges_from 0 ids.now) own.numbers.items own.count) }
-    requires small { IfSome numbers (λ own. AreInHalfWords (half_edges_from 0 ids.now)) }
+    requires numbering { IfSome numbering (λ own. ArePairNumbers (half_edges_from 0 ids.now) own.numbers.items own.count) }
+    requires small { IfSome numbering (λ own. AreInHalfWords (half_edges_from 0 ids.now)) }
     ensures edges { IfOk result (λ found. IfSome found (λ own. AreEdgesOf ids.now own.edges.numbers.items own.edges.count)) }
     ensures orders { IfOk result (λ found. IfSome found (λ own. AreOrdersOf points.now ids.now own.orders.points.points.items own.orders.points.ranks.items own.orders.heights.order.items own.orders.heights.ranges.items own.orders.heights.greatest_rise)) }
 {
-    let Some(numbers) = numbers else {
+    let Some(numbering) = numbering else {
         return Ok(None);
     };
-    let Some(edges) = balanced_edges(alloc, ids, numbers)? else {
+    let Some(edges) = balanced_edges(alloc, ids, numbering)? else {
         return Ok(None);
     };
     let Some(orders) = orders_of(alloc, points, ids)? else {
@@ -81,16 +81,16 @@ pub(crate) fn group_facets_by<R: Threads + Sync, A: Allocator + Copy + Send + Sy
     alloc: A,
     points: &[Point],
     ids: &[[u32; 3]],
-    numbers: Option<EdgeNumbering<A>>,
+    numbering: Option<EdgeNumbering<A>>,
 ) -> Result<Option<Grouping<A>>, AllocError>
     requires below { AreBelow points.now ids.now }
     requires few { length ids.now ≤ FACET_LIMIT }
-    requires numbers { IfSome numbers (λ own. ArePairNumbers (half_edges_from 0 ids.now) own.numbers.items own.count) }
-    requires small { IfSome numbers (λ own. AreInHalfWords (half_edges_from 0 ids.now)) }
+    requires numbering { IfSome numbering (λ own. ArePairNumbers (half_edges_from 0 ids.now) own.numbers.items own.count) }
+    requires small { IfSome numbering (λ own. AreInHalfWords (half_edges_from 0 ids.now)) }
     ensures edges { IfOk result (λ found. IfSome found (λ own. AreEdgesOf ids.now own.edges.numbers.items own.edges.count)) }
     ensures orders { IfOk result (λ found. IfSome found (λ own. AreOrdersOf points.now ids.now own.orders.points.points.items own.orders.points.ranks.items own.orders.heights.order.items own.orders.heights.ranges.items own.orders.heights.greatest_rise)) }
 {
-    let Some(numbers) = numbers else {
+    let Some(numbering) = numbering else {
         return Ok(None);
     };
     let (heights, (ranked, edges)) = join(
@@ -98,13 +98,13 @@ pub(crate) fn group_facets_by<R: Threads + Sync, A: Allocator + Copy + Send + Sy
         || order_by_height(alloc, points, ids),
         ||
             requires few { length ids.now ≤ FACET_LIMIT }
-            requires numbers { ArePairNumbers (half_edges_from 0 ids.now) numbers.numbers.items numbers.count }
+            requires numbering { ArePairNumbers (half_edges_from 0 ids.now) numbering.numbers.items numbering.count }
             requires small { AreInHalfWords (half_edges_from 0 ids.now) }
         {
             join(
                 rt,
                 || rank_points(alloc, points),
-                || balanced_edges(alloc, ids, numbers),
+                || balanced_edges(alloc, ids, numbering),
             )
         },
     );

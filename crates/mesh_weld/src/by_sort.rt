@@ -65,7 +65,7 @@ fn number_edges<A: Allocator + Copy>(
     requires degenerate { length degenerate.now ≤ FACET_LIMIT }
     requires points { points.now ≡ vertices kept.now }
     requires numbers { numbers.now ≡ triples kept.now }
-    ensures numbers { IfOk result (λ numbering. ArePairNumbers (half_edges_from 0 (triples kept.now)) numbering.numbers.items numbering.count) }
+    ensures numbering { IfOk result (λ numbering. ArePairNumbers (half_edges_from 0 (triples kept.now)) numbering.numbers.items numbering.count) }
     ensures closed { IfOk result (λ numbering. IsBalanced kept.now) }
     ensures open { IfErr result (IsKeptFault kept.now degenerate.now) }
 {

@@ -102,17 +102,17 @@ fn renumber<A: Allocator>(ids: &mut Vec<[u32; 3], A>, ranks: &[u32])
 fn numbering_by_sorts<A: Allocator + Copy>(
     alloc: A,
     points: Vec<Point, A>,
-    numbers: Vec<[u32; 3], A>,
+    ids: Vec<[u32; 3], A>,
     degenerate: &[Facet],
 ) -> Result<Numbering<A>, WeldFault>
-    requires below { AreBelow points.items numbers.items }
-    requires kept { length numbers.items ≤ FACET_LIMIT }
+    requires below { AreBelow points.items ids.items }
+    requires kept { length ids.items ≤ FACET_LIMIT }
     requires degenerate { length degenerate.now ≤ FACET_LIMIT }
-    ensures numbering { IfOk result (λ n. IsNumberingOf (facets_by points.items numbers.items) n.points.items n.numbers.items n.edges.numbers.items n.edges.count n.heights.order.items n.heights.ranges.items n.heights.greatest_rise) }
-    ensures open { IfErr result (IsKeptFault (facets_by points.items numbers.items) degenerate.now) }
+    ensures numbering { IfOk result (λ n. IsNumberingOf (facets_by points.items ids.items) n.points.items n.numbers.items n.edges.numbers.items n.edges.count n.heights.order.items n.heights.ranges.items n.heights.greatest_rise) }
+    ensures open { IfErr result (IsKeptFault (facets_by points.items ids.items) degenerate.now) }
 {
-    let kept = list_facets(alloc, points.as_slice(), numbers.as_slice())?;
+    let kept = list_facets(alloc, points.as_slice(), ids.as_slice())?;
     drop(points);
-    drop(numbers);
+    drop(ids);
     sorted_numbering(alloc, kept.as_slice(), degenerate)
 }

@@ -140,12 +140,12 @@ impl<A: Allocator + Copy + Send + Sync> Welder<A> {
     pub fn finish(self) -> Result<Solid<A>, WeldFault>
         ensures { IsWeldOf self result }
     {
-        let (named, numbers) = self.without_table();
+        let (named, numbering) = self.without_table();
         let found = group_facets(
             named.alloc,
             named.points.as_slice(),
             named.ids.as_slice(),
-            numbers,
+            numbering,
         )?;
         named.into_solid(found)
     }
@@ -154,9 +154,9 @@ impl<A: Allocator + Copy + Send + Sync> Welder<A> {
     pub fn finish_by<R: Threads + Sync>(self, rt: &R) -> Result<Solid<A>, WeldFault>
         ensures { IsWeldOf self result }
     {
-        let (named, numbers) = self.without_table();
+        let (named, numbering) = self.without_table();
         let (points, ids) = (named.points.as_slice(), named.ids.as_slice());
-        let found = group_facets_by(rt, named.alloc, points, ids, numbers)?;
+        let found = group_facets_by(rt, named.alloc, points, ids, numbering)?;
         named.into_solid(found)
     }
 
@@ -166,7 +166,7 @@ impl<A: Allocator + Copy + Send + Sync> Welder<A> {
         ensures value { welder_by result.0.points.items result.0.ids.items result.0.degenerate.items ≡ self }
         ensures named { AreNamed result.0.points.items result.0.ids.items }
         ensures few { length result.0.ids.items + length result.0.degenerate.items ≤ FACET_LIMIT }
-        ensures numbers { IfSome result.1 (λ own. ArePairNumbers (half_edges_from 0 result.0.ids.items) own.numbers.items own.count) }
+        ensures numbering { IfSome result.1 (λ own. ArePairNumbers (half_edges_from 0 result.0.ids.items) own.numbers.items own.count) }
         ensures small { IfSome result.1 (λ own. AreInHalfWords (half_edges_from 0 result.0.ids.items)) }
     {
         let Welder {
@@ -176,14 +176,14 @@ impl<A: Allocator + Copy + Send + Sync> Welder<A> {
             kept,
             degenerate,
         } = self;
-        let (ids, numbers) = kept.into_parts();
+        let (ids, numbering) = kept.into_parts();
         let named = NamedFacets {
             alloc,
             points,
             ids,
             degenerate,
         };
-        (named, numbers)
+        (named, numbering)
     }
 }
 

@@ -45,7 +45,7 @@ impl<A: Allocator + Copy> FirstNumbers<A> {
     /// The numbers, if they are those of all facets. The chains are dropped.
     fn of_all(self, ids: &[[u32; 3]]) -> Option<EdgeNumbering<A>>
         requires first { AreNumbered (half_edges_from 0 (take self.facets ids.now)) self.chains.heads.items self.chains.edges.items self.numbers.items }
-        ensures numbers { IfSome result (λ own. ArePairNumbers (half_edges_from 0 ids.now) own.numbers.items own.count) }
+        ensures numbering { IfSome result (λ own. ArePairNumbers (half_edges_from 0 ids.now) own.numbers.items own.count) }
         ensures small { IfSome result (λ own. AreInHalfWords (half_edges_from 0 ids.now)) }
     {
         let FirstNumbers {
@@ -144,7 +144,7 @@ impl<A: Allocator + Copy> NumberedFacets<A> {
     /// The ids, and the numbers of the edges of all facets where there are these.
     pub(crate) fn into_parts(self) -> (Vec<[u32; 3], A>, Option<EdgeNumbering<A>>)
         ensures ids { result.0.items ≡ self }
-        ensures numbers { IfSome result.1 (λ own. ArePairNumbers (half_edges_from 0 self) own.numbers.items own.count) }
+        ensures numbering { IfSome result.1 (λ own. ArePairNumbers (half_edges_from 0 self) own.numbers.items own.count) }
         ensures small { IfSome result.1 (λ own. AreInHalfWords (half_edges_from 0 self)) }
     {
         let NumberedFacets {
@@ -152,10 +152,10 @@ impl<A: Allocator + Copy> NumberedFacets<A> {
             ids,
             first,
         } = self;
-        let numbers = match first {
+        let numbering = match first {
             Some(first) => first.of_all(ids.as_slice()),
             None => None,
         };
-        (ids, numbers)
+        (ids, numbering)
     }
 }

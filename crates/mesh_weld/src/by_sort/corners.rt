@@ -68,8 +68,8 @@ fn number_sorted<A: Allocator + Copy>(
     requires limit { length facets.now ≤ FACET_LIMIT }
     requires permuted { IsPermutation (corners_from 0 facets.now) sorted.now }
     requires ascending { AreAscending sorted.now }
-    ensures points { IfOk result (λ numbering. numbering.points.items ≡ vertices facets.now) }
-    ensures numbers { IfOk result (λ numbering. numbering.numbers.items ≡ map (number_of (vertices facets.now)) (flat_map corners facets.now)) }
+    ensures points { IfOk result (λ own. own.points.items ≡ vertices facets.now) }
+    ensures numbers { IfOk result (λ own. own.numbers.items ≡ map (number_of (vertices facets.now)) (flat_map corners facets.now)) }
 {
     let mut points = Vec::new(alloc);
     let mut numbers = vec![in alloc; 0; 3 * facets.len()]?;
@@ -98,8 +98,8 @@ pub(crate) fn number_corners<A: Allocator + Copy>(
     facets: &[Facet],
 ) -> Result<CornerNumbers<A>, AllocError>
     requires { length facets.now ≤ FACET_LIMIT }
-    ensures points { IfOk result (λ numbering. numbering.points.items ≡ vertices facets.now) }
-    ensures numbers { IfOk result (λ numbering. numbering.numbers.items ≡ map (number_of (vertices facets.now)) (flat_map corners facets.now)) }
+    ensures points { IfOk result (λ own. own.points.items ≡ vertices facets.now) }
+    ensures numbers { IfOk result (λ own. own.numbers.items ≡ map (number_of (vertices facets.now)) (flat_map corners facets.now)) }
 {
     let mut sorted = list_corners(alloc, facets)?;
     sort_corners(&mut sorted);

@@ -4,8 +4,8 @@ use Rattle.mesh_weld.specs.HalfEdge.{half_edges_from, ArePairNumbers}
 use Rattle.mesh_weld.proofs.lemmas.EdgeChains.{numbered_pairs}
 use Rattle.mesh_weld.proofs.by_hash.numbered_facets.FirstNumbers.of_all.Goals as goal
 
-pub returns-clause-numbers : goal.returns-clause-numbers
-returns-clause-numbers g c =
+pub returns-clause-numbering : goal.returns-clause-numbering
+returns-clause-numbering g c =
     let own = c.args.self in let ts = c.args.ids.now in
     let count : c.len.result ≡ length own.chains.edges.items = omega (arith, own.chains.edges.ok.0) in
     subst (λ l. ArePairNumbers (half_edges_from 0 l) own.numbers.items c.len.result) (take_all own.facets ts (omega arith))
