@@ -1,9 +1,9 @@
 -- Balances of edges: each half-edge counts in that of its number, and where all are even, so are the half-edges.
-use Rattle.std.proofs.Common.{◌≡◌, ℕ, zero, suc, ◌≤◌, ◌<◌, ◌+◌, ◌*◌, ◌^◌, ◌%◌, min, max, Bool, true, false, cond, ltb, ◌==◌, ◌&&◌, List, [], ◌∷◌, length, get_or, set, replicate, take, count_by, refl, sym, ap, ◌∙◌, subst, inl, inr, ◌⊎◌, arith}
+use Rattle.std.proofs.Common.{◌≡◌, ℕ, zero, suc, ◌≤◌, ◌<◌, ◌+◌, ◌*◌, ◌^◌, ◌%◌, min, max, Bool, true, false, cond, ltb, ◌==◌, ◌&&◌, List, [], ◌∷◌, length, get_or, set, take, count_by, refl, sym, ap, ◌∙◌, subst, inl, inr, ◌⊎◌, arith}
 use Rattle.std.specs.List.{All, Contains}
 use Rattle.std.proofs.lemmas.Bool.{cases_eq, cases_order}
 use Rattle.std.proofs.lemmas.Bool.Decides.{nat_tests}
-use Rattle.std.proofs.lemmas.List.{length-set, length-replicate, get_or-replicate, get_or-set_same, get_or-set_other, take_all}
+use Rattle.std.proofs.lemmas.List.{length-set, get_or-set_same, get_or-set_other, take_all}
 use Rattle.std.proofs.lemmas.List.Sums.{sum_by_more}
 use Rattle.mesh_weld.specs.declared.half_edge.HalfEdge.{HalfEdge}
 use Rattle.mesh_weld.specs.declared.by_hash.edges.TheConstants.{EVEN}
@@ -71,13 +71,6 @@ module _ (half_edges : List HalfEdge) (numbers : List ℕ) (count : ℕ) (pairs 
   number_of_ends : (s t : ℕ) (d : HalfEdge) → s < length half_edges → t < length half_edges
       → lesser (get_or half_edges s d) ≡ lesser (get_or half_edges t d) → greater (get_or half_edges s d) ≡ greater (get_or half_edges t d) → get_or numbers s 0 ≡ get_or numbers t 0
   number_of_ends s t d l m a b = (pairs.shared s t d l m).1 (λ i. a i * 2 ^ 32 + b i)
-
-  pub balances_none : AreBalances half_edges numbers count 0 (replicate count EVEN)
-  balances_none =
-      record {
-        each_edge = length-replicate count EVEN;
-        weighed = λ s d l. ap (λ n. n + 0) (get_or-replicate count (get_or numbers s 0) EVEN 0 (pairs.below s l));
-      }
 
   pub balances_more : (i : ℕ) (balances new : List ℕ) (number from to : ℕ) → i < length half_edges → AreBalances half_edges numbers count i balances
       → number ≡ get_or numbers i 0 → ((d : HalfEdge) → (from ≡ (get_or half_edges i d).from) × (to ≡ (get_or half_edges i d).to))

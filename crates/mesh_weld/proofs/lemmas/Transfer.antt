@@ -154,9 +154,6 @@ and_false_right true b h = h
 and_false_right false b h = refl
 
 module _ (fs : List Facet) where
-  abbrev vs : List Point
-  vs = vertices fs
-
   edges_between : (i j : ℕ) → i < length (vertices fs) → j < length (vertices fs)
       → between i j (half_edges_from 0 (triples fs)) ≡ half_edge_count fs (get_or (vertices fs) i origin) (get_or (vertices fs) j origin)
   edges_between i j l m =

@@ -3,7 +3,7 @@ use Rattle.std.specs.Prelude.{Err}
 use Rattle.std.proofs.Common.{◌≡◌, ℕ, ◌≤◌, ◌+◌, ◌*◌, Bool, true, false, cond, not, List, [], ◌∷◌, length, map, count_by, refl, sym, ap, ◌∙◌, subst, arith}
 use Rattle.std.specs.List.{flat_map}
 use Rattle.std.proofs.lemmas.List.{length-map}
-use Rattle.std.proofs.lemmas.List.Sums.{length-filter, count_by-le-length}
+use Rattle.std.proofs.lemmas.List.Sums.{length-filter}
 use Rattle.geometry.specs.Point.{Point}
 use Rattle.geometry.specs.Facet.{Facet, corners}
 use Rattle.mesh_weld.specs.Balance.{half_edge_count, IsBalanced, IsLeastOpen}
@@ -47,9 +47,6 @@ split_count (t ∷ ts) u v = by_test (is_kept t) refl (split_count ts u v)
         ∙ to_right (half_edge_count ts u v) (own_count t u v) (half_edge_count (kept_facets ts) u v) (half_edge_count (degenerate_facets ts) u v) rest
         ∙ ap (λ n. half_edge_count (kept_facets ts) u v + n) (sym (half_edge_count-cons t (degenerate_facets ts) u v))
         ∙ ap (λ b. half_edge_count (cond b (t ∷ kept_facets ts) (kept_facets ts)) u v + half_edge_count (cond (not b) (t ∷ degenerate_facets ts) (degenerate_facets ts)) u v) (sym h)
-
-pub kept_few : (fs : List Facet) → length (kept_facets fs) ≤ length fs
-kept_few fs = omega (arith, length-filter is_kept fs, count_by-le-length is_kept fs)
 
 pub degenerate_count : (fs : List Facet) → length (degenerate_facets fs) ≡ count_by (λ t. not (is_kept t)) fs
 degenerate_count fs = length-filter (λ t. not (is_kept t)) fs
