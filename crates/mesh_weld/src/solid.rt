@@ -10,8 +10,7 @@ ghost use Rattle.mesh_weld.specs.Solid.{HaveDistinctCorners, IsByHeight, IsGreat
 ghost use Rattle.geometry.specs.declared.limits.TheConstants.{FACET_LIMIT};
 
 use crate::facets::facet_by;
-use crate::half_edge::EdgeNumbering;
-use crate::height_order::{HeightOrder, HeightRange};
+use crate::height_order::HeightRange;
 use geometry::{Facet, Point, higher, lower};
 use std::alloc::Allocator;
 use std::marker::Model;
