@@ -52,7 +52,7 @@ impl Chunk {
     }
 
     /// The number of bytes that the chunk still has room for.
-    pub(crate) fn room(&self) -> usize
+    pub(crate) fn free_room(&self) -> usize
         ensures { result + length self.now ≡ CHUNK_LEN }
     {
         CHUNK_LEN - self.filled
@@ -116,7 +116,7 @@ impl Chunk {
         ensures within { IfErr result (λ fault. fault.written < before + length self.old) }
         ensures failed { OnErr result (Fails (W.Failures.failure_count w.old) (W.Failures.failure_count w.new)) }
     {
-        if self.room() < needed {
+        if self.free_room() < needed {
             self.send(w, before)
         } else {
             Ok(before)
