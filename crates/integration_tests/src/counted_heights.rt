@@ -1,5 +1,6 @@
 //! A mesh with enough facets that a counting sort brings them into their order by height.
 use crate::allocations::{Count, first_free_turn};
+use crate::many_facets::first_free_turn_by;
 use crate::meshes::welded;
 use crate::welders::{agree, fed, fed_by};
 use crate::welding::counts;
@@ -102,5 +103,13 @@ impl Count for KeptOfTetrahedra {
 #[test]
 fn each_allocation_fails_in_turn(rt: HostRuntime) -> Result<(), Fail> {
     assert!(rt; first_free_turn::<KeptOfTetrahedra>(rt.alloc(), 300, FACETS) > Some(60));
+    Ok(())
+}
+
+#[test]
+fn each_allocation_by_threads_fails_in_turn(rt: HostRuntime) -> Result<(), Fail> {
+    let facets = tetrahedra(rt.alloc())?;
+    let usual = (FACETS, 0, FACETS, EDGES);
+    assert!(rt; first_free_turn_by(&rt, rt.alloc(), facets.as_slice(), usual) > Some(30));
     Ok(())
 }

@@ -186,7 +186,7 @@ const ALLOCATIONS: u64 = 200;
 // Fails each allocation in turn of facets that several threads weld, until none is left to fail, and answers which turn that
 // was. `None` where a weld of which an allocation failed answered anything but `Memory`, where the last one has other counts,
 // or where `ALLOCATIONS` turns do not suffice.
-fn first_free_turn_by<R: Threads + Sync>(
+pub(crate) fn first_free_turn_by<R: Threads + Sync>(
     rt: &R,
     alloc: Global,
     facets: &[Facet],

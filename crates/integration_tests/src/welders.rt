@@ -170,5 +170,7 @@ fn a_welder_is_empty_after_a_failed_allocation(rt: HostRuntime) -> Result<(), Fa
     assert!(rt; facets.len() <= ROOM);
     assert!(rt; welder.add(facets.as_slice()).is_err() && memory.has_failed());
     assert_eq!(rt; welder.count(), 0);
+    assert!(rt; welder.add(facets.as_slice()).is_ok());
+    assert_eq!(rt; welder.count(), 12);
     Ok(())
 }

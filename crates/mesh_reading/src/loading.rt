@@ -25,8 +25,9 @@ use stl_text::TextReader;
 /// The number of bytes for each worker, where several read at the same time.
 const WORKER_LEN: usize = 1 << 20;
 
-/// The greatest number of bytes that a round waits for. It may have up to a window more.
-const ROUND_LIMIT: usize = 1 << 23;
+/// The greatest number of bytes that a round waits for. It may have up to a window more. Two rounds and the program itself
+/// take less than 20 MB.
+const ROUND_LIMIT: usize = 7 << 20;
 
 /// The closed mesh of an ASCII STL text whose numbers are in `unit`. Facets with two equal corners are dropped.
 ///

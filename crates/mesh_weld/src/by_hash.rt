@@ -1,4 +1,4 @@
-//! The numbering of a solid by hashes, chains and groups: several times as fast as the sorts of `by_sort` on large meshes.
+//! The numbering of large meshes by hashes, chains and groups; `by_sort` does the same by comparisons.
 //!
 //! A hash table gives the corners ids as the facets come, and compares each with the point of its id. Chains by lesser ends
 //! number the edges of each list of facets when its corners have their ids. At the end counting sorts bring the points into

@@ -1,4 +1,4 @@
-//! Welding as facets come: corners are named at once, so that no list of facets is kept.
+//! Welding as facets come: corners are named and edges numbered at once, so that no list of facets is kept.
 ghost use Rattle.std.specs.Prelude.{◌≡◌, ◌≤◌, ◌<◌, ◌+◌, ◌++◌, [], ◌∷◌, List, IfSome, OnErr, OnOk, length, true, vec_len};
 ghost use Rattle.geometry.specs.Facet.{Facet};
 ghost use Rattle.mesh_weld.specs.EdgeChains.{AreInHalfWords};
@@ -160,8 +160,7 @@ impl<A: Allocator + Copy + Send + Sync> Welder<A> {
         named.into_solid(found)
     }
 
-    /// The facets, and the numbers of their edges where there are these, without the table and the chains, which take more
-    /// room than they do.
+    /// The facets, and the numbers of their edges where there are these. The table and the chains are freed.
     fn without_table(self) -> (NamedFacets<A>, Option<EdgeNumbering<A>>)
         ensures value { welder_by result.0.points.items result.0.ids.items result.0.degenerate.items ≡ self }
         ensures named { AreNamed result.0.points.items result.0.ids.items }

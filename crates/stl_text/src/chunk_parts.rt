@@ -103,7 +103,7 @@ impl<'t, A: Allocator> FacetRuns<'t, A> {
 }
 
 impl<'t, A: Allocator + Copy> ChunkParts<'t, A> {
-    /// The parts of a chunk for up to `workers` workers. A single worker gets none, since the reader alone is as fast.
+    /// The parts of a chunk for up to `workers` workers. A single worker gets none: the reader itself is that worker.
     pub(crate) fn of(alloc: A, chunk: &'t [u8], unit: Unit, workers: u32) -> ChunkParts<'t, A>
         ensures unit { result.unit ≡ unit }
         ensures bytes { result.bytes ≡ chunk.now }
