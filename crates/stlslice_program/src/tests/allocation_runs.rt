@@ -231,6 +231,26 @@ fn each_allocation_of_two_rounds_fails_by_three_workers(rt: HostRuntime) -> Resu
     Ok(())
 }
 
+/// The same for a cube of more than two rounds of four workers.
+const NAME_OF_THREE_ROUNDS: u32 = 264_200;
+
+/// While the second round is read, one thread welds the facets of the first, another one fills the third, and two look for
+/// runs of facets alone. The third round has two parts, and the last facets.
+#[test]
+fn each_allocation_of_three_rounds_fails_by_four_workers(rt: HostRuntime) -> Result<(), Fail> {
+    let cube = long_cube(rt.alloc(), NAME_OF_THREE_ROUNDS)?;
+    assert!(rt; 2 * (4 * WORKER_LEN) + 2 * PART_LEN <= cube.len());
+    assert!(rt;
+        first_free_turn(
+            &rt,
+            "--pitch 1 --layer 1 --workers 4",
+            cube.as_str(),
+            &SLICED
+        ) > 40
+    );
+    Ok(())
+}
+
 #[test]
 fn each_allocation_fails_before_a_gap(rt: HostRuntime) {
     match gap() {
