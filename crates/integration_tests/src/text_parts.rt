@@ -23,6 +23,14 @@ const LONG: usize = 131_074;
 // Where a text is broken: in its first line, and in each of several parts.
 const BREAKS: [usize; 8] = [9, 20_011, 40_002, 60_700, 70_001, 80_003, 110_004, 140_005];
 
+// The number of bytes from one place where a text is broken to the next. It is prime, so that the places lie all over a facet.
+const STRIDE: usize = 499;
+
+// The number of parts of a text of 1500 facets, and the numbers of those after the first.
+const PARTS: usize = 4;
+
+const LATER_PARTS: [usize; PARTS - 1] = [1, 2, 3];
+
 // The first of the cuts of a text in two chunks, and their number, which is the length of the longest facet and more.
 const FIRST_CUT: usize = 66_000;
 
@@ -128,12 +136,18 @@ pub(crate) fn in_two<R: Threads + Sync, A: Allocator + Copy + Send + Sync>(
     reader.finish()
 }
 
-// Whether any number of workers answers what one reader does, for the whole text and for its halves.
-fn any_workers<R: Threads + Sync>(rt: &R, alloc: Global, text: &[u8], limit: u32) -> bool
+// Whether each of these numbers of workers answers what one reader does, for the whole text and for its halves.
+fn each_number<R: Threads + Sync>(
+    rt: &R,
+    alloc: Global,
+    text: &[u8],
+    limit: u32,
+    numbers: &[u32],
+) -> bool
     requires { limit ≤ FACET_LIMIT }
 {
     let one = read_stl_at_most(alloc, text, limit, Unit::Millimetre);
-    for workers in WORKERS {
+    for workers in numbers.iter().copied() {
         if workers == 0 {
             return false;
         }
@@ -144,6 +158,13 @@ fn any_workers<R: Threads + Sync>(rt: &R, alloc: Global, text: &[u8], limit: u32
         }
     }
     true
+}
+
+// Whether any number of workers answers what one reader does, for the whole text and for its halves.
+fn any_workers<R: Threads + Sync>(rt: &R, alloc: Global, text: &[u8], limit: u32) -> bool
+    requires { limit ≤ FACET_LIMIT }
+{
+    each_number(rt, alloc, text, limit, &WORKERS)
 }
 
 #[test]
@@ -191,6 +212,30 @@ fn solids_of_one_facet(rt: HostRuntime) -> Result<(), Fail> {
     Ok(())
 }
 
+// Whether each of these numbers of workers answers what one reader does where bytes are replaced here and at each later break,
+// and where the text ends here.
+fn is_broken_well<R: Threads + Sync>(
+    rt: &R,
+    alloc: Global,
+    text: &[u8],
+    at: usize,
+    numbers: &[u32],
+) -> Result<bool, AllocError> {
+    let mut broken = Vec::new(alloc);
+    broken.extend_from_slice(text)?;
+    if at >= broken.len() {
+        return Ok(false);
+    }
+    broken[at] = b'#';
+    for later in BREAKS {
+        if at <= later && later < broken.len() {
+            broken[later] = b'#';
+        }
+    }
+    let told = each_number(rt, alloc, &broken, FACET_LIMIT, numbers);
+    Ok(told && each_number(rt, alloc, &text[..at], FACET_LIMIT, numbers))
+}
+
 // Bytes are replaced in this part and in each later one, or the text ends there. The fault is the first one, as for one
 // reader.
 #[test]
@@ -199,16 +244,24 @@ fn a_fault_in_each_part(rt: HostRuntime) -> Result<(), Fail> {
     put_solid(&mut text, b"part", 1500)?;
     assert!(rt; LONG < text.len());
     for at in BREAKS {
-        let mut broken = Vec::new(rt.alloc());
-        broken.extend_from_slice(&text)?;
-        for later in BREAKS {
-            if at <= later && later < broken.len() {
-                broken[later] = b'#';
-            }
-        }
-        assert!(rt; any_workers(&rt, rt.alloc(), &broken, FACET_LIMIT));
-        if at <= text.len() {
-            assert!(rt; any_workers(&rt, rt.alloc(), &text[..at], FACET_LIMIT));
+        assert!(rt; is_broken_well(&rt, rt.alloc(), &text, at, &WORKERS)?);
+    }
+    for k in 0..text.len() / STRIDE {
+        assert!(rt; is_broken_well(&rt, rt.alloc(), &text, k * STRIDE, &TWO_AND_MOST)?);
+    }
+    Ok(())
+}
+
+// The same at each byte of a facet where parts meet, of the whole text and of its halves.
+#[test]
+fn a_fault_at_each_byte_where_four_parts_meet(rt: HostRuntime) -> Result<(), Fail> {
+    let mut text = Vec::new(rt.alloc());
+    put_solid(&mut text, b"part", 1500)?;
+    assert!(rt; LONG < text.len());
+    for parts in LATER_PARTS {
+        let first = (text.len() / PARTS).saturating_mul(parts) - CUTS / 2;
+        for at in first..first + CUTS {
+            assert!(rt; is_broken_well(&rt, rt.alloc(), &text, at, &TWO_AND_MOST)?);
         }
     }
     Ok(())
@@ -241,7 +294,24 @@ fn capitals(rt: HostRuntime) -> Result<(), Fail> {
     Ok(())
 }
 
-// The text is cut in two at each byte of some facets, and between them.
+// Whether two workers and the most of them have this answer to a text that is cut in two here.
+fn is_cut_well<R: Threads + Sync>(
+    rt: &R,
+    alloc: Global,
+    text: &[u8],
+    cut: usize,
+    answer: &Result<Vec<Facet>, StlFault>,
+) -> bool {
+    for workers in TWO_AND_MOST {
+        let chunks = text.split_at(cut.min(text.len()));
+        if !are_same(answer, &in_two(rt, alloc, chunks, FACET_LIMIT, workers)) {
+            return false;
+        }
+    }
+    true
+}
+
+// The text is cut in two in each part, at each byte of some facets, and between them.
 #[test]
 fn a_facet_cut_at_each_byte(rt: HostRuntime) -> Result<(), Fail> {
     let mut text = Vec::new(rt.alloc());
@@ -251,11 +321,10 @@ fn a_facet_cut_at_each_byte(rt: HostRuntime) -> Result<(), Fail> {
     let one = read_stl_at_most(rt.alloc(), &text, FACET_LIMIT, Unit::Millimetre);
     assert!(rt; one.is_ok());
     for cut in FIRST_CUT..FIRST_CUT + CUTS {
-        for workers in TWO_AND_MOST {
-            let chunks = text.split_at(cut.min(text.len()));
-            let many = in_two(&rt, rt.alloc(), chunks, FACET_LIMIT, workers);
-            assert!(rt; are_same(&one, &many));
-        }
+        assert!(rt; is_cut_well(&rt, rt.alloc(), &text, cut, &one));
+    }
+    for k in 0..text.len() / STRIDE {
+        assert!(rt; is_cut_well(&rt, rt.alloc(), &text, k * STRIDE, &one));
     }
     Ok(())
 }
