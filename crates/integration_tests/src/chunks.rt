@@ -109,7 +109,8 @@ fn first_cut_badly<R: Threads + Sync>(
     Ok(None)
 }
 
-// The numbers of workers: one, the least that share a text, and the greatest that the program takes.
+// The numbers of workers: one, the least that share a text, and the greatest that the program takes. These texts are too short
+// for parts: one thread reads them, whatever the number. Longer ones stand in `text_parts` and `part_borders`.
 const WORKERS: [u32; 3] = [1, 2, 64];
 
 // A name that spells two facets, each after an `endfacet`, and the end of a solid.

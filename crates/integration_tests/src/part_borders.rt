@@ -1,5 +1,5 @@
-//! Long texts with a piece among their facets that may be taken for something else: they are cut in two, or their parts meet,
-//! at each byte of the piece.
+//! Long texts with a passage among their facets that may be taken for something else: they are cut in two, or their parts meet,
+//! at each byte of the passage.
 ghost use Rattle.std.specs.Prelude.{◌≤◌};
 ghost use Rattle.geometry.specs.declared.limits.TheConstants.{FACET_LIMIT};
 
@@ -15,27 +15,27 @@ use stl_text::{FACET_LIMIT, Facet, StlFault, Word, read_stl_by};
 // The number of facets of each group.
 const GROUP: u32 = 3;
 
-// The lengths of the remarks before a piece and after it. The longest makes a chunk of two parts; in a text with the other
-// two the parts meet behind the piece, if white space is added.
+// The lengths of the remarks before a passage and after it. The longest makes a chunk of two parts; in a text with the other
+// two the parts meet behind the passage, if white space is added.
 const NONE: usize = 0;
 
-const LONG: usize = LEAST_OF_TWO_PARTS;
+const LONG_REMARK: usize = LEAST_OF_TWO_PARTS;
 
 const BEFORE: usize = 33_500;
 
 const AFTER: usize = 32_200;
 
-// A piece of a text, and what is read of it: the number of facets with which a solid begins, or else a byte where `outer` is
+// A passage of a text, and what is read of it: the number of facets with which a solid begins, or else a byte where `outer` is
 // wanted.
 #[derive(Clone, Copy)]
-struct Piece {
+struct Passage {
     bytes: &'static [u8],
     facets: u32,
     wants_outer: Option<usize>,
 }
 
 // A rest of a line and a name that spell facets.
-const NAMES: Piece = Piece {
+const NAMES: Passage = Passage {
     bytes: b"endsolid endfacet facet normal 0 0 0 outer loop vertex 1 1 1 vertex 1 1 2 vertex 1 2 1 endloop endfacet\n\
         solid endfacet facet normal 0 0 0 outer loop vertex 1 1 1 vertex 1 1 2 vertex 1 2 1 endloop endfacet facet\n",
     facets: 0,
@@ -43,7 +43,7 @@ const NAMES: Piece = Piece {
 };
 
 // A solid of one facet between names that end in `endfacet`.
-const SOLID: Piece = Piece {
+const SOLID: Passage = Passage {
     bytes: b"endsolid facet endfacet\nsolid endfacet\nfacet normal 0 0 1 outer loop vertex 0 0 0 vertex 1.5 0 0\n\
         vertex 0 1 0 endloop endfacet endsolid endfacet\nsolid facet endfacet\n",
     facets: 1,
@@ -51,7 +51,7 @@ const SOLID: Piece = Piece {
 };
 
 // A facet with a normal that spells the end of one and the beginning of another.
-const NORMAL: Piece = Piece {
+const NORMAL: Passage = Passage {
     bytes: b"facet normal endfacet facet normal outer loop vertex 0 0 0 vertex 1.5 0 0 vertex 0 1 0 endloop endfacet\n",
     facets: 1,
     wants_outer: None,
@@ -59,36 +59,36 @@ const NORMAL: Piece = Piece {
 
 // A normal that spells the end of a facet and that of a solid. `outer` is wanted where the second line begins, from which on
 // the text would be another solid.
-const BROKEN: Piece = Piece {
+const BROKEN: Passage = Passage {
     bytes: b"facet normal endfacet endsolid a\nsolid b\n",
     facets: 0,
     wants_outer: Some(33),
 };
 
-// A text with a piece among its facets, which begins at the byte `from` and ends at `to`. The second facet of the last group
+// A text with a passage among its facets, which begins at the byte `from` and ends at `to`. The second facet of the last group
 // begins at `second`.
 #[derive(Drop)]
-struct Pieced {
+struct PassageText {
     text: Vec<u8>,
     from: usize,
     to: usize,
     second: usize,
 }
 
-// A piece between groups of facets, with a remark before it and one after it.
+// A passage between groups of facets, with a remark before it and one after it.
 fn text_around(
     alloc: Global,
     before: usize,
-    piece: Piece,
+    passage: Passage,
     after: usize,
-) -> Result<Pieced, AllocError> {
+) -> Result<PassageText, AllocError> {
     let mut text = Vec::new(alloc);
     text.extend_from_slice(b"solid part\n")?;
     put_facets(&mut text, GROUP)?;
     put_remark(&mut text, before)?;
     put_facets(&mut text, GROUP)?;
     let from = text.len();
-    text.extend_from_slice(piece.bytes)?;
+    text.extend_from_slice(passage.bytes)?;
     let to = text.len();
     put_facets(&mut text, GROUP)?;
     put_remark(&mut text, after)?;
@@ -97,7 +97,7 @@ fn text_around(
     let second = text.len().saturating_add(first.len());
     put_facets(&mut text, GROUP)?;
     text.extend_from_slice(b"endsolid part\n")?;
-    Ok(Pieced {
+    Ok(PassageText {
         text,
         from,
         to,
@@ -108,25 +108,25 @@ fn text_around(
 // What a reading answers.
 type Answer = Result<Vec<Facet>, StlFault>;
 
-// The answer to a text with a piece that begins at the byte `from`.
-fn answer(alloc: Global, piece: Piece, from: usize) -> Result<Answer, AllocError> {
-    if let Some(byte) = piece.wants_outer {
+// The answer to a text with a passage that begins at the byte `from`.
+fn answer(alloc: Global, passage: Passage, from: usize) -> Result<Answer, AllocError> {
+    if let Some(byte) = passage.wants_outer {
         let at = from.saturating_add(byte);
         let word = Word::Outer;
         return Ok(Err(StlFault::Expected { word, at }));
     }
     let mut facets = Vec::new(alloc);
-    for count in [GROUP, GROUP, piece.facets, GROUP, GROUP] {
+    for count in [GROUP, GROUP, passage.facets, GROUP, GROUP] {
         add_facets(&mut facets, count)?;
     }
     Ok(Ok(facets))
 }
 
-// Whether a text has this answer where it is cut in two at each byte of its piece. One of the two chunks has two parts.
+// Whether a text has this answer where it is cut in two at each byte of its passage. One of the two chunks has two parts.
 fn is_cut_well<R: Threads + Sync>(
     rt: &R,
     alloc: Global,
-    cut: &Pieced,
+    cut: &PassageText,
     limit: u32,
     answer: &Answer,
 ) -> bool
@@ -156,17 +156,17 @@ fn stretch(text: &mut Vec<u8>, middle: usize) -> Result<(), AllocError> {
     Ok(())
 }
 
-// Whether a text has this answer where its two parts meet at each byte of its piece.
+// Whether a text has this answer where its two parts meet at each byte of its passage.
 fn is_parted_well<R: Threads + Sync>(
     rt: &R,
     alloc: Global,
-    parted: Pieced,
+    parted: PassageText,
     limit: u32,
     answer: &Answer,
 ) -> Result<bool, AllocError>
     requires { limit ≤ FACET_LIMIT }
 {
-    let Pieced {
+    let PassageText {
         mut text,
         from,
         to,
@@ -187,21 +187,21 @@ fn is_parted_well<R: Threads + Sync>(
     Ok(true)
 }
 
-// Whether a piece is read as it should be at each cut: before a chunk of two parts, after one, and where its parts meet.
+// Whether a passage is read as it should be at each cut: before a chunk of two parts, after one, and where its parts meet.
 fn is_read_well<R: Threads + Sync>(
     rt: &R,
     alloc: Global,
-    piece: Piece,
+    passage: Passage,
 ) -> Result<bool, AllocError> {
-    for (before, after) in [(NONE, LONG), (LONG, NONE)] {
-        let cut = text_around(alloc, before, piece, after)?;
-        let told = answer(alloc, piece, cut.from)?;
+    for (before, after) in [(NONE, LONG_REMARK), (LONG_REMARK, NONE)] {
+        let cut = text_around(alloc, before, passage, after)?;
+        let told = answer(alloc, passage, cut.from)?;
         if !is_cut_well(rt, alloc, &cut, FACET_LIMIT, &told) {
             return Ok(false);
         }
     }
-    let parted = text_around(alloc, BEFORE, piece, AFTER)?;
-    let told = answer(alloc, piece, parted.from)?;
+    let parted = text_around(alloc, BEFORE, passage, AFTER)?;
+    let told = answer(alloc, passage, parted.from)?;
     is_parted_well(rt, alloc, parted, FACET_LIMIT, &told)
 }
 
@@ -234,7 +234,7 @@ fn a_normal_that_spells_the_end_of_a_solid(rt: HostRuntime) -> Result<(), Fail> 
 #[test]
 fn a_limit_in_a_later_part(rt: HostRuntime) -> Result<(), Fail> {
     let limit = 3 * GROUP + 1;
-    for (before, after) in [(NONE, LONG), (LONG, NONE)] {
+    for (before, after) in [(NONE, LONG_REMARK), (LONG_REMARK, NONE)] {
         let cut = text_around(rt.alloc(), before, NAMES, after)?;
         let told = Err(StlFault::TooMany { at: cut.second });
         assert!(rt; is_cut_well(&rt, rt.alloc(), &cut, limit, &told));

@@ -148,9 +148,6 @@ fn each_number<R: Threads + Sync>(
 {
     let one = read_stl_at_most(alloc, text, limit, Unit::Millimetre);
     for workers in numbers.iter().copied() {
-        if workers == 0 {
-            return false;
-        }
         let many = read_stl_by(rt, alloc, text, limit, Unit::Millimetre, workers);
         let halves = in_two(rt, alloc, text.split_at(text.len() / 2), limit, workers);
         if !are_same(&one, &many) || !are_same(&one, &halves) {
@@ -342,9 +339,6 @@ fn two_and_most<R: Threads + Sync>(rt: &R, alloc: Global, text: &[u8], limit: u3
 {
     let one = read_stl_at_most(alloc, text, limit, Unit::Millimetre);
     for workers in TWO_AND_MOST {
-        if workers == 0 {
-            return false;
-        }
         let many = read_stl_by(rt, alloc, text, limit, Unit::Millimetre, workers);
         if !are_same(&one, &many) {
             return false;
