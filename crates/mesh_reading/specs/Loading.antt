@@ -59,6 +59,10 @@ OfText welder reader says = (unit : LengthUnit) (taken : List Facet) (fed : List
 abbrev pub IsFed : LengthUnit → List Facet → TextReader → Option (List ℕ) → Option (List ℕ) → Type 0
 IsFed unit taken reader start now = (fed : List ℕ) × Consumes start now fed × IsAfter FACET_LIMIT unit taken reader fed
 
+-- a welder has the facets that were taken off a reader, which was fed what a source had at the start and has no more
+abbrev pub IsWeldedAsFed : LengthUnit → TextReader → Welder → Option (List ℕ) → Option (List ℕ) → Type 0
+IsWeldedAsFed unit reader welder start now = (taken : List Facet) × AreWelded taken welder × IsFed unit taken reader start now
+
 -- these bytes are all of the input, where that is known
 abbrev pub IsInput : Option (List ℕ) → List ℕ → Type 0
 IsInput known bytes = IfSome known (λ input. bytes ≡ input)
@@ -90,6 +94,18 @@ pub record IsFilled {S : Type 0} (remaining : S → Option (List ℕ)) (failure_
   pub waits : after.wanted ≡ before.wanted
   pub kept : is_more ≡ false → new ≡ old
   pub whole : result ≡ Ok false → is_more ≡ true → IsAtEnd (remaining new)
+  -- just one call of the source failed where a failed read is the answer, else none
+  pub unread : result ≡ Err fault.Read → Fails (failure_count old) (failure_count new)
+  pub sound : result ≢ Err fault.Read → failure_count new ≡ failure_count old
+  pub only : IfErr result (λ f. (f ≡ fault.Read) ⊎ (f ≡ fault.Memory))
+
+-- What a call promises that reads a source to its end, feeds a reader with it, and adds the facets that it takes off the reader to a
+-- welder.
+pub record IsReadToEnd {S : Type 0} (remaining : S → Option (List ℕ)) (failure_count : S → ℕ) (old new : S) (reader_old reader : TextReader)
+    (welder_old welder : Welder) (result : Result (Unit {0}) ReadFault) : Type 0 where
+  pub fed : OnOk result ((unit : LengthUnit) (start : Option (List ℕ)) → IsWeldedAsFed unit reader_old welder_old start (remaining old)
+      → IsWeldedAsFed unit reader welder start (remaining new))
+  pub whole : OnOk result (IsAtEnd (remaining new))
   -- just one call of the source failed where a failed read is the answer, else none
   pub unread : result ≡ Err fault.Read → Fails (failure_count old) (failure_count new)
   pub sound : result ≢ Err fault.Read → failure_count new ≡ failure_count old

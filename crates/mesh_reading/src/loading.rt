@@ -1,10 +1,10 @@
 //! Reads a text to its end: the facets that it spells, and the closed mesh that they make.
-ghost use Rattle.std.specs.Prelude.{◌≡◌, ◌<◌, ◌++◌, IfErr, List, Ok, OnOk, Option, false, length, ℕ};
+ghost use Rattle.std.specs.Prelude.{◌≡◌, ◌<◌, ◌++◌, IfErr, List, Ok, OnOk, Option, [], false, length, ℕ};
 ghost use Rattle.std.specs.Io.KnownBytes.{IsAtEnd};
 ghost use Rattle.geometry.specs.Facet.{Facet};
 ghost use Rattle.micro_num.specs.declared.unit.Unit.{Unit as LengthUnit};
 ghost use Rattle.raster.specs.Devices.{Fails};
-ghost use Rattle.mesh_reading.specs.Loading.{IsAllWelded, IsFed, IsLoadFault, IsLoaded, IsMisread, IsReadAs, IsSolidOf, IsTextExtent, OfText};
+ghost use Rattle.mesh_reading.specs.Loading.{IsAllWelded, IsFed, IsLoadFault, IsLoaded, IsMisread, IsReadAs, IsReadToEnd, IsSolidOf, IsTextExtent, OfText};
 ghost use Rattle.mesh_reading.specs.Transcript.{transcript};
 ghost use Rattle.mesh_reading.specs.declared.read_fault.ReadFault.TheVariants.{Read};
 
@@ -60,20 +60,10 @@ pub fn read_solid<A: Allocator + Copy + Send + Sync, I: Source>(
     ensures { IsReadAs (IsSolidOf unit) (IsLoadFault unit) result
         (transcript (I.remaining source.old) (I.remaining source.new) (I.Failures.failure_count source.old) (I.Failures.failure_count source.new)) }
 {
-    let mut fresh = Vec::new(alloc);
     let mut reader = TextReader::new(alloc, FACET_LIMIT, unit);
     let mut welder = Welder::new(alloc);
-    let mut window = [0; WINDOW_LEN];
-    // the bound shows that the loop ends; no input is so long
-    for _ in 0..u64::MAX {
-        let is_more = next_facets(source, &mut window, &mut reader, &mut fresh)?;
-        weld_next(&mut welder, fresh.as_slice())?;
-        if !is_more {
-            return weld_end(reader, welder);
-        }
-    }
-    // never reached
-    Err(ReadFault::Memory)
+    weld_windows(alloc, source, &mut reader, &mut welder)?;
+    weld_end(reader, welder)
 }
 
 /// The same as [`read_solid`], read by up to `workers` workers at the same time. Where they are several, rounds stand
@@ -97,29 +87,94 @@ pub fn read_solid_by<R: Threads + Sync, A: Allocator + Copy + Send + Sync, I: So
     }
     let mut reader = TextReader::new(alloc, FACET_LIMIT, unit);
     let mut welder = Welder::new(alloc);
+    weld_by_rounds(rt, alloc, source, workers, &mut reader, &mut welder)?;
+    weld_end_by(rt, reader, welder)
+}
+
+/// Reads a source to its end in windows: feeds a reader with it, and adds the facets that it takes off the reader to a
+/// welder.
+fn weld_windows<A: Allocator + Copy + Send + Sync, I: Source>(
+    alloc: A,
+    source: &mut I,
+    reader: &mut TextReader<A>,
+    welder: &mut Welder<A>,
+) -> Result<(), ReadFault>
+    ensures { IsReadToEnd I.remaining I.Failures.failure_count source.old source.new reader.old reader.new welder.old welder.new result }
+{
+    let mut fresh = Vec::new(alloc);
+    let mut window = [0; WINDOW_LEN];
+    // the bound shows that the loop ends; no input is so long
+    for _ in 0..u64::MAX {
+        let is_more = next_facets(source, &mut window, reader, &mut fresh)?;
+        weld_next(welder, fresh.as_slice())?;
+        if !is_more {
+            return Ok(());
+        }
+    }
+    // never reached
+    Err(ReadFault::Memory)
+}
+
+/// The same as [`weld_windows`], in rounds that up to `workers` workers read at the same time.
+fn weld_by_rounds<R: Threads + Sync, A: Allocator + Copy + Send + Sync, I: Source>(
+    rt: &R,
+    alloc: A,
+    source: &mut I,
+    workers: u32,
+    reader: &mut TextReader<A>,
+    welder: &mut Welder<A>,
+) -> Result<(), ReadFault>
+    ensures { IsReadToEnd I.remaining I.Failures.failure_count source.old source.new reader.old reader.new welder.old welder.new result }
+{
     let mut round = Round::new(alloc, round_len(workers))?;
     let mut next = Round::new(alloc, round_len(workers))?;
     let mut facets = Vec::new(alloc);
+    weld_rounds(
+        rt,
+        source,
+        workers,
+        reader,
+        welder,
+        &mut round,
+        &mut next,
+        &mut facets,
+    )
+}
+
+/// The same as [`weld_by_rounds`], where the two rounds, and the room for the facets of one, are there and empty.
+fn weld_rounds<R: Threads + Sync, A: Allocator + Copy + Send + Sync, I: Source>(
+    rt: &R,
+    source: &mut I,
+    workers: u32,
+    reader: &mut TextReader<A>,
+    welder: &mut Welder<A>,
+    round: &mut Round<A>,
+    next: &mut Round<A>,
+    facets: &mut Vec<Facet, A>,
+) -> Result<(), ReadFault>
+    requires round { round.old.bytes ≡ [] }
+    requires facets { facets.old.items ≡ [] }
+    ensures { IsReadToEnd I.remaining I.Failures.failure_count source.old source.new reader.old reader.new welder.old welder.new result }
+{
     let mut is_more = true;
     // the bound shows that the loop ends; no input is so long
     for _ in 0..u64::MAX {
         let is_next = read_and_weld(
             rt,
             workers,
-            &mut reader,
+            reader,
             round.bytes(),
-            &mut welder,
+            welder,
             facets.as_slice(),
             source,
-            &mut next,
+            next,
             is_more,
         )?;
-        reader.take_facets(&mut facets);
+        reader.take_facets(facets);
         if !is_more {
-            weld_next(&mut welder, facets.as_slice())?;
-            return weld_end_by(rt, reader, welder);
+            return weld_next(welder, facets.as_slice());
         }
-        swap(&mut round, &mut next);
+        swap(round, next);
         is_more = is_next;
     }
     // never reached

@@ -1,6 +1,6 @@
 -- A source that was read to its end.
 use Rattle.std.proofs.Common.{◌≡◌, ◌≢◌, ◌⊎◌, ◌∙◌, ℕ, List, Option, [], ap, inl, inr, refl, sym}
-use Rattle.std.specs.Prelude.{Err, IfErr, IfOk, IsErrAnd, Ok, Result}
+use Rattle.std.specs.Prelude.{Err, IfErr, IfOk, IsErrAnd, Ok, OnOk, Result}
 use Rattle.std.specs.Io.KnownBytes.{IsAtEnd}
 use Rattle.std.proofs.KnownBytes.{Consumes-nil, Consumes-whole}
 use Rattle.std.proofs.lemmas.Result.{IfErr-at_err, IfErr-weaker, IfOk-weaker}
@@ -11,7 +11,7 @@ use Rattle.raster.specs.Devices.{Fails}
 use Rattle.stl_text.specs.TextReader.{IsAfter, TextReader}
 use Rattle.mesh_weld.specs.Solid.{Solid}
 use Rattle.mesh_weld.specs.Welder.{Welder}
-use Rattle.mesh_reading.specs.Loading.{AreWelded, IsFed, IsInput, IsInputFault, IsLoadFault, IsLoaded, IsMisread, IsReadAs, IsSolidOf, IsTextExtent, OfText}
+use Rattle.mesh_reading.specs.Loading.{AreWelded, IsFed, IsInput, IsInputFault, IsLoadFault, IsLoaded, IsMisread, IsReadAs, IsReadToEnd, IsSolidOf, IsTextExtent, IsWeldedAsFed, OfText}
 use Rattle.mesh_reading.specs.Transcript.{Transcript, transcript}
 use Rattle.mesh_reading.specs.declared.extent.Extent.{Extent}
 use Rattle.mesh_reading.proofs.lemmas.Faults.{IsTextFault, not_read}
@@ -104,3 +104,40 @@ stopped_as (Err x) is_made is_own source f is why unread sound = record {
     neither : (f ≡ fault.Read) ⊎ (f ≡ fault.Memory) → x ≢ fault.Read → x ≢ fault.Memory → ⊥
     neither (inl e) other short = other (is ∙ e)
     neither (inr e) other short = short (is ∙ e)
+
+-- all was read, and the facets that are left are welded, where memory serves
+pub read_to_end : {S : Type 0} (remaining : S → Option (List ℕ)) (failure_count : S → ℕ) (old new : S) (reader_old reader : TextReader)
+    (welder_old welder : Welder) (r : Result (Unit {0}) ReadFault) (P : Type 0) → OnOk r P → IfErr r (λ f. f ≡ fault.Memory)
+    → (P → (unit : LengthUnit) (start : Option (List ℕ)) → IsWeldedAsFed unit reader_old welder_old start (remaining old)
+    → IsWeldedAsFed unit reader welder start (remaining new))
+    → IsAtEnd (remaining new) → failure_count new ≡ failure_count old
+    → IsReadToEnd remaining failure_count old new reader_old reader welder_old welder r
+read_to_end remaining failure_count old new reader_old reader welder_old welder (Ok x) P h only fed end sound = record {
+  fed = fed h;
+  whole = end;
+  unread = λ e. cc;
+  sound = λ _. sound;
+  only = tt;
+}
+read_to_end remaining failure_count old new reader_old reader welder_old welder (Err f) P h only fed end sound = record {
+  fed = tt;
+  whole = tt;
+  unread = λ e. cc;
+  sound = λ _. sound;
+  only = inr only;
+}
+
+-- a read failed, or memory is short
+pub ended_early : {S : Type 0} (remaining : S → Option (List ℕ)) (failure_count : S → ℕ) (old new : S) (reader_old reader : TextReader)
+    (welder_old welder : Welder) (r : Result (Unit {0}) ReadFault) (f : ReadFault) → IsErrAnd r (λ x. x ≡ f)
+    → (f ≡ fault.Read) ⊎ (f ≡ fault.Memory) → (f ≡ fault.Read → Fails (failure_count old) (failure_count new))
+    → (f ≢ fault.Read → failure_count new ≡ failure_count old)
+    → IsReadToEnd remaining failure_count old new reader_old reader welder_old welder r
+ended_early remaining failure_count old new reader_old reader welder_old welder (Ok x) f is why unread sound = absurd is
+ended_early remaining failure_count old new reader_old reader welder_old welder (Err x) f is why unread sound = record {
+  fed = tt;
+  whole = tt;
+  unread = λ e. unread (let same : x ≡ fault.Read = cc in sym is ∙ same);
+  sound = λ other. sound (λ e. other (ap Err (is ∙ e)));
+  only = rw is why;
+}
