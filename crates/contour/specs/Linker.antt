@@ -1,7 +1,8 @@
 -- How segments are linked: by the numbers of the edges where they start and end, and by slots, their positions in the
 -- plane's list. The segments that start at an edge form a linked list: `heads` has its first slot, `after` the next one.
 use Rattle.std.specs.Prelude.{◌≡◌, ℕ, ◌+◌, ◌<◌, ◌≤◌, ◌==◌, List, [], ◌∷◌, length, map, slice_index, slice_index_or, count_by, take, drop, Bool, true, false, nat_le, Some, if◌then◌else◌}
-use Rattle.std.specs.List.{list_all}
+use Rattle.std.specs.List.{AllByRecursion, list_all}
+use Rattle.std.specs.List.Sorted.{IsStrictlyIncreasing}
 use Rattle.geometry.specs.Facet.{Facet}
 use Rattle.mesh_weld.specs.EdgeNumbers.{AreEdgeNumbers}
 use Rattle.mesh_weld.specs.Solid.{triples}
@@ -9,7 +10,7 @@ use Rattle.plane_segments.specs.declared.segment.Node.{Node}
 use Rattle.plane_segments.specs.declared.segment.Segment.{Segment}
 use Rattle.plane_segments.specs.Segment.{edge_node, is_node}
 use Rattle.contour.specs.declared.linker.TheConstants.{NONE}
-use Rattle.contour.specs.Loops.{IsCycle, count_of, first_facet, follower}
+use Rattle.contour.specs.Loops.{AreEnds, IsCycle, count_of, first_facet, follower, is_from_least, parts_from}
 
 -- of a facet by the numbers of its corners and of its edges, the number of the edge that is this node
 abbrev pub edge_at_node : List ℕ → List ℕ → Node → ℕ
@@ -109,3 +110,16 @@ pub record IsTracedLoop (list : List Segment) (next : List ℕ) (first : ℕ) (b
   pub whole : KeepsLoopsWhole list next after
   pub kept : (j : ℕ) → is_visited before j ≡ true → is_visited after j ≡ true
   pub done : is_visited after first ≡ true
+
+-- the loops that have a segment before the slot `first` have been traced, one after another, and just their slots have been visited
+pub record AreTraced (list : List Segment) (next : List ℕ) (first : ℕ) (visited : List Bool) (flat : List Segment) (ends : List ℕ) : Type 0 where
+  pub ends_are : AreEnds 0 ends (length flat)
+  pub size : length visited ≡ length list
+  pub whole : KeepsLoopsWhole list next visited
+  pub earlier : (j : ℕ) → j < first → is_visited visited j ≡ true
+  pub cycles : AllByRecursion (IsCycle list) (parts_from 0 ends flat)
+  pub least : list_all is_from_least (parts_from 0 ends flat) ≡ true
+  pub rising : IsStrictlyIncreasing (map first_facet (parts_from 0 ends flat))
+  pub below : (k j : ℕ) → k < length (map first_facet (parts_from 0 ends flat)) → first ≤ j → j < length list
+      → slice_index (map first_facet (parts_from 0 ends flat)) k < facet_of list j
+  pub once : (n : ℕ) → count_of n flat + count_of n (unvisited visited list) ≡ count_of n list

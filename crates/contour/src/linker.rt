@@ -3,13 +3,13 @@
 //! edge `e`, `after[i]` the slot of the next one at the same edge as slot `i`, and [`NONE`] the end of a list. Each
 //! segment takes the head of the list of the edge where it ends: that is its follower, whose slot is kept in `next`.
 //! Then the loops are traced from follower to follower, with a flag for each slot that was visited.
-ghost use Rattle.std.specs.Prelude.{◌++◌, true, false, ◌≡◌, ◌<◌, ◌≤◌, ℕ, ℤ, All, List, IfOk, OnOk, length, slice_index_or};
+ghost use Rattle.std.specs.Prelude.{[], ◌++◌, true, false, ◌≡◌, ◌<◌, ◌≤◌, ℕ, ℤ, All, List, IfOk, OnOk, length, slice_index_or};
 ghost use Rattle.exact_int.specs.Bounds.{IsAtMost};
 ghost use Rattle.mesh_weld.specs.Balance.{IsBalanced};
 ghost use Rattle.mesh_weld.specs.EdgeNumbers.{AreEdgeNumbers};
 ghost use Rattle.plane_segments.specs.Segment.{HasOrderedNodes, segments};
 ghost use Rattle.contour.specs.Loops.{AreLoops, loops};
-ghost use Rattle.contour.specs.Linker.{AreLinks, AreSegmentEdges, ArePopped, HasFirsts, HasLeft, HasNexts, InFacetOrder, IsClear, IsTracedLoop, KeepsLoopsWhole, edge_at_node, is_visited};
+ghost use Rattle.contour.specs.Linker.{AreLinks, AreSegmentEdges, ArePopped, AreTraced, HasFirsts, HasLeft, HasNexts, InFacetOrder, IsClear, IsTracedLoop, KeepsLoopsWhole, edge_at_node, is_visited};
 ghost use Rattle.contour.specs.declared.linker.TheConstants.{NONE};
 ghost use Rattle.geometry.specs.declared.limits.TheConstants.{CENTRE_LIMIT, FACET_LIMIT};
 
@@ -250,20 +250,38 @@ fn trace_loops<A: Allocator + Copy + Send + Sync>(
     requires order { InFacetOrder list.now }
     ensures { IfOk result (AreLoops list.now) }
 {
-    visited.clear();
-    visited.resize(list.len(), false)?;
-    ends.clear();
     let mut flat = Vec::with_capacity(alloc, list.len())?;
-    for first in 0..list.len() {
-        if !visited[first] {
-            trace_loop(list, next, first, visited.as_mut_slice(), &mut flat)?;
-            ends.push(flat.len())?;
-        }
-    }
+    trace_all(list, next, visited, ends, &mut flat)?;
     // the last loop ends with the list
     ends.pop();
     let inner_ends = ends.as_slice().to_vec(alloc)?;
     Ok(Loops::of(flat, inner_ends))
+}
+
+/// Appends all loops to the empty `flat`, one after another, and puts where each ends into `ends`.
+#[inline]
+fn trace_all<A: Allocator>(
+    list: &[Segment],
+    next: &[u32],
+    visited: &mut Vec<bool, A>,
+    ends: &mut Vec<usize, A>,
+    flat: &mut Vec<Segment, A>,
+) -> Result<(), AllocError>
+    requires links { AreLinks list.now next.now }
+    requires order { InFacetOrder list.now }
+    requires empty { flat.old.items ≡ [] }
+    ensures { OnOk result (AreTraced list.now next.now (length list.now) visited.new.items flat.new.items ends.new.items) }
+{
+    visited.clear();
+    visited.resize(list.len(), false)?;
+    ends.clear();
+    for first in 0..list.len() {
+        if !visited[first] {
+            trace_loop(list, next, first, visited.as_mut_slice(), flat)?;
+            ends.push(flat.len())?;
+        }
+    }
+    Ok(())
 }
 
 /// Appends the loop of the segment at the slot `first` to `flat`, and marks its slots as visited.

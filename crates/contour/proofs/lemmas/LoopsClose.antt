@@ -10,10 +10,10 @@ use Rattle.mesh_weld.specs.EdgeNumbers.{AreEdgeNumbers}
 use Rattle.plane_segments.specs.declared.segment.Segment.{Segment}
 use Rattle.plane_segments.specs.Segment.{segments}
 use Rattle.contour.specs.Loops.{AreLoops, loops, parts_from}
-use Rattle.contour.specs.Linker.{AreLinks, ArePopped, IsTracedLoop, InFacetOrder, finish_edge, is_visited, slot_after, start_edge}
+use Rattle.contour.specs.Linker.{AreLinks, ArePopped, AreTraced, IsTracedLoop, InFacetOrder, finish_edge, is_visited, slot_after, start_edge}
 use Rattle.contour.specs.declared.linker.TheConstants.{NONE}
 use Rattle.contour.proofs.lemmas.Followers.{segment_edges-links}
-use Rattle.contour.proofs.lemmas.Traces.{AreTraced, trace-begins, trace-ends, trace-skips, trace-takes, segments_rise}
+use Rattle.contour.proofs.lemmas.Traces.{trace-begins, trace-ends, trace-skips, trace-takes, segments_rise}
 use Rattle.contour.proofs.lemmas.Unique.{loops-are}
 use Rattle.contour.proofs.lemmas.Walks.{IsWalk, segment_in, walk-begins, walk-ends, walk-goes}
 

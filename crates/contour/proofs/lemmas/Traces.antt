@@ -9,23 +9,11 @@ use Rattle.plane_segments.specs.declared.segment.Segment.{Segment}
 use Rattle.plane_segments.specs.Segment.{segments}
 use Rattle.plane_segments.proofs.lemmas.FacetOrder.{AreFrom, segments_ascend}
 use Rattle.contour.specs.Loops.{AreEnds, AreLoops, IsCycle, count_of, first_facet, is_from_least, parts_from}
-use Rattle.contour.specs.Linker.{AreLinks, IsTracedLoop, KeepsLoopsWhole, InFacetOrder, facet_of, is_visited, unvisited}
+use Rattle.contour.specs.Linker.{AreLinks, AreTraced, IsTracedLoop, InFacetOrder, facet_of, is_visited, unvisited}
 use Rattle.contour.proofs.lemmas.Counts.{count-append}
 use Rattle.geometry.specs.Facet.{Facet}
 use Rattle.contour.proofs.lemmas.Parts.{AreOthers, ends-push, others-are, parts-all, parts-push}
 use Rattle.contour.proofs.lemmas.Slots.{either}
-
-pub record AreTraced (list : List Segment) (next : List ℕ) (first : ℕ) (visited : List Bool) (flat : List Segment) (ends : List ℕ) : Type 0 where
-  pub ends_are : AreEnds 0 ends (length flat)
-  pub size : length visited ≡ length list
-  pub whole : KeepsLoopsWhole list next visited
-  pub earlier : (j : ℕ) → j < first → is_visited visited j ≡ true
-  pub cycles : AllByRecursion (IsCycle list) (parts_from 0 ends flat)
-  pub least : list_all is_from_least (parts_from 0 ends flat) ≡ true
-  pub rising : IsStrictlyIncreasing (map first_facet (parts_from 0 ends flat))
-  pub below : (k j : ℕ) → k < length (map first_facet (parts_from 0 ends flat)) → first ≤ j → j < length list
-      → get_or (map first_facet (parts_from 0 ends flat)) k 0 < facet_of list j
-  pub once : (n : ℕ) → count_of n flat + count_of n (unvisited visited list) ≡ count_of n list
 
 unvisited-none : (visited : List Bool) (list : List Segment) → length visited ≡ length list → ((j : ℕ) → j < length list → is_visited visited j ≡ false) → unvisited visited list ≡ list
 unvisited-none [] list e h = refl
