@@ -1,8 +1,8 @@
 //! Writes the images of all layers where a build has several workers, and decides whether these draw at the same time.
-ghost use Rattle.std.specs.Prelude.{◌≡◌, IfErr, OnOk, true};
+ghost use Rattle.std.specs.Prelude.{◌≡◌, ◌<◌, ◌≤◌, ◌*◌, All, [], IfErr, OnOk, true, vec_len};
 ghost use Rattle.std.specs.Io.KnownBytes.{Appends};
 ghost use Rattle.mesh_reading.specs.Transcript.{transcript};
-ghost use Rattle.stlslice.specs.Pages.{images_of};
+ghost use Rattle.stlslice.specs.Pages.{image_size, images_of};
 ghost use Rattle.stlslice.specs.Unwritten.{IsUnwritten};
 
 use crate::run_fault::RunFault;
@@ -10,7 +10,7 @@ use crate::write::flush::settle;
 use crate::write::images::write_images;
 use crate::write::pages::{page_sets, put_by_pages};
 use build_book::Build;
-use raster::{Grid, Sink, image_len};
+use raster::{Grid, Page, Sink, image_len};
 use std::alloc::Allocator;
 use std::thread::Threads;
 
@@ -38,19 +38,72 @@ pub(crate) fn write_images_by<R: Threads + Sync, A: Allocator + Copy + Send + Sy
     ensures same { OnOk result (O.Failures.failure_count sink.new ≡ O.Failures.failure_count sink.old) }
     ensures err { IfErr result (IsUnwritten (transcript (O.contents sink.old) (O.contents sink.new) (O.Failures.failure_count sink.old) (O.Failures.failure_count sink.new)) (images_of build.now.job)) }
 {
-    let per = images_a_page(build.job().grid(), workers);
-    if workers < 2 || per == 0 || !has_many_spans(build) {
-        return write_images(build, sink);
+    let per = images_to_draw(build, workers);
+    if per == 0 {
+        write_images(build, sink)
+    } else {
+        write_drawn_images(rt, alloc, build, per, workers, sink)
     }
-    let pages = build
+}
+
+/// How many images a page has where several workers draw them before they are written: 0 where a single writer is to do all,
+/// since there is one worker, an image is too long for a page, or drawing takes no longer than writing.
+fn images_to_draw<A: Allocator>(build: &Build<'_, A>, workers: u32) -> usize {
+    if workers > 1 && has_many_spans(build) {
+        images_a_page(build.job().grid(), workers)
+    } else {
+        0
+    }
+}
+
+/// Writes the images of all layers of a build, drawn into pages by up to `workers` workers, `per` a page. Where there is no
+/// memory for the pages, one writer does all.
+fn write_drawn_images<R: Threads + Sync, A: Allocator + Copy + Send + Sync, O: Sink>(
+    rt: &R,
+    alloc: A,
+    build: &Build<'_, A>,
+    per: usize,
+    workers: u32,
+    sink: &mut O,
+) -> Result<(), RunFault>
+    requires { 0 < per }
+    ensures flushed { OnOk result (O.is_settled sink.new ≡ true) }
+    ensures ok { OnOk result (Appends (O.contents sink.old) (O.contents sink.new) (images_of build.now.job)) }
+    ensures same { OnOk result (O.Failures.failure_count sink.new ≡ O.Failures.failure_count sink.old) }
+    ensures err { IfErr result (IsUnwritten (transcript (O.contents sink.old) (O.contents sink.new) (O.Failures.failure_count sink.old) (O.Failures.failure_count sink.new)) (images_of build.now.job)) }
+{
+    let count = build
         .layers()
         .len()
         .div_ceil(per)
         .min(workers as usize)
         .max(1);
-    let Ok((now, next)) = page_sets(alloc, build.job().grid(), per, pages) else {
-        return write_images(build, sink);
-    };
+    match page_sets(alloc, build.job().grid(), per, count) {
+        Ok((now, next)) => write_by_pages(rt, build, per, now, next, sink),
+        Err(_) => write_images(build, sink),
+    }
+}
+
+/// Writes the images of all layers of a build, drawn into two sets of pages as [`put_by_pages`] does, and flushes them.
+fn write_by_pages<R: Threads + Sync, A: Allocator + Copy + Send + Sync, O: Sink>(
+    rt: &R,
+    build: &Build<'_, A>,
+    per: usize,
+    now: Vec<Page<A>, A>,
+    next: Vec<Page<A>, A>,
+    sink: &mut O,
+) -> Result<(), RunFault>
+    requires per { 0 < per }
+    requires blank { All (λ page. page.bytes ≡ []) now.items }
+    requires some_now { 0 < vec_len now }
+    requires some_next { 0 < vec_len next }
+    requires room_now { All (λ page. per * image_size build.now.job.grid ≤ page.room) now.items }
+    requires room_next { All (λ page. per * image_size build.now.job.grid ≤ page.room) next.items }
+    ensures flushed { OnOk result (O.is_settled sink.new ≡ true) }
+    ensures ok { OnOk result (Appends (O.contents sink.old) (O.contents sink.new) (images_of build.now.job)) }
+    ensures same { OnOk result (O.Failures.failure_count sink.new ≡ O.Failures.failure_count sink.old) }
+    ensures err { IfErr result (IsUnwritten (transcript (O.contents sink.old) (O.contents sink.new) (O.Failures.failure_count sink.old) (O.Failures.failure_count sink.new)) (images_of build.now.job)) }
+{
     let written = put_by_pages(rt, build, per, now, next, sink)?;
     settle(sink, written)
 }
