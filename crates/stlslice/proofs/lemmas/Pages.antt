@@ -182,6 +182,38 @@ image-drawn job k end bytes new image text h is added before =
     ∙ ap (λ (l : List ℕ). bytes ++ l) (sym (images-first job k end h))
     ∙ before
 
+-- the same where the pages are looked at as a slice
+pub pages-same : (old now : Option (List ℕ)) (all : List ℕ) (written : ℕ) (pages slice : List Page) (left : List ℕ) → slice ≡ pages
+    → IsUnderWay old now all 0 written (pages_text pages) left → IsUnderWay old now all 0 written (pages_text slice) left
+pages-same old now all written pages slice left same text =
+    subst (λ (l : List Page). IsUnderWay old now all 0 written (pages_text l) left) (sym same) text
+
+-- pages with just the room that is wanted have it
+pub room-enough : (per : ℕ) (grid taken : Grid) (pages : List Page) → taken ≡ grid
+    → All (λ page. page.room ≡ per * image_size taken) pages → All (λ page. per * image_size grid ≤ page.room) pages
+room-enough per grid taken pages same h =
+    λ k d low. omega (arith, h k d low, ap (λ (g : Grid). per * image_size g) same)
+
+-- up to which layer a set of pages is drawn, where all n layers are there
+pub set-end : (n per first m count end : ℕ) → count ≡ n → end ≡ min (first + m * per) count → end ≡ min (first + m * per) n
+set-end n per first m count end whole is = is ∙ ap (λ (k : ℕ). min (first + m * per) k) whole
+
+-- one set went out, and the next one is drawn
+pub set-out : (job : Job) (old now new : Option (List ℕ)) (written total first m per end : ℕ) (chunk drawn : List ℕ)
+    → IsUnderWay old now (images job.grid job.rule job.solid.facets) 0 written chunk (images_between job first job.grid.layers)
+    → Appends now new chunk → total ≡ written + length chunk → first ≤ job.grid.layers → end ≡ min (first + m * per) job.grid.layers
+    → drawn ≡ images_between job first (min (first + m * per) job.grid.layers)
+    → IsUnderWay old new (images job.grid job.rule job.solid.facets) 0 total drawn (images_between job end job.grid.layers)
+set-out job old now new written total first m per end chunk drawn text out size low is images-are =
+    let n : ℕ = job.grid.layers in
+    let all : List ℕ = images job.grid job.rule job.solid.facets in
+    let begun : first ≤ end = omega (arith, is, low) in
+    let high : end ≤ n = omega (arith, is) in
+    let same : images_between job first end ≡ drawn = ap (λ (k : ℕ). images_between job first k) is ∙ sym images-are in
+    with-part old new all 0 total drawn (images_between job end n) (images_between job first n)
+    (all-put old now new all 0 written total chunk (images_between job first n) text out size)
+    (images-parts job first end n begun high ∙ ap (λ (l : List ℕ). l ++ images_between job end n) same)
+
 -- each set has a layer at least
 pub fewer-left : (count drawn m per next : ℕ) → 1 ≤ m → 1 ≤ per → drawn < count → next ≡ min (drawn + m * per) count → count - next < count - drawn
 fewer-left count drawn m per next some few h is =

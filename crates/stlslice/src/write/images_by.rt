@@ -79,7 +79,7 @@ fn write_drawn_images<R: Threads + Sync, A: Allocator + Copy + Send + Sync, O: S
         .min(workers as usize)
         .max(1);
     match page_sets(alloc, build.job().grid(), per, count) {
-        Ok((now, next)) => write_by_pages(rt, build, per, now, next, sink),
+        Ok((drawn, free)) => write_by_pages(rt, build, per, drawn, free, sink),
         Err(_) => write_images(build, sink),
     }
 }
@@ -89,22 +89,22 @@ fn write_by_pages<R: Threads + Sync, A: Allocator + Copy + Send + Sync, O: Sink>
     rt: &R,
     build: &Build<'_, A>,
     per: usize,
-    now: Vec<Page<A>, A>,
-    next: Vec<Page<A>, A>,
+    drawn: Vec<Page<A>, A>,
+    free: Vec<Page<A>, A>,
     sink: &mut O,
 ) -> Result<(), RunFault>
     requires per { 0 < per }
-    requires blank { All (λ page. page.bytes ≡ []) now.items }
-    requires some_now { 0 < vec_len now }
-    requires some_next { 0 < vec_len next }
-    requires room_now { All (λ page. per * image_size build.now.job.grid ≤ page.room) now.items }
-    requires room_next { All (λ page. per * image_size build.now.job.grid ≤ page.room) next.items }
+    requires blank { All (λ page. page.bytes ≡ []) drawn.items }
+    requires some_drawn { 0 < vec_len drawn }
+    requires some_free { 0 < vec_len free }
+    requires room_drawn { All (λ page. per * image_size build.now.job.grid ≤ page.room) drawn.items }
+    requires room_free { All (λ page. per * image_size build.now.job.grid ≤ page.room) free.items }
     ensures flushed { OnOk result (O.is_settled sink.new ≡ true) }
     ensures ok { OnOk result (Appends (O.contents sink.old) (O.contents sink.new) (images_of build.now.job)) }
     ensures same { OnOk result (O.Failures.failure_count sink.new ≡ O.Failures.failure_count sink.old) }
     ensures err { IfErr result (IsUnwritten (transcript (O.contents sink.old) (O.contents sink.new) (O.Failures.failure_count sink.old) (O.Failures.failure_count sink.new)) (images_of build.now.job)) }
 {
-    let written = put_by_pages(rt, build, per, now, next, sink)?;
+    let written = put_by_pages(rt, build, per, drawn, free, sink)?;
     settle(sink, written)
 }
 

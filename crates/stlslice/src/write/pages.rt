@@ -10,25 +10,26 @@ use std::alloc::{AllocError, Allocator};
 use std::mem::swap;
 use std::thread::{Threads, for_each_mut, join_mut};
 
-/// Two sets of `count` pages without images. Each page has room for `per` images of this grid.
+/// Two sets of `count` pages without images. Each page has room for just `per` images of this grid.
 pub(crate) fn page_sets<A: Allocator + Copy>(
     alloc: A,
     grid: &Grid,
     per: usize,
     count: usize,
 ) -> Result<(Vec<Page<A>, A>, Vec<Page<A>, A>), AllocError>
-    ensures count_now { IfOk result (λ sets. vec_len sets.0 ≡ count) }
-    ensures count_next { IfOk result (λ sets. vec_len sets.1 ≡ count) }
-    ensures blank_now { IfOk result (λ sets. All (λ page. page.bytes ≡ []) sets.0.items) }
-    ensures room_now { IfOk result (λ sets. All (λ page. per * image_size grid.now ≤ page.room) sets.0.items) }
-    ensures room_next { IfOk result (λ sets. All (λ page. per * image_size grid.now ≤ page.room) sets.1.items) }
+    ensures count_drawn { IfOk result (λ sets. vec_len sets.0 ≡ count) }
+    ensures count_free { IfOk result (λ sets. vec_len sets.1 ≡ count) }
+    ensures blank_drawn { IfOk result (λ sets. All (λ page. page.bytes ≡ []) sets.0.items) }
+    ensures blank_free { IfOk result (λ sets. All (λ page. page.bytes ≡ []) sets.1.items) }
+    ensures room_drawn { IfOk result (λ sets. All (λ page. page.room ≡ per * image_size grid.now) sets.0.items) }
+    ensures room_free { IfOk result (λ sets. All (λ page. page.room ≡ per * image_size grid.now) sets.1.items) }
 {
-    let now = blank_pages(alloc, grid, per, count)?;
-    let next = blank_pages(alloc, grid, per, count)?;
-    Ok((now, next))
+    let drawn = blank_pages(alloc, grid, per, count)?;
+    let free = blank_pages(alloc, grid, per, count)?;
+    Ok((drawn, free))
 }
 
-/// Pages without images, which have room for `per` images of this grid each.
+/// Pages without images, which have room for just `per` images of this grid each.
 fn blank_pages<A: Allocator + Copy>(
     alloc: A,
     grid: &Grid,
@@ -37,7 +38,7 @@ fn blank_pages<A: Allocator + Copy>(
 ) -> Result<Vec<Page<A>, A>, AllocError>
     ensures count { IfOk result (λ pages. vec_len pages ≡ count) }
     ensures blank { IfOk result (λ pages. All (λ page. page.bytes ≡ []) pages.items) }
-    ensures room { IfOk result (λ pages. All (λ page. per * image_size grid.now ≤ page.room) pages.items) }
+    ensures room { IfOk result (λ pages. All (λ page. page.room ≡ per * image_size grid.now) pages.items) }
 {
     let mut pages = Vec::with_capacity(alloc, count)?;
     for _ in 0..count {
@@ -47,10 +48,10 @@ fn blank_pages<A: Allocator + Copy>(
     Ok(pages)
 }
 
-/// A page without images, which has room for `per` images of this grid.
+/// A page without images, which has room for just `per` images of this grid.
 fn blank_page<A: Allocator>(alloc: A, grid: &Grid, per: usize) -> Result<Page<A>, AllocError>
     ensures blank { IfOk result (λ page. page.bytes ≡ []) }
-    ensures room { IfOk result (λ page. per * image_size grid.now ≤ page.room) }
+    ensures room { IfOk result (λ page. page.room ≡ per * image_size grid.now) }
 {
     match image_len(grid).checked_mul(per as u64) {
         Some(room) => Page::new(alloc, room as usize),
@@ -59,22 +60,22 @@ fn blank_page<A: Allocator>(alloc: A, grid: &Grid, per: usize) -> Result<Page<A>
     }
 }
 
-/// Writes the images of all layers of a build. They are drawn into the pages `next`, `per` a page, by as many workers as there
-/// are pages, while those in the pages `now`, which have none at first, are written. Answers how many bytes were written.
+/// Writes the images of all layers of a build. They are drawn into the pages `free`, `per` a page, by as many workers as there
+/// are pages, while those in the pages `drawn`, which have none at first, are written. Answers how many bytes were written.
 pub(crate) fn put_by_pages<R: Threads + Sync, A: Allocator + Copy + Send + Sync, O: Sink>(
     rt: &R,
     build: &Build<'_, A>,
     per: usize,
-    mut now: Vec<Page<A>, A>,
-    mut next: Vec<Page<A>, A>,
+    mut drawn: Vec<Page<A>, A>,
+    mut free: Vec<Page<A>, A>,
     sink: &mut O,
 ) -> Result<u64, WriteFault>
     requires per { 0 < per }
-    requires blank { All (λ page. page.bytes ≡ []) now.items }
-    requires some_now { 0 < vec_len now }
-    requires some_next { 0 < vec_len next }
-    requires room_now { All (λ page. per * image_size build.now.job.grid ≤ page.room) now.items }
-    requires room_next { All (λ page. per * image_size build.now.job.grid ≤ page.room) next.items }
+    requires blank { All (λ page. page.bytes ≡ []) drawn.items }
+    requires some_drawn { 0 < vec_len drawn }
+    requires some_free { 0 < vec_len free }
+    requires room_drawn { All (λ page. per * image_size build.now.job.grid ≤ page.room) drawn.items }
+    requires room_free { All (λ page. per * image_size build.now.job.grid ≤ page.room) free.items }
     ensures ok { OnOk result (Appends (O.contents sink.old) (O.contents sink.new)
         (images_of build.now.job)) }
     ensures total { IfOk result (λ total. total ≡ length (images_of build.now.job)) }
@@ -90,61 +91,61 @@ pub(crate) fn put_by_pages<R: Threads + Sync, A: Allocator + Copy + Send + Sync,
     let _rows = grid.rows();
     let _layers = grid.layers();
     let count = build.layers().len();
-    let mut drawn = 0;
+    let mut first = 0;
     let mut written = 0;
-    while drawn < count {
-        let end = end_of_set(&next, drawn, per, count);
+    while first < count {
+        let end = end_of_set(&free, first, per, count);
         written = draw_and_put(
             rt,
             build,
-            drawn,
+            first,
             per,
-            &mut next,
-            now.as_slice(),
+            &mut free,
+            drawn.as_slice(),
             sink,
             written,
         )?;
-        swap(&mut now, &mut next);
-        drawn = end;
+        swap(&mut drawn, &mut free);
+        first = end;
     }
-    put_pages(now.as_slice(), sink, written)
+    put_pages(drawn.as_slice(), sink, written)
 }
 
-/// Draws the images of the layers from `first` on into the pages `next`, `per` a page, while the pages `now` are written.
+/// Draws the images of the layers from `first` on into the pages `free`, `per` a page, while the pages `drawn` are written.
 /// `before` is the number of bytes that were written so far; answers how many were written then.
 fn draw_and_put<R: Threads + Sync, A: Allocator + Copy + Send + Sync, O: Sink>(
     rt: &R,
     build: &Build<'_, A>,
     first: usize,
     per: usize,
-    next: &mut Vec<Page<A>, A>,
-    now: &[Page<A>],
+    free: &mut Vec<Page<A>, A>,
+    drawn: &[Page<A>],
     sink: &mut O,
     before: u64,
 ) -> Result<u64, WriteFault>
     requires low { first ≤ build.now.job.grid.layers }
-    requires some { 0 < vec_len next.old }
-    requires room { All (λ page. per * image_size build.now.job.grid ≤ page.room) next.old.items }
-    requires count { before + length (pages_text now.now) ≤ greatest_count }
-    ensures drawn { pages_text next.new.items ≡ images_between build.now.job first (min (first + vec_len next.old * per) build.now.job.grid.layers) }
-    ensures room { All (λ page. per * image_size build.now.job.grid ≤ page.room) next.new.items }
-    ensures count { vec_len next.new ≡ vec_len next.old }
-    ensures ok { OnOk result (Appends (O.contents sink.old) (O.contents sink.new) (pages_text now.now)) }
-    ensures total { IfOk result (λ total. total ≡ before + length (pages_text now.now)) }
+    requires some { 0 < vec_len free.old }
+    requires room { All (λ page. per * image_size build.now.job.grid ≤ page.room) free.old.items }
+    requires count { before + length (pages_text drawn.now) ≤ greatest_count }
+    ensures drawn { pages_text free.new.items ≡ images_between build.now.job first (min (first + vec_len free.old * per) build.now.job.grid.layers) }
+    ensures room { All (λ page. per * image_size build.now.job.grid ≤ page.room) free.new.items }
+    ensures count { vec_len free.new ≡ vec_len free.old }
+    ensures ok { OnOk result (Appends (O.contents sink.old) (O.contents sink.new) (pages_text drawn.now)) }
+    ensures total { IfOk result (λ total. total ≡ before + length (pages_text drawn.now)) }
     ensures same { OnOk result (O.Failures.failure_count sink.new ≡ O.Failures.failure_count sink.old) }
-    ensures written { IfErr result (λ fault. AppendsFirst (O.contents sink.old) (O.contents sink.new) (fault.written - before) (pages_text now.now)) }
+    ensures written { IfErr result (λ fault. AppendsFirst (O.contents sink.old) (O.contents sink.new) (fault.written - before) (pages_text drawn.now)) }
     ensures some { IfErr result (λ fault. before ≤ fault.written) }
-    ensures within { IfErr result (λ fault. fault.written < before + length (pages_text now.now)) }
+    ensures within { IfErr result (λ fault. fault.written < before + length (pages_text drawn.now)) }
     ensures failed { OnErr result (Fails (O.Failures.failure_count sink.old) (O.Failures.failure_count sink.new)) }
 {
     let ((), put) = join_mut(
         rt,
         &mut ||
             requires low { first ≤ build.now.job.grid.layers }
-            requires some { 0 < vec_len next.now }
-            requires room { All (λ page. per * image_size build.now.job.grid ≤ page.room) next.now.items }
-        { draw_set(rt, build, first, per, next) },
-        &mut || put_pages(now, sink, before),
+            requires some { 0 < vec_len free.now }
+            requires room { All (λ page. per * image_size build.now.job.grid ≤ page.room) free.now.items }
+        { draw_set(rt, build, first, per, free) },
+        &mut || put_pages(drawn, sink, before),
     );
     put
 }

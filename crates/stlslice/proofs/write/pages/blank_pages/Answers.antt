@@ -1,4 +1,4 @@
-use Rattle.std.proofs.Common.{◌≡◌, ◌≤◌, ◌*◌, [], ◌∷◌, ◌++◌, arith}
+use Rattle.std.proofs.Common.{◌≡◌, ◌*◌, [], ◌∷◌, ◌++◌, arith}
 use Rattle.std.proofs.lemmas.List.Elements.{All-push, All-same}
 use Rattle.raster.specs.Page.{Page}
 use Rattle.stlslice.specs.Pages.{image_size}
@@ -7,7 +7,7 @@ use Rattle.stlslice.proofs.write.pages.blank_pages.Goals as goal
 pub loop-preserved : goal.loop-preserved
 loop-preserved g c =
     let blank : Page → Type 0 = λ page. page.bytes ≡ [] in
-    let room : Page → Type 0 = λ page. c.args.per * image_size c.args.grid.now ≤ page.room in
+    let room : Page → Type 0 = λ page. page.room ≡ c.args.per * image_size c.args.grid.now in
     let added = c.in_ok-push.ensures.items in
     record {
       count = omega (arith, c.in_ok-push.ensures.len, c.loop.invariant.count);

@@ -1,4 +1,4 @@
-use Rattle.std.proofs.Common.{◌≡◌, ◌≤◌, ◌*◌, [], vec_len}
+use Rattle.std.proofs.Common.{◌≡◌, ◌*◌, [], vec_len}
 use Rattle.std.specs.List.{All}
 use Rattle.stlslice.specs.Pages.{image_size}
 use Rattle.stlslice.proofs.write.pages.blank_pages.Given as goal
@@ -8,5 +8,5 @@ invariant-loop g l =
     record {
       count : vec_len l.pages ≡ l.counter;
       blank : All (λ page. page.bytes ≡ []) l.pages.items;
-      room : All (λ page. l.per * image_size l.grid ≤ page.room) l.pages.items;
+      room : All (λ page. page.room ≡ l.per * image_size l.grid) l.pages.items;
     }
