@@ -60,9 +60,10 @@ pub fn read_solid<A: Allocator + Copy + Send + Sync, I: Source>(
     ensures { IsReadAs (IsSolidOf unit) (IsLoadFault unit) result
         (transcript (I.remaining source.old) (I.remaining source.new) (I.Failures.failure_count source.old) (I.Failures.failure_count source.new)) }
 {
+    let mut fresh = Vec::new(alloc);
     let mut reader = TextReader::new(alloc, FACET_LIMIT, unit);
     let mut welder = Welder::new(alloc);
-    weld_windows(alloc, source, &mut reader, &mut welder)?;
+    weld_windows(source, &mut reader, &mut welder, &mut fresh)?;
     weld_end(reader, welder)
 }
 
@@ -92,20 +93,19 @@ pub fn read_solid_by<R: Threads + Sync, A: Allocator + Copy + Send + Sync, I: So
 }
 
 /// Reads a source to its end in windows: feeds a reader with it, and adds the facets that it takes off the reader to a
-/// welder.
+/// welder. `fresh` has room for those of a window.
 fn weld_windows<A: Allocator + Copy + Send + Sync, I: Source>(
-    alloc: A,
     source: &mut I,
     reader: &mut TextReader<A>,
     welder: &mut Welder<A>,
+    fresh: &mut Vec<Facet, A>,
 ) -> Result<(), ReadFault>
     ensures { IsReadToEnd I.remaining I.Failures.failure_count source.old source.new reader.old reader.new welder.old welder.new result }
 {
-    let mut fresh = Vec::new(alloc);
     let mut window = [0; WINDOW_LEN];
     // the bound shows that the loop ends; no input is so long
     for _ in 0..u64::MAX {
-        let is_more = next_facets(source, &mut window, reader, &mut fresh)?;
+        let is_more = next_facets(source, &mut window, reader, fresh)?;
         weld_next(welder, fresh.as_slice())?;
         if !is_more {
             return Ok(());
