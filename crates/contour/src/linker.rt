@@ -179,9 +179,9 @@ impl<A: Allocator> SegmentEdges<A> {
 fn edge_at(corners: &[u32; 3], numbers: &[u32; 3], node: Node) -> u32
     ensures { result ≡ edge_at_node corners.now numbers.now node }
 {
-    if Node::between(corners[0], corners[1]) == node {
+    if node.is_between(corners[0], corners[1]) {
         numbers[0]
-    } else if Node::between(corners[1], corners[2]) == node {
+    } else if node.is_between(corners[1], corners[2]) {
         numbers[1]
     } else {
         numbers[2]

@@ -1,19 +1,16 @@
 //! The segments of planes through meshes, also of planes through corners: a corner in the plane counts as below it.
 use crate::meshes::{CUBE, CUBE_AND_PAIR, OCTAHEDRON, Part, solid_of};
 use exact_cut::Centre;
-use plane_segments::{Node, Segment, segments};
+use plane_segments::{Segment, segments};
 use std::alloc::Global;
 use std::test::Fail;
 
 // A segment: its facet, and the vertices of the edge that it comes from and of the edge that it goes to.
 type Told = (u32, [u32; 4]);
 
-fn segment((facet, [a, b, c, d]): Told) -> Segment {
-    Segment {
-        facet,
-        from: Node { low: a, high: b },
-        to: Node { low: c, high: d },
-    }
+fn told_of(segment: &Segment) -> Told {
+    let Segment { facet, from, to } = *segment;
+    (facet, [from.low, from.high, to.low, to.high])
 }
 
 // Whether a mesh has just these segments at a height in half-micrometres.
@@ -22,7 +19,7 @@ fn is_plane(alloc: Global, parts: &[Part<'_>], z2: i64, told: &[Told]) -> Option
     let solid = solid_of(alloc, parts).ok()?;
     let list = segments(alloc, &solid, at.z2()).ok()?;
     for (found, row) in list.iter().zip(told) {
-        if *found != segment(*row) {
+        if told_of(found) != *row {
             return Some(false);
         }
     }

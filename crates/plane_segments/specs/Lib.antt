@@ -1,1 +1,2 @@
+pub mod Node
 pub mod Segment

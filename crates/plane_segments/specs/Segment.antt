@@ -1,13 +1,13 @@
 -- A segment is where a plane cuts a facet: it runs from the node of the facet's downward edge to that of its upward edge.
 --     segments facets z     the segments at the height z, in order of facets
 -- Heights are in half-micrometres.
-use Rattle.std.specs.Prelude.{ℕ, ◌<◌, zero, suc, Bool, ◌&&◌, List, Option, Some, None, filter_map, find, slice_index_or, min, max, ℤ, pos, ◌*ℤ◌, ◌==◌}
+use Rattle.std.specs.Prelude.{◌≢◌, ℕ, ◌<◌, zero, suc, Bool, ◌&&◌, List, Option, Some, None, filter_map, find, slice_index_or, ℤ, pos, ◌*ℤ◌, ◌==◌}
 use Rattle.std.specs.List.{enumerate_from}
 use Rattle.geometry.specs.TieRule.{rises_through}
 use Rattle.geometry.specs.Point.{Point}
 use Rattle.geometry.specs.Facet.{Facet, Edge, half_edges}
 use Rattle.mesh_weld.specs.Solid.{vertices, number_of, facet_at}
-use Rattle.plane_segments.specs.declared.segment.Node.{Node}
+use Rattle.plane_segments.specs.Node.{Node, between}
 use Rattle.plane_segments.specs.declared.segment.Segment.{Segment}
 
 -- the height of a point
@@ -26,10 +26,6 @@ both_of f None b = None
 both_of f (Some a) None = None
 both_of f (Some a) (Some b) = Some (f a b)
 
--- the node of the edge between two vertices, by their numbers
-abbrev pub between : ℕ → ℕ → Node
-between m n = record { low = min m n; high = max m n }
-
 -- the node of an edge of a mesh with these vertices
 abbrev pub node_of : List Point → Edge → Node
 node_of points e = between (number_of points e.from) (number_of points e.to)
@@ -39,6 +35,11 @@ abbrev pub edge_node : List ℕ → ℕ → Node
 edge_node numbers zero = between (slice_index_or numbers 0 0) (slice_index_or numbers 1 0)
 edge_node numbers (suc zero) = between (slice_index_or numbers 1 0) (slice_index_or numbers 2 0)
 edge_node numbers (suc (suc n)) = between (slice_index_or numbers 2 0) (slice_index_or numbers 0 0)
+
+-- three numbers of which no two are equal
+abbrev pub AreThreeNumbers : List ℕ → Type 0
+AreThreeNumbers numbers = (slice_index_or numbers 0 0 ≢ slice_index_or numbers 1 0)
+    × (slice_index_or numbers 1 0 ≢ slice_index_or numbers 2 0) × (slice_index_or numbers 2 0 ≢ slice_index_or numbers 0 0)
 
 -- the segment of a facet with its number, in a mesh with these vertices
 abbrev pub segment_of : List Point → ℤ → ℕ × Facet → Option Segment

@@ -13,6 +13,8 @@
 //! a plane.
 #![tactic(auto)]
 
+mod node;
 mod segment;
 
-pub use segment::{Node, Segment, segment_at, segments};
+pub use node::Node;
+pub use segment::{Segment, segment_at, segments};

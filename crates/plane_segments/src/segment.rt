@@ -5,31 +5,13 @@ ghost use Rattle.exact_int.specs.Bounds.{IsAtMost};
 ghost use Rattle.geometry.specs.Facet.{twice};
 ghost use Rattle.exact_cut.specs.Cut.{IsBetween};
 ghost use Rattle.mesh_weld.specs.Solid.{facet_at, vertices};
-ghost use Rattle.plane_segments.specs.Segment.{HasOrderedNodes, between, edge_node, segment_of, segments};
+ghost use Rattle.plane_segments.specs.Segment.{AreThreeNumbers, HasOrderedNodes, edge_node, segment_of, segments};
 ghost use Rattle.geometry.specs.declared.limits.TheConstants.{CENTRE_LIMIT};
 
+use crate::node::Node;
 use exact_cut::cuts;
 use mesh_weld::Solid;
 use std::alloc::{AllocError, Allocator};
-
-/// An edge without direction, by the numbers of its vertices. In the segments of a mesh `low` is below `high`.
-#[derive(Clone, Copy, Debug, PartialEq, Eq)]
-pub struct Node {
-    pub low: u32,
-    pub high: u32,
-}
-
-impl Node {
-    /// The node of the edge between two vertices.
-    pub fn between(a: u32, b: u32) -> Node
-        ensures { result ≡ between a b }
-    {
-        Node {
-            low: a.min(b),
-            high: a.max(b),
-        }
-    }
-}
 
 /// Where a plane cuts a facet: from the node of its downward edge to that of its upward edge.
 /// `facet` is the facet's number among the kept ones, from 0.
@@ -60,10 +42,12 @@ pub fn segment_at<A: Allocator>(s: &Solid<A>, facet: u32, z2: i64) -> Option<Seg
     })
 }
 
-/// The node of a facet's edge with this number, by the numbers of the facet's corners.
+/// The node of a facet's edge with this number, by the numbers of the facet's corners, which are distinct.
 fn edge_node(corners: &[u32; 3], edge: usize) -> Node
     requires edge { edge < 3 }
-    ensures { result ≡ edge_node corners.now edge }
+    requires distinct { AreThreeNumbers corners.now }
+    ensures node { result ≡ edge_node corners.now edge }
+    ensures ordered { result.low < result.high }
 {
     match edge {
         0 => Node::between(corners[0], corners[1]),

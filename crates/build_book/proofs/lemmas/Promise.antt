@@ -10,7 +10,7 @@ use Rattle.geometry.specs.Facet.{Facet}
 use Rattle.geometry.specs.Winding.{ray}
 use Rattle.mesh_weld.specs.Solid.{kept_facets}
 use Rattle.mesh_weld.proofs.lemmas.Degenerate.{kept_ray}
-use Rattle.plane_segments.specs.declared.segment.Node.{Node}
+use Rattle.plane_segments.specs.Node.{Node}
 use Rattle.plane_segments.specs.declared.segment.Segment.{Segment}
 use Rattle.plane_segments.specs.Segment.{is_node, segments}
 use Rattle.contour.specs.Loops.{Closes, IsCycle, follower, rank_at_end}

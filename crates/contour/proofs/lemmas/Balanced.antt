@@ -12,9 +12,9 @@ use Rattle.mesh_weld.specs.EdgeNumbers.{AreEdgeNumbers, HaveSameEnds, edge_of, e
 use Rattle.mesh_weld.proofs.lemmas.InOrder.{is_in}
 use Rattle.mesh_weld.proofs.lemmas.Order.{same-self}
 use Rattle.mesh_weld.proofs.lemmas.Edges.{count_by-cons, runs, runs-is}
-use Rattle.plane_segments.specs.declared.segment.Node.{Node}
+use Rattle.plane_segments.specs.Node.{Node, between}
 use Rattle.plane_segments.specs.declared.segment.Segment.{Segment}
-use Rattle.plane_segments.specs.Segment.{between, both_of, height, is_downward, is_node, is_upward, node_of, segment_of, segments}
+use Rattle.plane_segments.specs.Segment.{both_of, height, is_downward, is_node, is_upward, node_of, segment_of, segments}
 use Rattle.geometry.specs.TieRule.{rises_through}
 use Rattle.plane_segments.proofs.lemmas.Cutting.{triples_at}
 use Rattle.plane_segments.proofs.lemmas.NodeOrder.{ends_in, same_number}

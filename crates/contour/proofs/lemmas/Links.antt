@@ -7,7 +7,7 @@ use mir.Val.{Fits}
 use Rattle.geometry.specs.Facet.{Facet, corners}
 use Rattle.mesh_weld.specs.Solid.{number_of, triples, vertices}
 use Rattle.mesh_weld.specs.EdgeNumbers.{AreEdgeNumbers}
-use Rattle.plane_segments.specs.declared.segment.Node.{Node}
+use Rattle.plane_segments.specs.Node.{Node}
 use Rattle.plane_segments.specs.declared.segment.Segment.{Segment}
 use Rattle.plane_segments.specs.Segment.{edge_node, is_node}
 use Rattle.contour.specs.Linker.{AreSegmentEdges, edge_at_node, edge_of_facet, start_edge, finish_edge}
@@ -59,6 +59,10 @@ in-triples facets points f e h = subst (λ n. f < n) (sym (ap length e ∙ lengt
 
 pub in-numbers : (facets : List Facet) (numbers : List (List ℕ)) (f : ℕ) → length numbers ≡ length facets → f < length facets → f < length numbers
 in-numbers facets numbers f e h = subst (λ n. f < n) (sym e) h
+
+pub in-facets : (facets : List Facet) (list : List Segment) (i : ℕ) (t : Segment) → All (λ s. s.facet < length facets) list → i < length list
+    → t ≡ get_or list i t → t.facet < length facets
+in-facets facets list i t within h is = subst (λ (s : Segment). s.facet < length facets) (sym is) (within i t h)
 
 pub edge-read : (facets : List Facet) (points numbers : List (List ℕ)) (f : ℕ) (n : Node) (d d' : List ℕ) (e : ℕ) → points ≡ triples facets → f < length points → f < length numbers
     → e ≡ edge_at_node (get_or points f d) (get_or numbers f d') n → e ≡ edge_of_facet facets numbers f n

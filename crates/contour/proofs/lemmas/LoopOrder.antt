@@ -8,7 +8,7 @@ use Rattle.geometry.specs.Facet.{Facet, facet_with}
 use Rattle.mesh_weld.specs.EdgeNumbers.{edge_of}
 use Rattle.mesh_weld.specs.Solid.{HaveDistinctCorners, facet_at}
 use Rattle.mesh_weld.proofs.lemmas.Degenerate.{kept-distinct}
-use Rattle.plane_segments.specs.declared.segment.Node.{Node}
+use Rattle.plane_segments.specs.Node.{Node}
 use Rattle.plane_segments.specs.declared.segment.Segment.{Segment}
 use Rattle.plane_segments.specs.Segment.{HasOrderedNodes, segments}
 use Rattle.plane_segments.proofs.lemmas.NodeOrder.{ends_in, node_of-ordered}

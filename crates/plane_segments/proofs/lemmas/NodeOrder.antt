@@ -8,10 +8,9 @@ use Rattle.mesh_weld.specs.Solid.{number_of, triples, vertices}
 use Rattle.mesh_weld.specs.EdgeNumbers.{edge_of}
 use Rattle.mesh_weld.proofs.lemmas.InOrder.{is_in}
 use Rattle.mesh_weld.proofs.lemmas.Transfer.{number_found, ends_are_vertices}
-use Rattle.plane_segments.specs.declared.segment.Node.{Node}
 use Rattle.plane_segments.specs.declared.segment.Segment.{Segment}
-use Rattle.plane_segments.specs.Segment.{HasOrderedNodes, edge_node, node_of}
-use Rattle.plane_segments.proofs.lemmas.Cutting.{edge_at, edge_node-is, facet_at-is, triples_at}
+use Rattle.plane_segments.specs.Segment.{AreThreeNumbers, HasOrderedNodes, node_of}
+use Rattle.plane_segments.proofs.lemmas.Cutting.{facet_at-is, triples_at}
 
 between-ordered : (m n : ℕ) → (m ≡ n → ⊥) → min m n < max m n
 between-ordered m n h = grind arith
@@ -48,27 +47,21 @@ module _ (facets : List Facet) where
       between-ordered (number_of (vertices facets) e.from) (number_of (vertices facets) e.to)
       (λ h. apart (same_number e.from e.to there.0 there.1 h))
 
-  -- the node of edge 0, 1 or 2 of a facet with distinct corners
-  pub edge_node-ordered : (n : ℕ) (t : Facet) (numbers : List ℕ) (e : ℕ) → n < length facets → e < 3 → slice_get facets n ≡ Some t
-      → numbers ≡ get_or (triples facets) n [] → (t.a ≢ t.b) × (t.b ≢ t.c) × (t.c ≢ t.a)
-      → (edge_node numbers e).low < (edge_node numbers e).high
-  edge_node-ordered n t numbers e l below is numbered distinct =
+  -- a facet with distinct corners has three distinct numbers
+  pub three_numbers : (n : ℕ) (t : Facet) (numbers : List ℕ) → n < length facets → slice_get facets n ≡ Some t
+      → numbers ≡ get_or (triples facets) n [] → (t.a ≢ t.b) × (t.b ≢ t.c) × (t.c ≢ t.a) → AreThreeNumbers numbers
+  three_numbers n t numbers l is numbered distinct =
       let same = facet_at-is facets n t is in
       let own : numbers ≡ map (number_of (vertices facets)) (corners t) =
       numbered ∙ triples_at facets n l ∙ ap (λ u. map (number_of (vertices facets)) (corners u)) same in
-      subst (λ (m : Node). m.low < m.high) (sym (ap (λ ns. edge_node ns e) own ∙ edge_node-is (vertices facets) t e below))
-      (node_of-ordered (edge_at t e) (apart e below) (there e below))
-    where
-      apart : (k : ℕ) → k < 3 → (edge_at t k).from ≢ (edge_at t k).to
-      apart zero m = distinct.0
-      apart (suc zero) m = distinct.1
-      apart (suc (suc k)) m = distinct.2
-
-      there : (k : ℕ) → k < 3 → Within (edge_at t k).from (edge_at t k).to
-      there zero m = subst (λ (u : Facet). Within u.a u.b) (facet_at-is facets n t is) (ends_in n 0 l m)
-      there (suc zero) m = subst (λ (u : Facet). Within u.b u.c) (facet_at-is facets n t is) (ends_in n 1 l m)
-      there (suc (suc zero)) m = subst (λ (u : Facet). Within u.c u.a) (facet_at-is facets n t is) (ends_in n 2 l m)
-      there (suc (suc (suc k))) m = absurd (omega arith)
+      let ab : Within t.a t.b = subst (λ (u : Facet). Within u.a u.b) same (ends_in n 0 l (omega arith)) in
+      let bc : Within t.b t.c = subst (λ (u : Facet). Within u.b u.c) same (ends_in n 1 l (omega arith)) in
+      let ca : Within t.c t.a = subst (λ (u : Facet). Within u.c u.a) same (ends_in n 2 l (omega arith)) in
+      subst AreThreeNumbers (sym own) (
+        λ h. distinct.0 (same_number t.a t.b ab.0 ab.1 h),
+        λ h. distinct.1 (same_number t.b t.c bc.0 bc.1 h),
+        λ h. distinct.2 (same_number t.c t.a ca.0 ca.1 h),
+      )
 
 -- one more segment
 pub ordered-more : (segments : List Segment) (s : Segment) → All HasOrderedNodes segments → HasOrderedNodes s → All HasOrderedNodes (segments ++ s ∷ [])

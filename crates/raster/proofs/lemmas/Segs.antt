@@ -1,8 +1,9 @@
 -- Sums over all facets are those over the segments of a height, where facets that are not cut add nothing.
-use Rattle.std.proofs.Common.{◌≡◌, ℕ, zero, suc, ◌+◌, ◌<◌, ◌≤◌, ◌⊎◌, inl, inr, Bool, true, false, cond, List, [], ◌∷◌, Some, None, length, drop, refl, ap, sym, ◌∙◌, arith}
+use Rattle.std.proofs.Common.{◌≡◌, ℕ, zero, suc, ◌+◌, ◌<◌, ◌≤◌, ◌⊎◌, inl, inr, Bool, true, false, cond, List, [], ◌∷◌, Some, None, length, drop, refl, ap, sym, subst, ◌∙◌, arith}
 use Rattle.std.specs.Prelude.{Option, ℤ, pos, ◌+ℤ◌, ◌-ℤ◌, nat_le, slice_get, slice_index_or, ◌≤ℤ◌, ◌<ℤ◌, filter_map, find}
 use Rattle.std.specs.List.{enumerate_from, cons_option, list_all}
 use Rattle.std.proofs.lemmas.Int.{ints}
+use Rattle.std.proofs.lemmas.List.{get_or_default}
 use Rattle.geometry.specs.Point.{Point}
 use Rattle.geometry.specs.Facet.{Facet, Edge, edge, half_edges, twice}
 use Rattle.geometry.specs.Winding.{hit, total, wind}
@@ -108,8 +109,11 @@ total-segments f facets z nothing =
     total-from f (facet_at facets) (vertices facets) z nothing 0 facets (reads (facet_at facets) 0 facets (λ k l. let same : 0 + k ≡ k = omega arith in ap (facet_at facets) same))
 
 -- a sum over what is left of a list
+abbrev no_segment : Segment
+no_segment = record { facet = 0; from = record { low = 0; high = 0 }; to = record { low = 0; high = 0 } }
+
 abbrev segment_or : List Segment → ℕ → Segment
-segment_or list n = slice_index_or list n (record { facet = 0; from = record { low = 0; high = 0 }; to = record { low = 0; high = 0 } })
+segment_or list n = slice_index_or list n no_segment
 
 total-next : (f : Segment → ℤ) (list : List Segment) (n : ℕ) → n < length list
     → total f (drop n list) ≡ f (segment_or list n) +ℤ total f (drop (n + 1) list)
@@ -156,14 +160,15 @@ pushed-none facets z l list out e = record {
 one-more : (old new here rest left all : ℤ) → new ≡ old +ℤ here → left ≡ here +ℤ rest → old +ℤ left ≡ all → new +ℤ rest ≡ all
 one-more old new here rest left all e f g = omega (arith, ints)
 
-pub pushed-more : (facets : List Facet) (z : ℤ) (l : Lattice) (list : List Segment) (n : ℕ) (t : Facet) (old new : List (List RowCrossing)) → n < length list
-    → slice_get facets (segment_or list n).facet ≡ Some t
+pub pushed-more : (facets : List Facet) (z : ℤ) (l : Lattice) (list : List Segment) (n : ℕ) (s : Segment) (t : Facet) (old new : List (List RowCrossing)) → n < length list
+    → s ≡ slice_index_or list n s → slice_get facets s.facet ≡ Some t
     → ((j : ℕ) → j < l.rows → row_signs new j ≡ row_signs old j +ℤ sign_in l z j t)
     → ((i j : ℕ) → i < l.columns → j < l.rows → row_passed new j i ≡ row_passed old j i +ℤ pass_at l z i j t)
     → (AreCrossingsWithin l.columns old → AreCrossingsWithin l.columns new)
     → ArePushed facets z l list n old → ArePushed facets z l list (n + 1) new
-pushed-more facets z l list n t old new room read signs passed within h =
-    let here : facet_at facets (segment_or list n).facet ≡ t = facet_at-is facets (segment_or list n).facet t read in
+pushed-more facets z l list n s t old new room is read signs passed within h =
+    let here : facet_at facets (segment_or list n).facet ≡ t =
+    ap (λ (own : Segment). facet_at facets own.facet) (get_or_default list n no_segment s room ∙ sym is) ∙ facet_at-is facets s.facet t read in
     record {
       signs = λ j low. one-more (row_signs old j) (row_signs new j) (sign_in l z j t)
           (total (λ s. sign_in l z j (facet_at facets s.facet)) (drop (n + 1) list)) (total (λ s. sign_in l z j (facet_at facets s.facet)) (drop n list))
@@ -204,5 +209,6 @@ pushed-passed facets z l list n out e done h i j inside low =
     (λ t uncut. let none = unpassed (twice t) z uncut (row_y l j) in
     no-difference (wind (twice t) (row_y l j) z) (hit (twice t) (pixel l z i j)) none (hit-none (twice t) (pixel l z i j) none))
 
-pub below-all : (facets : List Facet) (z : ℤ) (list : List Segment) (n : ℕ) → list ≡ segments facets z → n < length list → (segment_or list n).facet < length facets
-below-all facets z list n e room = segments_below facets list (z, e) n (record { facet = 0; from = record { low = 0; high = 0 }; to = record { low = 0; high = 0 } }) room
+pub below-all : (facets : List Facet) (z : ℤ) (list : List Segment) (n : ℕ) (s : Segment) → list ≡ segments facets z → n < length list
+    → s ≡ slice_index_or list n s → s.facet < length facets
+below-all facets z list n s e room is = subst (λ (own : Segment). own.facet < length facets) (sym is) (segments_below facets list (z, e) n s room)

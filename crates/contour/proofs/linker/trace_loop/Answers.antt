@@ -19,7 +19,9 @@ loop-visited-preserved g c =
     let walk : IsWalk c.args.list.now c.args.next.now c.args.first c.args.visited.now c.loop-visited.visited c.loop-visited.at part = c.loop-visited.invariant.2 in
     let inside : c.loop-visited.at < length c.args.list.now = walk.inside in
     let here : is_visited c.loop-visited.visited c.loop-visited.at ≡ false = get_or_default c.loop-visited.visited c.loop-visited.at true false (let s = walk.size in omega (arith, s, inside)) ∙ c.loop-visited-test.true in
-    let added : c.push.new.self.items ≡ c.loop-visited.flat.items ++ get_or c.args.list.now c.loop-visited.at no_segment ∷ [] = c.in_ok-push.ensures.items in
+    let added : c.push.new.self.items ≡ c.loop-visited.flat.items ++ get_or c.args.list.now c.loop-visited.at no_segment ∷ [] =
+    c.in_ok-push.ensures.items
+    ∙ ap (λ t. c.loop-visited.flat.items ++ t ∷ []) (c.index-list-at.is ∙ get_or_default c.args.list.now c.loop-visited.at c.index-list-at.result no_segment inside) in
     let there : get_or c.args.next.now c.loop-visited.at 0 ≡ get_or c.args.next.now c.loop-visited.at NONE =
     get_or_default c.args.next.now c.loop-visited.at 0 NONE (let s = c.requires.links.size in omega (arith, s, inside)) in (
       part ++ get_or c.args.list.now c.loop-visited.at no_segment ∷ [],

@@ -1,7 +1,10 @@
 use Rattle.std.proofs.Common.{◌≡◌, ◌∙◌, ap, arith, sym, to_z, w32}
 use Rattle.std.proofs.lemmas.List.{take_all}
+use Rattle.std.specs.Prelude.{slice_get}
 use Rattle.geometry.specs.Winding.{ray}
+use Rattle.plane_segments.specs.declared.segment.Segment.{Segment}
 use Rattle.contour.specs.Loops.{loop_facets}
+use Rattle.contour.proofs.lemmas.Links.{in-facets}
 use Rattle.contour.proofs.lemmas.LoopRays.{IsLoopOf, is_loop, sum_more}
 use Rattle.contour.proofs.lemmas.LoopWinds.{ray_from_back}
 use Rattle.contour.proofs.loop_list.loop_ray.Goals as goal
@@ -18,7 +21,7 @@ facet-requires g c =
     let is : IsLoopOf c.args.s.now.facets c.args.list.now =
     is_loop c.args.s.now.facets c.args.c.now.z c.args.list.now c.requires.0 c.requires.1 in
     let below = c.loop-segment-test.true in
-    is.within c.loop-segment.segment-index _ (omega arith)
+    in-facets c.args.s.now.facets c.args.list.now c.loop-segment.segment-index c.segment-item.result is.within (omega arith) c.segment-item.is
 
 pub loop-segment-preserved : goal.loop-segment-preserved
 loop-segment-preserved g c =
@@ -27,8 +30,8 @@ loop-segment-preserved g c =
     let few = is.few in
     let many = c.count-facets.ensures.few in
     let below = c.loop-segment-test.true in
-    sum_more c.args.s.now.facets c.args.c.now c.args.list.now c.loop-segment.segment-index _ c.facet.result _ c.ray_hit-sum.result
-    (omega arith) (omega arith) c.facet.ensures.value
+    sum_more c.args.s.now.facets c.args.c.now c.args.list.now c.loop-segment.segment-index c.segment-item.result c.facet.result _ c.ray_hit-sum.result
+    (omega arith) (omega arith) (sym (ap (λ (s : Segment). slice_get c.args.s.now.facets s.facet) c.segment-item.is) ∙ c.facet.ensures.value)
     (record { sum_is = c.loop-segment.invariant.sum_is; small = c.loop-segment.invariant.small })
     c.ray_hit-sum.ensures.value c.ray_hit-sum.ensures.unit
 

@@ -1,15 +1,18 @@
 use Rattle.std.proofs.Common.{[], ap, get_or, refl, arith}
 use Rattle.std.proofs.lemmas.Int.{to_z-of_z}
 use Rattle.plane_segments.proofs.lemmas.Cutting.{segment_at-some, segment_at-none, between-by_cut, none-only}
-use Rattle.plane_segments.proofs.lemmas.NodeOrder.{edge_node-ordered}
+use Rattle.plane_segments.proofs.lemmas.NodeOrder.{three_numbers}
 use Rattle.plane_segments.proofs.segment.segment_at.Goals as goal
 
-pub returns-clause-ordered : goal.returns-clause-ordered
-returns-clause-ordered g c =
-    let own = ap (λ ts. get_or ts c.args.facet []) c.triples.ensures in (
-      rw c.edge_node.ensures (edge_node-ordered c.args.s.now.facets c.args.facet c.facet.result _ c.in_ok-cut.cut.down c.requires.facet c.in_ok-cut.ensures.down_in c.facet.ensures.value own c.facet.ensures.distinct),
-      rw c.edge_node-2.ensures (edge_node-ordered c.args.s.now.facets c.args.facet c.facet.result _ c.in_ok-cut.cut.up c.requires.facet c.in_ok-cut.ensures.up_in c.facet.ensures.value own c.facet.ensures.distinct),
-    )
+pub edge_node-requires-clause-distinct : goal.edge_node-requires-clause-distinct
+edge_node-requires-clause-distinct g c =
+    three_numbers c.args.s.now.facets c.args.facet c.facet.result (get_or c.triples.result.now c.args.facet []) c.requires.facet c.facet.ensures.value
+    (ap (λ ts. get_or ts c.args.facet []) c.triples.ensures) c.facet.ensures.distinct
+
+pub edge_node-requires-2-clause-distinct : goal.edge_node-requires-2-clause-distinct
+edge_node-requires-2-clause-distinct g c =
+    three_numbers c.args.s.now.facets c.args.facet c.facet.result (get_or c.triples.result.now c.args.facet []) c.requires.facet c.facet.ensures.value
+    (ap (λ ts. get_or ts c.args.facet []) c.triples.ensures) c.facet.ensures.distinct
 
 pub returns-in_err-cut-clause-segment : goal.returns-in_err-cut-clause-segment
 returns-in_err-cut-clause-segment g c = grind (arith, to_z-of_z, segment_at-none, c.in_err-cut.ensures)

@@ -11,12 +11,12 @@ loop-segment-init g c = record {
 }
 
 pub facet-requires : goal.facet-requires
-facet-requires g c = below-all c.args.s.now.facets c.args.z2 c.args.list.now c.loop-segment.segment-index c.requires.list c.loop-segment-test.true
+facet-requires g c = below-all c.args.s.now.facets c.args.z2 c.args.list.now c.loop-segment.segment-index c.segment-item.result c.requires.list c.loop-segment-test.true c.segment-item.is
 
 pub loop-segment-preserved : goal.loop-segment-preserved
 loop-segment-preserved g c = record {
-  pushed = pushed-more c.args.s.now.facets _ c.args.lattice.now c.args.list.now c.loop-segment.segment-index c.facet.result c.loop-segment.out c.push_facet.new.out
-      c.loop-segment-test.true c.facet.ensures.value c.in_ok-push_facet.ensures.signs c.in_ok-push_facet.ensures.passed c.in_ok-push_facet.ensures.within
+  pushed = pushed-more c.args.s.now.facets _ c.args.lattice.now c.args.list.now c.loop-segment.segment-index c.segment-item.result c.facet.result c.loop-segment.out c.push_facet.new.out
+      c.loop-segment-test.true c.segment-item.is c.facet.ensures.value c.in_ok-push_facet.ensures.signs c.in_ok-push_facet.ensures.passed c.in_ok-push_facet.ensures.within
       c.loop-segment.invariant.pushed;
   rows = c.in_ok-push_facet.ensures.rows ∙ c.loop-segment.invariant.rows;
 }
