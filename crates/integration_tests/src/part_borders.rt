@@ -15,15 +15,17 @@ use stl_text::{FACET_LIMIT, Facet, StlFault, Word, read_stl_by};
 // The number of facets of each group.
 const GROUP: u32 = 3;
 
-// The lengths of the remarks before a passage and after it. The longest makes a chunk of two parts; in a text with the other
-// two the parts meet behind the passage, if white space is added.
-const NONE: usize = 0;
+// The length of no remark.
+const NO_REMARK: usize = 0;
 
+// The length of a remark that makes a chunk of two parts.
 const LONG_REMARK: usize = LEAST_OF_TWO_PARTS;
 
-const BEFORE: usize = 33_500;
+// The length of the remark before a passage in a text whose two parts meet behind the passage, if white space is added.
+const REMARK_BEFORE: usize = 33_500;
 
-const AFTER: usize = 32_200;
+// The length of the remark after the passage in that text.
+const REMARK_AFTER: usize = 32_200;
 
 // A passage of a text, and what is read of it: the number of facets with which a solid begins, or else a byte where `outer` is
 // wanted.
@@ -123,7 +125,7 @@ fn answer(alloc: Global, passage: Passage, from: usize) -> Result<Answer, AllocE
 }
 
 // Whether a text has this answer where it is cut in two at each byte of its passage. One of the two chunks has two parts.
-fn is_cut_well<R: Threads + Sync>(
+fn is_passage_cut_well<R: Threads + Sync>(
     rt: &R,
     alloc: Global,
     cut: &PassageText,
@@ -193,14 +195,14 @@ fn is_read_well<R: Threads + Sync>(
     alloc: Global,
     passage: Passage,
 ) -> Result<bool, AllocError> {
-    for (before, after) in [(NONE, LONG_REMARK), (LONG_REMARK, NONE)] {
+    for (before, after) in [(NO_REMARK, LONG_REMARK), (LONG_REMARK, NO_REMARK)] {
         let cut = text_around(alloc, before, passage, after)?;
         let told = answer(alloc, passage, cut.from)?;
-        if !is_cut_well(rt, alloc, &cut, FACET_LIMIT, &told) {
+        if !is_passage_cut_well(rt, alloc, &cut, FACET_LIMIT, &told) {
             return Ok(false);
         }
     }
-    let parted = text_around(alloc, BEFORE, passage, AFTER)?;
+    let parted = text_around(alloc, REMARK_BEFORE, passage, REMARK_AFTER)?;
     let told = answer(alloc, passage, parted.from)?;
     is_parted_well(rt, alloc, parted, FACET_LIMIT, &told)
 }
@@ -234,12 +236,12 @@ fn a_normal_that_spells_the_end_of_a_solid(rt: HostRuntime) -> Result<(), Fail> 
 #[test]
 fn a_limit_in_a_later_part(rt: HostRuntime) -> Result<(), Fail> {
     let limit = 3 * GROUP + 1;
-    for (before, after) in [(NONE, LONG_REMARK), (LONG_REMARK, NONE)] {
+    for (before, after) in [(NO_REMARK, LONG_REMARK), (LONG_REMARK, NO_REMARK)] {
         let cut = text_around(rt.alloc(), before, NAMES, after)?;
         let told = Err(StlFault::TooMany { at: cut.second });
-        assert!(rt; is_cut_well(&rt, rt.alloc(), &cut, limit, &told));
+        assert!(rt; is_passage_cut_well(&rt, rt.alloc(), &cut, limit, &told));
     }
-    let parted = text_around(rt.alloc(), BEFORE, NAMES, AFTER)?;
+    let parted = text_around(rt.alloc(), REMARK_BEFORE, NAMES, REMARK_AFTER)?;
     let told = Err(StlFault::TooMany { at: parted.second });
     assert!(rt; is_parted_well(&rt, rt.alloc(), parted, limit, &told)?);
     Ok(())

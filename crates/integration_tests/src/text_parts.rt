@@ -137,7 +137,7 @@ pub(crate) fn in_two<R: Threads + Sync, A: Allocator + Copy + Send + Sync>(
 }
 
 // Whether each of these numbers of workers answers what one reader does, for the whole text and for its halves.
-fn each_number<R: Threads + Sync>(
+fn is_as_by_one<R: Threads + Sync>(
     rt: &R,
     alloc: Global,
     text: &[u8],
@@ -161,7 +161,7 @@ fn each_number<R: Threads + Sync>(
 fn any_workers<R: Threads + Sync>(rt: &R, alloc: Global, text: &[u8], limit: u32) -> bool
     requires { limit ≤ FACET_LIMIT }
 {
-    each_number(rt, alloc, text, limit, &WORKERS)
+    is_as_by_one(rt, alloc, text, limit, &WORKERS)
 }
 
 #[test]
@@ -229,8 +229,8 @@ fn is_broken_well<R: Threads + Sync>(
             broken[later] = b'#';
         }
     }
-    let told = each_number(rt, alloc, &broken, FACET_LIMIT, numbers);
-    Ok(told && each_number(rt, alloc, &text[..at], FACET_LIMIT, numbers))
+    let is_same = is_as_by_one(rt, alloc, &broken, FACET_LIMIT, numbers);
+    Ok(is_same && is_as_by_one(rt, alloc, &text[..at], FACET_LIMIT, numbers))
 }
 
 // Bytes are replaced in this part and in each later one, or the text ends there. The fault is the first one, as for one
@@ -255,8 +255,8 @@ fn a_fault_at_each_byte_where_four_parts_meet(rt: HostRuntime) -> Result<(), Fai
     let mut text = Vec::new(rt.alloc());
     put_solid(&mut text, b"part", 1500)?;
     assert!(rt; LONG < text.len());
-    for parts in LATER_PARTS {
-        let first = (text.len() / PARTS).saturating_mul(parts) - CUTS / 2;
+    for part in LATER_PARTS {
+        let first = (text.len() / PARTS).saturating_mul(part) - CUTS / 2;
         for at in first..first + CUTS {
             assert!(rt; is_broken_well(&rt, rt.alloc(), &text, at, &TWO_AND_MOST)?);
         }

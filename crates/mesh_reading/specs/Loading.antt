@@ -55,11 +55,12 @@ abbrev pub OfText : Welder → TextReader → (LengthUnit → List ℕ → Type 
 OfText welder reader says = (unit : LengthUnit) (taken : List Facet) (fed : List ℕ) → AreWelded taken welder
     → IsAfter FACET_LIMIT unit taken reader fed → says unit fed
 
--- the reader was fed what a source had at the start and has no more, and these facets were taken off it
+-- a reader was fed just the bytes that were taken from a source since the start, and these facets were taken off it
 abbrev pub IsFed : LengthUnit → List Facet → TextReader → Option (List ℕ) → Option (List ℕ) → Type 0
 IsFed unit taken reader start now = (fed : List ℕ) × Consumes start now fed × IsAfter FACET_LIMIT unit taken reader fed
 
--- a welder has the facets that were taken off a reader, which was fed what a source had at the start and has no more
+-- a welder has the facets that were taken off a reader, which was fed just the bytes that were taken from a source since
+-- the start
 abbrev pub IsWeldedAsFed : LengthUnit → TextReader → Welder → Option (List ℕ) → Option (List ℕ) → Type 0
 IsWeldedAsFed unit reader welder start now = (taken : List Facet) × AreWelded taken welder × IsFed unit taken reader start now
 

@@ -88,12 +88,12 @@ pub fn read_solid_by<R: Threads + Sync, A: Allocator + Copy + Send + Sync, I: So
     }
     let mut reader = TextReader::new(alloc, FACET_LIMIT, unit);
     let mut welder = Welder::new(alloc);
-    weld_by_rounds(rt, alloc, source, workers, &mut reader, &mut welder)?;
+    weld_by_workers(rt, alloc, source, workers, &mut reader, &mut welder)?;
     weld_end_by(rt, reader, welder)
 }
 
 /// Reads a source to its end in windows: feeds a reader with it, and adds the facets that it takes off the reader to a
-/// welder. `fresh` has room for those of a window.
+/// welder. `fresh` is overwritten: it has the facets of one window after another.
 fn weld_windows<A: Allocator + Copy + Send + Sync, I: Source>(
     source: &mut I,
     reader: &mut TextReader<A>,
@@ -116,7 +116,7 @@ fn weld_windows<A: Allocator + Copy + Send + Sync, I: Source>(
 }
 
 /// The same as [`weld_windows`], in rounds that up to `workers` workers read at the same time.
-fn weld_by_rounds<R: Threads + Sync, A: Allocator + Copy + Send + Sync, I: Source>(
+fn weld_by_workers<R: Threads + Sync, A: Allocator + Copy + Send + Sync, I: Source>(
     rt: &R,
     alloc: A,
     source: &mut I,
@@ -141,7 +141,8 @@ fn weld_by_rounds<R: Threads + Sync, A: Allocator + Copy + Send + Sync, I: Sourc
     )
 }
 
-/// The same as [`weld_by_rounds`], where the two rounds, and the room for the facets of one, are there and empty.
+/// The same as [`weld_by_workers`], in two rounds and a list for the facets of one that the caller made. `round` and `facets`
+/// are empty; what `next` has does not matter.
 fn weld_rounds<R: Threads + Sync, A: Allocator + Copy + Send + Sync, I: Source>(
     rt: &R,
     source: &mut I,

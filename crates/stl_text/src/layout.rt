@@ -64,7 +64,7 @@ impl<'t> Reader<'t> {
         Some(())
     }
 
-    /// Like `normal_words`, and faster where the words stand one blank apart.
+    /// Like `normal_words`; tries first whether the words stand one blank apart.
     #[inline(always)]
     fn near_normal(&mut self) -> Option<()>
         ensures some { IfSome result (λ _. Spells (normal_word ∷ normal_word ∷ normal_word ∷ []) self.old self.new) }
@@ -75,7 +75,7 @@ impl<'t> Reader<'t> {
         self.near_word()
     }
 
-    /// Like `normal_word`, and faster where the word is short and at most one blank stands before it.
+    /// Like `normal_word`; tries first a short word with at most one blank before it.
     #[inline(always)]
     fn near_word(&mut self) -> Option<()>
         ensures some { IfSome result (λ _. Spells (normal_word ∷ []) self.old self.new) }
@@ -88,7 +88,7 @@ impl<'t> Reader<'t> {
         Some(())
     }
 
-    /// Like `point`, and faster where the coordinates stand one blank apart.
+    /// Like `point`; tries first whether the coordinates stand one blank apart.
     #[inline(always)]
     fn near_point(&mut self) -> Option<Point>
         ensures { IfSome result (λ p. Spells (coordinate p.x ∷ coordinate p.y ∷ coordinate p.z ∷ []) self.old self.new) }
@@ -102,7 +102,7 @@ impl<'t> Reader<'t> {
         Some(point)
     }
 
-    /// Like `coordinate`, and faster where at most one blank stands before it.
+    /// Like `coordinate`; tries first at most one blank before it.
     #[inline(always)]
     fn near_coordinate(&mut self) -> Option<i32>
         ensures some { IfSome result (λ z. Spells (coordinate z ∷ []) self.old self.new) }

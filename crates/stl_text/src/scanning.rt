@@ -94,7 +94,7 @@ pub(crate) fn is_keyword(word: &[u8], text: &[u8]) -> bool
     requires { str_to_ascii_lowercase text.now ≡ text.now }
     ensures { result ≡ Text.is_keyword text.now word.now }
 {
-    // the comparison of bytes is faster, and most texts have their keywords in lower case
+    // most texts have their keywords in lower case, so bytes are compared first
     word == text || word.eq_ignore_ascii_case(text)
 }
 

@@ -1,5 +1,5 @@
 -- The images of layers that are drawn into pages before they are written.
-use Rattle.std.specs.Prelude.{ℕ, ◌-◌, false, List, flat_map, length}
+use Rattle.std.specs.Prelude.{ℕ, ◌≡◌, ◌≤◌, ◌*◌, ◌-◌, [], false, All, List, flat_map, length}
 use Rattle.std.specs.List.{range_with_len}
 use Rattle.raster.specs.Grid.{Grid}
 use Rattle.raster.specs.Image.{image_of_pixels, images, layer_image}
@@ -21,3 +21,9 @@ pages_text pages = flat_map (λ page. page.bytes) pages
 -- the length of an image, which is the same for all pixels
 unfoldable pub image_size : Grid → ℕ
 image_size g = length (image_of_pixels g.columns g.rows (λ i j. false))
+
+-- two sets of pages: each page has room for `per` images of a grid, and those of the first set have none
+pub record ArePageSets (grid : Grid) (per : ℕ) (drawn free : List Page) : Type 0 where
+  pub blank : All (λ page. page.bytes ≡ []) drawn
+  pub room_drawn : All (λ page. per * image_size grid ≤ page.room) drawn
+  pub room_free : All (λ page. per * image_size grid ≤ page.room) free

@@ -11,7 +11,7 @@ abbrev pub IsFirstFault : Result Bool ReadFault → Result (Unit {0}) ReadFault 
 IsFirstFault filled welded r = IfOk r (λ is_more. (filled ≡ Ok is_more) × (welded ≡ Ok tt))
     × IfErr r (λ f. (filled ≡ Err f) ⊎ (IsOk filled × (welded ≡ Err f)))
 
--- where facets that were not welded are told, memory is short, and the source was read as the filling told
+-- welding fails only for want of memory, so what filling says of the source holds of the answer to both
 pub filled_anyway : {S : Type 0} (remaining : S → Option (List ℕ)) (failure_count : S → ℕ) (old new : S) (is_more : Bool) (before after : Round)
     (filled : Result Bool ReadFault) (welded : Result (Unit {0}) ReadFault) (r : Result Bool ReadFault) → IsFirstFault filled welded r
     → IfErr welded (λ f. f ≡ fault.Memory) → IsFilled remaining failure_count old new is_more before after filled
@@ -37,6 +37,7 @@ filled_anyway remaining failure_count old new is_more before after filled welded
         }
     told (Err x) welded h only (inr (is, e)) = cc
 
+-- where the answer is no fault, the facets were welded
 pub welded_too : (filled : Result Bool ReadFault) (welded : Result (Unit {0}) ReadFault) (r : Result Bool ReadFault) (H : Type 0)
     → IsFirstFault filled welded r → OnOk welded H → OnOk r H
 welded_too filled welded (Ok more) H is h = subst (λ w. OnOk w H) is.0.1 h

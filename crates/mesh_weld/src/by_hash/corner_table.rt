@@ -11,9 +11,9 @@ use std::alloc::{AllocError, Allocator};
 
 /// The number of slots of the table that are looked at for a point. A point for which none of them serves gets a new id
 /// each time it comes, and the table holds none of these.
-const PROBE_LIMIT: usize = 64;
+const CHAIN_LIMIT: usize = 64;
 
-/// The table has at least this many slots for each point, so that chains stay far below `PROBE_LIMIT`.
+/// The table has at least this many slots for each point, so that chains stay far below `CHAIN_LIMIT`.
 const SLOTS_A_POINT: usize = 3;
 
 /// A table has at least this power of two of slots.
@@ -61,7 +61,7 @@ impl<A: Allocator + Copy> CornerTable<A> {
             .max(LEAST_BITS);
         let slots = 1usize.unbounded_shl(bits);
         let shift = 64u32.saturating_sub(bits);
-        let mut ids = vec![in alloc; NONE; slots.saturating_add(PROBE_LIMIT)]?;
+        let mut ids = vec![in alloc; NONE; slots.saturating_add(CHAIN_LIMIT)]?;
         enter_points(ids.as_mut_slice(), points, shift);
         self.ids = ids;
         self.shift = shift;
@@ -97,12 +97,12 @@ fn enter_points(ids: &mut [u32], points: &[Point], shift: u32) {
     }
 }
 
-/// The first free slot from a slot on, within `PROBE_LIMIT`.
+/// The first free slot from a slot on, within `CHAIN_LIMIT`.
 fn free_slot(ids: &[u32], from: usize) -> Option<usize>
     ensures { IfSome result (λ slot. slot < length ids.now) }
 {
     for slot in from..ids.len() {
-        if slot - from >= PROBE_LIMIT {
+        if slot - from >= CHAIN_LIMIT {
             return None;
         }
         if ids[slot] == NONE {
@@ -129,7 +129,7 @@ fn slot_of(ids: &[u32], points: &[Point], point: Point, from: usize) -> Option<u
     ensures named { IfSome result (λ slot. slice_index ids.now slot < length points.now → slice_index_or points.now (slice_index ids.now slot) origin ≡ point) }
 {
     for slot in from..ids.len() {
-        if slot - from >= PROBE_LIMIT {
+        if slot - from >= CHAIN_LIMIT {
             return None;
         }
         let id = ids[slot] as usize;

@@ -215,8 +215,8 @@ set-out job old now new written total first m per end chunk drawn text out size 
     (images-parts job first end n begun high ∙ ap (λ (l : List ℕ). l ++ images_between job end n) same)
 
 -- each set has a layer at least
-pub fewer-left : (count drawn m per next : ℕ) → 1 ≤ m → 1 ≤ per → drawn < count → next ≡ min (drawn + m * per) count → count - next < count - drawn
-fewer-left count drawn m per next some few h is =
+pub fewer-left : (count first m per end : ℕ) → 1 ≤ m → 1 ≤ per → first < count → end ≡ min (first + m * per) count → count - end < count - first
+fewer-left count first m per end some few h is =
     let one : per * 1 ≤ per * m = mul-le-mul_left per some in
     omega (arith, one, few, h, is)
 

@@ -1,8 +1,8 @@
 //! Writes the images of all layers where a build has several workers, and decides whether these draw at the same time.
-ghost use Rattle.std.specs.Prelude.{◌≡◌, ◌<◌, ◌≤◌, ◌*◌, All, [], IfErr, OnOk, true, vec_len};
+ghost use Rattle.std.specs.Prelude.{◌≡◌, ◌<◌, IfErr, OnOk, true, vec_len};
 ghost use Rattle.std.specs.Io.KnownBytes.{Appends};
 ghost use Rattle.mesh_reading.specs.Transcript.{transcript};
-ghost use Rattle.stlslice.specs.Pages.{image_size, images_of};
+ghost use Rattle.stlslice.specs.Pages.{ArePageSets, images_of};
 ghost use Rattle.stlslice.specs.Unwritten.{IsUnwritten};
 
 use crate::run_fault::RunFault;
@@ -38,7 +38,7 @@ pub(crate) fn write_images_by<R: Threads + Sync, A: Allocator + Copy + Send + Sy
     ensures same { OnOk result (O.Failures.failure_count sink.new ≡ O.Failures.failure_count sink.old) }
     ensures err { IfErr result (IsUnwritten (transcript (O.contents sink.old) (O.contents sink.new) (O.Failures.failure_count sink.old) (O.Failures.failure_count sink.new)) (images_of build.now.job)) }
 {
-    let per = images_to_draw(build, workers);
+    let per = drawn_a_page(build, workers);
     if per == 0 {
         write_images(build, sink)
     } else {
@@ -46,9 +46,9 @@ pub(crate) fn write_images_by<R: Threads + Sync, A: Allocator + Copy + Send + Sy
     }
 }
 
-/// How many images a page has where several workers draw them before they are written: 0 where a single writer is to do all,
-/// since there is one worker, an image is too long for a page, or drawing takes no longer than writing.
-fn images_to_draw<A: Allocator>(build: &Build<'_, A>, workers: u32) -> usize {
+/// How many images a page has where workers draw before they write, else 0: there is one worker, an image is too long for a
+/// page, or rows have few spans.
+fn drawn_a_page<A: Allocator>(build: &Build<'_, A>, workers: u32) -> usize {
     if workers > 1 && has_many_spans(build) {
         images_a_page(build.job().grid(), workers)
     } else {
@@ -72,13 +72,13 @@ fn write_drawn_images<R: Threads + Sync, A: Allocator + Copy + Send + Sync, O: S
     ensures same { OnOk result (O.Failures.failure_count sink.new ≡ O.Failures.failure_count sink.old) }
     ensures err { IfErr result (IsUnwritten (transcript (O.contents sink.old) (O.contents sink.new) (O.Failures.failure_count sink.old) (O.Failures.failure_count sink.new)) (images_of build.now.job)) }
 {
-    let count = build
+    let pages = build
         .layers()
         .len()
         .div_ceil(per)
         .min(workers as usize)
         .max(1);
-    match page_sets(alloc, build.job().grid(), per, count) {
+    match page_sets(alloc, build.job().grid(), per, pages) {
         Ok((drawn, free)) => write_by_pages(rt, build, per, drawn, free, sink),
         Err(_) => write_images(build, sink),
     }
@@ -94,11 +94,9 @@ fn write_by_pages<R: Threads + Sync, A: Allocator + Copy + Send + Sync, O: Sink>
     sink: &mut O,
 ) -> Result<(), RunFault>
     requires per { 0 < per }
-    requires blank { All (λ page. page.bytes ≡ []) drawn.items }
+    requires sets { ArePageSets build.now.job.grid per drawn.items free.items }
     requires some_drawn { 0 < vec_len drawn }
     requires some_free { 0 < vec_len free }
-    requires room_drawn { All (λ page. per * image_size build.now.job.grid ≤ page.room) drawn.items }
-    requires room_free { All (λ page. per * image_size build.now.job.grid ≤ page.room) free.items }
     ensures flushed { OnOk result (O.is_settled sink.new ≡ true) }
     ensures ok { OnOk result (Appends (O.contents sink.old) (O.contents sink.new) (images_of build.now.job)) }
     ensures same { OnOk result (O.Failures.failure_count sink.new ≡ O.Failures.failure_count sink.old) }

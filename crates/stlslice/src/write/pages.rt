@@ -2,7 +2,7 @@
 ghost use Rattle.std.specs.Prelude.{◌≡◌, ◌<◌, ◌≤◌, ◌+◌, ◌-◌, ◌*◌, All, [], IfErr, IfOk, OnErr, OnOk, length, min, vec_len};
 ghost use Rattle.std.specs.Io.KnownBytes.{Appends};
 ghost use Rattle.raster.specs.Devices.{AppendsFirst, Fails, greatest_count};
-ghost use Rattle.stlslice.specs.Pages.{image_size, images_between, images_of, pages_text};
+ghost use Rattle.stlslice.specs.Pages.{ArePageSets, image_size, images_between, images_of, pages_text};
 
 use build_book::Build;
 use raster::{Grid, Page, Sink, WriteFault, image_len, put_all};
@@ -71,11 +71,9 @@ pub(crate) fn put_by_pages<R: Threads + Sync, A: Allocator + Copy + Send + Sync,
     sink: &mut O,
 ) -> Result<u64, WriteFault>
     requires per { 0 < per }
-    requires blank { All (λ page. page.bytes ≡ []) drawn.items }
+    requires sets { ArePageSets build.now.job.grid per drawn.items free.items }
     requires some_drawn { 0 < vec_len drawn }
     requires some_free { 0 < vec_len free }
-    requires room_drawn { All (λ page. per * image_size build.now.job.grid ≤ page.room) drawn.items }
-    requires room_free { All (λ page. per * image_size build.now.job.grid ≤ page.room) free.items }
     ensures ok { OnOk result (Appends (O.contents sink.old) (O.contents sink.new)
         (images_of build.now.job)) }
     ensures total { IfOk result (λ total. total ≡ length (images_of build.now.job)) }
@@ -127,7 +125,7 @@ fn draw_and_put<R: Threads + Sync, A: Allocator + Copy + Send + Sync, O: Sink>(
     requires some { 0 < vec_len free.old }
     requires room { All (λ page. per * image_size build.now.job.grid ≤ page.room) free.old.items }
     requires count { before + length (pages_text drawn.now) ≤ greatest_count }
-    ensures drawn { pages_text free.new.items ≡ images_between build.now.job first (min (first + vec_len free.old * per) build.now.job.grid.layers) }
+    ensures images { pages_text free.new.items ≡ images_between build.now.job first (min (first + vec_len free.old * per) build.now.job.grid.layers) }
     ensures room { All (λ page. per * image_size build.now.job.grid ≤ page.room) free.new.items }
     ensures count { vec_len free.new ≡ vec_len free.old }
     ensures ok { OnOk result (Appends (O.contents sink.old) (O.contents sink.new) (pages_text drawn.now)) }
@@ -161,7 +159,7 @@ fn draw_set<R: Threads + Sync, A: Allocator + Copy + Send + Sync>(
     requires low { first ≤ build.now.job.grid.layers }
     requires some { 0 < vec_len set.old }
     requires room { All (λ page. per * image_size build.now.job.grid ≤ page.room) set.old.items }
-    ensures drawn { pages_text set.new.items ≡ images_between build.now.job first (min (first + vec_len set.old * per) build.now.job.grid.layers) }
+    ensures images { pages_text set.new.items ≡ images_between build.now.job first (min (first + vec_len set.old * per) build.now.job.grid.layers) }
     ensures room { All (λ page. per * image_size build.now.job.grid ≤ page.room) set.new.items }
     ensures count { vec_len set.new ≡ vec_len set.old }
 {
@@ -179,7 +177,7 @@ fn draw_pages<R: Threads + Sync, A: Allocator + Copy + Send + Sync>(
     requires low { first ≤ build.now.job.grid.layers }
     requires some { 0 < length pages.old }
     requires room { All (λ page. per * image_size build.now.job.grid ≤ page.room) pages.old }
-    ensures drawn { pages_text pages.new ≡ images_between build.now.job first (min (first + length pages.old * per) build.now.job.grid.layers) }
+    ensures images { pages_text pages.new ≡ images_between build.now.job first (min (first + length pages.old * per) build.now.job.grid.layers) }
     ensures room { All (λ page. per * image_size build.now.job.grid ≤ page.room) pages.new }
 {
     let workers = pages.len();
@@ -201,7 +199,7 @@ fn draw_page<A: Allocator>(
     page: &mut Page<A>,
 )
     requires { per * image_size build.now.job.grid ≤ page.old.room }
-    ensures drawn { let layers = build.now.job.grid.layers in let start = min (first + i * per) layers in
+    ensures images { let layers = build.now.job.grid.layers in let start = min (first + i * per) layers in
         page.new.bytes ≡ images_between build.now.job start (min (start + per) layers) }
     ensures room { page.new.room ≡ page.old.room }
 {

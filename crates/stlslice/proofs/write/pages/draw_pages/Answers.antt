@@ -5,8 +5,8 @@ use Rattle.stlslice.specs.Pages.{images_between}
 use Rattle.stlslice.proofs.lemmas.Pages.{pages-drawn}
 use Rattle.stlslice.proofs.write.pages.draw_pages.Goals as goal
 
-pub returns-clause-drawn : goal.returns-clause-drawn
-returns-clause-drawn g c =
+pub returns-clause-images : goal.returns-clause-images
+returns-clause-images g c =
     let job : Job = c.args.build.now.job in
     let pages : List Page = c.for_each_mut.new.s in
     let same : length pages ≡ length c.args.pages.now = c.for_each_mut.auto.s in

@@ -14,12 +14,12 @@ pub loop-first-init : goal.loop-first-init
 loop-first-init g c =
     record {
       low = omega arith;
-      text = all-begun c.args.build.now.job (g.O.Sink.contents c.args.sink.now) (pages_text c.args.drawn.items) (blank-text c.args.drawn.items c.requires.blank);
+      text = all-begun c.args.build.now.job (g.O.Sink.contents c.args.sink.now) (pages_text c.args.drawn.items) (blank-text c.args.drawn.items c.requires.sets.blank);
       counted = refl;
       some_drawn = c.requires.some_drawn;
       some_free = c.requires.some_free;
-      room_drawn = c.requires.room_drawn;
-      room_free = c.requires.room_free;
+      room_drawn = c.requires.sets.room_drawn;
+      room_free = c.requires.sets.room_free;
     }
 
 pub loop-first-smaller : goal.loop-first-smaller
@@ -67,7 +67,7 @@ loop-first-preserved g c =
       text = rw c.swap.ensures.x_after
           (set-out job (g.O.Sink.contents c.args.sink.now) (g.O.Sink.contents c.loop-first.sink) (g.O.Sink.contents c.draw_and_put.new.sink)
           c.loop-first.written c.in_ok-written.written first (vec_len c.loop-first.free) per c.end_of_set-end.result
-          (pages_text c.as_slice.result.now) (pages_text c.draw_and_put.new.free.items) text out.ok out.total inv.low at out.drawn);
+          (pages_text c.as_slice.result.now) (pages_text c.draw_and_put.new.free.items) text out.ok out.total inv.low at out.images);
       counted = out.same ∙ inv.counted;
       some_drawn = rw c.swap.ensures.x_after (omega (arith, out.count, inv.some_free));
       some_free = rw c.swap.ensures.y_after inv.some_drawn;
