@@ -1,5 +1,5 @@
 -- Each step that the code takes on the table is a step of the claims machine.
-use Rattle.std.proofs.Common.{◌≡◌, ◌≢◌, ℕ, ◌+◌, ◌-◌, ◌%◌, ◌^◌, ◌<◌, ◌≤◌, false, List, [], ◌∷◌, ◌++◌, length, set, false, ltb-false, mod-eq_of_lt, refl, sym, ap, ◌∙◌, subst, ⊎_elim, arith}
+use Rattle.std.proofs.Common.{◌≡◌, ◌≢◌, ℕ, ◌+◌, ◌-◌, ◌%◌, ◌^◌, ◌<◌, ◌≤◌, nat_lt, false, List, [], ◌∷◌, ◌++◌, length, set, ltb-false, mod-eq_of_lt, refl, sym, ap, ◌∙◌, subst, ⊎_elim, arith}
 use Rattle.std.specs.Prelude.{slice_index, ◌==◌}
 use mathlib.Core.Option.{some, some-injective}
 use lib.ListN.{get_elem?}
@@ -51,6 +51,17 @@ cuts plan id h some_left nothing s kept at =
       reached = next plan (moment kept.word s.views) after kept.reached
           (split id (h.stands_for - 1) 1 h (record { there = at; nothing = nothing; parts = omega arith; becomes = refl }));
     }
+
+-- what is known of a seat that stands for all passes and has found nothing
+pub first_hand : (mine : Me (Unit {0}) Hand) (passes : ℕ) → mine ≡ (hand passes [], []) → (mine.1 ≡ []) × (mine.0.found ≡ []) × (mine.0.stands_for + 0 ≡ passes)
+first_hand mine passes is =
+    let all = ap (λ (m : Me (Unit {0}) Hand). m.0.stands_for) is in
+    (ap (λ (m : Me (Unit {0}) Hand). m.1) is, ap (λ (m : Me (Unit {0}) Hand). m.0.found) is, omega arith)
+
+-- what is left of a seat once one pass is cut off
+pub hand_left : (now mine : Me (Unit {0}) Hand) → now ≡ (one_less mine.0, mine.1) → (now.1 ≡ mine.1) × (now.0.found ≡ mine.0.found) × (now.0.stands_for ≡ mine.0.stands_for - 1)
+hand_left now mine is =
+    (ap (λ (m : Me (Unit {0}) Hand). m.1) is, ap (λ (m : Me (Unit {0}) Hand). m.0.found) is, ap (λ (m : Me (Unit {0}) Hand). m.0.stands_for) is)
 
 -- the view of the other hand, before the first one took it in
 other_was : (views : List Hand) (id other : ℕ) (both w : Hand) → ¬ (other ≡ id) → get_elem? (set views id both) other ≡ some w → get_elem? views other ≡ some w
@@ -153,3 +164,8 @@ pub none_beyond : (claims : Claims) (p : Pass) → IsOwned claims p → p.has_en
 none_beyond claims p owned going =
     let none : beyond claims.stripes p.found ≤ 0 = ltb-false 0 (beyond claims.stripes p.found) (sym owned.ends ∙ going) in
     omega arith
+
+-- a pass of the claims' table that has found nothing, and has not ended, is of these claims
+pub owned_fresh : (claims : Claims) (p : Pass) → p.owner ≡ claims.name → p.found ≡ [] → p.has_ended ≡ false → IsOwned claims p
+owned_fresh claims p owner none going =
+    record { owner = owner; ends = going ∙ ap (λ found. nat_lt 0 (beyond claims.stripes found)) (sym none) }

@@ -1,16 +1,17 @@
-use Rattle.std.proofs.Common.{◌≡◌, ◌≤◌, sym, ◌∙◌, true, ℕ, subst}
-use Rattle.stripe_claims.specs.Machine.{once_below}
-use Rattle.stripe_claims.specs.Claims.{Pass, found_by_all}
-use Rattle.stripe_claims.proofs.lemmas.Counts.{each-given}
-use Rattle.stripe_claims.proofs.lemmas.Gathers.{ended_past, first_of}
+use Rattle.stripe_claims.proofs.lemmas.Gathers.{closed_none, closed_all}
 use Rattle.stripe_claims.proofs.claims.Claims.close.Goals as goal
 
-pub returns-in-Some-clause-ended : goal.returns-in-Some-clause-ended
-returns-in-Some-clause-ended g c =
-    ended_past c.args.self _ _ c.requires (λ x. subst (λ (t : ℕ). t ≤ once_below x c.word_with.result) (c.in-Some.ensures.times x) (c.word_with.ensures.once x))
+pub returns-in-Some : goal.returns-in-Some
+returns-in-Some g c =
+    let joined = c.in-Some.ensures in
+    let last = c.word_with.ensures in
+    let told =
+    closed_all c.args.self c.args.passes.items c.in-Some.all.me.0 c.word_with.result c.requires joined.some joined.stands_for joined.times joined.length last.machine
+    (record { once = last.once; count = last.count; most = last.most; whole = last.whole; all = last.all }) in
+    record { machine = told.machine; once = told.once; count = told.count; ended = told.ended; most = last.most; whole = told.whole; all = told.all; given = told.given }
 
-pub returns-in-Some-clause-given : goal.returns-in-Some-clause-given
-returns-in-Some-clause-given g c = λ whole ended.
-    each-given c.args.self.stripes c.word_with.result (found_by_all c.args.passes.items)
-    (returns-in-Some-clause-ended g c (first_of (λ (p : Pass). p.has_ended ≡ true) c.args.passes.items c.in-Some.ensures.some ended))
-    (λ x. sym (c.in-Some.ensures.times x) ∙ c.word_with.ensures.whole (c.in-Some.ensures.stands_for ∙ whole) x)
+pub returns-in-None : goal.returns-in-None
+returns-in-None g c =
+    let last = c.word.ensures in
+    let told = closed_none c.args.self c.args.passes.items c.word.result c.in-None.ensures.none last.machine last.some in
+    record { machine = told.machine; once = told.once; count = told.count; ended = told.ended; most = last.most; whole = told.whole; all = told.all; given = told.given }
