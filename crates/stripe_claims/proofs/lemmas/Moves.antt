@@ -1,6 +1,7 @@
 -- Each step that the code takes on the table is a step of the claims machine.
-use Rattle.std.proofs.Common.{◌≡◌, ◌≢◌, ℕ, ◌+◌, ◌-◌, ◌%◌, ◌^◌, ◌<◌, ◌≤◌, nat_lt, false, List, [], ◌∷◌, ◌++◌, length, set, ltb-false, mod-eq_of_lt, refl, sym, ap, ◌∙◌, subst, ⊎_elim, arith}
+use Rattle.std.proofs.Common.{◌≡◌, ◌≢◌, ℕ, ◌+◌, ◌-◌, ◌%◌, ◌^◌, ◌<◌, ◌≤◌, nat_lt, false, List, [], ◌∷◌, ◌++◌, length, set, length-append, ltb-false, mod-eq_of_lt, refl, sym, ap, ◌∙◌, subst, ⊎_elim, arith}
 use Rattle.std.specs.Prelude.{slice_index, ◌==◌}
+use Rattle.std.proofs.lemmas.List.Sums.{sum_by-append}
 use mathlib.Core.Option.{some, some-injective}
 use lib.ListN.{get_elem?}
 use Rattle.atomic_table.specs.Table.{State, Step as TableStep, Me, keeps, opening, Allows, Splits, Joins, Final, Seen}
@@ -84,6 +85,13 @@ taken_found now mine theirs found is same = ap (λ (m : Me (Unit {0}) Hand). m.0
 
 pub taken_parts : (now mine : Me (Unit {0}) Hand) (theirs : Hand) → now ≡ (both_hands mine.0 theirs, mine.1) → now.0.stands_for ≡ mine.0.stands_for + theirs.stands_for
 taken_parts now mine theirs is = ap (λ (m : Me (Unit {0}) Hand). m.0.stands_for) is
+
+-- how often a number stands in the hand's list then, and how long the list is
+pub taken_times : (x : ℕ) (now mine found : List ℕ) → now ≡ mine ++ found → times x now ≡ times x mine + times x found
+taken_times x now mine found is = ap (times x) is ∙ sum_by-append (λ y. one_if (y == x)) mine found
+
+pub taken_length : (now mine found : List ℕ) → now ≡ mine ++ found → length now ≡ length mine + length found
+taken_length now mine found is = ap (λ (l : List ℕ). length l) is ∙ length-append mine found
 
 -- What the last moment tells of a hand.
 pub record Closed (plan : Plan) (h : Hand) (word : ℕ) : Type 0 where

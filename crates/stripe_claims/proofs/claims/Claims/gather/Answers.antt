@@ -1,10 +1,8 @@
-use Rattle.std.proofs.Common.{rules, ◌≡◌, ◌+◌, List, [], ◌∷◌, length, refl, sym, ap, ◌∙◌, arith, length-append}
-use Rattle.std.specs.Prelude.{ℕ, ◌==◌}
-use Rattle.std.proofs.lemmas.List.Sums.{sum_by-append}
-use Rattle.stripe_claims.specs.Machine.{one_if, times}
+use Rattle.std.proofs.Common.{ℕ, ◌≡◌, List, length, refl, sym, ap, ◌∙◌, arith}
+use Rattle.stripe_claims.specs.Machine.{times}
 use Rattle.stripe_claims.specs.Claims.{Claims, Pass, IsOwned}
 use Rattle.stripe_claims.proofs.lemmas.Gathers.{all_last, all_front, count_push, none_of, times_pop, length_pop, times_none, length_none}
-use Rattle.stripe_claims.proofs.lemmas.Moves.{joins, taken_found, taken_parts}
+use Rattle.stripe_claims.proofs.lemmas.Moves.{joins, taken_found, taken_parts, taken_times, taken_length}
 use Rattle.stripe_claims.proofs.claims.Claims.gather.Goals as goal
 
 pub join_seat-requires : goal.join_seat-requires
@@ -13,11 +11,11 @@ join_seat-requires g c =
     let all = c.loop-pass.all in
     let seat = c.into_seat.result in
     let name : c.args.self.now.name ≡ table.table_id = sym (ap (λ (v : Claims). v.name) c.self.view_is) in
-    let mine = all_last (IsOwned c.args.self.now) _ _ _ c.in-Some.ensures.items c.loop-pass.invariant.owned in (
+    let mine = all_last (IsOwned c.args.self.now) c.pop-in-loop-pass.new.self.items c.loop-pass.passes.items c.in-Some.pass c.in-Some.ensures.items c.loop-pass.invariant.owned in (
       c.loop-pass.invariant.table ∙ name,
       c.into_seat.ensures.seat.0 ∙ mine.owner ∙ name,
       c.into_seat.ensures.seat.1,
-      search rules,
+      (let one = c.self.invariant.one_word in omega arith),
       joins table.key all.id all.me.0 seat.id seat.me.0,
     )
 
@@ -27,20 +25,18 @@ loop-pass-preserved g c =
     let all = c.loop-pass.all.me.0 in
     let pass = c.in-Some.pass in
     let seat = c.into_seat.result.me.0 in
+    let rest = c.pop-in-loop-pass.new.self.items in
+    let passes = c.loop-pass.passes.items in
     let is = c.in-Some.ensures.items in
     let now = c.join_seat.ensures.2 in
     let found_now = taken_found c.join_seat.new.seat.me c.loop-pass.all.me seat pass.found now c.into_seat.ensures.hand.1 in
     let stands_now = taken_parts c.join_seat.new.seat.me c.loop-pass.all.me seat now in
     record {
       table = c.join_seat.ensures.0 ∙ was.table;
-      parts = (let one = c.into_seat.ensures.hand.0 in let l = ap (λ (ps : List Pass). length ps) is in let push = length-append c.pop-in-loop-pass.new.self.items (pass ∷ []) in let w = was.parts in omega arith);
-      each = λ x.
-          let t : times x c.join_seat.new.seat.me.0.found ≡ times x all.found + times x pass.found = ap (times x) found_now ∙ sum_by-append (λ y. one_if (y == x)) all.found pass.found in
-          let p = times_pop x _ _ pass is in
-          let w = was.each x in
-          omega arith;
-      long = (let t : length c.join_seat.new.seat.me.0.found ≡ length all.found + length pass.found = ap (λ (l : List ℕ). length l) found_now ∙ length-append all.found pass.found in let p = length_pop _ _ pass is in let w = was.long in omega arith);
-      owned = all_front (IsOwned c.args.self.now) _ _ pass is was.owned;
+      parts = (let one = c.into_seat.ensures.hand.0 in let push = count_push rest passes pass (length rest) is refl in let w = was.parts in omega arith);
+      each = λ x. (let t = taken_times x c.join_seat.new.seat.me.0.found all.found pass.found found_now in let p = times_pop x passes rest pass is in let w = was.each x in omega arith);
+      long = (let t = taken_length c.join_seat.new.seat.me.0.found all.found pass.found found_now in let p = length_pop passes rest pass is in let w = was.long in omega arith);
+      owned = all_front (IsOwned c.args.self.now) rest passes pass is was.owned;
     }
 
 pub returns-in_err-pop : goal.returns-in_err-pop
