@@ -46,7 +46,7 @@ impl<A: Allocator> Layer<A> {
         self.number
     }
 
-    /// Its loops. In each of their nodes `low` is below `high`, by the law `ordered` of `hold_loop_laws` in `contour`.
+    /// Its loops. In each of their nodes `low` is below `high`: `Node` keeps that.
     pub fn loops(&self) -> &Loops<A>
         ensures { result.now ≡ self.now.loops }
     {

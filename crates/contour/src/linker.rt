@@ -237,8 +237,8 @@ fn slot_at(list: &[u32], slot: u32) -> u32
 }
 
 /// Traces the loops, each from its first segment, in the order of their first segments; `next` has for each slot that
-/// of its follower. `visited` and `ends` are overwritten: the caller keeps them for their memory. Room is asked for once
-/// for the segments and once for the ends, at their numbers.
+/// of its follower. `visited` and `ends` are overwritten: the caller keeps them for their memory. The result has
+/// room for just its segments and ends.
 fn trace_loops<A: Allocator + Copy + Send + Sync>(
     alloc: A,
     list: &[Segment],
