@@ -108,13 +108,14 @@ pub total-segments : (f : Facet → ℤ) (facets : List Facet) (z : ℤ) → ((t
 total-segments f facets z nothing =
     total-from f (facet_at facets) (vertices facets) z nothing 0 facets (reads (facet_at facets) 0 facets (λ k l. let same : 0 + k ≡ k = omega arith in ap (facet_at facets) same))
 
--- a sum over what is left of a list
+-- what is read behind the end of a list
 abbrev no_segment : Segment
 no_segment = record { facet = 0; from = record { low = 0; high = 0 }; to = record { low = 0; high = 0 } }
 
 abbrev segment_or : List Segment → ℕ → Segment
 segment_or list n = slice_index_or list n no_segment
 
+-- a sum over what is left of a list
 total-next : (f : Segment → ℤ) (list : List Segment) (n : ℕ) → n < length list
     → total f (drop n list) ≡ f (segment_or list n) +ℤ total f (drop (n + 1) list)
 total-next f [] n h = absurd (omega arith)
