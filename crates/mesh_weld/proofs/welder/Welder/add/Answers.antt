@@ -4,6 +4,7 @@ use Rattle.std.specs.Result.{is_err}
 use Rattle.std.proofs.lemmas.Bool.{false≢true}
 use Rattle.std.proofs.lemmas.List.{append-nil, append_assoc, length-take, take_all, take_more}
 use Rattle.std.proofs.lemmas.List.Elements.{filter-append}
+use Rattle.std.proofs.lemmas.Result.{IfOk-from_err}
 use Rattle.geometry.specs.Facet.{Facet}
 use Rattle.mesh_weld.specs.Solid.{is_kept, kept_facets}
 use Rattle.mesh_weld.specs.Welder.{Welder, degenerate_facets, welder_by, welder_of, with_facets}
@@ -13,10 +14,6 @@ use Rattle.mesh_weld.proofs.welder.Welder.add.Goals as goal
 on_ok : {T E : Type 0} → (P : Type 0) (r : Result T E) → is_err r ≡ false → OnOk r P → P
 on_ok P (Ok x) e p = p
 on_ok P (Err x) e p = absurd (false≢true (sym e))
-
-not_ok : {T E : Type 0} → (P : Type 0) (r : Result T E) → is_err r ≡ true → OnOk r P
-not_ok P (Ok x) e = absurd (false≢true e)
-not_ok P (Err x) e = tt
 
 on_err : {T E : Type 0} → (P : Type 0) (r : Result T E) → P → OnErr r P
 on_err P (Ok x) p = tt
@@ -70,8 +67,8 @@ pub returns-then-is_err : goal.returns-then-is_err
 returns-then-is_err g c =
     let failed : is_err c.add_facet-added.result ≡ true = sym c.is_err.ensures.value ∙ c.if-is_err.true in
     record {
-      added = not_ok (c.clear.new.self ≡ with_facets c.args.self.now c.args.facets.now) c.add_facet-added.result failed;
-      whole = λ before is. not_ok (c.clear.new.self ≡ welder_of (before ++ c.args.facets.now)) c.add_facet-added.result failed;
+      added = IfOk-from_err c.add_facet-added.result (λ _. c.clear.new.self ≡ with_facets c.args.self.now c.args.facets.now) failed;
+      whole = λ before is. IfOk-from_err c.add_facet-added.result (λ _. c.clear.new.self ≡ welder_of (before ++ c.args.facets.now)) failed;
       failed = on_err (c.clear.new.self ≡ welder_of []) c.add_facet-added.result c.clear.ensures;
     }
 
@@ -79,8 +76,8 @@ pub returns-then-is_err-2 : goal.returns-then-is_err-2
 returns-then-is_err-2 g c =
     let failed : is_err c.number-numbered.result ≡ true = sym c.is_err-2.ensures.value ∙ c.if-is_err-2.true in
     record {
-      added = not_ok (c.clear-then-is_err-2.new.self ≡ with_facets c.args.self.now c.args.facets.now) c.number-numbered.result failed;
-      whole = λ before is. not_ok (c.clear-then-is_err-2.new.self ≡ welder_of (before ++ c.args.facets.now)) c.number-numbered.result failed;
+      added = IfOk-from_err c.number-numbered.result (λ _. c.clear-then-is_err-2.new.self ≡ with_facets c.args.self.now c.args.facets.now) failed;
+      whole = λ before is. IfOk-from_err c.number-numbered.result (λ _. c.clear-then-is_err-2.new.self ≡ welder_of (before ++ c.args.facets.now)) failed;
       failed = on_err (c.clear-then-is_err-2.new.self ≡ welder_of []) c.number-numbered.result c.clear-then-is_err-2.ensures;
     }
 
