@@ -77,8 +77,8 @@ impl Point {
 }
 
 /// Whether a number of micrometres is in the range of coordinates.
-fn is_coordinate(z: i32) -> bool
-    ensures { IsTrue result ↔ IsAtMost COORDINATE_LIMIT z }
+fn is_coordinate(n: i32) -> bool
+    ensures { IsTrue result ↔ IsAtMost COORDINATE_LIMIT n }
 {
-    is_at_most(COORDINATE_LIMIT, i64::from(z))
+    is_at_most(COORDINATE_LIMIT, i64::from(n))
 }
