@@ -6,9 +6,9 @@ use Rattle.std.specs.List.Sorted.{IsStrictlyIncreasing}
 use Rattle.geometry.specs.Facet.{Facet}
 use Rattle.mesh_weld.specs.EdgeNumbers.{AreEdgeNumbers}
 use Rattle.mesh_weld.specs.Solid.{triples}
-use Rattle.plane_segments.specs.Node.{Node}
+use Rattle.plane_segments.specs.Node.{Node, is_node}
 use Rattle.plane_segments.specs.declared.segment.Segment.{Segment}
-use Rattle.plane_segments.specs.Segment.{edge_node, is_node}
+use Rattle.plane_segments.specs.Segment.{edge_node, no_segment}
 use Rattle.contour.specs.declared.linker.TheConstants.{NONE}
 use Rattle.contour.specs.Loops.{AreEnds, IsCycle, count_of, first_facet, follower, is_from_least, parts_from}
 
@@ -75,9 +75,6 @@ pub record AreLinks (list : List Segment) (next : List ℕ) : Type 0 where
   pub follows : (j : ℕ) (d : Segment) → j < length list
       → follower list (slice_index_or list j d) ≡ Some (slice_index_or list (slice_index_or next j NONE) d)
   pub one : (i j : ℕ) → i < length list → j < length list → slice_index_or next i NONE ≡ slice_index_or next j NONE → i ≡ j
-
-abbrev pub no_segment : Segment
-no_segment = record { facet = 0; from = record { low = 0; high = 0 }; to = record { low = 0; high = 0 } }
 
 abbrev pub facet_of : List Segment → ℕ → ℕ
 facet_of list j = (slice_index_or list j no_segment).facet

@@ -8,8 +8,9 @@ use Rattle.std.specs.List.{list_all, position_or_len, AllByRecursion}
 use Rattle.std.specs.List.Sorted.{IsStrictlyIncreasing}
 use Rattle.geometry.specs.Facet.{Facet}
 use Rattle.mesh_weld.specs.Solid.{facet_at}
+use Rattle.plane_segments.specs.Node.{is_node}
 use Rattle.plane_segments.specs.declared.segment.Segment.{Segment}
-use Rattle.plane_segments.specs.Segment.{is_node, is_segment}
+use Rattle.plane_segments.specs.Segment.{is_segment}
 
 -- the rank of s among the segments that end where it does
 abbrev pub rank_at_end : List Segment → Segment → ℕ

@@ -1,5 +1,5 @@
 -- A node is an edge without direction, by the numbers of its vertices, the lower one first.
-use Rattle.std.specs.Prelude.{ℕ, min, max}
+use Rattle.std.specs.Prelude.{ℕ, min, max, Bool, ◌&&◌, ◌==◌}
 
 pub record Node : Type 0 where
   pub low : ℕ
@@ -8,3 +8,6 @@ pub record Node : Type 0 where
 -- the node of the edge between two vertices, by their numbers
 abbrev pub between : ℕ → ℕ → Node
 between m n = record { low = min m n; high = max m n }
+
+abbrev pub is_node : Node → Node → Bool
+is_node a b = a.low == b.low && a.high == b.high

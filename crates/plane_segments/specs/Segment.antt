@@ -1,7 +1,7 @@
 -- A segment is where a plane cuts a facet: it runs from the node of the facet's downward edge to that of its upward edge.
 --     segments facets z     the segments at the height z, in order of facets
 -- Heights are in half-micrometres.
-use Rattle.std.specs.Prelude.{◌≢◌, ℕ, ◌<◌, zero, suc, Bool, ◌&&◌, List, Option, Some, None, filter_map, find, slice_index_or, ℤ, pos, ◌*ℤ◌, ◌==◌}
+use Rattle.std.specs.Prelude.{◌≢◌, ℕ, ◌<◌, zero, suc, Bool, List, Option, Some, None, filter_map, find, slice_index_or, ℤ, pos, ◌*ℤ◌, ◌==◌}
 use Rattle.std.specs.List.{enumerate_from}
 use Rattle.geometry.specs.TieRule.{rises_through}
 use Rattle.geometry.specs.Point.{Point}
@@ -59,8 +59,9 @@ numbered_segment facets z n = segment_of (vertices facets) z (n, facet_at facets
 abbrev pub HasOrderedNodes : Segment → Type 0
 HasOrderedNodes s = (s.from.low < s.from.high) × (s.to.low < s.to.high)
 
-abbrev pub is_node : Node → Node → Bool
-is_node a b = a.low == b.low && a.high == b.high
+-- what is read behind the end of a list of segments
+abbrev pub no_segment : Segment
+no_segment = record { facet = 0; from = record { low = 0; high = 0 }; to = record { low = 0; high = 0 } }
 
 -- at one height a facet has at most one segment
 abbrev pub is_segment : Segment → Segment → Bool

@@ -1,7 +1,6 @@
 //! A node is an edge without direction: where a plane cuts the edge, two segments meet.
 ghost use Rattle.std.specs.Prelude.{◌≡◌, ◌≢◌, ◌<◌};
-ghost use Rattle.plane_segments.specs.Node.{between};
-ghost use Rattle.plane_segments.specs.Segment.{is_node};
+ghost use Rattle.plane_segments.specs.Node.{between, is_node};
 
 use std::marker::Model;
 

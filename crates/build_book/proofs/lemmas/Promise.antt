@@ -1,19 +1,19 @@
 -- A lawful layer is as promised, and no other layer is. A job has one complete build at most.
-use Rattle.std.proofs.Common.{◌≡◌, ℕ, zero, suc, ◌+◌, ◌<◌, Bool, true, false, cond, Decides, List, [], ◌∷◌, length, refl, sym, ◌∙◌, ap, subst, arith, Some, slice_get}
-use Rattle.std.specs.Prelude.{ℤ, pos, nat_abs, int_lt, ◌<ℤ◌, ◌%◌, ◌==◌, filter}
+use Rattle.std.proofs.Common.{◌≡◌, ℕ, zero, suc, ◌+◌, ◌<◌, Decides, List, [], ◌∷◌, length, refl, sym, ◌∙◌, ap, subst, arith, Some, slice_get}
+use Rattle.std.specs.Prelude.{ℤ, pos, nat_abs, int_lt, ◌<ℤ◌, ◌%◌}
 use Rattle.std.specs.Ordering.{int_eq}
 use Rattle.std.specs.List.{AllByRecursion}
 use Rattle.std.proofs.lemmas.Int.{ints}
-use Rattle.std.proofs.lemmas.Bool.{eqb-true, and_parts}
 use Rattle.std.proofs.lemmas.Bool.Decides.{Decides-at, Decides-eqb, Decides-int_eq, Decides-not, same_from_decides}
 use Rattle.geometry.specs.Facet.{Facet}
 use Rattle.geometry.specs.Winding.{ray}
 use Rattle.mesh_weld.specs.Solid.{kept_facets}
 use Rattle.mesh_weld.proofs.lemmas.Degenerate.{kept_ray}
-use Rattle.plane_segments.specs.Node.{Node}
 use Rattle.plane_segments.specs.declared.segment.Segment.{Segment}
-use Rattle.plane_segments.specs.Segment.{is_node, segments}
-use Rattle.contour.specs.Loops.{Closes, IsCycle, follower, rank_at_end}
+use Rattle.plane_segments.specs.Segment.{segments}
+use Rattle.plane_segments.proofs.lemmas.Nodes.{node-is}
+use Rattle.contour.specs.Loops.{Closes, IsCycle, follower}
+use Rattle.contour.proofs.lemmas.LoopWinds.{at_node}
 use Rattle.contour.proofs.lemmas.Unique.{loops-are}
 use Rattle.raster.specs.declared.rule.Rule.{Rule}
 use Rattle.raster.specs.declared.rule.Rule.TheVariants.{EvenOdd, NonZero, Positive}
@@ -40,23 +40,8 @@ inside_decides Positive n = positive_decides n
 
 -- ---- loops
 
-filter-passes : {X : Type 0} (p : X → Bool) (xs : List X) (k : ℕ) (x : X) → slice_get (filter p xs) k ≡ Some x → p x ≡ true
-filter-passes p [] k x h = cc
-filter-passes p (y ∷ ys) k x h = by_test (p y) refl k h (λ n. filter-passes p ys n x)
-  where
-    by_test : (b : Bool) → p y ≡ b → (k : ℕ) → slice_get (cond b (y ∷ filter p ys) (filter p ys)) k ≡ Some x
-        → ((n : ℕ) → slice_get (filter p ys) n ≡ Some x → p x ≡ true) → p x ≡ true
-    by_test true e zero h rest = let same : y ≡ x = cc in ap p (sym same) ∙ e
-    by_test true e (suc n) h rest = rest n h
-    by_test false e k h rest = rest k h
-
-node-is : (a b : Node) → is_node a b ≡ true → a ≡ b
-node-is a b h =
-    let parts : ((a.low == b.low) ≡ true) × ((a.high == b.high) ≡ true) = and_parts _ _ h in
-    λ i. record { low = eqb-true _ _ parts.0 i; high = eqb-true _ _ parts.1 i }
-
 follower-starts : (list : List Segment) (s t : Segment) → follower list s ≡ Some t → s.to ≡ t.from
-follower-starts list s t h = sym (node-is t.from s.to (filter-passes (λ t. is_node t.from s.to) list (rank_at_end list s) t h))
+follower-starts list s t h = sym (node-is t.from s.to (at_node list s t h))
 
 ends_at : (list : List Segment) (first : Segment) (loop : List Segment) → Closes list first loop → EndsAt first.from loop
 ends_at list first [] h = h

@@ -3,7 +3,7 @@ use Rattle.std.proofs.Common.{◌≡◌, ℕ, zero, suc, ◌+◌, ◌<◌, ◌�
 use Rattle.std.specs.Prelude.{Option, ℤ, filter_map, find, count_by, int_le, int_lt, ◌==◌}
 use Rattle.std.specs.List.{enumerate_from, cons_option}
 use Rattle.std.proofs.lemmas.Int.{ints}
-use Rattle.std.proofs.lemmas.Bool.{and_from, and_parts, eqb-true, eq-eqb, or_cases, or_left, or_right}
+use Rattle.std.proofs.lemmas.Bool.{and_from, eqb-true, eq-eqb, or_cases, or_left, or_right}
 use Rattle.geometry.specs.Point.{Point, origin, same}
 use Rattle.geometry.specs.Facet.{Facet, facet_with, Edge, edge, edges, half_edges}
 use Rattle.mesh_weld.specs.Balance.{IsBalanced, half_edge_count}
@@ -12,23 +12,18 @@ use Rattle.mesh_weld.specs.EdgeNumbers.{AreEdgeNumbers, HaveSameEnds, edge_of, e
 use Rattle.mesh_weld.proofs.lemmas.InOrder.{is_in}
 use Rattle.mesh_weld.proofs.lemmas.Order.{same-self}
 use Rattle.mesh_weld.proofs.lemmas.Edges.{count_by-cons, runs, runs-is}
-use Rattle.plane_segments.specs.Node.{Node, between}
+use Rattle.plane_segments.specs.Node.{Node, between, is_node}
 use Rattle.plane_segments.specs.declared.segment.Segment.{Segment}
-use Rattle.plane_segments.specs.Segment.{both_of, height, is_downward, is_node, is_upward, node_of, segment_of, segments}
+use Rattle.plane_segments.specs.Segment.{both_of, height, is_downward, is_upward, node_of, segment_of, segments}
 use Rattle.geometry.specs.TieRule.{rises_through}
 use Rattle.plane_segments.proofs.lemmas.Cutting.{triples_at}
 use Rattle.plane_segments.proofs.lemmas.NodeOrder.{ends_in, same_number}
+use Rattle.plane_segments.proofs.lemmas.Nodes.{node-is, own_node}
 use Rattle.plane_segments.proofs.lemmas.FacetOrder.{AreFrom, segments_ascend}
 use Rattle.contour.specs.Linker.{edge_at_node, edge_of_facet, start_edge, finish_edge, AreSegmentEdges}
 use Rattle.contour.proofs.lemmas.Counts.{AreEven, count-append}
 use Rattle.contour.proofs.lemmas.Links.{edge_below}
 use Rattle.contour.proofs.lemmas.Counts.{times}
-
-node-is : (a b : Node) → is_node a b ≡ true → (a.low ≡ b.low) × (a.high ≡ b.high)
-node-is a b h = let parts = and_parts (eqb a.low b.low) (eqb a.high b.high) h in (eqb-true a.low b.low parts.0, eqb-true a.high b.high parts.1)
-
-pub own_node : (a b : Node) → a ≡ b → is_node a b ≡ true
-own_node a b h = λ i. (eq-eqb a.low b.low (ap (λ n. n.low) h) i) && (eq-eqb a.high b.high (ap (λ n. n.high) h) i)
 
 module _ (facets : List Facet) where
   abbrev pub at : ℕ → ℕ → Edge
@@ -40,7 +35,8 @@ module _ (facets : List Facet) where
   pub same_ends : (n k m j : ℕ) → n < length facets → k < 3 → m < length facets → j < 3 → is_node (node_at n k) (node_at m j) ≡ true
       → HaveSameEnds (at n k) (at m j)
   same_ends n k m j l l' r r' h =
-      by_ends (at n k) (at m j) (ends_in facets n k l l') (ends_in facets m j r r') (node-is (node_at n k) (node_at m j) h)
+      let same = node-is (node_at n k) (node_at m j) h in
+      by_ends (at n k) (at m j) (ends_in facets n k l l') (ends_in facets m j r r') (ap (λ n. n.low) same, ap (λ n. n.high) same)
     where
       by_parts : (a b c d : ℕ) → (min a b ≡ min c d) × (max a b ≡ max c d) → ((a ≡ c) × (b ≡ d)) ⊎ ((a ≡ d) × (b ≡ c))
       by_parts a b c d h = grind arith
@@ -249,9 +245,6 @@ module _ (facets : List Facet) (numbers : List (List ℕ)) (count : ℕ) (number
   module _ (e : ℕ) (f s : ℕ) (l : f < length facets) (m : s < 3) (is : edge_number numbers f s ≡ e) where
     abbrev d : Edge
     d = edge_of facets f s
-
-    of_edge : (n : ℕ) → Edge → Bool
-    of_edge n c = eqb (edge_of_facet facets numbers n (node_of (vertices facets) c)) e
 
     same_edge : (n k : ℕ) → n < length facets → k < 3
         → eqb (edge_of_facet facets numbers n (node_at facets n k)) e ≡ (runs d.from d.to (edge_of facets n k) || runs d.to d.from (edge_of facets n k))

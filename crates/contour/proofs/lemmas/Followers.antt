@@ -12,13 +12,15 @@ use Rattle.mesh_weld.specs.Balance.{IsBalanced}
 use Rattle.mesh_weld.specs.Solid.{vertices, facet_at}
 use Rattle.mesh_weld.specs.EdgeNumbers.{AreEdgeNumbers, edge_of}
 use Rattle.mesh_weld.proofs.lemmas.Edges.{count_by-cons}
+use Rattle.plane_segments.specs.Node.{is_node}
 use Rattle.plane_segments.specs.declared.segment.Segment.{Segment}
-use Rattle.plane_segments.specs.Segment.{both_of, is_downward, is_node, is_segment, is_upward, node_of, segment_of, segments}
+use Rattle.plane_segments.specs.Segment.{both_of, is_downward, is_segment, is_upward, node_of, segment_of, segments}
 use Rattle.plane_segments.proofs.lemmas.FacetOrder.{AreFrom, segments_ascend}
+use Rattle.plane_segments.proofs.lemmas.Nodes.{own_node}
 use Rattle.contour.specs.Loops.{follower, rank_at_end}
 use Rattle.contour.specs.Linker.{AreLinks, AreSegmentEdges, ArePopped, edge_of_facet, finish_edge, slots, start_edge}
 use Rattle.contour.specs.declared.linker.TheConstants.{NONE}
-use Rattle.contour.proofs.lemmas.Balanced.{node_at, own_edge, own_node, same_ends, same_nodes, segment_edges-even, same_test}
+use Rattle.contour.proofs.lemmas.Balanced.{node_at, own_edge, same_ends, same_nodes, segment_edges-even, same_test}
 use Rattle.contour.proofs.lemmas.Counts.{AreEven, times}
 use Rattle.contour.proofs.lemmas.Slots.{AtSlot, length-slots, slots-at}
 

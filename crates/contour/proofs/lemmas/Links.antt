@@ -7,9 +7,9 @@ use mir.Val.{Fits}
 use Rattle.geometry.specs.Facet.{Facet, corners}
 use Rattle.mesh_weld.specs.Solid.{number_of, triples, vertices}
 use Rattle.mesh_weld.specs.EdgeNumbers.{AreEdgeNumbers}
-use Rattle.plane_segments.specs.Node.{Node}
+use Rattle.plane_segments.specs.Node.{Node, is_node}
 use Rattle.plane_segments.specs.declared.segment.Segment.{Segment}
-use Rattle.plane_segments.specs.Segment.{edge_node, is_node}
+use Rattle.plane_segments.specs.Segment.{edge_node}
 use Rattle.contour.specs.Linker.{AreSegmentEdges, edge_at_node, edge_of_facet, start_edge, finish_edge}
 use Rattle.geometry.specs.declared.limits.TheConstants.{FACET_LIMIT}
 

@@ -12,8 +12,9 @@ use Rattle.geometry.specs.Facet.{Facet, twice}
 use Rattle.geometry.specs.Winding.{hit, ray}
 use Rattle.mesh_weld.specs.Solid.{facet_at}
 use Rattle.mesh_weld.proofs.lemmas.Sums.{total-append}
+use Rattle.plane_segments.specs.Node.{is_node}
 use Rattle.plane_segments.specs.declared.segment.Segment.{Segment}
-use Rattle.plane_segments.specs.Segment.{segments, is_segment, is_node}
+use Rattle.plane_segments.specs.Segment.{segments, is_segment}
 use Rattle.plane_segments.proofs.lemmas.Cutting.{facet_at-is}
 use Rattle.plane_segments.proofs.lemmas.FacetOrder.{segments_below, segments_few}
 use Rattle.contour.specs.Loops.{loop_facets, loops, cycle, run_from, follower, is_leader, rank_at_end}

@@ -14,8 +14,9 @@ use Rattle.mesh_weld.specs.Solid.{facet_at, vertices}
 use Rattle.mesh_weld.specs.Laws.{IsOpposite, round}
 use Rattle.mesh_weld.proofs.lemmas.Sums.{total-difference, total-map}
 use Rattle.exact_cut.proofs.lemmas.Turns.{turn-opposite}
+use Rattle.plane_segments.specs.Node.{is_node}
 use Rattle.plane_segments.specs.declared.segment.Segment.{Segment}
-use Rattle.plane_segments.specs.Segment.{both_of, height, is_downward, is_node, is_upward, node_of, segment_of, segments}
+use Rattle.plane_segments.specs.Segment.{both_of, height, is_downward, is_upward, node_of, segment_of, segments}
 use Rattle.contour.specs.Loops.{Closes, IsCycle, follower, loop_facets, loops, rank_at_end}
 use Rattle.geometry.specs.TieRule.{rises_through}
 use Rattle.contour.proofs.lemmas.Balanced.{first_of, low_at, node_at, rises-is, same_ends}

@@ -8,8 +8,9 @@ use Rattle.std.proofs.lemmas.List.Elements.{All-filter, All-from_recursion, recu
 use Rattle.geometry.specs.Point.{Point, half_micrometres_of}
 use Rattle.geometry.specs.TieRule.{rises_through}
 use Rattle.geometry.specs.Facet.{Facet, Edge, half_edges, twice}
+use Rattle.plane_segments.specs.Node.{is_node}
 use Rattle.plane_segments.specs.declared.segment.Segment.{Segment}
-use Rattle.plane_segments.specs.Segment.{height, is_downward, is_node, is_upward, segments}
+use Rattle.plane_segments.specs.Segment.{height, is_downward, is_upward, segments}
 use Rattle.plane_segments.proofs.lemmas.Cutting.{facet_at-is, found_down, not_found_down, to_rises, twice_finish, twice_start}
 use Rattle.plane_segments.proofs.lemmas.FacetOrder.{segments_below}
 use Rattle.contour.specs.Loops.{AreEnds, follower, is_leader, loops, parts_from}

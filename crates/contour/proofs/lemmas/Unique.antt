@@ -7,11 +7,11 @@ use Rattle.std.proofs.lemmas.Bool.{and_parts, eq-eqb, eqb-false, ne_eqb}
 use Rattle.std.proofs.lemmas.Bool.Decides.{nat_tests}
 use Rattle.geometry.specs.Facet.{Facet}
 use Rattle.mesh_weld.proofs.lemmas.Edges.{count_by-cons}
+use Rattle.plane_segments.specs.Node.{is_node}
 use Rattle.plane_segments.specs.declared.segment.Segment.{Segment}
-use Rattle.plane_segments.specs.Segment.{is_node, segments}
+use Rattle.plane_segments.specs.Segment.{no_segment, segments}
 use Rattle.plane_segments.proofs.lemmas.FacetOrder.{AreFrom, segments_ascend}
 use Rattle.contour.specs.Loops.{AreLoops, Closes, IsCycle, count_of, cycle, first_facet, follower, is_from_least, is_leader, loops, run_from, rank_at_end}
-use Rattle.contour.specs.Linker.{no_segment}
 use Rattle.contour.proofs.lemmas.Counts.{count-append}
 use Rattle.contour.proofs.lemmas.Cycles.{NoneOf, onward, run-is}
 use Rattle.contour.proofs.lemmas.Slots.{either}

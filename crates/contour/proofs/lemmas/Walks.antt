@@ -6,8 +6,9 @@ use Rattle.std.proofs.lemmas.List.{length-set}
 use Rattle.std.proofs.lemmas.Bool.Decides.{nat_tests}
 use Rattle.mesh_weld.proofs.lemmas.Edges.{count_by-cons}
 use Rattle.plane_segments.specs.declared.segment.Segment.{Segment}
+use Rattle.plane_segments.specs.Segment.{no_segment}
 use Rattle.contour.specs.Loops.{Closes, IsCycle, count_of, first_facet, follower}
-use Rattle.contour.specs.Linker.{AreLinks, IsTracedLoop, KeepsLoopsWhole, InFacetOrder, facet_of, is_visited, unvisited, no_segment}
+use Rattle.contour.specs.Linker.{AreLinks, IsTracedLoop, KeepsLoopsWhole, InFacetOrder, facet_of, is_visited, unvisited}
 use Rattle.contour.specs.declared.linker.TheConstants.{NONE}
 use Rattle.contour.proofs.lemmas.Counts.{count-append}
 use Rattle.contour.proofs.lemmas.Slots.{either}
@@ -137,9 +138,6 @@ module _ (list : List Segment) (next : List ℕ) (links : AreLinks list next) (o
         by_slot : (first ≡ at) ⊎ (first ≡ at → ⊥) → nat_le (facet_of list first) (segment_in list at).facet ≡ true
         by_slot (inl e) = at_most _ _ (let s = ap (facet_of list) e in omega (arith, s))
         by_slot (inr n) = at_most _ _ (let m = not_before in let s = order first at (omega (arith, m, n)) w.inside in omega (arith, s))
-
-    next_at : ℕ
-    next_at = get_or next at NONE
 
     pub walk-goes : IsWalk list next first before (set visited at true) (get_or next at NONE) (part ++ segment_in list at ∷ [])
     walk-goes = record {

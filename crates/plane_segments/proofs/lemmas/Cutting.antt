@@ -113,7 +113,7 @@ none-only o facets z n t e f not_between = (
     apart e = cc
 
 -- the node of edge 0, 1 or 2, by the numbers of the corners
-pub edge_node-is : (points : List Point) (t : Facet) (e : ℕ) → e < 3
+edge_node-is : (points : List Point) (t : Facet) (e : ℕ) → e < 3
     → edge_node (map (number_of points) (corners t)) e ≡ node_of points (edge_at t e)
 edge_node-is points t zero h = refl
 edge_node-is points t (suc zero) h = refl

@@ -13,7 +13,7 @@ use Rattle.exact_cut.specs.declared.dda.lattice.Lattice.{Lattice}
 use Rattle.exact_cut.proofs.lemmas.Sections.{unpassed}
 use Rattle.mesh_weld.specs.Solid.{facet_at, vertices}
 use Rattle.plane_segments.specs.declared.segment.Segment.{Segment}
-use Rattle.plane_segments.specs.Segment.{both_of, height, is_downward, is_upward, node_of, segment_of, segments}
+use Rattle.plane_segments.specs.Segment.{both_of, height, is_downward, is_upward, no_segment, node_of, segment_of, segments}
 use Rattle.geometry.specs.TieRule.{rises_through}
 use Rattle.plane_segments.proofs.lemmas.Cutting.{facet_at-is}
 use Rattle.plane_segments.proofs.lemmas.FacetOrder.{segments_below}
@@ -107,10 +107,6 @@ pub total-segments : (f : Facet → ℤ) (facets : List Facet) (z : ℤ) → ((t
     → total (λ s. f (facet_at facets s.facet)) (segments facets z) ≡ total f facets
 total-segments f facets z nothing =
     total-from f (facet_at facets) (vertices facets) z nothing 0 facets (reads (facet_at facets) 0 facets (λ k l. let same : 0 + k ≡ k = omega arith in ap (facet_at facets) same))
-
--- what is read behind the end of a list
-abbrev no_segment : Segment
-no_segment = record { facet = 0; from = record { low = 0; high = 0 }; to = record { low = 0; high = 0 } }
 
 abbrev segment_or : List Segment → ℕ → Segment
 segment_or list n = slice_index_or list n no_segment

@@ -1,7 +1,8 @@
 use Rattle.std.proofs.Common.{◌≡◌, ◌<◌, ◌++◌, ◌∷◌, ◌∙◌, [], true, false, List, length, get_or, set, sym, subst, ap, arith}
 use Rattle.std.proofs.lemmas.List.{append-nil, append_assoc, get_or_default}
 use Rattle.plane_segments.specs.declared.segment.Segment.{Segment}
-use Rattle.contour.specs.Linker.{is_visited, no_segment}
+use Rattle.plane_segments.specs.Segment.{no_segment}
+use Rattle.contour.specs.Linker.{is_visited}
 use Rattle.contour.specs.declared.linker.TheConstants.{NONE}
 use Rattle.contour.proofs.lemmas.Walks.{IsWalk, walk-begins, walk-goes, walk-ends}
 use Rattle.contour.proofs.linker.trace_loop.Goals as goal
