@@ -49,8 +49,9 @@ pub(crate) fn write_images_by<R: Threads + Sync, A: Allocator + Copy + Send + Sy
 /// How many images a page has where workers draw before they write, else 0: there is one worker, an image is too long for a
 /// page, or rows have few spans.
 fn drawn_a_page<A: Allocator>(build: &Build<'_, A>, workers: u32) -> usize {
-    if workers > 1 && has_many_spans(build) {
-        images_a_page(build.job().grid(), workers)
+    let per = images_a_page(build.job().grid(), workers);
+    if workers > 1 && per > 0 && has_many_spans(build) {
+        per
     } else {
         0
     }
