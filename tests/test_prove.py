@@ -1,8 +1,8 @@
 #!/usr/bin/env python3
 """What make does before rt run: libraries side by side, each behind those that it stands on, and those beside the longest
-chain at a lower priority, but for one whose chain is nearly as long; an end with status 1 where one isn't proved or the quick pass has something to mend; and
-nothing at all where the toolchain's library is another than expected. It is tried with a library that stands in for the
-toolchain's."""
+chain at a lower priority with half of the processors, but for one whose chain is nearly as long; all of them from nothing
+but where work is kept; an end with status 1 where one isn't proved or the quick pass has something to mend; and nothing at
+all where the toolchain's library is another than expected. It is tried with a library that stands in for the toolchain's."""
 
 import os
 import sys
@@ -15,12 +15,14 @@ import os, threading, time
 LOG, mutex = os.environ["LOG"], threading.Lock()
 DEPS = {"low": [], "twin": [], "middle": ["low", "twin"], "high": ["middle", "side"], "side": [], "other": []}
 LINES = {"low": 50, "twin": 45, "middle": 50, "high": 50, "side": 20, "other": 10}
+RATTLE = "rattle"
 known = {}
 
 
 class Crate:
     def __init__(self, folder, root, crates):
         self.name, self.folder = os.path.basename(folder), folder
+        self.rlib = f"{folder}/out/rlib/{self.name}.rlib"
         self.deps = [known.setdefault(it, Crate(f"{root}/{it}", root, {})) for it in DEPS.get(self.name, [])]
 
     def below(self):
@@ -36,12 +38,30 @@ class Crate:
     def front_end(self):
         return int(os.environ["QUICK"])
 
-    def build_rlib(self, flags, anew):
+    def is_built(self):
+        return self.name == os.environ["BUILT"]
+
+    def has_kept(self):
+        return self.name == "other"
+
+    def stamp(self):
+        return f"stamp of {self.name}"
+
+    def words(self, flags, keeps):
+        return [*flags, *["--incremental"] * keeps]
+
+    def says(self, *words):
         for what in ("begins", "ends"):
             with mutex, open(LOG, "a") as file:
-                print(self.name, what, *flags, "nice", os.getpriority(os.PRIO_PROCESS, 0), file=file)
+                print(self.name, what, *words, "nice", os.getpriority(os.PRIO_PROCESS, 0), file=file)
             time.sleep(0.1 * (what == "begins"))
         return int(self.name == os.environ["FAILS"])
+
+    def build_rlib(self, flags, anew):
+        return self.says("built" if self.is_built() else "kept", *flags, *["anew"] * anew)
+
+    def call(self, *words):
+        return self.says(*words)
 
 
 def guarded():
@@ -73,9 +93,9 @@ def main():
             os.chmod(room.file("bin", name), 0o755)
         room.environment["LOG"] = room.file("log")
 
-        def prove(quick=0, fails=""):
+        def prove(quick=0, fails="", built=""):
             open(room.file("log"), "w").close()
-            room.environment.update(QUICK=str(quick), FAILS=fails)
+            room.environment.update(QUICK=str(quick), FAILS=fails, BUILT=built)
             ran = room.run(sys.executable, "tools/prove.py", room.file("program"))
             with open(room.file("log")) as file:
                 return ran.returncode, file.read().splitlines(), ran.stderr
@@ -85,9 +105,13 @@ def main():
         at = {line: k for k, line in enumerate(log)}
         names = {line.split()[0]: line for line in log if " begins" in line}
         same("libraries", sorted(names), ["high", "low", "middle", "other", "side", "twin"])
-        flags = {name: line.split(" begins ")[1].split("nice ")[0] for name, line in names.items()}
-        same("jobs", [flags[name] for name in ("low", "middle", "high", "side")], ["", "", "", "--jobs 1 "])
-        same("jobs of a chain that is nearly as long", flags["twin"], "--jobs 2 ")
+        words = {name: line.split(" begins ")[1].split(" nice ")[0] for name, line in names.items()}
+        for name, jobs in (("low", ""), ("middle", ""), ("high", ""), ("side", "--jobs 2 "), ("twin", "")):
+            rlib = room.file(name, "out", "rlib", f"{name}.rlib")
+            same(f"words for {name}", words[name], f"rattle build {jobs}-o {rlib}")
+            with open(os.path.join(os.path.dirname(rlib), "stamp")) as file:
+                same(f"stamp of {name}", file.read(), f"stamp of {name}")
+        same("where work is kept", words["other"], "kept --jobs 2")
         niceness = {name: int(line.split()[-1]) for name, line in names.items()}
         same("priority of the chain", [niceness[name] for name in ("low", "twin", "middle", "high")], [os.nice(0)] * 4)
         same("priority beside it", niceness["side"], min(os.nice(0) + 10, 19))
@@ -99,6 +123,9 @@ def main():
         for line in log:
             running.append(running[-1] + (1 if " begins" in line else -1))
         same("most at once", max(running), 3)
+
+        status, log, _ = prove(built="low")
+        holds("what is built is left to the toolchain", status == 0 and any(it.startswith("low begins built nice") for it in log))
 
         status, log, said = prove(fails="middle")
         holds("a library that isn't proved is named", status == 1 and "middle is not proved" in said)

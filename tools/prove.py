@@ -5,14 +5,17 @@
 
 FOLDER is the program's crate. `rt run` there proves the libraries one after another; `rt all check --jobs N` proves
 N at a time, but gives each one job, and most of these crates stand on one another. This calls the toolchain's own
-library, as both of them do: of the libraries that can be built, the one with the longest chain of others above it
-chooses its jobs as under `rt run`. The whole takes as long as that chain, so those beside it, one for each two
-processors where memory allows, get one job each and the time that it leaves: theirs is a lower priority. But one with a
-chain above it that is nearly as long gets half of the processors and the same priority, since what stands on both would
-wait for it, and one with a longer chain, which had to wait for others, chooses its jobs too. The quick pass over all
-sources, with which `rt run` begins, goes on beside the first proofs. `rt run` takes what is built here as built, by its
-own stamps, and builds the rest itself. So where the toolchain's library is another than expected, this says so and leaves
-all to `rt run`.
+library, as both of them do. The whole takes as long as the longest chain of libraries that stand on one another, so a
+library whose chain is the longest of those that run, or nearly so, chooses its jobs as under `rt run`. Those beside it get
+half of the processors each, and the time that it leaves: theirs is a lower priority.
+
+A library of which no check has kept any work is proved by one process that shares its work among many, and no work is kept.
+Where work is to be kept, the toolchain proves the functions in batches, each by a process that reads all libraries below,
+and then reads what these found: some libraries take four times as long.
+
+The quick pass over all sources, with which `rt run` begins, goes on beside the first proofs. `rt run` takes what is built
+here as built, by its own stamps, and builds the rest itself. So where the toolchain's library is another than expected,
+this says so and leaves all to `rt run`.
 """
 
 import importlib.util
@@ -29,7 +32,7 @@ sys.dont_write_bytecode = True
 NICENESS = 10
 
 # A chain is nearly as long as another if it has at least this part of its lines.
-NEARLY = 0.9
+NEARLY = 0.7
 
 
 def toolchain():
@@ -50,18 +53,31 @@ def heights(crates):
     return found
 
 
-def built(crate, flags, streams):
-    """Whether the library was proved and built. What is said of it comes at once, or else when it has ended."""
+def proved(rtlib, crate, flags):
+    """The status of the toolchain's build of a library."""
+    if crate.is_built() or crate.has_kept():
+        return crate.build_rlib(flags, anew=False)
+    stamp, folder = crate.stamp(), os.path.dirname(crate.rlib)
+    shutil.rmtree(folder, ignore_errors=True)
+    os.makedirs(folder)
+    status = crate.call(rtlib.RATTLE, "build", *crate.words(flags, keeps=False), "-o", crate.rlib)
+    if status == 0 and stamp == crate.stamp():
+        with open(f"{folder}/stamp", "w", encoding="utf-8") as file:
+            file.write(stamp)
+    return status
+
+
+def built(rtlib, crate, flags):
+    """Whether the library was proved and built. What is said of it comes when it has ended."""
+    print(f"== {crate.name}", flush=True)
     os.makedirs(f"{crate.folder}/out", exist_ok=True)
-    with tempfile.TemporaryFile("w+", errors="replace") as said:
-        crate.out = sys.stdout if streams else said
-        print(f"== {crate.name}", file=crate.out, flush=True)
+    with tempfile.TemporaryFile("w+", errors="replace") as crate.out:
         try:
-            status = crate.build_rlib(flags, anew=False)
+            status = proved(rtlib, crate, flags)
         except SystemExit:
             status = 2
-        said.seek(0)
-        print(said.read(), end="", flush=True)
+        crate.out.seek(0)
+        print(crate.out.read(), end="", flush=True)
     return status == 0
 
 
@@ -82,31 +98,26 @@ def prove(rtlib, folder):
     program = rtlib.Crate(folder, rtlib.root_above(folder), {})
     left = program.below()
     held = rtlib.lock([*left, program])
-    chain, done, running, first, second = heights(left), [], {}, None, None
-    beside = rtlib.cores() // 2
+    chain, done, running = heights(left), [], {}
+    beside = max(rtlib.cores() // 2, 1)
+    few = ["--jobs", str(beside)]
     # a thread's priority is its own, and what it starts has the same
-    spare = ThreadPoolExecutor(max(beside, 1), initializer=os.nice, initargs=(NICENESS,))
-    with ThreadPoolExecutor(3) as pool, spare:
+    spare = ThreadPoolExecutor(beside, initializer=os.nice, initargs=(NICENESS,))
+    with ThreadPoolExecutor(beside + 2) as pool, spare:
         reading = pool.submit(read, program)
         while left or running:
             if reading.done() and not reading.result():
                 return False
             ready = [it for it in left if all(dep in done for dep in it.deps)]
             for crate in sorted(ready, key=lambda it: -chain[it]):
-                if first is None:
-                    first, run = crate, pool.submit(built, crate, [], True)
-                elif second is None and chain[crate] >= NEARLY * chain[first] and rtlib.fits(crate.need()):
-                    few = ["--jobs", str(max(beside, 1))] if chain[crate] < chain[first] else []
-                    second, run = crate, pool.submit(built, crate, few, False)
-                elif len(running) <= beside and rtlib.fits(crate.need()):
-                    run = spare.submit(built, crate, ["--jobs", "1"], False)
-                else:
+                if running and (len(running) > beside or not rtlib.fits(crate.need())):
                     break
+                is_longest = all(chain[crate] >= NEARLY * chain[it] for it in running.values())
+                run = pool.submit(built, rtlib, crate, []) if is_longest else spare.submit(built, rtlib, crate, few)
                 left.remove(crate)
                 running[run] = crate
             for it in wait(running, return_when=FIRST_COMPLETED).done:
                 crate = running.pop(it)
-                first, second = (None if kept is crate else kept for kept in (first, second))
                 if not it.result():
                     print(f"prove.py: {crate.name} is not proved", file=sys.stderr)
                     return False

@@ -6,7 +6,9 @@
 A check keeps a record of each function as soon as it is done with it, in CRATE/out. So the times of these files tell how
 a check from nothing went: where none was written for many seconds, all waited for the function whose record came next. For
 each folder CRATE this prints how long the whole took, and the N (5) longest waits. It reads times alone. Run it after a
-first check, or after `make` from nothing with nothing else on the machine: a later check writes only what has changed.
+first `rt check` of the crate with nothing else on the machine: a later check writes only what has changed, and `make` from
+nothing writes no record. Such a check proves functions in batches, so a wait is also one for the libraries below, which
+each batch reads.
 
 A function with an `if` or a `match` of many arms that can each end early, or with many values to drop, often takes long as
 a whole, and seconds once its arms are functions of their own.
