@@ -4,4 +4,5 @@ pub mod Faults
 pub mod OneAnswer
 pub mod Pages
 pub mod Stream
+pub mod Unwritten
 pub mod WrittenPixels

@@ -1,22 +1,24 @@
 -- Images that are drawn into pages: which bytes they have, and how many.
 use Rattle.std.proofs.Common.{◌≡◌, ℕ, zero, suc, ◌+◌, ◌*◌, ◌-◌, ◌<◌, ◌≤◌, List, [], ◌∷◌, ◌++◌, min, length, length-append, append_assoc, ap, sym, ◌∙◌, arith, refl, slice_index_or, drop, subst, Option}
-use Rattle.std.specs.Prelude.{Bool, false, Err, IfErr, IfOk, Ok, Result, flat_map}
+use Rattle.std.specs.Prelude.{Bool, false, Err, IfErr, IfOk, IsErrAnd, Ok, OnOk, Result, flat_map}
 use Rattle.std.specs.List.{All, range_with_len}
 use Rattle.std.proofs.lemmas.List.Concat.{flat_map-cons}
 use Rattle.std.proofs.lemmas.List.{drop_all, take_all}
 use Rattle.std.proofs.Math.Seq.{drop-cons}
 use Rattle.std.proofs.Math.Nat.{mul-le-mul_left}
 use Rattle.std.specs.Io.KnownBytes.{Appends}
-use Rattle.raster.proofs.lemmas.Written.{IsUnderWay, all-counted, begun, more-out, moved, taken-on, written-within}
-use Rattle.raster.specs.Devices.{AppendsFirst}
+use Rattle.geometry.specs.declared.limits.TheConstants.{COLUMN_LIMIT, LAYER_LIMIT}
+use Rattle.raster.proofs.lemmas.Written.{IsUnderWay, all-counted, all-out, begun, more-out, moved, taken-on, written-within}
+use Rattle.raster.specs.Devices.{AppendsFirst, greatest_count}
 use Rattle.raster.specs.declared.devices.WriteFault.{WriteFault}
 use Rattle.raster.specs.Grid.{Grid, centre}
 use Rattle.raster.specs.Filler.{is_filled}
-use Rattle.raster.specs.Image.{image_of_pixels, images, layer_image}
+use Rattle.raster.specs.Image.{image_of_pixels, images, images_limit, layer_image}
 use Rattle.raster.specs.Page.{Page}
-use Rattle.raster.proofs.lemmas.Images.{length-image}
+use Rattle.raster.proofs.lemmas.Images.{length-image, small-images}
+use Rattle.mesh_reading.proofs.lemmas.Faults.{passed_on}
 use Rattle.build_book.specs.Job.{Job}
-use Rattle.stlslice.specs.Pages.{image_size, images_between, pages_text}
+use Rattle.stlslice.specs.Pages.{image_size, images_between, images_of, pages_text}
 
 -- the text of a range in two parts
 range-parts : (f : ℕ → List ℕ) (a m n : ℕ) → flat_map f (range_with_len a (m + n)) ≡ flat_map f (range_with_len a m) ++ flat_map f (range_with_len (a + m) n)
@@ -183,10 +185,35 @@ image-drawn job k end bytes new image text h is added before =
     ∙ before
 
 -- the same where the pages are looked at as a slice
-pub pages-same : (old now : Option (List ℕ)) (all : List ℕ) (written : ℕ) (pages slice : List Page) (left : List ℕ) → slice ≡ pages
+pages-same : (old now : Option (List ℕ)) (all : List ℕ) (written : ℕ) (pages slice : List Page) (left : List ℕ) → slice ≡ pages
     → IsUnderWay old now all 0 written (pages_text pages) left → IsUnderWay old now all 0 written (pages_text slice) left
 pages-same old now all written pages slice left same text =
     subst (λ (l : List Page). IsUnderWay old now all 0 written (pages_text l) left) (sym same) text
+
+-- no grid has so many voxels that its images could not be counted
+pub few-bytes : (job held : Job) (grid : Grid) (columns rows layers : ℕ) → held ≡ job → grid ≡ held.grid
+    → columns ≡ grid.columns → columns ≤ COLUMN_LIMIT → rows ≡ grid.rows → rows ≤ COLUMN_LIMIT → layers ≡ grid.layers → layers ≤ LAYER_LIMIT
+    → length (images_of job) ≤ images_limit
+few-bytes job held grid columns rows layers same of columns-are narrow rows-are short layers-are few =
+    let is : grid ≡ job.grid = of ∙ ap (λ (j : Job). j.grid) same in
+    small-images job.grid job.rule job.solid.facets
+    (subst (λ (n : ℕ). n ≤ COLUMN_LIMIT) (columns-are ∙ ap (λ (g : Grid). g.columns) is) narrow)
+    (subst (λ (n : ℕ). n ≤ COLUMN_LIMIT) (rows-are ∙ ap (λ (g : Grid). g.rows) is) short)
+    (subst (λ (n : ℕ). n ≤ LAYER_LIMIT) (layers-are ∙ ap (λ (g : Grid). g.layers) is) few)
+
+-- what is out and the pages that go out next can be counted
+pub pages-counted : (job : Job) (old now : Option (List ℕ)) (written first : ℕ) (pages slice : List Page)
+    → length (images_of job) ≤ images_limit → slice ≡ pages
+    → IsUnderWay old now (images_of job) 0 written (pages_text pages) (images_between job first job.grid.layers)
+    → written + length (pages_text slice) ≤ greatest_count
+pages-counted job old now written first pages slice few same text =
+    let left : List ℕ = images_between job first job.grid.layers in
+    omega (
+      arith,
+      few,
+      all-counted old now (images_of job) 0 written (pages_text slice) left
+          (pages-same old now (images_of job) written pages slice left same text),
+    )
 
 -- pages with just the room that is wanted have it
 pub room-enough : (per : ℕ) (grid taken : Grid) (pages : List Page) → taken ≡ grid
@@ -195,24 +222,31 @@ room-enough per grid taken pages same h =
     λ k d low. omega (arith, h k d low, ap (λ (g : Grid). per * image_size g) same)
 
 -- up to which layer a set of pages is drawn, where all n layers are there
-pub set-end : (n per first m count end : ℕ) → count ≡ n → end ≡ min (first + m * per) count → end ≡ min (first + m * per) n
+set-end : (n per first m count end : ℕ) → count ≡ n → end ≡ min (first + m * per) count → end ≡ min (first + m * per) n
 set-end n per first m count end whole is = is ∙ ap (λ (k : ℕ). min (first + m * per) k) whole
 
+pub set-high : (n per first m count end : ℕ) → count ≡ n → end ≡ min (first + m * per) count → end ≤ n
+set-high n per first m count end whole is = omega (arith, whole, is)
+
 -- one set went out, and the next one is drawn
-pub set-out : (job : Job) (old now new : Option (List ℕ)) (written total first m per end : ℕ) (chunk drawn : List ℕ)
-    → IsUnderWay old now (images job.grid job.rule job.solid.facets) 0 written chunk (images_between job first job.grid.layers)
-    → Appends now new chunk → total ≡ written + length chunk → first ≤ job.grid.layers → end ≡ min (first + m * per) job.grid.layers
-    → drawn ≡ images_between job first (min (first + m * per) job.grid.layers)
-    → IsUnderWay old new (images job.grid job.rule job.solid.facets) 0 total drawn (images_between job end job.grid.layers)
-set-out job old now new written total first m per end chunk drawn text out size low is images-are =
+pub set-out : (job : Job) (old now new : Option (List ℕ)) (written total first m per count end : ℕ) (pages slice drawn : List Page)
+    → slice ≡ pages
+    → IsUnderWay old now (images_of job) 0 written (pages_text pages) (images_between job first job.grid.layers)
+    → Appends now new (pages_text slice) → total ≡ written + length (pages_text slice) → first ≤ job.grid.layers
+    → count ≡ job.grid.layers → end ≡ min (first + m * per) count
+    → pages_text drawn ≡ images_between job first (min (first + m * per) job.grid.layers)
+    → IsUnderWay old new (images_of job) 0 total (pages_text drawn) (images_between job end job.grid.layers)
+set-out job old now new written total first m per count end pages slice drawn same text out size low whole is images-are =
     let n : ℕ = job.grid.layers in
-    let all : List ℕ = images job.grid job.rule job.solid.facets in
-    let begun : first ≤ end = omega (arith, is, low) in
-    let high : end ≤ n = omega (arith, is) in
-    let same : images_between job first end ≡ drawn = ap (λ (k : ℕ). images_between job first k) is ∙ sym images-are in
-    with-part old new all 0 total drawn (images_between job end n) (images_between job first n)
-    (all-put old now new all 0 written total chunk (images_between job first n) text out size)
-    (images-parts job first end n begun high ∙ ap (λ (l : List ℕ). l ++ images_between job end n) same)
+    let all : List ℕ = images_of job in
+    let at : end ≡ min (first + m * per) n = set-end n per first m count end whole is in
+    let begun : first ≤ end = omega (arith, at, low) in
+    let high : end ≤ n = omega (arith, at) in
+    let next : images_between job first end ≡ pages_text drawn = ap (λ (k : ℕ). images_between job first k) at ∙ sym images-are in
+    with-part old new all 0 total (pages_text drawn) (images_between job end n) (images_between job first n)
+    (all-put old now new all 0 written total (pages_text slice) (images_between job first n)
+    (pages-same old now all written pages slice (images_between job first n) same text) out size)
+    (images-parts job first end n begun high ∙ ap (λ (l : List ℕ). l ++ images_between job end n) next)
 
 -- each set has a layer at least
 pub fewer-left : (count first m per end : ℕ) → 1 ≤ m → 1 ≤ per → first < count → end ≡ min (first + m * per) count → count - end < count - first
@@ -220,26 +254,77 @@ fewer-left count first m per end some few h is =
     let one : per * 1 ≤ per * m = mul-le-mul_left per some in
     omega (arith, one, few, h, is)
 
--- Where the last pages could not be written, a front of all images went out.
+-- Where pages could not be written, a front of all images went out.
 
-pub last-written : (r : Result ℕ WriteFault) (old now new : Option (List ℕ)) (all : List ℕ) (written : ℕ) (chunk rest : List ℕ)
-    → IsUnderWay old now all 0 written chunk rest → IfErr r (λ f. written ≤ f.written) → IfErr r (λ f. f.written < written + length chunk)
-    → IfErr r (λ f. AppendsFirst now new (f.written - written) chunk) → IfErr r (λ f. AppendsFirst old new f.written all)
-last-written (Ok x) old now new all written chunk rest text some within sent = tt
-last-written (Err f) old now new all written chunk rest text some within sent =
-    let same : f.written - 0 ≡ f.written = omega arith in
-    rw same at (more-out old now new all 0 written f.written chunk rest text some (omega (arith, within)) sent)
+pub pages-written : (r : Result ℕ WriteFault) (job : Job) (old now new : Option (List ℕ)) (written first : ℕ) (pages slice : List Page)
+    → slice ≡ pages
+    → IsUnderWay old now (images_of job) 0 written (pages_text pages) (images_between job first job.grid.layers)
+    → IfErr r (λ f. written ≤ f.written) → IfErr r (λ f. f.written < written + length (pages_text slice))
+    → IfErr r (λ f. AppendsFirst now new (f.written - written) (pages_text slice))
+    → IfErr r (λ f. AppendsFirst old new f.written (images_of job))
+pages-written (Ok x) job old now new written first pages slice same text some within sent = tt
+pages-written (Err f) job old now new written first pages slice same text some within sent =
+    let left : List ℕ = images_between job first job.grid.layers in
+    let all : f.written - 0 ≡ f.written = omega arith in
+    rw all at (more-out old now new (images_of job) 0 written f.written (pages_text slice) left
+    (pages-same old now (images_of job) written pages slice left same text) some (omega (arith, within)) sent)
 
-pub last-within : (r : Result ℕ WriteFault) (old now : Option (List ℕ)) (all : List ℕ) (written : ℕ) (chunk rest : List ℕ)
-    → IsUnderWay old now all 0 written chunk rest → IfErr r (λ f. f.written < written + length chunk) → IfErr r (λ f. f.written < length all)
-last-within (Ok x) old now all written chunk rest text within = tt
-last-within (Err f) old now all written chunk rest text within =
-    let less = written-within old now all 0 written f.written chunk rest text within in
+pub pages-within : (r : Result ℕ WriteFault) (job : Job) (old now : Option (List ℕ)) (written first : ℕ) (pages slice : List Page)
+    → slice ≡ pages
+    → IsUnderWay old now (images_of job) 0 written (pages_text pages) (images_between job first job.grid.layers)
+    → IfErr r (λ f. f.written < written + length (pages_text slice)) → IfErr r (λ f. f.written < length (images_of job))
+pages-within (Ok x) job old now written first pages slice same text within = tt
+pages-within (Err f) job old now written first pages slice same text within =
+    let left : List ℕ = images_between job first job.grid.layers in
+    let less = written-within old now (images_of job) 0 written f.written (pages_text slice) left
+    (pages-same old now (images_of job) written pages slice left same text) within in
     omega (arith, less)
 
-pub last-total : (r : Result ℕ WriteFault) (old now : Option (List ℕ)) (all : List ℕ) (written : ℕ) (chunk : List ℕ)
-    → IsUnderWay old now all 0 written chunk [] → IfOk r (λ total. total ≡ written + length chunk) → IfOk r (λ total. total ≡ length all)
-last-total (Ok x) old now all written chunk text is =
-    let counted = all-counted old now all 0 written chunk [] text in
+-- where a fault is passed on
+pub early-written : (r : Result ℕ WriteFault) (fault : WriteFault) (job : Job) (old now new : Option (List ℕ)) (written first : ℕ)
+    (pages slice : List Page) → slice ≡ pages
+    → IsUnderWay old now (images_of job) 0 written (pages_text pages) (images_between job first job.grid.layers)
+    → written ≤ fault.written → fault.written < written + length (pages_text slice)
+    → AppendsFirst now new (fault.written - written) (pages_text slice) → IsErrAnd r (λ f. f ≡ fault)
+    → IfErr r (λ f. AppendsFirst old new f.written (images_of job))
+early-written r fault job old now new written first pages slice same text some within sent =
+    passed_on r (λ f. f ≡ fault) (λ f. AppendsFirst old new f.written (images_of job))
+    (λ f is. subst (λ (x : WriteFault). AppendsFirst old new x.written (images_of job)) (sym is)
+    (pages-written (Err fault) job old now new written first pages slice same text some within sent))
+
+pub early-within : (r : Result ℕ WriteFault) (fault : WriteFault) (job : Job) (old now : Option (List ℕ)) (written first : ℕ)
+    (pages slice : List Page) → slice ≡ pages
+    → IsUnderWay old now (images_of job) 0 written (pages_text pages) (images_between job first job.grid.layers)
+    → fault.written < written + length (pages_text slice) → IsErrAnd r (λ f. f ≡ fault)
+    → IfErr r (λ f. f.written < length (images_of job))
+early-within r fault job old now written first pages slice same text within =
+    passed_on r (λ f. f ≡ fault) (λ f. f.written < length (images_of job))
+    (λ f is. subst (λ (x : WriteFault). x.written < length (images_of job)) (sym is)
+    (pages-within (Err fault) job old now written first pages slice same text within))
+
+-- Where no layer is left, all images went out with the last pages.
+
+last-pages : (job : Job) (old now : Option (List ℕ)) (written first : ℕ) (pages slice : List Page) → job.grid.layers ≤ first → slice ≡ pages
+    → IsUnderWay old now (images_of job) 0 written (pages_text pages) (images_between job first job.grid.layers)
+    → IsUnderWay old now (images_of job) 0 written (pages_text slice) []
+last-pages job old now written first pages slice end same text =
+    subst (λ (left : List ℕ). IsUnderWay old now (images_of job) 0 written (pages_text slice) left) (no-images job first job.grid.layers end)
+    (pages-same old now (images_of job) written pages slice (images_between job first job.grid.layers) same text)
+
+pub last-out : (r : Result ℕ WriteFault) (job : Job) (old now new : Option (List ℕ)) (written first : ℕ) (pages slice : List Page)
+    → job.grid.layers ≤ first → slice ≡ pages
+    → IsUnderWay old now (images_of job) 0 written (pages_text pages) (images_between job first job.grid.layers)
+    → OnOk r (Appends now new (pages_text slice)) → OnOk r (Appends old new (images_of job))
+last-out (Ok x) job old now new written first pages slice end same text out =
+    all-out old now new (images_of job) 0 written (pages_text slice) (last-pages job old now written first pages slice end same text) out
+last-out (Err f) job old now new written first pages slice end same text out = tt
+
+pub last-total : (r : Result ℕ WriteFault) (job : Job) (old now : Option (List ℕ)) (written first : ℕ) (pages slice : List Page)
+    → job.grid.layers ≤ first → slice ≡ pages
+    → IsUnderWay old now (images_of job) 0 written (pages_text pages) (images_between job first job.grid.layers)
+    → IfOk r (λ total. total ≡ written + length (pages_text slice)) → IfOk r (λ total. total ≡ length (images_of job))
+last-total (Ok x) job old now written first pages slice end same text is =
+    let counted = all-counted old now (images_of job) 0 written (pages_text slice) []
+    (last-pages job old now written first pages slice end same text) in
     omega (arith, is, counted)
-last-total (Err f) old now all written chunk text is = tt
+last-total (Err f) job old now written first pages slice end same text is = tt

@@ -8,8 +8,9 @@ use Rattle.plane_segments.specs.Segment.{segments}
 use Rattle.plane_segments.specs.declared.segment.Segment.{Segment}
 use Rattle.contour.specs.Loops.{loops}
 use Rattle.raster.specs.Filler.{area_of, below}
-use Rattle.raster.specs.Grid.{plane}
+use Rattle.raster.specs.Grid.{Grid, plane}
 use Rattle.raster.specs.Image.{images, layer_image}
+use Rattle.raster.specs.declared.span.Span.{Span}
 use Rattle.raster.proofs.lemmas.Written.{IsUnderWay, taken-on}
 use Rattle.build_book.specs.Layer.{AreLawfulFrom, IsLawful, Layer, layers_area}
 use Rattle.build_book.specs.Build.{IsComplete}
@@ -95,3 +96,21 @@ with_image job k sent old now held next h is text =
     taken-on old now (images job.grid job.rule job.solid.facets) 0 sent held (held ++ next)
     (layer_image job.grid job.rule job.solid.facets k) (images_from job (k + 1)) (images_from job k)
     text (image_next job k h) (ap (λ (l : List ℕ). held ++ l) is)
+
+-- the same, by the build's grid and layers as they were handed out
+
+pub image_there : (job held : Job) (grid : Grid) (spans : List Span) (layers xs : List Layer) (i : ℕ) (x : Layer) → held ≡ job
+    → grid ≡ held.grid → spans ≡ x.spans → xs ≡ layers → IsComplete job layers → i < length xs → x ≡ slice_index_or xs i x
+    → image grid spans ≡ layer_image job.grid job.rule job.solid.facets i
+image_there job held grid spans layers xs i x same of spans-are same_layers complete h is =
+    ap (λ (g : Grid). image g spans) (of ∙ ap (λ (j : Job). j.grid) same)
+    ∙ ap (λ (s : List Span). image job.grid s) spans-are
+    ∙ image_at job xs i x (subst (λ (l : List Layer). IsComplete job l) (sym same_layers) complete) h is
+
+pub layer_below : (job : Job) (layers xs : List Layer) (i : ℕ) → xs ≡ layers → IsComplete job layers → i < length xs → i < job.grid.layers
+layer_below job layers xs i same complete h =
+    subst (λ (n : ℕ). i < n) (ap (λ (l : List Layer). length l) same ∙ complete.whole) h
+
+pub layers_end : (job : Job) (layers xs : List Layer) (i : ℕ) → xs ≡ layers → IsComplete job layers → length xs ≤ i → job.grid.layers ≤ i
+layers_end job layers xs i same complete h =
+    subst (λ (n : ℕ). n ≤ i) (ap (λ (l : List Layer). length l) same ∙ complete.whole) h

@@ -1,4 +1,4 @@
-use Rattle.std.proofs.Common.{◌≡◌, ◌+◌, ◌*◌, ◌∙◌, List, ℕ, ap, arith, length, min}
+use Rattle.std.proofs.Common.{◌≡◌, ◌<◌, ◌+◌, ◌*◌, ◌∙◌, List, ℕ, ap, arith, length, min}
 use Rattle.raster.specs.Page.{Page}
 use Rattle.build_book.specs.Job.{Job}
 use Rattle.stlslice.specs.Pages.{images_between}
@@ -13,3 +13,12 @@ returns-clause-images g c =
     pages-drawn job job.grid.layers c.args.per c.args.first pages c.requires.low
     (λ k d h. let each = (c.for_each_mut.ensures k d (omega (arith, h, same))).1 in grind arith)
     ∙ ap (λ (m : ℕ). images_between job c.args.first (min (c.args.first + m * c.args.per) job.grid.layers)) same
+
+pub returns-clause-room : goal.returns-clause-room
+returns-clause-room g c =
+    let same : length c.for_each_mut.new.s ≡ length c.args.pages.now = c.for_each_mut.auto.s in
+    λ k d h.
+    (let low : k < length c.args.pages.now = omega (arith, h, same) in
+    let each = (c.for_each_mut.ensures k d low).1 in
+    let enough = c.requires.room k d low in
+    grind arith)

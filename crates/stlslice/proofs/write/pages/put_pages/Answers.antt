@@ -1,11 +1,18 @@
-use Rattle.std.proofs.Common.{◌≡◌, ◌+◌, ◌∙◌, List, ℕ, [], ap, arith, drop, length, length-append}
+use Rattle.std.proofs.Common.{◌≡◌, ◌+◌, ◌∙◌, List, ℕ, [], ap, arith, drop, length, length-append, refl}
 use Rattle.std.proofs.lemmas.List.{drop_all}
 use Rattle.std.proofs.lemmas.Result.{err_from_is_err_and}
 use Rattle.raster.specs.Page.{Page}
-use Rattle.raster.proofs.lemmas.Written.{all-counted, more-out, written-within}
+use Rattle.raster.proofs.lemmas.Written.{all-counted, begun, more-out, written-within}
 use Rattle.stlslice.specs.Pages.{pages_text}
 use Rattle.stlslice.proofs.lemmas.Pages.{all-done, all-put, page-next, with-part}
 use Rattle.stlslice.proofs.write.pages.put_pages.Goals as goal
+
+pub loop-page-init : goal.loop-page-init
+loop-page-init g c =
+    record {
+      text = begun (g.O.Sink.contents c.args.sink.now) c.args.before [] (pages_text c.args.pages.now);
+      counted = refl;
+    }
 
 pub put_page-requires : goal.put_page-requires
 put_page-requires g c =
