@@ -19,8 +19,8 @@
 //! - [`loop_ray`]: the signed ray crossings of one loop's facets.
 //! - [`hold_loop_laws`]: states what holds of every loop.
 //!
-//! Heights are half-micrometres, in names that end in `2`; coordinates of a mesh are micrometres. The tie rule
-//! of `geometry` says which corners count as below a plane.
+//! Heights of planes are in half-micrometres, coordinates of a mesh in micrometres. The tie rule of `geometry` says which
+//! corners count as below a plane.
 #![tactic(auto)]
 
 mod active;

@@ -107,6 +107,7 @@ fn start_of<A: Allocator>(s: &Solid<A>, segment: &Segment, z2: i64) -> PlanePoin
 {
     match start_point(&s.facet(segment.facet), z2) {
         Some(point) => point,
+        // no segment of this plane comes here; the definition has the origin for it
         None => PlanePoint { x2: 0, y2: 0 },
     }
 }

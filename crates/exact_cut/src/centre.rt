@@ -69,8 +69,8 @@ impl Centre {
 }
 
 /// Whether a coordinate in half-micrometres is in range.
-fn is_in_range(z2: i64) -> bool
-    ensures { IsTrue result ↔ IsAtMost CENTRE_LIMIT z2 }
+fn is_in_range(n: i64) -> bool
+    ensures { IsTrue result ↔ IsAtMost CENTRE_LIMIT n }
 {
-    is_at_most(CENTRE_LIMIT, z2)
+    is_at_most(CENTRE_LIMIT, n)
 }

@@ -17,7 +17,8 @@
 //!
 //! Units: points are in whole micrometres. The centre of a pixel may lie halfway between two of them, so coordinates
 //! that are compared with a centre are in half-micrometres (units of 0.5 µm). In this unit every centre is a whole
-//! number, and no comparison rounds. In code the names of such coordinates end in `2`.
+//! number, and no comparison rounds. In code coordinates `x`, `y` and `z` in this unit are called `x2`, `y2` and `z2`;
+//! other names say the unit in their comment.
 //!
 //! The definitions that other crates cite are in `specs/`: winding and signed ray crossings (`Winding`), touch
 //! (`Touch`), half-edges (`Facet`), the tie rule (`TieRule`).

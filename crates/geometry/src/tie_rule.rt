@@ -2,7 +2,7 @@
 //! above it, or passes it once, and a plane or a ray through a vertex or an edge needs no special case.
 ghost use Rattle.std.specs.Prelude.{◌≡◌, ◌↔◌, IsTrue, not};
 ghost use Rattle.geometry.specs.TieRule as TieRule;
-ghost use Rattle.geometry.specs.TieRule.{IsBelow, is_above};
+ghost use Rattle.geometry.specs.TieRule.{IsAbove, IsBelow, is_above};
 
 /// Whether a height counts as below a horizontal plane, both in half-micrometres. Otherwise it is above the plane.
 #[inline(always)]
@@ -10,6 +10,7 @@ pub fn is_below(height: i64, plane: i64) -> bool
     ensures value { result ≡ TieRule.is_below height plane }
     ensures below { IsTrue result ↔ IsBelow height plane }
     ensures above { is_above height plane ≡ not result }
+    ensures over { IsTrue (not result) ↔ IsAbove height plane }
 {
     height <= plane
 }

@@ -13,8 +13,8 @@ pub(crate) trait OfJob {
     ghost job: { Job };
 }
 
-// A call of `build_of` picks the job that `Brand` stands for: `build` picks its own, in
-// `proofs/pool/build/Invariants.antt`. The one named here stands for no build.
+// An `impl` has to name some job. Each call of `build_of` puts its own in this one's place: that of `build` stands in
+// `proofs/pool/build/Invariants.antt`.
 impl OfJob for Brand {
     ghost job = { no_job };
 }

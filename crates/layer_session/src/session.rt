@@ -115,7 +115,8 @@ impl<A: Allocator + Copy + Send + Sync> Session<A> {
         self.job.grid().layers()
     }
 
-    /// The number of stripes, as of [`Job::stripes`]. Stripe s is the layers from 8 s to 8 s + 7, as far as the grid has them.
+    /// The number of stripes, as of [`Job::stripes`]. Stripe s consists of the `STRIPE_LAYERS` layers from `STRIPE_LAYERS * s`
+    /// on, as far as the grid has them.
     pub fn stripes(&self) -> u64
         ensures value { result ≡ stripe_count self.now.job.grid }
         ensures few { result ≤ MOST_STRIPES }

@@ -1,4 +1,5 @@
-//! Welding as facets come: corners are named and edges numbered at once, so that no list of facets is kept.
+//! Welding as facets come: each is kept by the ids of its corners and its edges are numbered at once, so that the caller
+//! need not keep a list of facets.
 ghost use Rattle.std.specs.Prelude.{◌≡◌, ◌≤◌, ◌<◌, ◌+◌, ◌++◌, [], ◌∷◌, List, IfSome, OnErr, OnOk, length, true, vec_len};
 ghost use Rattle.geometry.specs.Facet.{Facet};
 ghost use Rattle.mesh_weld.specs.EdgeChains.{AreInHalfWords};

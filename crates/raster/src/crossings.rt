@@ -72,7 +72,7 @@ impl<A: Allocator> Drop for RowCrossings<A> {
     fn drop(self) {
         let RowCrossings { rows } = self;
         if !fits_in_memory::<Row<A>>() {
-            // never reached: rows of such a type cannot be dropped, and there are none
+            // Never reached: no rows are made of a type that does not fit in memory. To drop them would need a proof of that.
             let _rows = unsafe { ManuallyDrop::new_unchecked(rows) };
         }
     }
@@ -150,7 +150,7 @@ fn fits_in_memory<T>() -> bool
 {
     let none: Option<T> = None;
     let fits = size_of_val(&none) <= isize::MAX as usize;
-    // nothing is kept from being dropped: there is no `T` in it
+    // `none` holds no `T`, so nothing is lost where it is not dropped
     let _none = unsafe { ManuallyDrop::new_unchecked(none) };
     fits
 }

@@ -21,8 +21,8 @@
 //!   [`Failures`] a device tells how many have. [`Counted`] makes a device of any reader or writer.
 //! - [`put_all`]: writes a whole chunk of bytes; [`WriteFault`]: how many went out before a failure.
 //!
-//! Lengths are in micrometres, and coordinates of centres and planes in half-micrometres, so that they are whole; names of
-//! such numbers end in `2`. Columns, rows and layers count from 0 along x, y and z.
+//! Lengths are in micrometres, and coordinates of centres and planes in half-micrometres, so that they are whole. Columns,
+//! rows and layers count from 0 along x, y and z.
 #![tactic(auto)]
 
 mod column_sums;

@@ -290,7 +290,7 @@ impl<A: Allocator> TextReader<A> {
         rest
     }
 
-    /// Reads what stands at the front of the bytes ahead, of which there is at least one: answers those after it.
+    /// Reads what is at the front of the bytes ahead, of which there is at least one, and answers the bytes after it.
     fn advance<'p>(&mut self, ahead: &'p [u8], layout: &Option<Layout<'_>>) -> &'p [u8]
         requires free { self.old.held ≡ [] }
         requires some { 0 < length ahead.now }

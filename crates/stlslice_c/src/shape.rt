@@ -1,4 +1,4 @@
-//! What C is told of a text's facets, of an open mesh and of a voxel.
+//! The plain records that C gets of a text's facets, of an open mesh and of a voxel.
 ghost use Rattle.std.specs.Prelude.{◌≡◌};
 ghost use Rattle.stlslice_c.specs.Shape.{corners_told, shape_told};
 

@@ -25,7 +25,7 @@ pub(crate) const GRID: Status = 5;
 /// An allocation failed.
 pub(crate) const MEMORY: Status = 6;
 
-/// The buffer is too small; the size that is wanted was told.
+/// The buffer is too small; the call told the size that it needs.
 pub(crate) const NO_ROOM: Status = 7;
 
 /// The handle has no mesh: none was opened, or it was closed.

@@ -53,7 +53,7 @@ impl Walk {
         if down == up {
             return None;
         }
-        // one call for both signs, since which comes next follows no pattern in a mesh
+        // One call for both signs: which comes next follows no pattern in a mesh, so a branch would often be mispredicted.
         let (sign, row, end, near, far) = if down < up {
             (1, down, up, ends.down, ends.up)
         } else {

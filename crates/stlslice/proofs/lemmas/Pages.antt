@@ -190,7 +190,7 @@ pages-same : (old now : Option (List ℕ)) (all : List ℕ) (written : ℕ) (pag
 pages-same old now all written pages slice left same text =
     subst (λ (l : List Page). IsUnderWay old now all 0 written (pages_text l) left) (sym same) text
 
--- no grid has so many voxels that its images could not be counted
+-- the bytes of all images of a grid can be counted
 pub few-bytes : (job held : Job) (grid : Grid) (columns rows layers : ℕ) → held ≡ job → grid ≡ held.grid
     → columns ≡ grid.columns → columns ≤ COLUMN_LIMIT → rows ≡ grid.rows → rows ≤ COLUMN_LIMIT → layers ≡ grid.layers → layers ≤ LAYER_LIMIT
     → length (images_of job) ≤ images_limit
