@@ -62,11 +62,15 @@ fn weld_and_find<'t, R: Threads + Sync, A: Allocator + Copy + Send + Sync, I: So
     ensures welded { OnOk result.1 (HasWelded facets.now welder.old welder.new) }
     ensures filled { IsFilled I.remaining I.Failures.failure_count source.old source.new is_more round.old round.new result.1 }
 {
-    let (mut found, (more, filled)) = join_mut(
-        rt,
-        &mut || parts.runs(),
-        &mut || weld_and_fill(rt, workers, parts, source, round, is_more, welder, facets),
-    );
+    let mut find = || -> FacetRuns<A>
+        ensures { result ≡ parts.entry.now }
+    { parts.runs() };
+    let mut rest = || -> (FacetRuns<A>, Result<bool, ReadFault>)
+        ensures found { result.0 ≡ parts.entry.now }
+        ensures welded { OnOk result.1 (HasWelded facets.entry.now welder.entry.now welder.exit.now) }
+        ensures filled { IsFilled I.remaining I.Failures.failure_count source.entry.now source.exit.now is_more round.entry.now round.exit.now result.1 }
+    { weld_and_fill(rt, workers, parts, source, round, is_more, welder, facets) };
+    let (mut found, (more, filled)) = join_mut(rt, &mut find, &mut rest);
     found.add(more);
     (found, filled)
 }
