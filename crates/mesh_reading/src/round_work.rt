@@ -98,11 +98,16 @@ fn weld_and_fill<'t, R: Threads + Sync, A: Allocator + Copy + Send + Sync, I: So
     }
     // beside these: the first new thread, the one that welds, and the one that fills
     let others = workers - 3;
-    let ((mut found, welded), (more, filled)) = join_mut(
-        rt,
-        &mut || weld_first(parts, welder, facets),
-        &mut || fill_beside(rt, others, parts, source, round, is_more),
-    );
+    let mut weld = || -> (FacetRuns<A>, Result<(), ReadFault>)
+        ensures found { result.0 ≡ parts.entry.now }
+        ensures welded { OnOk result.1 (HasWelded facets.entry.now welder.entry.now welder.exit.now) }
+        ensures only { IfErr result.1 (λ fault. fault ≡ Memory) }
+    { weld_first(parts, welder, facets) };
+    let mut fill = || -> (FacetRuns<A>, Result<bool, ReadFault>)
+        ensures found { result.0 ≡ parts.entry.now }
+        ensures filled { IsFilled I.remaining I.Failures.failure_count source.entry.now source.exit.now is_more round.entry.now round.exit.now result.1 }
+    { fill_beside(rt, others, parts, source, round, is_more) };
+    let ((mut found, welded), (more, filled)) = join_mut(rt, &mut weld, &mut fill);
     found.add(more);
     (found, read_before_memory(filled, welded))
 }
