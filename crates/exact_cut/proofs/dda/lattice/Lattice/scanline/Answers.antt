@@ -28,8 +28,8 @@ overflow_add-result c =
     let r_in = cast_in w64 c.args.row COLUMN_LIMIT (let h = l.rows_in in let k = c.requires in omega arith) in
     fits w64 (search (sizes, l.y_in, s_in, r_in) depth 40) refl
 
-pub returns-clause-within : goal.returns-clause-within
-returns-clause-within c =
+pub returns-clause-value : goal.returns-clause-value
+returns-clause-value c =
     let l = c.args.self.now in
     let s = to_z w64 l.step in
     let r = to_z w64 c.args.row in
@@ -37,6 +37,9 @@ returns-clause-within c =
     let r_in = cast_in w64 c.args.row COLUMN_LIMIT (let h = l.rows_in in let k = c.requires in omega arith) in
     let e = to_z_pos w64 l.step (let h = l.step_in in omega arith) in
     let f = to_z_pos w64 c.args.row (let h = l.rows_in in let k = c.requires in omega arith) in
-    at_most_by (centre_x l.y2 l.step c.args.row)
-    (identity (l.y2 ∷ s ∷ r ∷ []) (search (reads, sizes, l.y_in, s_in, r_in) depth 40 fits 5000) refl ∙ (λ i. l.y2 +ℤ pos 2 *ℤ e i *ℤ f i))
-    (scanline_in l.y2 l.step l.rows c.args.row l.y_in l.last_in c.requires)
+    identity (l.y2 ∷ s ∷ r ∷ []) (search (reads, sizes, l.y_in, s_in, r_in) depth 40 fits 5000) refl ∙ (λ i. l.y2 +ℤ pos 2 *ℤ e i *ℤ f i)
+
+pub returns-clause-within : goal.returns-clause-within
+returns-clause-within c =
+    let l = c.args.self.now in
+    at_most_by (centre_x l.y2 l.step c.args.row) (returns-clause-value c) (scanline_in l.y2 l.step l.rows c.args.row l.y_in l.last_in c.requires)
