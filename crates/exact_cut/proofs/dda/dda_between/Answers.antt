@@ -105,3 +105,9 @@ returns c =
           simp to_z-of_z (sym q_division.value ∙ (λ i. pos 2 *ℤ step i *ℤ c.slope.ensures.value i));
       whole_in = simp to_z-of_z p_in;
     }
+
+pub divide_increment-increment-requires-clause-unit_positive : goal.divide_increment-increment-requires-clause-unit_positive
+divide_increment-increment-requires-clause-unit_positive c = ?
+
+pub overflow_mul-step2 : goal.overflow_mul-step2
+overflow_mul-step2 c = ?

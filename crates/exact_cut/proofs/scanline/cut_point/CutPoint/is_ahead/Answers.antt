@@ -13,3 +13,6 @@ returns c =
     let f3 : FitsSigned w64 (c.args.y2 *ℤ p.d) = fits w64 (search (sizes, c.requires, p.d_in) depth 40) refl in
     let f4 : FitsSigned w64 p.y = fits w64 (search (sizes, p.y_in) depth 40) refl in
     simp to_z-of_z (plain_less (c.args.y2 *ℤ p.d) p.y)
+
+pub overflow_mul-result : goal.overflow_mul-result
+overflow_mul-result c = fits w64 (search (sizes, c.requires, c.args.self.now.d_in) depth 40) refl
