@@ -16,3 +16,4 @@ pub mod Quadrants
 pub mod Rays
 pub mod Touching
 pub mod Steps
+pub mod Stored

@@ -1,11 +1,11 @@
-use Rattle.std.proofs.Common.{◌≡◌, pos, ◌-ℤ◌, ◌*ℤ◌, ◌<ℤ◌, [], ◌∷◌, FitsSigned, to_z, refl, ◌∙◌, ap, sym, subst, arith}
+use Rattle.std.proofs.Common.{◌≡◌, ℤ, pos, ◌-ℤ◌, ◌*ℤ◌, ◌<ℤ◌, [], ◌∷◌, FitsSigned, to_z, of_z, refl, ◌∙◌, ap, sym, subst, arith}
 use Rattle.std.proofs.lemmas.Int.{to_z_pos, to_z-of_z}
 use lib.Dec.{lit≤}
 use mir.Syntax.{w64, w128}
 use Rattle.exact_int.specs.Bounds.{IsAtMost}
 use Rattle.exact_int.proofs.lemmas.Sizes.{sizes, fits, cast_in, is_at_most}
 use Rattle.exact_int.proofs.lemmas.Identity.{reads, identity}
-use Rattle.exact_cut.specs.Bounds.{distance_limit, increment_limit, quotient_limit, unit_limit}
+use Rattle.exact_cut.specs.Bounds.{denominator_limit, distance_limit, increment_limit, quotient_limit, unit_limit}
 use Rattle.exact_cut.specs.Dda.{IsDivisionOf}
 use Rattle.exact_cut.specs.Section.{num_between}
 use Rattle.exact_cut.specs.declared.dda.lattice.Lattice.{Lattice}
@@ -18,6 +18,24 @@ use Rattle.geometry.specs.declared.limits.TheConstants.{STEP_LIMIT}
 -- the step from a pixel to the next, as the machine word holds it
 step_in : (l : Lattice) → IsAtMost STEP_LIMIT (to_z w128 l.step)
 step_in l = cast_in w128 l.step STEP_LIMIT l.step_in
+
+-- the unit as the code computes it
+abbrev unit_of : Lattice → ℤ → ℤ
+unit_of l den = to_z w128 (of_z w128 (to_z w128 (of_z w128 (pos 2 *ℤ to_z w128 l.step)) *ℤ to_z w128 (of_z w128 den)))
+
+unit_within : (l : Lattice) (den : ℤ) → IsAtMost denominator_limit den → IsAtMost unit_limit (unit_of l den)
+unit_within l den h = is_at_most unit_limit (search (sizes, step_in l, h) depth 40) refl
+
+unit_above : (l : Lattice) (den : ℤ) → IsAtMost denominator_limit den → pos 0 <ℤ den → pos 0 <ℤ unit_of l den
+unit_above l den h p =
+    let s = to_z w128 l.step in
+    let s_in = step_in l in
+    positive_by (pos 2 *ℤ s *ℤ den)
+    (identity (s ∷ den ∷ []) (search (reads, sizes, s_in, h) depth 40 fits 5000) refl)
+    (unit_positive s den l.step (to_z_pos w128 l.step (let h = l.step_in in omega arith)) l.step_above p)
+
+pub overflow_mul-step2 : goal.overflow_mul-step2
+overflow_mul-step2 c = fits w128 (search (sizes, step_in c.args.lattice.now) depth 40) refl
 
 pub overflow_mul-unit : goal.overflow_mul-unit
 overflow_mul-unit c = fits w128 (search (sizes, step_in c.args.lattice.now, c.meet-num.ensures.den_in) depth 40) refl
@@ -33,18 +51,12 @@ divide-position-requires-clause-n_in c =
     is_at_most distance_limit (search (sizes, c.args.lattice.now.x_in, c.meet-num.ensures.num_in, c.meet-num.ensures.den_in) depth 40) refl
 
 pub divide-position-requires-clause-unit_in : goal.divide-position-requires-clause-unit_in
-divide-position-requires-clause-unit_in c =
-    is_at_most unit_limit (search (sizes, step_in c.args.lattice.now, c.meet-num.ensures.den_in) depth 40) refl
+divide-position-requires-clause-unit_in c = unit_within c.args.lattice.now c.meet-num.result.1 c.meet-num.ensures.den_in
 
 pub divide-position-requires-clause-unit_positive : goal.divide-position-requires-clause-unit_positive
 divide-position-requires-clause-unit_positive c =
-    let l = c.args.lattice.now in
     let m = c.meet-num in
-    let s = to_z w128 l.step in
-    let s_in = step_in l in
-    positive_by (pos 2 *ℤ s *ℤ m.result.1)
-    (identity (s ∷ m.result.1 ∷ []) (search (reads, sizes, s_in, m.ensures.den_in) depth 40 fits 5000) refl)
-    (unit_positive s m.result.1 l.step (to_z_pos w128 l.step (let h = l.step_in in omega arith)) l.step_above (subst (λ d. pos 0 <ℤ d) (sym m.ensures.den) c.requires.den_positive))
+    unit_above c.args.lattice.now m.result.1 m.ensures.den_in (subst (λ d. pos 0 <ℤ d) (sym m.ensures.den) c.requires.den_positive)
 
 pub overflow_mul-step2-2 : goal.overflow_mul-step2-2
 overflow_mul-step2-2 c = fits w128 (search (sizes, step_in c.args.lattice.now, c.slope.ensures.within) depth 40) refl
@@ -54,8 +66,12 @@ divide_increment-increment-requires-clause-n_in c =
     is_at_most distance_limit (search (sizes, step_in c.args.lattice.now, c.slope.ensures.within) depth 40) refl
 
 pub divide_increment-increment-requires-clause-unit_in : goal.divide_increment-increment-requires-clause-unit_in
-divide_increment-increment-requires-clause-unit_in c =
-    is_at_most unit_limit (search (sizes, step_in c.args.lattice.now, c.meet-num.ensures.den_in) depth 40) refl
+divide_increment-increment-requires-clause-unit_in c = unit_within c.args.lattice.now c.meet-num.result.1 c.meet-num.ensures.den_in
+
+pub divide_increment-increment-requires-clause-unit_positive : goal.divide_increment-increment-requires-clause-unit_positive
+divide_increment-increment-requires-clause-unit_positive c =
+    let m = c.meet-num in
+    unit_above c.args.lattice.now m.result.1 m.ensures.den_in (subst (λ d. pos 0 <ℤ d) (sym m.ensures.den) c.requires.den_positive)
 
 pub returns : goal.returns
 returns c =
@@ -105,9 +121,3 @@ returns c =
           simp to_z-of_z (sym q_division.value ∙ (λ i. pos 2 *ℤ step i *ℤ c.slope.ensures.value i));
       whole_in = simp to_z-of_z p_in;
     }
-
-pub divide_increment-increment-requires-clause-unit_positive : goal.divide_increment-increment-requires-clause-unit_positive
-divide_increment-increment-requires-clause-unit_positive c = ?
-
-pub overflow_mul-step2 : goal.overflow_mul-step2
-overflow_mul-step2 c = ?

@@ -1,12 +1,49 @@
 use Rattle.std.proofs.Common.{◌≡◌, ℤ, ◌+ℤ◌, ◌-ℤ◌, ◌*ℤ◌, [], ◌∷◌, refl, ◌∙◌}
-use mir.Syntax.{w128}
+use mir.Syntax.{w64, w128}
 use Rattle.exact_int.proofs.lemmas.Sizes.{sizes, fits, is_at_most}
 use Rattle.exact_cut.specs.Bounds.{determinant_limit}
 use Rattle.exact_int.proofs.lemmas.Identity.{reads, identity}
+use Rattle.exact_cut.proofs.lemmas.Stored.{stored_in}
 use Rattle.exact_cut.proofs.hit.determinant.Goals as goal
 
 joined : {a k l m : ℤ} (x y z k' l' m' : ℤ) → a ≡ x *ℤ k' -ℤ y *ℤ l' +ℤ z *ℤ m' → k' ≡ k → l' ≡ l → m' ≡ m → a ≡ x *ℤ k -ℤ y *ℤ l +ℤ z *ℤ m
 joined x y z k' l' m' e f g h = e ∙ (λ i. x *ℤ f i -ℤ y *ℤ g i +ℤ z *ℤ h i)
+
+pub cross-requires-clause-a : goal.cross-requires-clause-a
+cross-requires-clause-a c = stored_in w64 c.args.f.now.b.y c.args.f.now.b.y_in
+
+pub cross-requires-clause-b : goal.cross-requires-clause-b
+cross-requires-clause-b c = stored_in w64 c.args.f.now.b.z c.args.f.now.b.z_in
+
+pub cross-requires-clause-c : goal.cross-requires-clause-c
+cross-requires-clause-c c = stored_in w64 c.args.f.now.c.y c.args.f.now.c.y_in
+
+pub cross-requires-clause-d : goal.cross-requires-clause-d
+cross-requires-clause-d c = stored_in w64 c.args.f.now.c.z c.args.f.now.c.z_in
+
+pub cross-requires-2-clause-a : goal.cross-requires-2-clause-a
+cross-requires-2-clause-a c = stored_in w64 c.args.f.now.b.x c.args.f.now.b.x_in
+
+pub cross-requires-2-clause-b : goal.cross-requires-2-clause-b
+cross-requires-2-clause-b c = stored_in w64 c.args.f.now.b.z c.args.f.now.b.z_in
+
+pub cross-requires-2-clause-c : goal.cross-requires-2-clause-c
+cross-requires-2-clause-c c = stored_in w64 c.args.f.now.c.x c.args.f.now.c.x_in
+
+pub cross-requires-2-clause-d : goal.cross-requires-2-clause-d
+cross-requires-2-clause-d c = stored_in w64 c.args.f.now.c.z c.args.f.now.c.z_in
+
+pub cross-requires-3-clause-a : goal.cross-requires-3-clause-a
+cross-requires-3-clause-a c = stored_in w64 c.args.f.now.b.x c.args.f.now.b.x_in
+
+pub cross-requires-3-clause-b : goal.cross-requires-3-clause-b
+cross-requires-3-clause-b c = stored_in w64 c.args.f.now.b.y c.args.f.now.b.y_in
+
+pub cross-requires-3-clause-c : goal.cross-requires-3-clause-c
+cross-requires-3-clause-c c = stored_in w64 c.args.f.now.c.x c.args.f.now.c.x_in
+
+pub cross-requires-3-clause-d : goal.cross-requires-3-clause-d
+cross-requires-3-clause-d c = stored_in w64 c.args.f.now.c.y c.args.f.now.c.y_in
 
 pub overflow_mul-x : goal.overflow_mul-x
 overflow_mul-x c = fits w128 (search (sizes, c.args.f.now.a.x_in, c.cross.ensures.bound) depth 40) refl

@@ -1,11 +1,11 @@
-use Rattle.std.proofs.Common.{◌≡◌, ℕ, ℤ, pos, unsigned_abs, FitsSigned, to_z, of_z, refl, ◌∙◌, ap, sym, subst, ◌<ℤ◌}
+use Rattle.std.proofs.Common.{◌≡◌, ℤ, pos, FitsSigned, to_z, of_z, refl, ◌∙◌, ap, sym, subst, ◌<ℤ◌}
 use Rattle.std.proofs.lemmas.Int.{to_z-of_z}
 use mir.Syntax.{w64, w128}
-use Rattle.exact_int.specs.Bounds.{IsAtMost}
-use Rattle.exact_int.proofs.lemmas.Sizes.{sizes, fits, within, back_of}
+use Rattle.exact_int.proofs.lemmas.Sizes.{sizes, fits}
 use Rattle.geometry.specs.Facet.{Facet, twice}
 use Rattle.geometry.specs.Winding.{wind}
 use Rattle.exact_cut.proofs.lemmas.Sections.{same_side, up_alone, down_alone, up_meets, down_meets, crossed, crosses_as, meets_as}
+use Rattle.exact_cut.proofs.lemmas.Stored.{stored_in}
 use Rattle.exact_cut.proofs.scanline.section.crossing.Goals as goal
 
 pub returns-then-is_up_ahead-is_down_ahead-clause-crosses : goal.returns-then-is_up_ahead-is_down_ahead-clause-crosses
@@ -97,9 +97,6 @@ returns-else-is_up_ahead-clause-some c = (λ _. crossed (returns-else-is_up_ahea
 uncrossed : (t : Facet) (y : ℤ) {z' z : ℤ} → z' ≡ z → wind t y z' ≡ pos 0 → wind t y z ≡ pos 0
 uncrossed t y e = subst (λ z. wind t y z ≡ pos 0) e
 
-read_in : {m : ℕ} (n : ℤ) → IsAtMost m n → IsAtMost m (to_z w128 (of_z w128 n))
-read_in {m} n h = record { at_most = within (unsigned_abs (to_z w128 (of_z w128 n))) (unsigned_abs n) m (back_of w128 n) h.at_most }
-
 pub returns-in_err-ends-clause-crosses : goal.returns-in_err-ends-clause-crosses
 returns-in_err-ends-clause-crosses c =
     rw c.from_residual.ensures (uncrossed (twice c.args.f.now) c.args.y2 (to_z-of_z w64 c.args.z2 c.ranges.z2) (c.in_err-ends.ensures c.args.y2))
@@ -113,13 +110,13 @@ pub returns-in_err-ends-clause-in_plane : goal.returns-in_err-ends-clause-in_pla
 returns-in_err-ends-clause-in_plane c = rw c.from_residual.ensures tt
 
 pub of-requires-clause-num_in : goal.of-requires-clause-num_in
-of-requires-clause-num_in c = read_in c.meet-num.result.0 c.meet-num.ensures.num_in
+of-requires-clause-num_in c = stored_in w128 c.meet-num.result.0 c.meet-num.ensures.num_in
 
 pub of-requires-clause-den_in : goal.of-requires-clause-den_in
-of-requires-clause-den_in c = read_in c.meet-num.result.1 c.meet-num.ensures.den_in
+of-requires-clause-den_in c = stored_in w128 c.meet-num.result.1 c.meet-num.ensures.den_in
 
 pub of-requires-else-is_up_ahead-clause-num_in : goal.of-requires-else-is_up_ahead-clause-num_in
-of-requires-else-is_up_ahead-clause-num_in c = read_in c.meet-num-else-is_up_ahead.result.0 c.meet-num-else-is_up_ahead.ensures.num_in
+of-requires-else-is_up_ahead-clause-num_in c = stored_in w128 c.meet-num-else-is_up_ahead.result.0 c.meet-num-else-is_up_ahead.ensures.num_in
 
 pub of-requires-else-is_up_ahead-clause-den_in : goal.of-requires-else-is_up_ahead-clause-den_in
-of-requires-else-is_up_ahead-clause-den_in c = read_in c.meet-num-else-is_up_ahead.result.1 c.meet-num-else-is_up_ahead.ensures.den_in
+of-requires-else-is_up_ahead-clause-den_in c = stored_in w128 c.meet-num-else-is_up_ahead.result.1 c.meet-num-else-is_up_ahead.ensures.den_in
