@@ -1,9 +1,30 @@
-use Rattle.std.proofs.Common.{FitsSigned, refl, rules, ◌∙◌}
+use Rattle.std.proofs.Common.{rules, pos, ◌<ℤ◌, FitsSigned, to_z, of_z, refl, sym, ◌∙◌, subst}
 use Rattle.std.proofs.lemmas.Int.{to_z-of_z}
 use mir.Syntax.{w64}
-use Rattle.exact_int.proofs.lemmas.Sizes.{sizes, fits}
+use Rattle.exact_int.proofs.lemmas.Sizes.{sizes, fits, size_known}
+use Rattle.exact_cut.specs.declared.scanline.cut_point.CutPoint.{CutPoint}
 use Rattle.exact_cut.proofs.lemmas.Rounding.{point_is}
+use Rattle.exact_cut.proofs.lemmas.Stored.{stored_in}
 use Rattle.exact_cut.proofs.plane_point.start_point.Goals as goal
+
+den_above : (p : CutPoint) → pos 0 <ℤ to_z w64 (of_z w64 p.d)
+den_above p = subst (λ d. pos 0 <ℤ d) (sym (to_z-of_z w64 p.d (fits w64 (size_known p.d_in) refl))) p.d_positive
+
+pub nearest-requires-clause-num_in : goal.nearest-requires-clause-num_in
+nearest-requires-clause-num_in c = stored_in w64 c.between-exact.result.x c.between-exact.result.x_in
+
+pub nearest-requires-clause-den_in : goal.nearest-requires-clause-den_in
+nearest-requires-clause-den_in c = stored_in w64 c.between-exact.result.d c.between-exact.result.d_in
+
+pub nearest-requires-clause-den_positive : goal.nearest-requires-clause-den_positive
+nearest-requires-clause-den_positive c = den_above c.between-exact.result
+
+-- the second call's bound on `num` is left to a search, so that a y from another number is refused by the clause
+pub nearest-requires-2-clause-den_in : goal.nearest-requires-2-clause-den_in
+nearest-requires-2-clause-den_in c = stored_in w64 c.between-exact.result.d c.between-exact.result.d_in
+
+pub nearest-requires-2-clause-den_positive : goal.nearest-requires-2-clause-den_positive
+nearest-requires-2-clause-den_positive c = den_above c.between-exact.result
 
 pub returns-in_err-cut : goal.returns-in_err-cut
 returns-in_err-cut c =
