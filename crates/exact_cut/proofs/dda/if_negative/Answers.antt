@@ -7,13 +7,13 @@ use Rattle.std.specs.Int.Signed.{shr_z}
 use mir.Syntax.{w128}
 use Rattle.exact_cut.proofs.dda.if_negative.Goals as goal
 
-no_units : (a : ℕ) → a < 170141183460469231731687303715884105728 → a / 170141183460469231731687303715884105728 ≡ 0
+no_units : (a : ℕ) → a < 2 ^ 127 → a / 2 ^ 127 ≡ 0
 no_units a h = grind arith
 
-pos_in : (a : ℕ) → FitsSigned w128 (pos a) → a < 170141183460469231731687303715884105728
+pos_in : (a : ℕ) → FitsSigned w128 (pos a) → a < 2 ^ 127
 pos_in a f = omega (arith, ints, f)
 
-neg_in : (a : ℕ) → FitsSigned w128 (negsuc a) → a < 170141183460469231731687303715884105728
+neg_in : (a : ℕ) → FitsSigned w128 (negsuc a) → a < 2 ^ 127
 neg_in a f = omega (arith, ints, f)
 
 all_kept : (x : ℕ) → x < 2 ^ 128 → bit_and x (2 ^ 128 - 1) ≡ x
@@ -25,7 +25,7 @@ all_kept x h = and_mask x 128 ∙ subst (λ y. y % 2 ^ 128 ≡ x) (alone x) (mod
 not_below : (a : ℕ) → int_lt (pos a) (pos 0) ≡ false
 not_below a = grind arith
 
-masked : (excess n : ℤ) → FitsSigned w128 excess → FitsSigned w128 n → to_z w128 (bit_and (of_z w128 n) (of_z w128 (shr_z excess 170141183460469231731687303715884105728))) ≡ (if int_lt excess (pos 0) then n else pos 0)
+masked : (excess n : ℤ) → FitsSigned w128 excess → FitsSigned w128 n → to_z w128 (bit_and (of_z w128 n) (of_z w128 (shr_z excess (2 ^ 127)))) ≡ (if int_lt excess (pos 0) then n else pos 0)
 masked (pos a) n f g =
     ap (λ q. to_z w128 (bit_and (of_z w128 n) (of_z w128 (pos q)))) (no_units a (pos_in a f)) ∙ ap (to_z w128) (and_zero_r (of_z w128 n))
     ∙ (λ i. if sym (not_below a) i then n else pos 0)
