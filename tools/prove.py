@@ -11,7 +11,7 @@ half of the processors each, and the time that it leaves: theirs is a lower prio
 
 A library of which no check has kept any work is proved by one process that shares its work among many, and no work is kept.
 Where work is to be kept, the toolchain proves the functions in batches, each by a process that reads all libraries below,
-and then reads what these found: some libraries take four times as long.
+and then reads what these found, which takes longer (docs/DECISIONS.md has the times).
 
 The quick pass over all sources, with which `rt run` begins, goes on beside the first proofs. `rt run` takes what is built
 here as built, by its own stamps, and builds the rest itself. So where the toolchain's library is another than expected,
