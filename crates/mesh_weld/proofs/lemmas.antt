@@ -22,3 +22,4 @@ pub mod Alike
 pub mod Degenerate
 pub mod Sums
 pub mod Probing
+pub mod Results

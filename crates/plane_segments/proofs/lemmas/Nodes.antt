@@ -1,6 +1,5 @@
 -- Two nodes are the same where their numbers are.
 use Rattle.std.proofs.Common.{◌≡◌, true, ap, eqb, ◌&&◌}
-use Rattle.std.specs.Prelude.{◌==◌}
 use Rattle.std.proofs.lemmas.Bool.{and_parts, eqb-true, eq-eqb}
 use Rattle.plane_segments.specs.Node.{Node, is_node}
 

@@ -46,7 +46,6 @@ pub held_few : (job : Job) (old now : Option (List ℕ)) (sent k : ℕ) (held : 
 held_few job old now sent k held few text = omega (arith, few, all-counted old now (images_of job) 0 sent held (images_from job k) text)
 
 -- after the last layer what is held is the rest of all images
-
 last_held : (job : Job) (old now : Option (List ℕ)) (sent k : ℕ) (held : List ℕ) → job.grid.layers ≤ k
     → IsUnderWay old now (images_of job) 0 sent held (images_from job k) → IsUnderWay old now (images_of job) 0 sent held []
 last_held job old now sent k held end text =

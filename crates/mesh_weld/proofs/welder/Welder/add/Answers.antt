@@ -9,11 +9,8 @@ use Rattle.geometry.specs.Facet.{Facet}
 use Rattle.mesh_weld.specs.Solid.{is_kept, kept_facets}
 use Rattle.mesh_weld.specs.Welder.{Welder, degenerate_facets, welder_by, welder_of, with_facets}
 use Rattle.mesh_weld.proofs.lemmas.Naming.{with_length}
+use Rattle.mesh_weld.proofs.lemmas.Results.{on_ok}
 use Rattle.mesh_weld.proofs.welder.Welder.add.Goals as goal
-
-on_ok : {T E : Type 0} → (P : Type 0) (r : Result T E) → is_err r ≡ false → OnOk r P → P
-on_ok P (Ok x) e p = p
-on_ok P (Err x) e p = absurd (false≢true (sym e))
 
 on_err : {T E : Type 0} → (P : Type 0) (r : Result T E) → P → OnErr r P
 on_err P (Ok x) p = tt

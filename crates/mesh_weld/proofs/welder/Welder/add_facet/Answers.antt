@@ -1,8 +1,7 @@
 use Rattle.std.proofs.Common.{◌≡◌, ◌≤◌, ◌<◌, ◌+◌, ◌++◌, ◌∷◌, [], ◌∙◌, ℕ, List, false, true, length, sym, ap, arith, refl}
-use Rattle.std.specs.Prelude.{Err, Ok, OnOk, Result, flat_map}
+use Rattle.std.specs.Prelude.{flat_map}
 use Rattle.std.specs.List.{All, Contains}
 use Rattle.std.specs.Result.{is_err}
-use Rattle.std.proofs.lemmas.Bool.{false≢true}
 use Rattle.std.proofs.lemmas.List.{append-nil, length-map}
 use Rattle.std.proofs.lemmas.List.Elements.{All-nil}
 use Rattle.std.proofs.lemmas.Result.{IfOk-from_err, on_ok_weaker}
@@ -11,11 +10,8 @@ use Rattle.geometry.specs.Facet.{Facet, corners}
 use Rattle.geometry.specs.declared.limits.TheConstants.{FACET_LIMIT}
 use Rattle.mesh_weld.specs.Solid.{facet_by, facets_by, is_kept, kept_facets}
 use Rattle.mesh_weld.specs.Welder.{AreNamed, Welder, degenerate_facets, welder_by, with_facets}
+use Rattle.mesh_weld.proofs.lemmas.Results.{on_ok}
 use Rattle.mesh_weld.proofs.welder.Welder.add_facet.Goals as goal
-
-served : {T E : Type 0} → (P : Type 0) (r : Result T E) → is_err r ≡ false → OnOk r P → P
-served P (Ok x) e p = p
-served P (Err x) e p = absurd (false≢true (sym e))
 
 room : (points : List Point) (ids : List (List ℕ)) (degenerate : List Facet) (w : Welder) → welder_by points ids degenerate ≡ w
     → length w.kept + length w.degenerate < FACET_LIMIT → length ids + length degenerate < FACET_LIMIT
@@ -56,15 +52,17 @@ pub invariant_of-self-else-is_err : goal.invariant_of-self-else-is_err
 invariant_of-self-else-is_err g c =
     let own = c.self.inside in let new = c.name_facet-named.new in let named = c.name_facet-named.ensures in
     let ok : is_err c.name_facet-named.result ≡ false = sym c.is_err.ensures.value ∙ c.if-is_err.false in
-    let count : length new.kept ≡ length own.kept + 1 = served (length new.kept ≡ length own.kept + 1) c.name_facet-named.result ok named.count in
-    (served (AreNamed new.points.items new.kept) c.name_facet-named.result ok named.named,
-    omega (arith, count, room own.points.items own.kept own.degenerate.items c.args.self.now c.self.view_is c.requires))
+    let count : length new.kept ≡ length own.kept + 1 = on_ok (length new.kept ≡ length own.kept + 1) c.name_facet-named.result ok named.count in (
+      on_ok (AreNamed new.points.items new.kept) c.name_facet-named.result ok named.named,
+      omega (arith, count, room own.points.items own.kept own.degenerate.items c.args.self.now c.self.view_is c.requires),
+    )
 
 pub invariant_of-self-then-is_err : goal.invariant_of-self-then-is_err
 invariant_of-self-then-is_err g c =
-    let own = c.self.inside in let left = c.clear-then-is_err.new.self in
-    (none_named c.clear.new.self.items left c.clear.ensures.items c.clear-then-is_err.ensures,
-    no_more left (length own.kept) (length own.degenerate.items) c.clear-then-is_err.ensures c.self.invariant.1)
+    let own = c.self.inside in let left = c.clear-then-is_err.new.self in (
+      none_named c.clear.new.self.items left c.clear.ensures.items c.clear-then-is_err.ensures,
+      no_more left (length own.kept) (length own.degenerate.items) c.clear-then-is_err.ensures c.self.invariant.1,
+    )
 
 pub returns-then-is_err : goal.returns-then-is_err
 returns-then-is_err g c =
