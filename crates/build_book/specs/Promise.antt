@@ -1,9 +1,8 @@
 -- What is promised of the layers of a mesh, in terms of all facets that were read, degenerate ones among them.
 --     job_of          the job of slicing the mesh of these facets
---     IsInside        which sums of signed crossings fill a pixel, rule by rule
 --     IsClosed        a loop comes back to the node that it starts from
 --     IsPromised      what a layer of that job has: closed loops, just the filled pixels, and their number
-use Rattle.std.specs.Prelude.{◌≡◌, ◌≢◌, ◌↔◌, ◌<◌, ◌<ℤ◌, ◌%◌, ℕ, ℤ, pos, nat_abs, Bool, IsTrue, List, [], ◌∷◌, count_by, sum_by}
+use Rattle.std.specs.Prelude.{◌≡◌, ◌↔◌, ◌<◌, ℕ, Bool, IsTrue, List, [], ◌∷◌, count_by, sum_by}
 use Rattle.std.specs.List.{AllByRecursion}
 use Rattle.geometry.specs.Facet.{Facet}
 use Rattle.geometry.specs.Winding.{ray}
@@ -13,7 +12,7 @@ use Rattle.plane_segments.specs.declared.segment.Segment.{Segment}
 use Rattle.plane_segments.specs.Segment.{segments}
 use Rattle.contour.specs.Loops.{AreLoops}
 use Rattle.raster.specs.declared.rule.Rule.{Rule}
-use Rattle.raster.specs.declared.rule.Rule.TheVariants.{EvenOdd, NonZero, Positive}
+use Rattle.raster.specs.Rule.{IsInside}
 use Rattle.raster.specs.Grid.{Grid, centre, plane}
 use Rattle.raster.specs.Span.{AreSpans, covers}
 use Rattle.raster.specs.Filler.{below}
@@ -24,21 +23,15 @@ use Rattle.build_book.specs.Layer.{Layer}
 abbrev pub job_of : List Facet → Grid → Rule → Job
 job_of facets grid rule = record { solid = solid_of facets; grid = grid; rule = rule }
 
--- A pixel is filled where the signed crossings of its ray are odd, or not zero, or above zero, by the rule chosen.
-abbrev pub IsInside : Rule → ℤ → Type 0
-IsInside EvenOdd crossings = nat_abs crossings % 2 ≡ 1
-IsInside NonZero crossings = crossings ≢ pos 0
-IsInside Positive crossings = pos 0 <ℤ crossings
-
 -- each segment ends at the node that the next one starts from, and the last one at this node
-abbrev pub EndsAt : Node → List Segment → Type 0
-EndsAt node [] = ⊥
-EndsAt node (s ∷ []) = s.to ≡ node
-EndsAt node (s ∷ t ∷ rest) = (s.to ≡ t.from) × EndsAt node (t ∷ rest)
+abbrev pub LeadsTo : Node → List Segment → Type 0
+LeadsTo node [] = ⊥
+LeadsTo node (s ∷ []) = s.to ≡ node
+LeadsTo node (s ∷ t ∷ rest) = (s.to ≡ t.from) × LeadsTo node (t ∷ rest)
 
 abbrev pub IsClosed : List Segment → Type 0
 IsClosed [] = ⊥
-IsClosed (s ∷ rest) = EndsAt s.from (s ∷ rest)
+IsClosed (s ∷ rest) = LeadsTo s.from (s ∷ rest)
 
 -- how many of the grid's pixels, each by column and row, are 1
 abbrev pub pixel_count : Grid → (ℕ → ℕ → Bool) → ℕ

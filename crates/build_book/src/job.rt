@@ -78,8 +78,8 @@ impl<A: Allocator> Job<A> {
         u64::from(self.grid.layers().div_ceil(STRIPE_LAYERS))
     }
 
-    /// The layers of stripe s: the number of its first layer, and that of the layer after its last.
-    pub(crate) fn layer_range(&self, s: u64) -> (u32, u32)
+    /// The layers of stripe s, below `stripes`: the number of its first layer, and that of the layer after its last.
+    pub fn layer_range(&self, s: u64) -> (u32, u32)
         requires { s < stripe_count self.now.grid }
         ensures first { result.0 ≡ STRIPE_LAYERS * s }
         ensures end { result.1 ≡ STRIPE_LAYERS * s + stripe_length self.now.grid s }

@@ -76,12 +76,12 @@ pub record AreLinks (list : List Segment) (next : List ℕ) : Type 0 where
       → follower list (slice_index_or list j d) ≡ Some (slice_index_or list (slice_index_or next j NONE) d)
   pub one : (i j : ℕ) → i < length list → j < length list → slice_index_or next i NONE ≡ slice_index_or next j NONE → i ≡ j
 
-abbrev pub facet_of : List Segment → ℕ → ℕ
-facet_of list j = (slice_index_or list j no_segment).facet
+abbrev pub facet_number : List Segment → ℕ → ℕ
+facet_number list j = (slice_index_or list j no_segment).facet
 
 -- later segments are of later facets
 abbrev pub InFacetOrder : List Segment → Type 0
-InFacetOrder list = (i j : ℕ) → i < j → j < length list → facet_of list i < facet_of list j
+InFacetOrder list = (i j : ℕ) → i < j → j < length list → facet_number list i < facet_number list j
 
 -- the slot has been visited; a slot beyond the flags counts as visited
 abbrev pub is_visited : List Bool → ℕ → Bool
@@ -101,8 +101,8 @@ KeepsLoopsWhole list next visited =
 -- the whole loop from the slot `first` has been visited, and nothing else
 pub record IsTracedLoop (list : List Segment) (next : List ℕ) (first : ℕ) (before after : List Bool) (part : List Segment) : Type 0 where
   pub cycle : IsCycle list part
-  pub head : first_facet part ≡ facet_of list first
-  pub least : list_all (λ t. nat_le (facet_of list first) t.facet) part ≡ true
+  pub head : first_facet part ≡ facet_number list first
+  pub least : list_all (λ t. nat_le (facet_number list first) t.facet) part ≡ true
   pub once : (n : ℕ) → count_of n part + count_of n (unvisited after list) ≡ count_of n (unvisited before list)
   pub whole : KeepsLoopsWhole list next after
   pub kept : (j : ℕ) → is_visited before j ≡ true → is_visited after j ≡ true
@@ -118,5 +118,5 @@ pub record AreTraced (list : List Segment) (next : List ℕ) (first : ℕ) (visi
   pub least : list_all is_from_least (parts_from 0 ends flat) ≡ true
   pub rising : IsStrictlyIncreasing (map first_facet (parts_from 0 ends flat))
   pub below : (k j : ℕ) → k < length (map first_facet (parts_from 0 ends flat)) → first ≤ j → j < length list
-      → slice_index (map first_facet (parts_from 0 ends flat)) k < facet_of list j
+      → slice_index (map first_facet (parts_from 0 ends flat)) k < facet_number list j
   pub once : (n : ℕ) → count_of n flat + count_of n (unvisited visited list) ≡ count_of n list

@@ -1,10 +1,11 @@
 //! Division that rounds up. Callers find by it the first column whose centre is not left of a crossing.
-ghost use Rattle.std.specs.Prelude.{ℤ, pos, ◌*ℤ◌, ◌≤ℤ◌, ◌<ℤ◌, ◌↔◌};
+ghost use Rattle.std.specs.Prelude.{pos, ◌<ℤ◌};
+ghost use Rattle.exact_int.specs.Division.{IsCeilDiv};
 
 /// The least whole number that is not below `n / d`, for a `d` above 0: 4 for 7 / 2, and -3 for -7 / 2.
 pub fn ceil_div(n: i128, d: i128) -> i128
     requires { pos 0 <ℤ d }
-    ensures { (q : ℤ) → (result ≤ℤ q) ↔ (n ≤ℤ (q *ℤ d)) }
+    ensures { IsCeilDiv result n d }
 {
     let q = n / d;
     if n % d > 0 { q + 1 } else { q }
@@ -13,7 +14,7 @@ pub fn ceil_div(n: i128, d: i128) -> i128
 /// What [`ceil_div`] answers, for numbers of 64 bits: the least whole number that is not below `n / d`, for a `d` above 0.
 pub fn ceil_div_64(n: i64, d: i64) -> i64
     requires { pos 0 <ℤ d }
-    ensures { (q : ℤ) → (result ≤ℤ q) ↔ (n ≤ℤ (q *ℤ d)) }
+    ensures { IsCeilDiv result n d }
 {
     let quotient = n / d;
     if n % d > 0 { quotient + 1 } else { quotient }
@@ -23,7 +24,7 @@ pub fn ceil_div_64(n: i64, d: i64) -> i64
 /// that one of 128 bits takes.
 pub fn quick_ceil_div(n: i128, d: i128) -> i128
     requires { pos 0 <ℤ d }
-    ensures { (q : ℤ) → (result ≤ℤ q) ↔ (n ≤ℤ (q *ℤ d)) }
+    ensures { IsCeilDiv result n d }
 {
     match (i64::try_from(n), i64::try_from(d)) {
         (Ok(n), Ok(d)) => i128::from(ceil_div_64(n, d)),

@@ -1,5 +1,8 @@
--- Bounding boxes (`Bounds`): the least and the greatest x, y and z of some points, or of the corners of facets.
-use Rattle.std.specs.Prelude.{List, [], ◌∷◌, Option, Some, None, Contains, flat_map, fold, map, ◌≤ℤ◌}
+-- Bounding boxes: the least and the greatest x, y and z of some points, or of the corners of facets.
+--     Bounds        a bounding box by its two corners
+--     extent        that of facets as calls answer it: a pair, the low corner first
+--     IsBox         which two points are the corners of a box
+use Rattle.std.specs.Prelude.{List, [], ◌∷◌, Option, Some, None, Contains, flat_map, fold, map, option_map, ◌≤ℤ◌}
 use Rattle.std.specs.Int.{int_min, int_max}
 use Rattle.geometry.specs.Point.{Point}
 use Rattle.geometry.specs.Facet.{Facet, corners}
@@ -23,6 +26,20 @@ bounds_of (p ∷ ps) = Some (record { low = fold least_of p ps; high = fold grea
 -- the bounding box of facets; none where there is no facet
 abbrev pub bounds : List Facet → Option Bounds
 bounds facets = bounds_of (flat_map corners facets)
+
+-- a bounding box as calls answer it: its low corner, then its high corner
+abbrev pub corner_pair : Bounds → Point × Point
+corner_pair b = (b.low, b.high)
+
+-- the bounding box of facets as calls answer it; none where there is no facet
+abbrev pub extent : List Facet → Option (Point × Point)
+extent facets = option_map corner_pair (bounds facets)
+
+-- no coordinate of the first is above the second's
+pub record IsBox (low high : Point) : Type 0 where
+  pub x : low.x ≤ℤ high.x
+  pub y : low.y ≤ℤ high.y
+  pub z : low.z ≤ℤ high.z
 
 -- p lies in the bounding box from low to high
 pub record IsInBox (low high p : Point) : Type 0 where

@@ -1,4 +1,5 @@
 pub mod TieRule
+pub mod Limits
 pub mod Point
 pub mod Facet
 pub mod BoundingBox

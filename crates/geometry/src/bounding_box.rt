@@ -1,7 +1,7 @@
 //! The bounding box of facets: a grid is fitted to it. It can be computed from all facets at once or in parts, as facets
 //! come. A bounding box is a pair: its low corner (the least x, y and z), then its high corner (the greatest).
-ghost use Rattle.std.specs.Prelude.{◌≡◌, ◌++◌, All, IfSome, List, flat_map, fold, option_map};
-ghost use Rattle.geometry.specs.BoundingBox.{IsInBox, IsTight, bounds, greatest_of, least_of};
+ghost use Rattle.std.specs.Prelude.{◌≡◌, ◌++◌, All, IfSome, List, flat_map, fold};
+ghost use Rattle.geometry.specs.BoundingBox.{IsInBox, IsTight, extent, greatest_of, least_of};
 ghost use Rattle.geometry.specs.Facet.{Facet, corners};
 
 use crate::facet::Facet;
@@ -10,7 +10,7 @@ use crate::point::Point;
 /// The bounding box of facets, in micrometres: its low corner and its high corner. `None` exactly where there is no facet. Each
 /// corner of a facet lies in the box, and on each of the box's six sides lies a corner of a facet.
 pub fn extent(facets: &[Facet]) -> Option<(Point, Point)>
-    ensures value { result ≡ option_map (λ b. record { 0 = b.low; 1 = b.high }) (bounds facets.now) }
+    ensures value { result ≡ extent facets.now }
     ensures holds { IfSome result (λ b. All (IsInBox b.0 b.1) (flat_map corners facets.now)) }
     ensures tight { IfSome result (λ b. IsTight b.0 b.1 (flat_map corners facets.now)) }
 {
@@ -21,8 +21,7 @@ pub fn extent(facets: &[Facet]) -> Option<(Point, Point)>
 /// The bounding box of facets and of earlier ones together, in micrometres, where `before` is the bounding box of the earlier
 /// ones. `None` exactly where there is no facet at all.
 pub fn extent_with(before: Option<(Point, Point)>, facets: &[Facet]) -> Option<(Point, Point)>
-    ensures { (earlier : List Facet) → before ≡ option_map (λ b. record { 0 = b.low; 1 = b.high }) (bounds earlier)
-        → result ≡ option_map (λ b. record { 0 = b.low; 1 = b.high }) (bounds (earlier ++ facets.now)) }
+    ensures { (earlier : List Facet) → before ≡ extent earlier → result ≡ extent (earlier ++ facets.now) }
 {
     match before {
         None => extent(facets),

@@ -1,8 +1,8 @@
 -- What a session answers, and when it answers a fault.
-use Rattle.std.specs.Prelude.{◌≡◌, ◌⊎◌, ◌<◌, ◌≤◌, ℕ, ℤ, List, Result, Ok, Err, ◌&&◌, nat_lt, flat_map, if◌then◌else◌, Bool}
+use Rattle.std.specs.Prelude.{◌≡◌, ◌⊎◌, ◌<◌, ◌≤◌, ℕ, ℤ, List, Result, Ok, Err, flat_map, if◌then◌else◌}
 use Rattle.std.specs.List.{range_with_len}
 use Rattle.geometry.specs.Winding.{ray, ray_y}
-use Rattle.raster.specs.Grid.{Grid, centre}
+use Rattle.raster.specs.Grid.{Grid, centre, is_voxel}
 use Rattle.raster.specs.Image.{layer_image}
 use Rattle.build_book.specs.Job.{Job, stripe_count, stripe_length, stripe_start}
 use Rattle.layer_session.specs.declared.session_fault.SessionFault.{SessionFault}
@@ -18,9 +18,6 @@ stripe_images job s = flat_map (image_of job) (range_with_len (stripe_start s) (
 
 abbrev pub outside : Grid → SessionFault
 outside g = fault.Outside g.columns g.rows g.layers
-
-abbrev pub is_voxel : Grid → ℕ → ℕ → ℕ → Bool
-is_voxel g i j k = nat_lt i g.columns && nat_lt j g.rows && nat_lt k g.layers
 
 -- the rays along x and y from the centre of a voxel
 abbrev pub probed : Job → ℕ → ℕ → ℕ → Result (ℤ × ℤ) SessionFault

@@ -12,13 +12,13 @@ ghost use Rattle.raster.specs.Image.{image_limit};
 ghost use Rattle.stl_text.specs.Text.{Reads};
 ghost use Rattle.layer_session.specs.Answers.{IsLayerFault, IsStripeFault, image_of, outside, probed, stripe_images};
 ghost use Rattle.layer_session.specs.Session.{IsOpenFault, IsSessionOf, Session as SessionModel};
-ghost use Rattle.layer_session.specs.Setup.{IsInRange};
+ghost use Rattle.layer_session.specs.Setup.{HasSteps};
 ghost use Rattle.layer_session.specs.declared.session_fault.SessionFault.TheVariants.{Memory, Step};
 
 use crate::layers::{layer_area, layer_image, layer_loops, layer_outlines, stripe_images};
 use crate::session_fault::SessionFault;
 use crate::setup::Setup;
-use build_book::{Job, STRIPE_LAYERS};
+use build_book::Job;
 use contour::{Loops, Outlines};
 use geometry::{Facet, Point, extent};
 use mesh_weld::{probe, weld};
@@ -54,7 +54,7 @@ impl<A: Allocator + Copy + Send + Sync> Session<A> {
     pub fn open(alloc: A, bytes: &[u8], setup: &Setup) -> Result<Session<A>, SessionFault>
         ensures found { IfOk result (IsSessionOf setup.now bytes.now) }
         ensures fault { IfErr result (IsOpenFault setup.now bytes.now) }
-        ensures step { (IsInRange setup.now → ⊥) → result ≡ Err Step }
+        ensures step { (HasSteps setup.now → ⊥) → result ≡ Err Step }
         ensures only { (session : SessionModel) → IsSessionOf setup.now bytes.now session
             → IfErr result (λ fault. fault ≡ Memory) }
     {
@@ -71,7 +71,7 @@ impl<A: Allocator + Copy + Send + Sync> Session<A> {
         facets: Vec<Facet, A>,
         setup: &Setup,
     ) -> Result<Session<A>, SessionFault>
-        requires range { IsInRange setup.now }
+        requires range { HasSteps setup.now }
         requires few { vec_len facets ≤ FACET_LIMIT }
         ensures found { (bytes : List ℕ) → Reads FACET_LIMIT setup.now.unit bytes facets.items
             → IfOk result (IsSessionOf setup.now bytes) }
@@ -138,9 +138,8 @@ impl<A: Allocator + Copy + Send + Sync> Session<A> {
         ensures value { result ≡ length (stripe_images self.now.job s) }
         ensures small { result ≤ STRIPE_LAYERS * image_limit }
     {
-        let most = u64::from(STRIPE_LAYERS);
-        let layers = most.min(u64::from(self.layers()) - most * s);
-        layers * self.image_len()
+        let (first, end) = self.job.layer_range(s);
+        u64::from(end - first) * self.image_len()
     }
 
     /// The number of facets that were read, those with two equal corners among them.

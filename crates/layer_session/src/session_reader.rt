@@ -2,7 +2,7 @@
 ghost use Rattle.std.specs.Prelude.{◌≡◌, ◌++◌, [], Err, IfErr, IfOk, List, ℕ};
 ghost use Rattle.layer_session.specs.SessionReader.{IsFed};
 ghost use Rattle.layer_session.specs.Session.{IsOpenFault, IsSessionOf, Session as SessionModel};
-ghost use Rattle.layer_session.specs.Setup.{IsInRange};
+ghost use Rattle.layer_session.specs.Setup.{HasSteps};
 ghost use Rattle.layer_session.specs.declared.session_fault.SessionFault.TheVariants.{Memory, Step};
 ghost use Rattle.layer_session.specs.declared.setup.Setup.{Setup};
 
@@ -61,7 +61,7 @@ impl<A: Allocator + Copy + Send + Sync> SessionReader<A> {
     pub fn finish(self) -> Result<Session<A>, SessionFault>
         ensures found { (setup : Setup) (fed : List ℕ) → IsFed setup self fed → IfOk result (IsSessionOf setup fed) }
         ensures fault { (setup : Setup) (fed : List ℕ) → IsFed setup self fed → IfErr result (IsOpenFault setup fed) }
-        ensures step { (setup : Setup) (fed : List ℕ) → IsFed setup self fed → (IsInRange setup → ⊥) → result ≡ Err Step }
+        ensures step { (setup : Setup) (fed : List ℕ) → IsFed setup self fed → (HasSteps setup → ⊥) → result ≡ Err Step }
         ensures only { (setup : Setup) (fed : List ℕ) → IsFed setup self fed → (session : SessionModel)
             → IsSessionOf setup fed session → IfErr result (λ fault. fault ≡ Memory) }
     {

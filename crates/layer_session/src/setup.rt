@@ -1,6 +1,6 @@
 //! What a text is opened with.
 ghost use Rattle.std.specs.Prelude.{◌↔◌, IsTrue};
-ghost use Rattle.layer_session.specs.Setup.{IsInRange};
+ghost use Rattle.layer_session.specs.Setup.{HasSteps};
 
 use geometry::STEP_LIMIT;
 use micro_num::Unit;
@@ -24,7 +24,7 @@ pub struct Setup {
 impl Setup {
     /// Whether pitch and layer height are in their range.
     pub fn is_in_range(&self) -> bool
-        ensures { IsTrue result ↔ IsInRange self.now }
+        ensures { IsTrue result ↔ HasSteps self.now }
     {
         1 <= self.pitch && self.pitch <= STEP_LIMIT && 1 <= self.layer && self.layer <= STEP_LIMIT
     }

@@ -56,13 +56,13 @@ OfText welder reader says = (unit : LengthUnit) (taken : List Facet) (fed : List
     → IsAfter FACET_LIMIT unit taken reader fed → says unit fed
 
 -- a reader was fed just the bytes that were taken from a source since the start, and these facets were taken off it
-abbrev pub IsFed : LengthUnit → List Facet → TextReader → Option (List ℕ) → Option (List ℕ) → Type 0
-IsFed unit taken reader start now = (fed : List ℕ) × Consumes start now fed × IsAfter FACET_LIMIT unit taken reader fed
+abbrev pub IsFedBySource : LengthUnit → List Facet → TextReader → Option (List ℕ) → Option (List ℕ) → Type 0
+IsFedBySource unit taken reader start now = (fed : List ℕ) × Consumes start now fed × IsAfter FACET_LIMIT unit taken reader fed
 
 -- a welder has the facets that were taken off a reader, which was fed just the bytes that were taken from a source since
 -- the start
 abbrev pub IsWeldedAsFed : LengthUnit → TextReader → Welder → Option (List ℕ) → Option (List ℕ) → Type 0
-IsWeldedAsFed unit reader welder start now = (taken : List Facet) × AreWelded taken welder × IsFed unit taken reader start now
+IsWeldedAsFed unit reader welder start now = (taken : List Facet) × AreWelded taken welder × IsFedBySource unit taken reader start now
 
 -- these bytes are all of the input, where that is known
 abbrev pub IsInput : Option (List ℕ) → List ℕ → Type 0

@@ -4,7 +4,7 @@ ghost use Rattle.std.specs.Io.KnownBytes.{IsAtEnd};
 ghost use Rattle.geometry.specs.Facet.{Facet};
 ghost use Rattle.micro_num.specs.declared.unit.Unit.{Unit as LengthUnit};
 ghost use Rattle.raster.specs.Devices.{Fails};
-ghost use Rattle.mesh_reading.specs.Loading.{IsAllWelded, IsFed, IsLoadFault, IsLoaded, IsMisread, IsReadAs, IsReadToEnd, IsSolidOf, IsTextExtent, OfText};
+ghost use Rattle.mesh_reading.specs.Loading.{IsAllWelded, IsFedBySource, IsLoadFault, IsLoaded, IsMisread, IsReadAs, IsReadToEnd, IsSolidOf, IsTextExtent, OfText};
 ghost use Rattle.mesh_reading.specs.Transcript.{transcript};
 ghost use Rattle.mesh_reading.specs.declared.read_fault.ReadFault.TheVariants.{Read};
 
@@ -264,8 +264,8 @@ fn next_facets<A: Allocator, I: Source>(
     requires { 0 < length window.old }
     ensures len { length window.new ≡ length window.old }
     ensures fed { OnOk result ((unit : LengthUnit) (taken : List Facet) (start : Option (List ℕ))
-        → IsFed unit taken reader.old start (I.remaining source.old)
-        → IsFed unit (taken ++ facets.new.items) reader.new start (I.remaining source.new)) }
+        → IsFedBySource unit taken reader.old start (I.remaining source.old)
+        → IsFedBySource unit (taken ++ facets.new.items) reader.new start (I.remaining source.new)) }
     ensures whole { result ≡ Ok false → IsAtEnd (I.remaining source.new) }
     ensures err { IfErr result (λ fault. (fault ≡ Read) × Fails (I.Failures.failure_count source.old) (I.Failures.failure_count source.new)) }
     ensures sound { OnOk result (I.Failures.failure_count source.new ≡ I.Failures.failure_count source.old) }

@@ -1,7 +1,7 @@
 //! The closed mesh that the crates above slice.
-ghost use Rattle.std.specs.Prelude.{◌≡◌, ◌≢◌, ◌<◌, ◌≤◌, ◌↔◌, ℕ, IsTrue, List, Some, flat_map, length, option_map, slice_get, true};
+ghost use Rattle.std.specs.Prelude.{◌≡◌, ◌≢◌, ◌<◌, ◌≤◌, ◌↔◌, ℕ, IsTrue, List, Some, flat_map, length, slice_get, true};
 ghost use Rattle.std.specs.List.{AllPairs, Contains};
-ghost use Rattle.geometry.specs.BoundingBox.{bounds};
+ghost use Rattle.geometry.specs.BoundingBox.{extent};
 ghost use Rattle.geometry.specs.Facet.{corners};
 ghost use Rattle.geometry.specs.Point.{Point, is_before};
 ghost use Rattle.mesh_weld.specs.Balance.{IsBalanced};
@@ -86,7 +86,7 @@ impl<A: Allocator> Solid<A> {
 
     /// The least and the greatest x, y and z of the kept facets' corners, in micrometres; `None` where none is kept.
     pub fn corners(&self) -> Option<(Point, Point)>
-        ensures { result ≡ option_map (λ b. record { 0 = b.low; 1 = b.high }) (bounds self.now.facets) }
+        ensures { result ≡ extent self.now.facets }
     {
         let points = self.points.as_slice();
         let start = *points.first()?;

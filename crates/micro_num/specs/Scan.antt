@@ -84,7 +84,7 @@ pub record IsCarry (carry count n : ℕ) : Type 0 where
   pub high : INCH_FACTOR * n < (carry + 1) * 10 ^ count
 
 -- IsLeading for a value in a unit, which may be INCH_FACTOR times as large
-pub record IsCut (value dropped n : ℕ) : Type 0 where
+pub record IsLeadingInUnit (value dropped n : ℕ) : Type 0 where
   pub low : value * 10 ^ dropped ≤ n
   pub high : n < (value + 1) * 10 ^ dropped
   pub short : value < SCALE_LIMIT

@@ -1,7 +1,7 @@
 //! From digits and an exponent to micrometres: times the factor of the unit, then times a power of ten, rounded once.
 ghost use Rattle.std.specs.Prelude.{◌≡◌, ◌≤◌, ◌<◌, ◌+◌, ◌*◌, ◌^◌, ◌++◌, ◌+ℤ◌, ◌-ℤ◌, if◌then◌else◌, length, ℕ, ℤ, neg_ℤ, pos, unsigned_abs, IfSome, MatchOption};
 ghost use Rattle.micro_num.specs.Micrometres.{digits_value, magnitude, rounded_quotient, unit_factor, unit_power};
-ghost use Rattle.micro_num.specs.Scan.{IsCapped, IsCarry, IsCut, IsMantissa, IsNear, digits_after};
+ghost use Rattle.micro_num.specs.Scan.{IsCapped, IsCarry, IsLeadingInUnit, IsMantissa, IsNear, digits_after};
 ghost use Rattle.micro_num.specs.declared.limits.TheConstants.{CARRY_LIMIT, INCH_FACTOR, LEADING_LIMIT, POWER_COUNT, SCALE_LIMIT};
 ghost use Rattle.geometry.specs.declared.limits.TheConstants.{COORDINATE_LIMIT};
 
@@ -92,7 +92,7 @@ fn in_inches(leading: LeadingDigits, whole: &[u8], fraction: &[u8]) -> u64
 fn in_unit(mantissa: &Mantissa<'_>, unit: Unit) -> u64
     requires { IsMantissa mantissa.now.leading.value mantissa.now.leading.dropped
         mantissa.now.whole.now mantissa.now.fraction.now }
-    ensures { IsCut result mantissa.now.leading.dropped
+    ensures { IsLeadingInUnit result mantissa.now.leading.dropped
         (unit_factor unit * digits_value (mantissa.now.whole.now ++ mantissa.now.fraction.now)) }
 {
     match unit {

@@ -1,4 +1,5 @@
 pub mod Areas
+pub mod Rules
 pub mod Masks
 pub mod Packing
 pub mod SpanOrder

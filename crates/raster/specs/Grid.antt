@@ -2,14 +2,15 @@
 --     IsGrid            what every grid keeps: counts within their limits, and centres within the limit of centres
 --     fitted_grid       the grid that a mesh fits in
 --     given_grid        the grid with given parts, or why there is none
-use Rattle.std.specs.Prelude.{◌≤◌, ◌≤ℤ◌, ℕ, ◌+◌, ◌*◌, ◌-◌, max, Bool, ◌||◌, Option, Some, None, Result, Ok, Err, ℤ, pos, ◌+ℤ◌, ◌-ℤ◌, ◌*ℤ◌, nat_abs, nat_lt, ◌==◌, int_lt, if◌then◌else◌, List}
+use Rattle.std.specs.Prelude.{◌≤◌, ◌≤ℤ◌, ℕ, ◌+◌, ◌*◌, ◌-◌, max, Bool, ◌&&◌, ◌||◌, Option, Some, None, Result, Ok, Err, ℤ, pos, ◌+ℤ◌, ◌-ℤ◌, ◌*ℤ◌, nat_abs, nat_lt, ◌==◌, int_lt, if◌then◌else◌, List}
 use Rattle.std.specs.Int.{div_ceil}
 use Rattle.raster.specs.declared.grid.GridFault.{GridFault}
 use Rattle.raster.specs.declared.grid.GridFault.TheVariants.{EmptyMesh, TooLarge, NoCells, FarCentre}
 use Rattle.geometry.specs.Point.{Point, IsMeshPoint}
 use Rattle.geometry.specs.Facet.{Facet}
 use Rattle.geometry.specs.BoundingBox.{Bounds, bounds}
-use Rattle.geometry.specs.declared.limits.TheConstants.{CENTRE_LIMIT, COLUMN_LIMIT, LAYER_LIMIT, STEP_LIMIT}
+use Rattle.geometry.specs.declared.limits.TheConstants.{CENTRE_LIMIT, COLUMN_LIMIT, LAYER_LIMIT}
+use Rattle.geometry.specs.Limits.{IsStep}
 
 pub record Grid : Type 0 where
   pub origin : Point
@@ -36,16 +37,18 @@ centre g i j k =
       z = middle g.origin.z g.layer_height k;
     }
 
+-- the grid has the voxel of column i, row j and layer k
+abbrev pub is_voxel : Grid → ℕ → ℕ → ℕ → Bool
+is_voxel g i j k = nat_lt i g.columns && nat_lt j g.rows && nat_lt k g.layers
+
 -- the height of layer k's plane
 abbrev pub plane : Grid → ℕ → ℤ
 plane g k = middle g.origin.z g.layer_height k
 
 pub record IsGrid (g : Grid) : Type 0 where
   pub origin : IsMeshPoint g.origin
-  pub pitch_low : 1 ≤ g.pitch
-  pub pitch_high : g.pitch ≤ STEP_LIMIT
-  pub layer_height_low : 1 ≤ g.layer_height
-  pub layer_height_high : g.layer_height ≤ STEP_LIMIT
+  pub pitch : IsStep g.pitch
+  pub layer_height : IsStep g.layer_height
   pub columns_low : 1 ≤ g.columns
   pub columns_high : g.columns ≤ COLUMN_LIMIT
   pub rows_low : 1 ≤ g.rows
@@ -55,12 +58,6 @@ pub record IsGrid (g : Grid) : Type 0 where
   pub last_x : middle g.origin.x g.pitch (g.columns - 1) ≤ℤ pos CENTRE_LIMIT
   pub last_y : middle g.origin.y g.pitch (g.rows - 1) ≤ℤ pos CENTRE_LIMIT
   pub last_z : middle g.origin.z g.layer_height (g.layers - 1) ≤ℤ pos CENTRE_LIMIT
-
--- no coordinate of the first is above the second's
-pub record IsBox (low high : Point) : Type 0 where
-  pub x : low.x ≤ℤ high.x
-  pub y : low.y ≤ℤ high.y
-  pub z : low.z ≤ℤ high.z
 
 -- a stretch in steps, rounded up, and 1 at least
 abbrev pub cell_count : ℤ → ℤ → ℕ → ℕ

@@ -10,14 +10,14 @@ use Rattle.raster.specs.declared.crossings.RowCrossing.{RowCrossing}
 abbrev pub row_crossing_limit : ℕ
 row_crossing_limit = 2 ^ 62
 
-abbrev pub sign_of : RowCrossing → ℤ
-sign_of m = if m.is_up then pos 1 else negsuc 0
+abbrev pub crossing_sign : RowCrossing → ℤ
+crossing_sign m = if m.is_up then pos 1 else negsuc 0
 
 abbrev pub signs : List RowCrossing → ℤ
-signs crossings = total sign_of crossings
+signs crossings = total crossing_sign crossings
 
 abbrev pub passed : List RowCrossing → ℕ → ℤ
-passed crossings i = total (λ m. if nat_le m.column i then sign_of m else pos 0) crossings
+passed crossings i = total (λ m. if nat_le m.column i then crossing_sign m else pos 0) crossings
 
 abbrev pub passed_before : List RowCrossing → ℕ → ℤ
-passed_before crossings i = total (λ m. if nat_lt m.column i then sign_of m else pos 0) crossings
+passed_before crossings i = total (λ m. if nat_lt m.column i then crossing_sign m else pos 0) crossings

@@ -7,7 +7,7 @@ abbrev pub span_at : List Span → ℕ → Span
 span_at spans k = slice_index_or spans k (record { row = 0; from = 0; to = 0 })
 
 -- the first n spans are those in rows below this one
-pub record IsSplit (spans : List Span) (n row : ℕ) : Type 0 where
+pub record IsRowStart (spans : List Span) (n row : ℕ) : Type 0 where
   pub within : n ≤ length spans
   pub below : (k : ℕ) → k < n → (span_at spans k).row < row
   pub above : (k : ℕ) → n ≤ k → k < length spans → row ≤ (span_at spans k).row

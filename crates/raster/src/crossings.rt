@@ -10,7 +10,7 @@ ghost use Rattle.plane_segments.specs.Segment.{segments};
 ghost use Rattle.exact_cut.specs.Lattice.{pixel, row_y};
 ghost use Rattle.raster.specs.ColumnSums.{AreZero};
 ghost use Rattle.raster.specs.Crossings.{AreCrossingsWithin, crossings_along, crossings_in, row_passed, row_signs};
-ghost use Rattle.raster.specs.RowCrossing.{row_crossing_limit, sign_of, signs};
+ghost use Rattle.raster.specs.RowCrossing.{row_crossing_limit, crossing_sign, signs};
 ghost use Rattle.raster.specs.RowSpans.{AreRowSpans};
 ghost use Rattle.geometry.specs.declared.limits.TheConstants.{CENTRE_LIMIT, COLUMN_LIMIT};
 
@@ -45,7 +45,7 @@ pub(crate) struct RowCrossing {
 /// A sum of signs with the sign of one more crossing added.
 pub(crate) fn with_sign(sum: i64, crossing: RowCrossing) -> i64
     requires { IsAtMost row_crossing_limit sum }
-    ensures value { result ≡ sum +ℤ sign_of crossing }
+    ensures value { result ≡ sum +ℤ crossing_sign crossing }
     ensures small { (n : ℕ) → IsAtMost n sum → IsAtMost (n + 1) result }
 {
     if crossing.is_up { sum + 1 } else { sum - 1 }

@@ -1,7 +1,9 @@
 //! The voxels that a mesh is sliced into: how many there are, and where their centres lie.
-ghost use Rattle.std.specs.Prelude.{◌≡◌, ◌<◌, ◌≤◌, ◌≤ℤ◌, IfSome, Some, option_map, ◌-◌, int_lt, pos};
+ghost use Rattle.std.specs.Prelude.{◌≡◌, ◌<◌, ◌≤◌, ◌≤ℤ◌, Some, ◌-◌, int_lt, pos};
 ghost use Rattle.exact_int.specs.Bounds.{IsAtMost};
-ghost use Rattle.raster.specs.Grid.{IsBox, cell_count, centre, exceeds, fitted_grid, given_grid, grid_of_box, grid_with, middle, plane, reaches_too_far};
+ghost use Rattle.geometry.specs.BoundingBox.{IsBox};
+ghost use Rattle.geometry.specs.Limits.{IsStep};
+ghost use Rattle.raster.specs.Grid.{cell_count, centre, exceeds, fitted_grid, given_grid, grid_of_box, grid_with, middle, plane, reaches_too_far};
 ghost use Rattle.geometry.specs.declared.limits.TheConstants.{CENTRE_LIMIT, COLUMN_LIMIT, COORDINATE_LIMIT, LAYER_LIMIT, STEP_LIMIT};
 
 use exact_cut::{Centre, Lattice};
@@ -71,10 +73,8 @@ impl Grid {
     /// `EmptyMesh` where the mesh has no facet; `TooLarge` where that takes more than `COLUMN_LIMIT` columns or rows, or
     /// more than `LAYER_LIMIT` layers.
     pub fn fit<A: Allocator>(s: &Solid<A>, pitch: u32, layer_height: u32) -> Result<Grid, GridFault>
-        requires pitch { 1 ≤ pitch }
-        requires pitch_high { pitch ≤ STEP_LIMIT }
-        requires height { 1 ≤ layer_height }
-        requires height_high { layer_height ≤ STEP_LIMIT }
+        requires pitch { IsStep pitch }
+        requires height { IsStep layer_height }
         ensures { result ≡ fitted_grid s.now.facets pitch layer_height }
     {
         match s.corners() {
@@ -96,10 +96,8 @@ impl Grid {
         rows: u32,
         layers: u32,
     ) -> Result<Grid, GridFault>
-        requires pitch { 1 ≤ pitch }
-        requires pitch_high { pitch ≤ STEP_LIMIT }
-        requires height { 1 ≤ layer_height }
-        requires height_high { layer_height ≤ STEP_LIMIT }
+        requires pitch { IsStep pitch }
+        requires height { IsStep layer_height }
         ensures { result ≡ given_grid (grid_with origin pitch layer_height columns rows layers) }
     {
         if columns == 0 || rows == 0 || layers == 0 {
@@ -135,8 +133,7 @@ impl Grid {
     /// The length of a voxel along x and along y, in micrometres.
     pub fn pitch(&self) -> u32
         ensures value { result ≡ self.now.pitch }
-        ensures low { 1 ≤ result }
-        ensures high { result ≤ STEP_LIMIT }
+        ensures step { IsStep result }
     {
         self.pitch
     }
@@ -144,8 +141,7 @@ impl Grid {
     /// The length of a voxel along z, in micrometres.
     pub fn layer_height(&self) -> u32
         ensures value { result ≡ self.now.layer_height }
-        ensures low { 1 ≤ result }
-        ensures high { result ≤ STEP_LIMIT }
+        ensures step { IsStep result }
     {
         self.layer_height
     }
@@ -223,10 +219,8 @@ impl Grid {
 
 /// The grid of this pitch and layer height that fits a box.
 fn fit_box(low: Point, high: Point, pitch: u32, layer_height: u32) -> Result<Grid, GridFault>
-    requires pitch { 1 ≤ pitch }
-    requires pitch_high { pitch ≤ STEP_LIMIT }
-    requires height { 1 ≤ layer_height }
-    requires height_high { layer_height ≤ STEP_LIMIT }
+    requires pitch { IsStep pitch }
+    requires height { IsStep layer_height }
     requires order { IsBox low high }
     ensures { result ≡ grid_of_box (Some (record { low = low; high = high })) pitch layer_height }
 {
@@ -241,8 +235,7 @@ fn cell_count(low: i32, high: i32, step: u32) -> u32
     requires low { IsAtMost COORDINATE_LIMIT low }
     requires high { IsAtMost COORDINATE_LIMIT high }
     requires order { low ≤ℤ high }
-    requires step { 1 ≤ step }
-    requires step_high { step ≤ STEP_LIMIT }
+    requires step { IsStep step }
     ensures value { result ≡ cell_count low high step }
     ensures low { 1 ≤ result }
     ensures last { middle low step (result - 1) ≤ℤ pos CENTRE_LIMIT }

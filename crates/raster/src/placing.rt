@@ -1,6 +1,6 @@
 //! Where a grid lies: where the mesh is, or where it is told to lie.
 ghost use Rattle.std.specs.Prelude.{◌≡◌, ◌≤◌};
-ghost use Rattle.geometry.specs.declared.limits.TheConstants.{STEP_LIMIT};
+ghost use Rattle.geometry.specs.Limits.{IsStep};
 ghost use Rattle.raster.specs.Placing.{placed_grid};
 
 use crate::grid::{Grid, GridFault};
@@ -32,10 +32,8 @@ impl Placing {
         pitch: u32,
         layer_height: u32,
     ) -> Result<Grid, GridFault>
-        requires pitch { 1 ≤ pitch }
-        requires pitch_high { pitch ≤ STEP_LIMIT }
-        requires height { 1 ≤ layer_height }
-        requires height_high { layer_height ≤ STEP_LIMIT }
+        requires pitch { IsStep pitch }
+        requires height { IsStep layer_height }
         ensures { result ≡ placed_grid self s.now.facets pitch layer_height }
     {
         match self {

@@ -1,7 +1,7 @@
 //! The fill rules: which sums of signed crossings count as inside. To the code of this crate a new rule is one variant, and
 //! one arm of `is_inside`; `docs/ARCHITECTURE.md` lists what else it touches.
-ghost use Rattle.std.specs.Prelude.{◌≡◌};
-ghost use Rattle.raster.specs.Rule.{is_inside};
+ghost use Rattle.std.specs.Prelude.{◌≡◌, ◌↔◌, IsTrue};
+ghost use Rattle.raster.specs.Rule.{IsInside, is_inside};
 
 /// Which pixels are filled, by the sum of the signed crossings of the mesh with the ray from a pixel's centre. These are
 /// the winding rules of two-dimensional filling.
@@ -17,7 +17,8 @@ pub enum Rule {
 
 /// Whether a sum of signed crossings counts as inside.
 pub(crate) fn is_inside(rule: Rule, count: i64) -> bool
-    ensures { result ≡ is_inside rule count }
+    ensures value { result ≡ is_inside rule count }
+    ensures inside { IsTrue result ↔ IsInside rule count }
 {
     match rule {
         Rule::EvenOdd => count.unsigned_abs() % 2 == 1,

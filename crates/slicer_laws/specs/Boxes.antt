@@ -1,11 +1,12 @@
 -- The mesh of a box, by its twelve facets, and its laws: which points it holds, so which rays and voxels it has.
 use Rattle.std.specs.Prelude.{◌≡◌, ℕ, Bool, ◌&&◌, List, [], ◌∷◌, ◌++◌, ℤ, pos, ◌*ℤ◌, int_le, int_lt, if◌then◌else◌}
+use Rattle.geometry.specs.BoundingBox.{IsBox}
 use Rattle.geometry.specs.Point.{Point}
 use Rattle.geometry.specs.Facet.{Facet, facet_with}
 use Rattle.geometry.specs.Winding.{ray, ray_y}
 use Rattle.mesh_weld.specs.Balance.{IsBalanced}
 use Rattle.raster.specs.declared.rule.Rule.{Rule}
-use Rattle.raster.specs.Grid.{Grid, IsBox, centre}
+use Rattle.raster.specs.Grid.{Grid, centre}
 use Rattle.raster.specs.Filler.{is_filled}
 
 abbrev pub at : ℤ → ℤ → ℤ → Point

@@ -12,8 +12,8 @@ pub record Reader : Type 0 where
   pub rest : List ℕ
 
 -- a reader at the start of a text
-abbrev pub start : LengthUnit → List ℕ → Reader
-start unit bytes = record { unit = unit; rest = bytes }
+abbrev pub reader_at_start : LengthUnit → List ℕ → Reader
+reader_at_start unit bytes = record { unit = unit; rest = bytes }
 
 -- the text between two readers is these tokens
 pub record Spells (tokens : List Token) (old new : Reader) : Type 0 where

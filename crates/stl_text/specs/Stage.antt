@@ -87,11 +87,11 @@ pub record StopsInside (unit : LengthUnit) (words : ℕ) (t : Facet) (after : Li
   pub other : fault ≢ faults.Ended Solid
 
 -- a solid that is open after these facets
-abbrev pub opened : List Facet → List Token
-opened facets = keyword_of Solid ∷ rest_of_line ∷ flat_map facet_tokens facets
+abbrev pub open_solid : List Facet → List Token
+open_solid facets = keyword_of Solid ∷ rest_of_line ∷ flat_map facet_tokens facets
 
-abbrev pub between : Bool → Stage
-between some = stage.Between some
+abbrev pub between_solids : Bool → Stage
+between_solids some = stage.Between some
 
 abbrev pub in_facets : Stage
 in_facets = stage.Facets
@@ -102,8 +102,8 @@ inside words t = stage.Inside words t
 -- the tokens that were read: whole solids, and the front of one more with the facets `added`
 abbrev pub front : Stage → List (List Facet) → List Facet → List Token
 front (stage.Between some) solids added = flat_map solid_tokens solids
-front stage.Facets solids added = flat_map solid_tokens solids ++ opened added
-front (stage.Inside words t) solids added = (flat_map solid_tokens solids ++ opened added) ++ facet_word ∷ take words (facet_tail t)
+front stage.Facets solids added = flat_map solid_tokens solids ++ open_solid added
+front (stage.Inside words t) solids added = (flat_map solid_tokens solids ++ open_solid added) ++ facet_word ∷ take words (facet_tail t)
 
 -- what a stage says of the solids, and of the number of facets so far
 abbrev pub IsForm : ℕ → Stage → List (List Facet) → List Facet → ℕ → Type 0

@@ -65,9 +65,9 @@ IsLineBreak [] = ⊥
 IsLineBreak (byte ∷ bytes) = (is_line_end byte ≡ true) × (are_white bytes ≡ true)
 
 -- what may follow the last solid: a line break, or nothing where the text ends with the line of `endsolid`
-abbrev pub IsEnd : List ℕ → Type 0
-IsEnd [] = Unit {0}
-IsEnd (byte ∷ bytes) = IsLineBreak (byte ∷ bytes)
+abbrev pub IsAfterSolids : List ℕ → Type 0
+IsAfterSolids [] = Unit {0}
+IsAfterSolids (byte ∷ bytes) = IsLineBreak (byte ∷ bytes)
 
 -- a solid of these facets, up to the end of the line of `endsolid`
 pub record WrittenSolid (unit : LengthUnit) (facets : List Facet) (text : List ℕ) : Type 0 where
@@ -103,6 +103,6 @@ pub record Written (unit : LengthUnit) (facets : List Facet) (text : List ℕ) :
   pub last_text : List ℕ
   pub last_is : WrittenSolid unit last last_text
   pub after : List ℕ
-  pub after_is : IsEnd after
+  pub after_is : IsAfterSolids after
   pub each : facets ≡ facets_of solids ++ last
   pub text_is : text ≡ lead ++ (laid_out texts ++ (last_text ++ after))

@@ -1,7 +1,7 @@
 //! The reader of a facet's words, from left to right: keywords, words of a normal and coordinates.
 ghost use Rattle.std.specs.Prelude.{◌≡◌, ◌≢◌, ◌↔◌, [], ◌∷◌, IfSome, IsTrue, None, Ok, false, ℤ};
 ghost use Rattle.micro_num.specs.Micrometres.{coordinate_of};
-ghost use Rattle.stl_text.specs.Reader.{Spells, start};
+ghost use Rattle.stl_text.specs.Reader.{Spells, reader_at_start};
 ghost use Rattle.stl_text.specs.Text.{after_space, begins_with, coordinate, first_word, keyword_of, HasOneKeyword, normal_word};
 
 use crate::scanning::{after_coordinate, after_keyword, skip_space, split_word};
@@ -30,7 +30,7 @@ impl<'t> Model for Reader<'t> {
 impl<'t> Reader<'t> {
     /// A reader at the start of a text.
     pub(crate) fn new(bytes: &'t [u8], unit: Unit) -> Reader<'t>
-        ensures { result ≡ start unit bytes.now }
+        ensures { result ≡ reader_at_start unit bytes.now }
     {
         Reader { rest: bytes, unit }
     }

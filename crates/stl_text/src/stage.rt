@@ -6,7 +6,7 @@ ghost use Rattle.geometry.specs.Point.{IsMeshPoint};
 ghost use Rattle.geometry.specs.declared.limits.TheConstants.{COORDINATE_LIMIT};
 ghost use Rattle.micro_num.specs.declared.unit.Unit.{Unit as LengthUnit};
 ghost use Rattle.stl_text.specs.Text.{IsFaultOf, Reads, after_space, first_word};
-ghost use Rattle.stl_text.specs.Stage.{AtWord, IsPlain, IsWantedAt, ReadInside, StandsAfter, Stands, StopsInside, between, in_facets, inside, with_axis, with_number};
+ghost use Rattle.stl_text.specs.Stage.{AtWord, IsPlain, IsWantedAt, ReadInside, StandsAfter, Stands, StopsInside, between_solids, in_facets, inside, with_axis, with_number};
 
 use crate::scanning::is_keyword;
 use crate::stl_fault::StlFault;
@@ -186,10 +186,10 @@ fn read_inside(
 /// Reads a word where `solid` is wanted.
 fn step_between(word: &[u8], at: usize) -> Result<Step, StlFault>
     ensures read { (limit : ℕ) (unit : LengthUnit) (some : Bool) (facets : List Facet) (text after : List ℕ)
-        → AtWord limit unit (between some) facets text after word.now at
+        → AtWord limit unit (between_solids some) facets text after word.now at
         → IfOk result (StandsAfter limit unit facets text after) }
     ensures fault { (limit : ℕ) (unit : LengthUnit) (some : Bool) (facets : List Facet) (text after : List ℕ)
-        → AtWord limit unit (between some) facets text after word.now at
+        → AtWord limit unit (between_solids some) facets text after word.now at
         → IfErr result (IsFaultOf limit unit text) }
 {
     if is_keyword(word, Word::Solid.text().as_bytes()) {

@@ -1,17 +1,17 @@
 -- What the program writes for a task and an input, or which fault it ends with.
-use Rattle.std.specs.Prelude.{◌≡◌, ℕ, Bool, true, false, ◌&&◌, List, ◌++◌, length, Option, Some, None, Result, Ok, Err, nat_lt, if◌then◌else◌, codes, decimal, option_map}
+use Rattle.std.specs.Prelude.{◌≡◌, ℕ, Bool, true, false, List, ◌++◌, length, Option, Some, None, Result, Ok, Err, if◌then◌else◌, codes, decimal}
 use Rattle.std.specs.Fmt.{signed_decimal}
 use Rattle.micro_num.specs.declared.unit.Unit.{Unit as LengthUnit}
 use Rattle.stl_text.specs.declared.stl_fault.StlFault.{StlFault}
 use Rattle.geometry.specs.Point.{Point}
 use Rattle.geometry.specs.Facet.{Facet}
-use Rattle.geometry.specs.BoundingBox.{bounds}
+use Rattle.geometry.specs.BoundingBox.{extent}
 use Rattle.stl_text.specs.Text.{Reads, IsFaultOf}
 use Rattle.geometry.specs.Winding.{ray, ray_y}
 use Rattle.mesh_weld.specs.Balance.{IsBalanced, IsLeastOpen}
 use Rattle.mesh_weld.specs.Solid.{Solid, solid_of}
 use Rattle.raster.specs.declared.grid.GridFault.{GridFault}
-use Rattle.raster.specs.Grid.{Grid, centre}
+use Rattle.raster.specs.Grid.{Grid, centre, is_voxel}
 use Rattle.raster.specs.Placing.{placed_grid}
 use Rattle.raster.specs.declared.placing.Placing.{Placing}
 use Rattle.raster.specs.declared.placing.Placing.TheVariants as placing
@@ -36,7 +36,7 @@ line_text count (Some corners) =
 
 -- the box line, over all facets that were read
 abbrev pub box_text : List Facet → List ℕ
-box_text facets = line_text (length facets) (option_map (λ b. (b.low, b.high)) (bounds facets))
+box_text facets = line_text (length facets) (extent facets)
 
 abbrev pub unit_of : Task → LengthUnit
 unit_of (task.Box unit) = unit
@@ -65,9 +65,6 @@ grid_for given pitch layer facets = placed_grid (placing_of given) facets pitch 
 
 abbrev pub outside : Grid → RunFault
 outside g = fault.Outside g.columns g.rows g.layers
-
-abbrev pub is_voxel : Grid → ℕ → ℕ → ℕ → Bool
-is_voxel g i j k = nat_lt i g.columns && nat_lt j g.rows && nat_lt k g.layers
 
 -- with a grid, what it gives; without one, the grid's fault
 abbrev pub with_grid : (Grid → Result (List ℕ) RunFault) → Result Grid GridFault → Result (List ℕ) RunFault

@@ -14,8 +14,9 @@ use Rattle.contour.specs.Loops.{loops}
 use Rattle.raster.specs.Filler.{below}
 use Rattle.raster.specs.Grid.{Grid, centre, plane}
 use Rattle.raster.specs.Image.{image_of_pixels}
+use Rattle.raster.specs.Rule.{IsInside}
 use Rattle.raster.specs.declared.rule.Rule.{Rule}
-use Rattle.build_book.specs.Promise.{IsInside, pixel_count}
+use Rattle.build_book.specs.Promise.{pixel_count}
 use Rattle.task_words.specs.declared.task.Given.{Given}
 use Rattle.stlslice.specs.Outcome.{grid_for}
 use Rattle.stlslice.specs.SlicedText.{line_of_layer, output_of, total_line}

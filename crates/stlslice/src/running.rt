@@ -7,7 +7,7 @@ ghost use Rattle.stlslice.specs.declared.run_fault.RunFault.TheVariants as run_f
 ghost use Rattle.raster.specs.declared.grid.GridFault.{GridFault};
 ghost use Rattle.task_words.specs.Task.{IsInRange};
 ghost use Rattle.task_words.specs.declared.task.Task.TheVariants as task;
-ghost use Rattle.geometry.specs.declared.limits.TheConstants.{STEP_LIMIT};
+ghost use Rattle.geometry.specs.Limits.{IsStep};
 
 use crate::run_fault::RunFault;
 use crate::write::box_line::box_line;
@@ -181,10 +181,8 @@ fn grid_for<A: Allocator>(
     pitch: u32,
     layer: u32,
 ) -> Result<Grid, RunFault>
-    requires pitch { 1 ≤ pitch }
-    requires pitch_high { pitch ≤ STEP_LIMIT }
-    requires layer { 1 ≤ layer }
-    requires layer_high { layer ≤ STEP_LIMIT }
+    requires pitch { IsStep pitch }
+    requires layer { IsStep layer }
     ensures ok { IfOk result (λ grid. grid_for given pitch layer solid.now.facets ≡ Ok grid) }
     ensures err { IfErr result (λ fault. (cause : GridFault) × (fault ≡ run_fault.Grid cause)
         × (grid_for given pitch layer solid.now.facets ≡ Err cause)) }

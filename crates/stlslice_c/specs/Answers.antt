@@ -1,14 +1,15 @@
 -- What a call leaves, and the status that it answers.
 use Rattle.std.specs.Prelude.{◌≡◌, ◌⊎◌, ◌<◌, ◌≤◌, ◌∷◌, ◌++◌, ◌+◌, ◌-◌, ℕ, List, length, drop, take, min, Option, Some, None, Ok, Err, codes}
 use Rattle.geometry.specs.Facet.{Facet}
+use Rattle.geometry.specs.BoundingBox.{extent}
 use Rattle.geometry.specs.declared.limits.TheConstants.{FACET_LIMIT}
 use Rattle.stl_text.specs.Text.{IsFaultOf, Reads}
 use Rattle.micro_num.specs.declared.unit.Unit.{Unit as LengthUnit}
 use Rattle.raster.specs.Filler.{area_of}
 use Rattle.build_book.specs.Job.{Job, stripe_count}
 use Rattle.layer_session.specs.Answers.{image_of, outside, probed, stripe_images}
-use Rattle.layer_session.specs.Session.{IsOpenFault, IsSessionOf, Session, bounds_of}
-use Rattle.layer_session.specs.Setup.{IsInRange}
+use Rattle.layer_session.specs.Session.{IsOpenFault, IsSessionOf, Session}
+use Rattle.layer_session.specs.Setup.{HasSteps}
 use Rattle.layer_session.specs.declared.setup.Setup.{Setup}
 use Rattle.layer_session.specs.declared.session_fault.SessionFault.{SessionFault}
 use Rattle.layer_session.specs.declared.session_fault.SessionFault.TheVariants as fault
@@ -37,22 +38,22 @@ IsNumbered n count bytes old new told wanted status =
     ⊎ ((count ≤ n) × (new ≡ old) × (wanted ≡ told) × (status ≡ OUT_OF_RANGE))
 
 -- the image of layer k
-abbrev pub IsMask : Job → ℕ → List ℕ → List ℕ → ℕ → ℕ → ℕ → Type 0
-IsMask job k old new told wanted status = IsNumbered k job.grid.layers (image_of job k) old new told wanted status
+abbrev pub IsMaskAnswer : Job → ℕ → List ℕ → List ℕ → ℕ → ℕ → ℕ → Type 0
+IsMaskAnswer job k old new told wanted status = IsNumbered k job.grid.layers (image_of job k) old new told wanted status
 
 -- the images of stripe s
-abbrev pub IsStripe : Job → ℕ → List ℕ → List ℕ → ℕ → ℕ → ℕ → Type 0
-IsStripe job s old new told wanted status =
+abbrev pub IsStripeAnswer : Job → ℕ → List ℕ → List ℕ → ℕ → ℕ → ℕ → Type 0
+IsStripeAnswer job s old new told wanted status =
     IsNumbered s (stripe_count job.grid) (stripe_images job s) old new told wanted status
 
-abbrev pub IsArea : Job → ℕ → ℕ → ℕ → ℕ → Type 0
-IsArea job k old new status =
+abbrev pub IsAreaAnswer : Job → ℕ → ℕ → ℕ → ℕ → Type 0
+IsAreaAnswer job k old new status =
     ((k < job.grid.layers) × (new ≡ area_of job.grid job.rule job.solid.facets k) × (status ≡ DONE))
     ⊎ ((k < job.grid.layers) × (new ≡ old) × (status ≡ MEMORY))
     ⊎ ((job.grid.layers ≤ k) × (new ≡ old) × (status ≡ OUT_OF_RANGE))
 
-abbrev pub IsProbe : Job → ℕ → ℕ → ℕ → Rays → Rays → ℕ → Type 0
-IsProbe job i j k old new status =
+abbrev pub IsProbeAnswer : Job → ℕ → ℕ → ℕ → Rays → Rays → ℕ → Type 0
+IsProbeAnswer job i j k old new status =
     ((probed job i j k ≡ Ok (new.along_x, new.along_y)) × (status ≡ DONE))
     ⊎ ((probed job i j k ≡ Err (outside job.grid)) × (new ≡ old) × (status ≡ OUT_OF_RANGE))
 
@@ -86,7 +87,7 @@ pub record IsBoxed (unit : ℕ) (text : List ℕ) (told : Corners) : Type 0 wher
   pub facets : List Facet
   pub means : unit_numbered unit ≡ Some meant
   pub reads : Reads FACET_LIMIT meant text facets
-  pub box : told ≡ corners_told (length facets) (bounds_of facets)
+  pub box : told ≡ corners_told (length facets) (extent facets)
 
 -- a number that is no unit's, or the fault of the text, with its line
 abbrev pub IsUnboxed : ℕ → List ℕ → List ℕ → List ℕ → ℕ → Type 0
@@ -96,8 +97,8 @@ IsUnboxed unit text before after status =
     × IsTextFault meant text fault × (status ≡ status_of fault) × IsFaultLine fault before after)
 
 -- the box, and no line; or else the line, and no box
-abbrev pub IsBox : ℕ → List ℕ → Corners → Corners → List ℕ → List ℕ → ℕ → Type 0
-IsBox unit text old new before after status =
+abbrev pub IsBoxAnswer : ℕ → List ℕ → Corners → Corners → List ℕ → List ℕ → ℕ → Type 0
+IsBoxAnswer unit text old new before after status =
     (IsBoxed unit text new × (after ≡ before) × (status ≡ DONE)) ⊎ ((new ≡ old) × IsUnboxed unit text before after status)
 
 -- the session of a text, and its shape
@@ -111,7 +112,7 @@ pub record IsOpened (o : Options) (text : List ℕ) (new : Option Session) (shap
 
 -- Where pitch or layer height is out of range, just that is the fault.
 abbrev pub IsStepFirst : Setup → SessionFault → Type 0
-IsStepFirst setup told = (IsInRange setup → ⊥) → told ≡ fault.Step
+IsStepFirst setup told = (HasSteps setup → ⊥) → told ≡ fault.Step
 
 -- options that stand for no setup, or why the text opens no session, with the line of that
 abbrev pub IsUnopened : Options → List ℕ → List ℕ → List ℕ → ℕ → Type 0

@@ -17,6 +17,6 @@ session_row = session.the_row heap.the_row ghosts
 abbrev pub token : Ty → Ptr → Fml
 token = ghosts.dealloc_token (record { memory = record { seal = tt } })
 
-abbrev pub holds : (Ty → Ptr → Fml) → (R : RattleType) → Ptr → Option R.Denot → Fml
-holds free R p None = ftrue
-holds free R p (Some x) = box_owns free R p x
+abbrev pub owned : (Ty → Ptr → Fml) → (R : RattleType) → Ptr → Option R.Denot → Fml
+owned free R p None = ftrue
+owned free R p (Some x) = box_owns free R p x

@@ -1,6 +1,5 @@
 //! What an open mesh is asked.
-ghost use Rattle.std.specs.Prelude.{◌≡◌};
-ghost use Rattle.stlslice_c.specs.Answers.{IsArea, IsMask, IsProbe, IsStripe};
+ghost use Rattle.stlslice_c.specs.Answers.{IsAreaAnswer, IsMaskAnswer, IsProbeAnswer, IsStripeAnswer};
 
 use crate::buffers::{has_room, put};
 use crate::shape::Rays;
@@ -15,7 +14,7 @@ pub(crate) fn put_mask<A: Allocator + Copy + Send + Sync>(
     image: &mut [u8],
     wanted: &mut usize,
 ) -> Status
-    ensures { IsMask session.now.job k image.old image.new wanted.old wanted.new result }
+    ensures { IsMaskAnswer session.now.job k image.old image.new wanted.old wanted.new result }
 {
     if k < session.layers() && !has_room(session.image_len(), image, wanted) {
         return NO_ROOM;
@@ -33,7 +32,7 @@ pub(crate) fn put_stripe<A: Allocator + Copy + Send + Sync>(
     images: &mut [u8],
     wanted: &mut usize,
 ) -> Status
-    ensures { IsStripe session.now.job s images.old images.new wanted.old wanted.new result }
+    ensures { IsStripeAnswer session.now.job s images.old images.new wanted.old wanted.new result }
 {
     if s < session.stripes() && !has_room(session.stripe_len(s), images, wanted) {
         return NO_ROOM;
@@ -50,7 +49,7 @@ pub(crate) fn put_area<A: Allocator + Copy + Send + Sync>(
     k: u32,
     area: &mut u64,
 ) -> Status
-    ensures { IsArea session.now.job k area.old area.new result }
+    ensures { IsAreaAnswer session.now.job k area.old area.new result }
 {
     match session.area(k) {
         Ok(pixels) => {
@@ -69,7 +68,7 @@ pub(crate) fn put_probe<A: Allocator + Copy + Send + Sync>(
     k: u32,
     rays: &mut Rays,
 ) -> Status
-    ensures { IsProbe session.now.job i j k rays.old rays.new result }
+    ensures { IsProbeAnswer session.now.job i j k rays.old rays.new result }
 {
     match session.probe(i, j, k) {
         Ok((along_x, along_y)) => {

@@ -40,7 +40,7 @@ mod tests;
 
 ghost use Rattle.std.specs.Prelude.{◌≡◌, None, Some};
 ghost use Rattle.layer_session.specs.Session.{Session};
-ghost use Rattle.stlslice_c.specs.Answers.{IsArea, IsBox, IsLine, IsMask, IsOpening, IsProbe, IsStripe};
+ghost use Rattle.stlslice_c.specs.Answers.{IsAreaAnswer, IsBoxAnswer, IsLine, IsMaskAnswer, IsOpening, IsProbeAnswer, IsStripeAnswer};
 ghost use Rattle.stlslice_c.specs.Loops.{AreAsBefore, IsLoops};
 ghost use Rattle.stlslice_c.specs.Status.{status_text};
 ghost use Rattle.stlslice_c.specs.declared.status.TheConstants.{NOT_OPEN};
@@ -100,7 +100,7 @@ pub extern "C" fn stlslice_box(
     corners: &mut Corners,
     line: &mut [u8],
 ) -> u32
-    ensures { IsBox unit text.now corners.old corners.new line.old line.new result }
+    ensures { IsBoxAnswer unit text.now corners.old corners.new line.old line.new result }
 {
     let Some(unit) = unit_numbered(unit) else {
         return put_status(OUT_OF_RANGE, line);
@@ -161,7 +161,7 @@ pub extern "C" fn stlslice_mask(
 ) -> u32
     ensures kept { handle.new.mesh.session ≡ handle.old.mesh.session }
     ensures open { (session : Session) → handle.old.mesh.session ≡ Some session
-        → IsMask session.job k image.old image.new wanted.old wanted.new result }
+        → IsMaskAnswer session.job k image.old image.new wanted.old wanted.new result }
     ensures closed { handle.old.mesh.session ≡ None → (result ≡ NOT_OPEN) × (image.new ≡ image.old) × (wanted.new ≡ wanted.old) }
 {
     asked!(alloc, handle, session => put_mask(&session, k, image, wanted))
@@ -179,7 +179,7 @@ pub extern "C" fn stlslice_stripe(
 ) -> u32
     ensures kept { handle.new.mesh.session ≡ handle.old.mesh.session }
     ensures open { (session : Session) → handle.old.mesh.session ≡ Some session
-        → IsStripe session.job s images.old images.new wanted.old wanted.new result }
+        → IsStripeAnswer session.job s images.old images.new wanted.old wanted.new result }
     ensures closed { handle.old.mesh.session ≡ None → (result ≡ NOT_OPEN) × (images.new ≡ images.old) × (wanted.new ≡ wanted.old) }
 {
     asked!(alloc, handle, session => put_stripe(&session, s, images, wanted))
@@ -190,7 +190,7 @@ pub extern "C" fn stlslice_stripe(
 pub extern "C" fn stlslice_area(alloc: Global, handle: &mut Handle, k: u32, area: &mut u64) -> u32
     ensures kept { handle.new.mesh.session ≡ handle.old.mesh.session }
     ensures open { (session : Session) → handle.old.mesh.session ≡ Some session
-        → IsArea session.job k area.old area.new result }
+        → IsAreaAnswer session.job k area.old area.new result }
     ensures closed { handle.old.mesh.session ≡ None → (result ≡ NOT_OPEN) × (area.new ≡ area.old) }
 {
     asked!(alloc, handle, session => put_area(&session, k, area))
@@ -208,7 +208,7 @@ pub extern "C" fn stlslice_probe(
 ) -> u32
     ensures kept { handle.new.mesh.session ≡ handle.old.mesh.session }
     ensures open { (session : Session) → handle.old.mesh.session ≡ Some session
-        → IsProbe session.job i j k rays.old rays.new result }
+        → IsProbeAnswer session.job i j k rays.old rays.new result }
     ensures closed { handle.old.mesh.session ≡ None → (result ≡ NOT_OPEN) × (rays.new ≡ rays.old) }
 {
     asked!(alloc, handle, session => put_probe(&session, i, j, k, rays))

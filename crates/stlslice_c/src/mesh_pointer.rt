@@ -16,9 +16,9 @@ pub struct MeshPointer {
 }
 
 impl Model for MeshPointer {
-    ghost use Rattle.stlslice_c.specs.MeshPointer.{holds, session_row, token};
+    ghost use Rattle.stlslice_c.specs.MeshPointer.{owned, session_row, token};
 
-    ghost also_owns = { λ m. holds token session_row m.at m.session };
+    ghost also_owns = { λ m. owned token session_row m.at m.session };
 }
 
 unsafe impl Send for MeshPointer {}

@@ -1,11 +1,12 @@
 //! Reading a text: its bounding box, or its session.
 ghost use Rattle.std.specs.Prelude.{◌≡◌, Err, IfErr, IfOk, List, length};
+ghost use Rattle.geometry.specs.BoundingBox.{extent};
 ghost use Rattle.geometry.specs.Facet.{Facet};
 ghost use Rattle.geometry.specs.declared.limits.TheConstants.{FACET_LIMIT};
 ghost use Rattle.stl_text.specs.Text.{Reads};
-ghost use Rattle.layer_session.specs.Setup.{IsInRange};
+ghost use Rattle.layer_session.specs.Setup.{HasSteps};
 ghost use Rattle.layer_session.specs.declared.session_fault.SessionFault.TheVariants.{Step};
-ghost use Rattle.layer_session.specs.Session.{IsOpenFault, IsSessionOf, bounds_of};
+ghost use Rattle.layer_session.specs.Session.{IsOpenFault, IsSessionOf};
 ghost use Rattle.stlslice_c.specs.Answers.{IsTextFault};
 ghost use Rattle.stlslice_c.specs.Shape.{corners_told};
 
@@ -22,7 +23,7 @@ pub(crate) fn read_corners<A: Allocator + Copy + Send + Sync>(
     unit: Unit,
 ) -> Result<Corners, SessionFault>
     ensures found { IfOk result (λ corners. (facets : List Facet) × Reads FACET_LIMIT unit text.now facets
-        × (corners ≡ corners_told (length facets) (bounds_of facets))) }
+        × (corners ≡ corners_told (length facets) (extent facets))) }
     ensures fault { IfErr result (IsTextFault unit text.now) }
 {
     let facets = read_stl(alloc, text, unit)?;
@@ -37,7 +38,7 @@ pub(crate) fn open<A: Allocator + Copy + Send + Sync>(
 ) -> Result<Box<Session<A>, A>, SessionFault>
     ensures found { IfOk result (λ session. IsSessionOf setup.now text.now session.value) }
     ensures fault { IfErr result (IsOpenFault setup.now text.now) }
-    ensures step { (IsInRange setup.now → ⊥) → result ≡ Err Step }
+    ensures step { (HasSteps setup.now → ⊥) → result ≡ Err Step }
 {
     let session = Session::open(alloc, text, setup)?;
     match Box::new(alloc, session) {

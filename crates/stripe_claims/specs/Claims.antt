@@ -65,7 +65,7 @@ pub record HasTogether (hands : List Hand) (passes : List Pass) : Type 0 where
   pub found : (x : ℕ) → times x hand.found ≡ times x (found_by_all passes)
 
 -- Steps of the machine lead to this word, with all that these passes found in one hand, if there are any passes.
-pub record IsEnd (claims : Claims) (passes : List Pass) (word : ℕ) : Type 0 where
+pub record HasGathered (claims : Claims) (passes : List Pass) (word : ℕ) : Type 0 where
   pub hands : List Hand
   pub reached : IsReachable (plan_of claims) (moment word hands)
   pub joined : 0 < length passes → HasTogether hands passes

@@ -52,8 +52,8 @@ abbrev pub moment : ℕ → List Hand → Moment
 moment word hands = record { word = word; hands = hands }
 
 -- the word is 0, and one hand stands for all passes
-abbrev pub start : Plan → Moment
-start plan = moment 0 (hand plan.passes [] ∷ [])
+abbrev pub first_moment : Plan → Moment
+first_moment plan = moment 0 (hand plan.passes [] ∷ [])
 
 -- A hand that has found no number at `stripes` or above appends the word to its list, and adds 1 to the word.
 pub record IsDraw (plan : Plan) (before : Moment) (id : ℕ) (mine : Hand) (after : Moment) : Type 0 where
@@ -89,7 +89,7 @@ pub data Step (plan : Plan) (before after : Moment) : Type 0 where
 
 -- any steps from the start lead there
 pub data IsReachable : Plan → Moment → Type 0 where
-  first : (plan : Plan) → IsReachable plan (start plan)
+  first : (plan : Plan) → IsReachable plan (first_moment plan)
   next : (plan : Plan) (before after : Moment) → IsReachable plan before → Step plan before after → IsReachable plan after
 
 -- The rule of the table: its one word, and the views of its seats, are a moment that steps of the machine lead to.

@@ -1,7 +1,7 @@
 //! Claims and their passes. A draw is one `fetch_add` on the one word of a table.
 ghost use Rattle.std.specs.Prelude.{◌≡◌, ◌+◌, ◌<◌, ◌≤◌, ℕ, [], ◌∷◌, ◌++◌, length, All, Any, IfOk, IfSome, IfNone, None, Some, true, false, if◌then◌else◌, is_none, nat_lt};
 ghost use Rattle.stripe_claims.specs.Machine.{times, once_below, IsEachOnce, given, hand, one_less};
-ghost use Rattle.stripe_claims.specs.Claims.{found_by_all, IsOwned, IsFresh, IsEnd, HasReached};
+ghost use Rattle.stripe_claims.specs.Claims.{found_by_all, IsOwned, IsFresh, HasGathered, HasReached};
 ghost use Rattle.stripe_claims.specs.declared.limits.TheConstants.{PASS_LIMIT, STRIPE_LIMIT};
 
 use crate::machine::{Cuts, Draws, Hand, Joins, Machine, Plan};
@@ -144,7 +144,7 @@ impl<A: Allocator + Copy> Claims<A> {
     /// once; where all of them have ended too, they were given all numbers below `stripes`, each once.
     pub fn close(self, passes: Vec<Pass, A>) -> u64
         requires { All (IsOwned self) passes.items }
-        ensures machine { IsEnd self passes.items result }
+        ensures machine { HasGathered self passes.items result }
         ensures once { (x : ℕ) → times x (found_by_all passes.items) ≤ once_below x result }
         ensures count { length (found_by_all passes.items) ≤ result }
         ensures ended { Any (λ p. p.has_ended ≡ true) passes.items → self.stripes < result }
@@ -198,7 +198,7 @@ impl<A: Allocator + Copy> Claims<A> {
 
     /// Closes the claims without a seat, and answers the last value of the word.
     fn word(self) -> u64
-        ensures machine { IsEnd self [] result }
+        ensures machine { HasGathered self [] result }
         ensures most { result ≤ self.stripes + self.passes }
         ensures some { 0 < self.passes }
     {

@@ -2,13 +2,12 @@
 use Rattle.std.specs.Prelude.{◌≤◌}
 use Rattle.task_words.specs.declared.task.Task.{Task}
 use Rattle.task_words.specs.declared.task.Task.TheVariants as task
-use Rattle.geometry.specs.declared.limits.TheConstants.{STEP_LIMIT}
+use Rattle.geometry.specs.Limits.{IsStep}
 use Rattle.stripe_claims.specs.declared.limits.TheConstants.{PASS_LIMIT}
 
 -- the task's numbers are in range
 abbrev pub IsInRange : Task → Type 0
 IsInRange (task.Box unit) = Unit {0}
 IsInRange (task.Slice unit pitch layer rule workers report grid) =
-    (1 ≤ pitch) × (pitch ≤ STEP_LIMIT) × (1 ≤ layer) × (layer ≤ STEP_LIMIT) × (1 ≤ workers) × (workers ≤ PASS_LIMIT)
-IsInRange (task.Probe unit pitch layer grid i j k) =
-    (1 ≤ pitch) × (pitch ≤ STEP_LIMIT) × (1 ≤ layer) × (layer ≤ STEP_LIMIT)
+    IsStep pitch × IsStep layer × (1 ≤ workers) × (workers ≤ PASS_LIMIT)
+IsInRange (task.Probe unit pitch layer grid i j k) = IsStep pitch × IsStep layer

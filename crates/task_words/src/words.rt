@@ -3,7 +3,7 @@ ghost use Rattle.std.specs.Prelude.{◌≡◌, ◌≤◌, IfErr, IfOk, IfSome};
 ghost use Rattle.task_words.specs.Task.{IsInRange};
 ghost use Rattle.task_words.specs.WordFault.{IsNoMemoryRefusal};
 ghost use Rattle.task_words.specs.declared.word_fault.WordFault.TheVariants.{BadGrid, BadProbe, BadRule, BadUnit, Missing};
-ghost use Rattle.geometry.specs.declared.limits.TheConstants.{STEP_LIMIT};
+ghost use Rattle.geometry.specs.Limits.{IsStep};
 
 use crate::command::{
     BOX, GRID, LAYER, PITCH, PROBE, PROGRESS, REPORT, RULE, UNIT, WORKERS, command,
@@ -115,7 +115,7 @@ fn voxel_of(matches: &ArgMatches<'_>) -> Result<Option<Voxel>, WordFault>
 
 /// The micrometres of an option that the task needs.
 fn wanted(matches: &ArgMatches<'_>, name: &str, option: Wanted) -> Result<u32, WordFault>
-    ensures range { IfOk result (λ n. (1 ≤ n) × (n ≤ STEP_LIMIT)) }
+    ensures range { IfOk result IsStep }
     ensures fault { IfErr result (λ fault. fault ≡ Missing option) }
 {
     number_of(matches, name, STEP_LIMIT).ok_or(WordFault::Missing { option })

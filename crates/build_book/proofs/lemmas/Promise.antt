@@ -1,10 +1,7 @@
 -- A lawful layer is as promised, and no other layer is. A job has one complete build at most.
-use Rattle.std.proofs.Common.{◌≡◌, ℕ, zero, suc, ◌+◌, ◌<◌, Decides, List, [], ◌∷◌, length, refl, sym, ◌∙◌, ap, subst, arith, Some, slice_get}
-use Rattle.std.specs.Prelude.{ℤ, pos, nat_abs, int_lt, ◌<ℤ◌, ◌%◌}
-use Rattle.std.specs.Ordering.{int_eq}
+use Rattle.std.proofs.Common.{◌≡◌, ℕ, zero, suc, ◌+◌, ◌<◌, List, [], ◌∷◌, length, refl, sym, ◌∙◌, ap, subst, arith, Some, slice_get}
 use Rattle.std.specs.List.{AllByRecursion}
-use Rattle.std.proofs.lemmas.Int.{ints}
-use Rattle.std.proofs.lemmas.Bool.Decides.{Decides-at, Decides-eqb, Decides-int_eq, Decides-not, same_from_decides}
+use Rattle.std.proofs.lemmas.Bool.Decides.{Decides-at, same_from_decides}
 use Rattle.geometry.specs.Facet.{Facet}
 use Rattle.geometry.specs.Winding.{ray}
 use Rattle.mesh_weld.specs.Solid.{kept_facets}
@@ -16,34 +13,24 @@ use Rattle.contour.specs.Loops.{Closes, IsCycle, follower}
 use Rattle.contour.proofs.lemmas.LoopWinds.{at_node}
 use Rattle.contour.proofs.lemmas.Unique.{loops-are}
 use Rattle.raster.specs.declared.rule.Rule.{Rule}
-use Rattle.raster.specs.declared.rule.Rule.TheVariants.{EvenOdd, NonZero, Positive}
 use Rattle.raster.specs.declared.span.Span.{Span}
 use Rattle.raster.specs.Grid.{Grid, centre, plane}
 use Rattle.raster.specs.Rule.{is_inside}
+use Rattle.raster.proofs.lemmas.Rules.{inside_decides}
 use Rattle.raster.specs.Span.{covers}
 use Rattle.build_book.specs.Job.{Job}
 use Rattle.build_book.specs.Layer.{Layer, IsLawful, AreLawfulFrom}
 use Rattle.build_book.specs.Build.{IsComplete}
-use Rattle.build_book.specs.Promise.{EndsAt, IsClosed, IsInside, IsPromised, job_of, pixel_count}
+use Rattle.build_book.specs.Promise.{IsClosed, IsPromised, LeadsTo, job_of, pixel_count}
 use Rattle.build_book.proofs.lemmas.OneLayer.{one_layer, one_list}
 use Rattle.build_book.proofs.lemmas.Areas.{span_area-is, spans_sum}
-
--- ---- rules
-
-positive_decides : (n : ℤ) → Decides (int_lt (pos 0) n) (pos 0 <ℤ n)
-positive_decides n = grind (arith, ints)
-
-pub inside_decides : (rule : Rule) (n : ℤ) → Decides (is_inside rule n) (IsInside rule n)
-inside_decides EvenOdd n = Decides-eqb (nat_abs n % 2) 1
-inside_decides NonZero n = Decides-not (int_eq n (pos 0)) (Decides-int_eq n (pos 0))
-inside_decides Positive n = positive_decides n
 
 -- ---- loops
 
 follower-starts : (list : List Segment) (s t : Segment) → follower list s ≡ Some t → s.to ≡ t.from
 follower-starts list s t h = sym (node-is t.from s.to (at_node list s t h))
 
-ends_at : (list : List Segment) (first : Segment) (loop : List Segment) → Closes list first loop → EndsAt first.from loop
+ends_at : (list : List Segment) (first : Segment) (loop : List Segment) → Closes list first loop → LeadsTo first.from loop
 ends_at list first [] h = h
 ends_at list first (s ∷ []) h = follower-starts list s first h
 ends_at list first (s ∷ t ∷ rest) h = (follower-starts list s t h.0, ends_at list first (t ∷ rest) h.1)

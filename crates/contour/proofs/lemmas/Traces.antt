@@ -9,7 +9,7 @@ use Rattle.plane_segments.specs.declared.segment.Segment.{Segment}
 use Rattle.plane_segments.specs.Segment.{segments}
 use Rattle.plane_segments.proofs.lemmas.FacetOrder.{AreFrom, segments_ascend}
 use Rattle.contour.specs.Loops.{AreEnds, AreLoops, IsCycle, count_of, first_facet, is_from_least, parts_from}
-use Rattle.contour.specs.Linker.{AreLinks, AreTraced, IsTracedLoop, InFacetOrder, facet_of, is_visited, unvisited}
+use Rattle.contour.specs.Linker.{AreLinks, AreTraced, IsTracedLoop, InFacetOrder, facet_number, is_visited, unvisited}
 use Rattle.contour.proofs.lemmas.Counts.{count-append}
 use Rattle.geometry.specs.Facet.{Facet}
 use Rattle.contour.proofs.lemmas.Parts.{AreOthers, ends-push, others-are, parts-all, parts-push}
@@ -108,26 +108,26 @@ module _ (list : List Segment) (next : List ℕ) (order : InFacetOrder list) (fi
       parts-push 0 ends flat part (length flat) (length (flat ++ part)) g.ends_are (omega arith)
       (let e = length-append flat part in omega (arith, e))
 
-  heads : map first_facet (parts_from 0 (ends ++ length (flat ++ part) ∷ []) (flat ++ part)) ≡ map first_facet (parts_from 0 ends flat) ++ facet_of list first ∷ []
+  heads : map first_facet (parts_from 0 (ends ++ length (flat ++ part) ∷ []) (flat ++ part)) ≡ map first_facet (parts_from 0 ends flat) ++ facet_number list first ∷ []
   heads =
       ap (map first_facet) found ∙ map-append first_facet (parts_from 0 ends flat) (part ∷ [])
       ∙ ap (λ n. map first_facet (parts_from 0 ends flat) ++ n ∷ []) t.head
 
   abbrev Below : List ℕ → Type 0
-  Below hs = (k j : ℕ) → k < length hs → first + 1 ≤ j → j < length list → get_or hs k 0 < facet_of list j
+  Below hs = (k j : ℕ) → k < length hs → first + 1 ≤ j → j < length list → get_or hs k 0 < facet_number list j
 
-  below_more : Below (map first_facet (parts_from 0 ends flat) ++ facet_of list first ∷ [])
+  below_more : Below (map first_facet (parts_from 0 ends flat) ++ facet_number list first ∷ [])
   below_more k j l m n = by_slot (either k (length (map first_facet (parts_from 0 ends flat))))
     where
       by_slot : (k ≡ length (map first_facet (parts_from 0 ends flat))) ⊎ (k ≡ length (map first_facet (parts_from 0 ends flat)) → ⊥)
-          → get_or (map first_facet (parts_from 0 ends flat) ++ facet_of list first ∷ []) k 0 < facet_of list j
+          → get_or (map first_facet (parts_from 0 ends flat) ++ facet_number list first ∷ []) k 0 < facet_number list j
       by_slot (inl e) =
-          let last = ap (λ i. get_or (map first_facet (parts_from 0 ends flat) ++ facet_of list first ∷ []) i 0) e ∙ at_end (map first_facet (parts_from 0 ends flat)) (facet_of list first) in
+          let last = ap (λ i. get_or (map first_facet (parts_from 0 ends flat) ++ facet_number list first ∷ []) i 0) e ∙ at_end (map first_facet (parts_from 0 ends flat)) (facet_number list first) in
           let up = order first j (omega (arith, m)) n in omega (arith, last, up)
       by_slot (inr d) =
-          let long = length-append (map first_facet (parts_from 0 ends flat)) (facet_of list first ∷ []) in
+          let long = length-append (map first_facet (parts_from 0 ends flat)) (facet_number list first ∷ []) in
           let short : k < length (map first_facet (parts_from 0 ends flat)) = omega (arith, l, long, d) in
-          let front = in_front (map first_facet (parts_from 0 ends flat)) (facet_of list first ∷ []) k short in
+          let front = in_front (map first_facet (parts_from 0 ends flat)) (facet_number list first ∷ []) k short in
           let low = g.below k j short (omega (arith, m)) n in omega (arith, front, low)
 
   from_least : is_from_least part ≡ true
@@ -142,7 +142,7 @@ module _ (list : List Segment) (next : List ℕ) (order : InFacetOrder list) (fi
     cycles = subst (AllByRecursion (IsCycle list)) (sym found) (All-push (IsCycle list) (parts_from 0 ends flat) part g.cycles t.cycle);
     least = ap (list_all is_from_least) found ∙ list_all-append is_from_least (parts_from 0 ends flat) (part ∷ []) ∙ (λ i. g.least i && (from_least i && true));
     rising = subst IsStrictlyIncreasing (sym heads)
-        (rising-push (map first_facet (parts_from 0 ends flat)) (facet_of list first) g.rising (λ k l. g.below k first l (omega arith) inside));
+        (rising-push (map first_facet (parts_from 0 ends flat)) (facet_number list first) g.rising (λ k l. g.below k first l (omega arith) inside));
     below = subst Below (sym heads) below_more;
     once = λ n.
         let a = count-append (λ (s : Segment). s.facet == n) flat part in
@@ -167,7 +167,7 @@ pub trace-others : (list : List Segment) (next : List ℕ) (first : ℕ) (visite
 trace-others list next first visited flat ends inner m g told e =
     subst (λ es. AreOthers ends es (length flat)) (sym told) (others-are (IsCycle list) (λ none. none) m ends flat e g.ends_are g.cycles)
 
-from_on : (a b : ℕ) (list : List Segment) (k : ℕ) → AreFrom a b list → k < length list → a ≤ facet_of list k
+from_on : (a b : ℕ) (list : List Segment) (k : ℕ) → AreFrom a b list → k < length list → a ≤ facet_number list k
 from_on a b [] k h l = absurd (omega (arith, l))
 from_on a b (x ∷ list) zero h l = h.0
 from_on a b (x ∷ list) (suc k) h l =

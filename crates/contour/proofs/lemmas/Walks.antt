@@ -8,7 +8,7 @@ use Rattle.mesh_weld.proofs.lemmas.Edges.{count_by-cons}
 use Rattle.plane_segments.specs.declared.segment.Segment.{Segment}
 use Rattle.plane_segments.specs.Segment.{no_segment}
 use Rattle.contour.specs.Loops.{Closes, IsCycle, count_of, first_facet, follower}
-use Rattle.contour.specs.Linker.{AreLinks, IsTracedLoop, KeepsLoopsWhole, InFacetOrder, facet_of, is_visited, unvisited}
+use Rattle.contour.specs.Linker.{AreLinks, IsTracedLoop, KeepsLoopsWhole, InFacetOrder, facet_number, is_visited, unvisited}
 use Rattle.contour.specs.declared.linker.TheConstants.{NONE}
 use Rattle.contour.proofs.lemmas.Counts.{count-append}
 use Rattle.contour.proofs.lemmas.Slots.{either}
@@ -64,7 +64,7 @@ pub record IsWalk (list : List Segment) (next : List ℕ) (first : ℕ) (before 
   pub inside : at < length list
   pub size : length visited ≡ length list
   pub way : Way list next first visited at part
-  pub least : list_all (λ t. nat_le (facet_of list first) t.facet) part ≡ true
+  pub least : list_all (λ t. nat_le (facet_number list first) t.facet) part ≡ true
   pub once : (n : ℕ) → count_of n part + count_of n (unvisited visited list) ≡ count_of n (unvisited before list)
   pub kept : (j : ℕ) → is_visited before j ≡ true → is_visited visited j ≡ true
   pub fresh : (j : ℕ) → j < length list → is_visited visited j ≡ false
@@ -129,14 +129,14 @@ module _ (list : List Segment) (next : List ℕ) (links : AreLinks list next) (o
         by_order (inl l) = absurd (not_both _ (w.kept at (earlier at l)) here)
         by_order (inr l) = l
 
-    high : nat_le (facet_of list first) (segment_in list at).facet ≡ true
+    high : nat_le (facet_number list first) (segment_in list at).facet ≡ true
     high = by_slot (either first at)
       where
         at_most : (a b : ℕ) → a ≤ b → nat_le a b ≡ true
         at_most a b l = grind (arith, nat_tests)
 
-        by_slot : (first ≡ at) ⊎ (first ≡ at → ⊥) → nat_le (facet_of list first) (segment_in list at).facet ≡ true
-        by_slot (inl e) = at_most _ _ (let s = ap (facet_of list) e in omega (arith, s))
+        by_slot : (first ≡ at) ⊎ (first ≡ at → ⊥) → nat_le (facet_number list first) (segment_in list at).facet ≡ true
+        by_slot (inl e) = at_most _ _ (let s = ap (facet_number list) e in omega (arith, s))
         by_slot (inr n) = at_most _ _ (let m = not_before in let s = order first at (omega (arith, m, n)) w.inside in omega (arith, s))
 
     pub walk-goes : IsWalk list next first before (set visited at true) (get_or next at NONE) (part ++ segment_in list at ∷ [])
@@ -144,7 +144,7 @@ module _ (list : List Segment) (next : List ℕ) (links : AreLinks list next) (o
       inside = links.within at w.inside;
       size = length-set visited at true ∙ w.size;
       way = inr (at, w.inside, now, refl, onward (w.fresh at w.inside here), closes w.way, long part, heads w.way, firsts w.way);
-      least = all-push (λ t. nat_le (facet_of list first) t.facet) part (segment_in list at) w.least high;
+      least = all-push (λ t. nat_le (facet_number list first) t.facet) part (segment_in list at) w.least high;
       once = λ n.
           let a = count-append (λ (s : Segment). s.facet == n) part (segment_in list at ∷ []) in
           let b = count_by-cons (λ (s : Segment). s.facet == n) (segment_in list at) [] in

@@ -9,7 +9,7 @@ use Rattle.std.proofs.lemmas.List.{get_or-map, length-map}
 use Rattle.std.proofs.lemmas.List.Elements.{All-cons, All-contains, Contains-append_right}
 use Rattle.geometry.specs.Point.{Point}
 use Rattle.geometry.specs.Facet.{Facet, corners}
-use Rattle.geometry.specs.BoundingBox.{Bounds, IsInBox, IsTight, bounds, bounds_of, greatest_of, least_of}
+use Rattle.geometry.specs.BoundingBox.{IsInBox, IsTight, bounds_of, corner_pair, extent, greatest_of, least_of}
 
 unmapped : (pick : Point → ℤ) (P : ℤ → Type 0) (ps : List Point) → All P (map pick ps) → All (λ q. P (pick q)) ps
 unmapped pick P ps all k d l =
@@ -115,9 +115,6 @@ first-corner (f ∷ facets) t start e s = let same : t ≡ f = cc in ap Some (sy
 abbrev box : Point → Point → Option (Point × Point)
 box low high = Some (low, high)
 
-abbrev sides : Option Bounds → Option (Point × Point)
-sides found = option_map (λ b. (b.low, b.high)) found
-
 abbrev low_of : Point → Option (Point × Point) → Point
 low_of other None = other
 low_of other (Some found) = found.0
@@ -126,9 +123,9 @@ abbrev high_of : Point → Option (Point × Point) → Point
 high_of other None = other
 high_of other (Some found) = found.1
 
-pub grown-box : (earlier more : List Facet) (low high least greatest : Point) → box low high ≡ sides (bounds earlier)
+pub grown-box : (earlier more : List Facet) (low high least greatest : Point) → box low high ≡ extent earlier
     → least ≡ fold least_of low (flat_map corners more) → greatest ≡ fold greatest_of high (flat_map corners more)
-    → box least greatest ≡ sides (bounds (earlier ++ more))
+    → box least greatest ≡ extent (earlier ++ more)
 grown-box [] more low high least greatest e least_is greatest_is = absurd (cc)
 grown-box (t ∷ ts) more low high least greatest e least_is greatest_is =
     let ps : List Point = t.b ∷ t.c ∷ flat_map corners ts in
@@ -187,7 +184,7 @@ module _ (p q : Point) (ps qs : List Point) (within : All (Contains (q ∷ qs)) 
 
 -- a fold that begins at one of the points gives the bounding box of each list with the same members
 pub box-alike : (ps cs : List Point) (start low high : Point) → Contains ps start → All (Contains cs) ps → All (Contains ps) cs
-    → low ≡ fold least_of start ps → high ≡ fold greatest_of start ps → box low high ≡ sides (bounds_of cs)
+    → low ≡ fold least_of start ps → high ≡ fold greatest_of start ps → box low high ≡ option_map corner_pair (bounds_of cs)
 box-alike ps [] start low high own within covers low_is high_is =
     let nothing : Contains [] start = All-contains (Contains []) ps start within own in
     absurd (omega (arith, nothing.1))
@@ -197,7 +194,7 @@ box-alike ps (c ∷ cs) start low high own within covers low_is high_is =
     ap (λ p. box p high) (low_is ∙ low-alike start c ps cs inside back)
     ∙ ap (λ p. box (fold least_of c cs) p) (high_is ∙ high-alike start c ps cs inside back)
 
-pub no-box : (ps cs : List Point) → slice_get ps 0 ≡ None → All (Contains ps) cs → sides (bounds_of cs) ≡ None
+pub no-box : (ps cs : List Point) → slice_get ps 0 ≡ None → All (Contains ps) cs → option_map corner_pair (bounds_of cs) ≡ None
 no-box ps [] none covers = refl
 no-box [] (c ∷ cs) none covers =
     let nothing : Contains [] c = covers 0 c (omega arith) in

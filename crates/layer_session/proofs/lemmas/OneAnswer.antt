@@ -6,6 +6,7 @@ use Rattle.stl_text.specs.Text.{IsFaultOf, Reads}
 use Rattle.stl_text.proofs.lemmas.OneReading.{one_reading}
 use Rattle.stl_text.proofs.lemmas.OneFault.{not_both, one_fault}
 use Rattle.stl_text.proofs.lemmas.Either.{outcome}
+use Rattle.geometry.specs.BoundingBox.{extent}
 use Rattle.geometry.specs.Point.{Point}
 use Rattle.geometry.specs.Facet.{Facet}
 use Rattle.geometry.specs.declared.limits.TheConstants.{FACET_LIMIT, STEP_LIMIT}
@@ -18,8 +19,8 @@ use Rattle.raster.specs.declared.grid.GridFault.{GridFault}
 use Rattle.layer_session.specs.declared.setup.Setup.{Setup}
 use Rattle.layer_session.specs.declared.session_fault.SessionFault.{SessionFault}
 use Rattle.layer_session.specs.declared.session_fault.SessionFault.TheVariants as fault
-use Rattle.layer_session.specs.Session.{IsAnswer, IsSessionOf, Session, bounds_of}
-use Rattle.layer_session.specs.Setup.{IsInRange, grid_of}
+use Rattle.layer_session.specs.Session.{IsAnswer, IsSessionOf, Session}
+use Rattle.layer_session.specs.Setup.{HasSteps, grid_of}
 
 abbrev Answer : Type 0
 Answer = Result Session SessionFault
@@ -29,7 +30,7 @@ abbrev session_with : Setup → List Facet → Grid → Session
 session_with setup facets g = record {
   job = record { solid = solid_of facets; grid = g; rule = setup.rule };
   facet_count = length facets;
-  bounds = bounds_of facets;
+  bounds = extent facets;
 }
 
 abbrev placed : Setup → List Facet → Result Grid GridFault → Answer
@@ -51,7 +52,7 @@ OfText setup bytes answer =
     ⊎ ((facets : List Facet) × Reads FACET_LIMIT setup.unit bytes facets × OfMesh setup facets answer)
 
 abbrev OfSetup : Setup → List ℕ → Answer → Type 0
-OfSetup setup bytes answer = ((IsInRange setup → ⊥) × (answer ≡ Err fault.Step)) ⊎ (IsInRange setup × OfText setup bytes answer)
+OfSetup setup bytes answer = ((HasSteps setup → ⊥) × (answer ≡ Err fault.Step)) ⊎ (HasSteps setup × OfText setup bytes answer)
 
 of_session : (setup : Setup) (bytes : List ℕ) (session : Session) (is : IsSessionOf setup bytes session) → Ok session ≡ made setup is.facets
 of_session setup bytes session is =
@@ -104,10 +105,10 @@ one_answer setup bytes answer other is js =
     one_of_setup setup bytes answer other (by_checks setup bytes answer is) (by_checks setup bytes other js)
 
 -- ---- some answer
-in_range : (setup : Setup) → IsInRange setup ⊎ (IsInRange setup → ⊥)
+in_range : (setup : Setup) → HasSteps setup ⊎ (HasSteps setup → ⊥)
 in_range setup = by setup.pitch setup.layer STEP_LIMIT
   where
-    by : (p l n : ℕ) → ((1 ≤ p) × (p ≤ n) × (1 ≤ l) × (l ≤ n)) ⊎ ((1 ≤ p) × (p ≤ n) × (1 ≤ l) × (l ≤ n) → ⊥)
+    by : (p l n : ℕ) → (((1 ≤ p) × (p ≤ n)) × (1 ≤ l) × (l ≤ n)) ⊎ (((1 ≤ p) × (p ≤ n)) × (1 ≤ l) × (l ≤ n) → ⊥)
     by p l n = grind arith
 
 pub an_answer : (setup : Setup) (bytes : List ℕ) → (answer : Answer) × IsAnswer setup bytes answer
@@ -116,7 +117,7 @@ an_answer setup bytes = by_setup (in_range setup)
     An : Type 0
     An = (answer : Answer) × IsAnswer setup bytes answer
 
-    by_grid : IsInRange setup → (facets : List Facet) → Reads FACET_LIMIT setup.unit bytes facets → IsBalanced facets
+    by_grid : HasSteps setup → (facets : List Facet) → Reads FACET_LIMIT setup.unit bytes facets → IsBalanced facets
         → (answer : Result Grid GridFault) → grid_of setup (solid_of facets).facets ≡ answer → An
     by_grid range facets reads closed (Ok g) e = (
       Ok (session_with setup facets g),
@@ -134,15 +135,15 @@ an_answer setup bytes = by_setup (in_range setup)
     )
     by_grid range facets reads closed (Err cause) e = (Err (fault.Grid cause), ((λ h. cc), (range, (facets, reads, closed, e))))
 
-    by_mesh : IsInRange setup → (facets : List Facet) → Reads FACET_LIMIT setup.unit bytes facets → IsBalanced facets ⊎ HasOpenEdge facets → An
+    by_mesh : HasSteps setup → (facets : List Facet) → Reads FACET_LIMIT setup.unit bytes facets → IsBalanced facets ⊎ HasOpenEdge facets → An
     by_mesh range facets reads (inl closed) = by_grid range facets reads closed (grid_of setup (solid_of facets).facets) refl
     by_mesh range facets reads (inr o) = (Err (fault.Weld (weld.Open o.0 o.1 o.2 o.3)), ((λ h. cc), (range, (facets, reads, o.4))))
 
-    by_text : IsInRange setup → ((facets : List Facet) × Reads FACET_LIMIT setup.unit bytes facets)
+    by_text : HasSteps setup → ((facets : List Facet) × Reads FACET_LIMIT setup.unit bytes facets)
         ⊎ ((cause : StlFault) × IsFaultOf FACET_LIMIT setup.unit bytes cause) → An
     by_text range (inl h) = by_mesh range h.0 h.1 (closed_or_open h.0)
     by_text range (inr h) = (Err (fault.Stl h.0), ((λ k. cc), (range, h.1)))
 
-    by_setup : IsInRange setup ⊎ (IsInRange setup → ⊥) → An
+    by_setup : HasSteps setup ⊎ (HasSteps setup → ⊥) → An
     by_setup (inl range) = by_text range (outcome FACET_LIMIT setup.unit bytes)
     by_setup (inr out) = (Err fault.Step, ((λ h. cc), out))

@@ -11,7 +11,7 @@ use Rattle.raster.specs.Devices.{Fails}
 use Rattle.stl_text.specs.TextReader.{IsAfter, TextReader}
 use Rattle.mesh_weld.specs.Solid.{Solid}
 use Rattle.mesh_weld.specs.Welder.{Welder}
-use Rattle.mesh_reading.specs.Loading.{AreWelded, IsFed, IsInput, IsInputFault, IsLoadFault, IsLoaded, IsMisread, IsReadAs, IsReadToEnd, IsSolidOf, IsTextExtent, IsWeldedAsFed, OfText}
+use Rattle.mesh_reading.specs.Loading.{AreWelded, IsFedBySource, IsInput, IsInputFault, IsLoadFault, IsLoaded, IsMisread, IsReadAs, IsReadToEnd, IsSolidOf, IsTextExtent, IsWeldedAsFed, OfText}
 use Rattle.mesh_reading.specs.Transcript.{Transcript, transcript}
 use Rattle.mesh_reading.specs.declared.extent.Extent.{Extent}
 use Rattle.mesh_reading.proofs.lemmas.Faults.{IsTextFault, not_read}
@@ -20,7 +20,7 @@ use Rattle.mesh_reading.specs.declared.read_fault.ReadFault.TheVariants as fault
 
 -- a new reader was fed with nothing
 pub at_start : (unit : LengthUnit) (reader : TextReader) (start : Option (List ℕ)) → IsAfter FACET_LIMIT unit [] reader []
-    → IsFed unit [] reader start start
+    → IsFedBySource unit [] reader start start
 at_start unit reader start is = ([], Consumes-nil start, is)
 
 -- what is known of a device before and after calls of it, by its bytes and by its count of failed calls
@@ -53,7 +53,7 @@ read_as r is_made is_own source input is end sound none ok err = record {
 
 -- at the end of the source, what the reader was fed with is the input
 pub read_whole : {T : Type 0} (r : Result T ReadFault) (is_made : List ℕ → T → Type 0) (is_own : List ℕ → ReadFault → Type 0) (source : Transcript)
-    (unit : LengthUnit) (taken : List Facet) (reader : TextReader) → IsFed unit taken reader source.old source.new → IsAtEnd source.new
+    (unit : LengthUnit) (taken : List Facet) (reader : TextReader) → IsFedBySource unit taken reader source.old source.new → IsAtEnd source.new
     → source.failed ≡ source.failed_before → ((input : List ℕ) → is_own input fault.Read → ⊥)
     → ((input : List ℕ) → IsAfter FACET_LIMIT unit taken reader input
     → IfOk r (is_made input) × IfErr r (λ f. (f ≡ fault.Memory) ⊎ is_own input f))
@@ -66,7 +66,7 @@ read_whole r is_made is_own source unit taken reader fed end sound none comes =
 
 -- a mesh is made of all that was read
 pub solid_read : (r : Result Solid ReadFault) (source : Transcript) (unit : LengthUnit) (taken : List Facet) (reader : TextReader) (welder : Welder)
-    → OfText welder reader (λ of fed. IsLoaded of fed r) → AreWelded taken welder → IsFed unit taken reader source.old source.new
+    → OfText welder reader (λ of fed. IsLoaded of fed r) → AreWelded taken welder → IsFedBySource unit taken reader source.old source.new
     → IsAtEnd source.new → source.failed ≡ source.failed_before → IsReadAs (IsSolidOf unit) (IsLoadFault unit) r source
 solid_read r source unit taken reader welder loads welded fed end sound =
     read_whole r (IsSolidOf unit) (IsLoadFault unit) source unit taken reader fed end sound (λ input h. not_read unit input fault.Read h refl)
@@ -76,7 +76,7 @@ solid_read r source unit taken reader welder loads welded fed end sound =
 
 -- an extent is that of all that was read
 pub extent_read : (r : Result Extent ReadFault) (source : Transcript) (unit : LengthUnit) (taken : List Facet) (reader : TextReader)
-    → IsFed unit taken reader source.old source.new → IsAtEnd source.new → source.failed ≡ source.failed_before
+    → IsFedBySource unit taken reader source.old source.new → IsAtEnd source.new → source.failed ≡ source.failed_before
     → ((input : List ℕ) → IsAfter FACET_LIMIT unit taken reader input → IfOk r (IsTextExtent unit input) × IfErr r (IsTextFault unit input))
     → IsReadAs (IsTextExtent unit) (IsMisread unit) r source
 extent_read r source unit taken reader fed end sound comes =

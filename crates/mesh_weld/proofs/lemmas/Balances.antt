@@ -8,7 +8,7 @@ use Rattle.std.proofs.lemmas.List.Sums.{sum_by_more}
 use Rattle.mesh_weld.specs.declared.half_edge.HalfEdge.{HalfEdge}
 use Rattle.mesh_weld.specs.declared.by_hash.edges.TheConstants.{EVEN}
 use Rattle.mesh_weld.specs.EdgeChains.{AreInHalfWords, IsWeighed}
-use Rattle.mesh_weld.specs.HalfEdge.{half_edges_from, between, IsEven, ArePairNumbers}
+use Rattle.mesh_weld.specs.HalfEdge.{half_edges_from, count_between, IsEven, ArePairNumbers}
 use Rattle.mesh_weld.proofs.lemmas.Edges.{count_by-cons}
 use Rattle.mesh_weld.proofs.lemmas.HalfEdges.{half_edges_from-length}
 
@@ -35,8 +35,8 @@ greater e = max e.from e.to
 pub record AreBalances (half_edges : List HalfEdge) (numbers : List ℕ) (count i : ℕ) (balances : List ℕ) : Type 0 where
   pub each_edge : length balances ≡ count
   pub weighed : (s : ℕ) (d : HalfEdge) → s < length half_edges
-      → get_or balances (get_or numbers s 0) 0 + between (greater (get_or half_edges s d)) (lesser (get_or half_edges s d)) (take i half_edges)
-      ≡ EVEN + between (lesser (get_or half_edges s d)) (greater (get_or half_edges s d)) (take i half_edges)
+      → get_or balances (get_or numbers s 0) 0 + count_between (greater (get_or half_edges s d)) (lesser (get_or half_edges s d)) (take i half_edges)
+      ≡ EVEN + count_between (lesser (get_or half_edges s d)) (greater (get_or half_edges s d)) (take i half_edges)
 
 -- the half-edge has the ends of an edge
 counted_here : (from to x y there back : ℕ) → x + cond (ltb to from) 1 0 ≡ y + cond (ltb from to) 1 0 → y + back ≡ EVEN + there
@@ -81,10 +81,10 @@ module _ (half_edges : List HalfEdge) (numbers : List ℕ) (count : ℕ) (pairs 
         weighed = λ s d l. by_number s d l (cases_eq (get_or numbers s 0) number);
       }
     where
-      more : (u v : ℕ) (d : HalfEdge) → between u v (take (i + 1) half_edges) ≡ between u v (take i half_edges) + cond (from == u && to == v) 1 0
+      more : (u v : ℕ) (d : HalfEdge) → count_between u v (take (i + 1) half_edges) ≡ count_between u v (take i half_edges) + cond (from == u && to == v) 1 0
       more u v d =
           sum_by_more (λ (e : HalfEdge). cond (e.from == u && e.to == v) 1 0) half_edges i d inside
-          ∙ (λ j. between u v (take i half_edges) + cond (sym (ends d).0 j == u && sym (ends d).1 j == v) 1 0)
+          ∙ (λ j. count_between u v (take i half_edges) + cond (sym (ends d).0 j == u && sym (ends d).1 j == v) 1 0)
 
       now : (s : ℕ) → get_or numbers s 0 ≡ number → s < length half_edges → get_or new (get_or numbers s 0) 0 ≡ change.0
       now s is l =
@@ -92,27 +92,27 @@ module _ (half_edges : List HalfEdge) (numbers : List ℕ) (count : ℕ) (pairs 
           ∙ get_or-set_same balances number change.0 0 (subst (λ n. n < length balances) is (subst (λ n. get_or numbers s 0 < n) (sym h.each_edge) (pairs.below s l)))
 
       by_number : (s : ℕ) (d : HalfEdge) → s < length half_edges → (get_or numbers s 0 ≡ number) ⊎ (get_or numbers s 0 ≡ number → ⊥)
-          → get_or new (get_or numbers s 0) 0 + between (greater (get_or half_edges s d)) (lesser (get_or half_edges s d)) (take (i + 1) half_edges)
-          ≡ EVEN + between (lesser (get_or half_edges s d)) (greater (get_or half_edges s d)) (take (i + 1) half_edges)
+          → get_or new (get_or numbers s 0) 0 + count_between (greater (get_or half_edges s d)) (lesser (get_or half_edges s d)) (take (i + 1) half_edges)
+          ≡ EVEN + count_between (lesser (get_or half_edges s d)) (greater (get_or half_edges s d)) (take (i + 1) half_edges)
       by_number s d l (inl is) =
           let same = ends_of_number s i d l inside (is ∙ number_is) in
           let low : lesser (get_or half_edges s d) ≡ min from to = same.0 ∙ (λ j. min (sym (ends d).0 j) (sym (ends d).1 j)) in
           let high : greater (get_or half_edges s d) ≡ max from to = same.1 ∙ (λ j. max (sym (ends d).0 j) (sym (ends d).1 j)) in
-          let old : get_or balances number 0 + between (max from to) (min from to) (take i half_edges) ≡ EVEN + between (min from to) (max from to) (take i half_edges) =
-          subst (λ p. get_or balances number 0 + between p (min from to) (take i half_edges) ≡ EVEN + between (min from to) p (take i half_edges)) high
-          (subst (λ p. get_or balances number 0 + between (greater (get_or half_edges s d)) p (take i half_edges) ≡ EVEN + between p (greater (get_or half_edges s d)) (take i half_edges)) low
-          (subst (λ n. get_or balances n 0 + between (greater (get_or half_edges s d)) (lesser (get_or half_edges s d)) (take i half_edges) ≡ EVEN + between (lesser (get_or half_edges s d)) (greater (get_or half_edges s d)) (take i half_edges)) is (h.weighed s d l))) in
-          let goal : change.0 + (between (max from to) (min from to) (take i half_edges) + cond (from == max from to && to == min from to) 1 0) ≡ EVEN + (between (min from to) (max from to) (take i half_edges) + cond (from == min from to && to == max from to) 1 0) =
-          counted_here from to change.0 (get_or balances number 0) (between (min from to) (max from to) (take i half_edges)) (between (max from to) (min from to) (take i half_edges)) change.2 old in
-          subst (λ p. get_or new (get_or numbers s 0) 0 + between p (lesser (get_or half_edges s d)) (take (i + 1) half_edges) ≡ EVEN + between (lesser (get_or half_edges s d)) p (take (i + 1) half_edges)) (sym high)
-          (subst (λ p. get_or new (get_or numbers s 0) 0 + between (max from to) p (take (i + 1) half_edges) ≡ EVEN + between p (max from to) (take (i + 1) half_edges)) (sym low)
+          let old : get_or balances number 0 + count_between (max from to) (min from to) (take i half_edges) ≡ EVEN + count_between (min from to) (max from to) (take i half_edges) =
+          subst (λ p. get_or balances number 0 + count_between p (min from to) (take i half_edges) ≡ EVEN + count_between (min from to) p (take i half_edges)) high
+          (subst (λ p. get_or balances number 0 + count_between (greater (get_or half_edges s d)) p (take i half_edges) ≡ EVEN + count_between p (greater (get_or half_edges s d)) (take i half_edges)) low
+          (subst (λ n. get_or balances n 0 + count_between (greater (get_or half_edges s d)) (lesser (get_or half_edges s d)) (take i half_edges) ≡ EVEN + count_between (lesser (get_or half_edges s d)) (greater (get_or half_edges s d)) (take i half_edges)) is (h.weighed s d l))) in
+          let goal : change.0 + (count_between (max from to) (min from to) (take i half_edges) + cond (from == max from to && to == min from to) 1 0) ≡ EVEN + (count_between (min from to) (max from to) (take i half_edges) + cond (from == min from to && to == max from to) 1 0) =
+          counted_here from to change.0 (get_or balances number 0) (count_between (min from to) (max from to) (take i half_edges)) (count_between (max from to) (min from to) (take i half_edges)) change.2 old in
+          subst (λ p. get_or new (get_or numbers s 0) 0 + count_between p (lesser (get_or half_edges s d)) (take (i + 1) half_edges) ≡ EVEN + count_between (lesser (get_or half_edges s d)) p (take (i + 1) half_edges)) (sym high)
+          (subst (λ p. get_or new (get_or numbers s 0) 0 + count_between (max from to) p (take (i + 1) half_edges) ≡ EVEN + count_between p (max from to) (take (i + 1) half_edges)) (sym low)
           ((λ j. now s is l j + more (max from to) (min from to) d j) ∙ goal ∙ (λ j. EVEN + sym (more (min from to) (max from to) d) j)))
       by_number s d l (inr other) =
           let p = get_or half_edges s d in
           let apart = counted_elsewhere from to (lesser p) (greater p) (omega arith)
           (λ a b. other (number_of_ends s i d l inside (sym a ∙ (λ j. min ((ends d).0 j) ((ends d).1 j))) (sym b ∙ (λ j. max ((ends d).0 j) ((ends d).1 j))) ∙ sym number_is)) in
-          let back : between (greater p) (lesser p) (take (i + 1) half_edges) ≡ between (greater p) (lesser p) (take i half_edges) + 0 = more (greater p) (lesser p) d ∙ ap (λ b. between (greater p) (lesser p) (take i half_edges) + cond b 1 0) apart.0 in
-          let there : between (lesser p) (greater p) (take (i + 1) half_edges) ≡ between (lesser p) (greater p) (take i half_edges) + 0 = more (lesser p) (greater p) d ∙ ap (λ b. between (lesser p) (greater p) (take i half_edges) + cond b 1 0) apart.1 in
+          let back : count_between (greater p) (lesser p) (take (i + 1) half_edges) ≡ count_between (greater p) (lesser p) (take i half_edges) + 0 = more (greater p) (lesser p) d ∙ ap (λ b. count_between (greater p) (lesser p) (take i half_edges) + cond b 1 0) apart.0 in
+          let there : count_between (lesser p) (greater p) (take (i + 1) half_edges) ≡ count_between (lesser p) (greater p) (take i half_edges) + 0 = more (lesser p) (greater p) d ∙ ap (λ b. count_between (lesser p) (greater p) (take i half_edges) + cond b 1 0) apart.1 in
           let kept : get_or new (get_or numbers s 0) 0 ≡ get_or balances (get_or numbers s 0) 0 = ap (λ b. get_or b (get_or numbers s 0) 0) change.1 ∙ get_or-set_other balances number (get_or numbers s 0) change.0 0 other in
           omega (arith, back, there, kept, h.weighed s d l)
 
@@ -129,40 +129,40 @@ module _ (half_edges : List HalfEdge) (numbers : List ℕ) (count : ℕ) (pairs 
           by_test false is (inr some) = let at : Contains xs some.0 = some.2 in let low : at.0 < length xs = at.1 in inr (some.0, some.1, (suc at.0, omega (arith, low), at.2))
 
       tied : (s : ℕ) (d : HalfEdge) → s < length half_edges
-          → between (greater (get_or half_edges s d)) (lesser (get_or half_edges s d)) half_edges ≡ between (lesser (get_or half_edges s d)) (greater (get_or half_edges s d)) half_edges
+          → count_between (greater (get_or half_edges s d)) (lesser (get_or half_edges s d)) half_edges ≡ count_between (lesser (get_or half_edges s d)) (greater (get_or half_edges s d)) half_edges
       tied s d l =
           let p = get_or half_edges s d in
           let e : get_or balances (get_or numbers s 0) 0 ≡ EVEN = all (get_or numbers s 0) 0 (subst (λ n. get_or numbers s 0 < n) (sym h.each_edge) (pairs.below s l)) in
-          let sum = subst (λ es. get_or balances (get_or numbers s 0) 0 + between (greater p) (lesser p) es ≡ EVEN + between (lesser p) (greater p) es) (take_all i half_edges end) (h.weighed s d l) in
+          let sum = subst (λ es. get_or balances (get_or numbers s 0) 0 + count_between (greater p) (lesser p) es ≡ EVEN + count_between (lesser p) (greater p) es) (take_all i half_edges end) (h.weighed s d l) in
           omega (arith, e, sum)
 
-      by_order : (a b : ℕ) → between (max a b) (min a b) half_edges ≡ between (min a b) (max a b) half_edges → between a b half_edges ≡ between b a half_edges
+      by_order : (a b : ℕ) → count_between (max a b) (min a b) half_edges ≡ count_between (min a b) (max a b) half_edges → count_between a b half_edges ≡ count_between b a half_edges
       by_order a b e = pick (cases_order a b)
         where
-          pick : (a ≡ b) ⊎ ((a < b) ⊎ (b < a)) → between a b half_edges ≡ between b a half_edges
-          pick (inl is) = (λ i. between (is i) (sym is i) half_edges)
+          pick : (a ≡ b) ⊎ ((a < b) ⊎ (b < a)) → count_between a b half_edges ≡ count_between b a half_edges
+          pick (inl is) = (λ i. count_between (is i) (sym is i) half_edges)
           pick (inr (inl l)) =
               let low : min a b ≡ a = omega (arith, l) in let high : max a b ≡ b = omega (arith, l) in
-              (λ i. between (sym low i) (sym high i) half_edges) ∙ sym e ∙ (λ i. between (high i) (low i) half_edges)
+              (λ i. count_between (sym low i) (sym high i) half_edges) ∙ sym e ∙ (λ i. count_between (high i) (low i) half_edges)
           pick (inr (inr l)) =
               let low : min a b ≡ b = omega (arith, l) in let high : max a b ≡ a = omega (arith, l) in
-              (λ i. between (sym high i) (sym low i) half_edges) ∙ e ∙ (λ i. between (low i) (high i) half_edges)
+              (λ i. count_between (sym high i) (sym low i) half_edges) ∙ e ∙ (λ i. count_between (low i) (high i) half_edges)
 
-      at_some : (a b : ℕ) → (x : HalfEdge) × ((x.from == a && x.to == b) ≡ true) × Contains half_edges x → between a b half_edges ≡ between b a half_edges
+      at_some : (a b : ℕ) → (x : HalfEdge) × ((x.from == a && x.to == b) ≡ true) × Contains half_edges x → count_between a b half_edges ≡ count_between b a half_edges
       at_some a b some =
           let x : HalfEdge = some.0 in let at : Contains half_edges x = some.2 in
           let ends : (x.from ≡ a) × (x.to ≡ b) = both x.from x.to some.1 in
-          let e : between (greater x) (lesser x) half_edges ≡ between (lesser x) (greater x) half_edges = subst (λ (y : HalfEdge). between (greater y) (lesser y) half_edges ≡ between (lesser y) (greater y) half_edges) at.2 (tied at.0 x at.1) in
-          by_order a b (subst (λ n. between (max a n) (min a n) half_edges ≡ between (min a n) (max a n) half_edges) ends.1 (subst (λ n. between (max n x.to) (min n x.to) half_edges ≡ between (min n x.to) (max n x.to) half_edges) ends.0 e))
+          let e : count_between (greater x) (lesser x) half_edges ≡ count_between (lesser x) (greater x) half_edges = subst (λ (y : HalfEdge). count_between (greater y) (lesser y) half_edges ≡ count_between (lesser y) (greater y) half_edges) at.2 (tied at.0 x at.1) in
+          by_order a b (subst (λ n. count_between (max a n) (min a n) half_edges ≡ count_between (min a n) (max a n) half_edges) ends.1 (subst (λ n. count_between (max n x.to) (min n x.to) half_edges ≡ count_between (min n x.to) (max n x.to) half_edges) ends.0 e))
         where
           both : (p q : ℕ) → (p == a && q == b) ≡ true → (p ≡ a) × (q ≡ b)
           both p q h = (grind (arith, nat_tests), grind (arith, nat_tests))
 
-      first : (between u v half_edges ≡ 0) ⊎ ((x : HalfEdge) × ((x.from == u && x.to == v) ≡ true) × Contains half_edges x) → between u v half_edges ≡ between v u half_edges
+      first : (count_between u v half_edges ≡ 0) ⊎ ((x : HalfEdge) × ((x.from == u && x.to == v) ≡ true) × Contains half_edges x) → count_between u v half_edges ≡ count_between v u half_edges
       first (inr some) = at_some u v some
       first (inl none) = second (some_or_none (λ (e : HalfEdge). e.from == v && e.to == u) half_edges)
         where
-          second : (between v u half_edges ≡ 0) ⊎ ((x : HalfEdge) × ((x.from == v && x.to == u) ≡ true) × Contains half_edges x) → between u v half_edges ≡ between v u half_edges
+          second : (count_between v u half_edges ≡ 0) ⊎ ((x : HalfEdge) × ((x.from == v && x.to == u) ≡ true) × Contains half_edges x) → count_between u v half_edges ≡ count_between v u half_edges
           second (inl none_back) = none ∙ sym none_back
           second (inr some) = sym (at_some v u some)
 

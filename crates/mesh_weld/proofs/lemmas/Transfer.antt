@@ -11,7 +11,7 @@ use Rattle.geometry.specs.Point.{Point, origin, same, is_before}
 use Rattle.geometry.specs.Facet.{Facet, Edge, edge, corners, edges}
 use Rattle.mesh_weld.specs.declared.half_edge.HalfEdge.{HalfEdge}
 use Rattle.mesh_weld.specs.Balance.{half_edge_count, IsBalanced, IsLeastOpen, is_edge_before}
-use Rattle.mesh_weld.specs.HalfEdge.{half_edges_from, between, IsEven, IsLeastUneven}
+use Rattle.mesh_weld.specs.HalfEdge.{half_edges_from, count_between, IsEven, IsLeastUneven}
 use Rattle.mesh_weld.specs.Solid.{vertices, number_of, triples}
 use Rattle.mesh_weld.proofs.lemmas.Edges.{same-is}
 use Rattle.mesh_weld.proofs.lemmas.Order.{before-not_same, before-not_back, before-irreflexive, same-sym, same-self}
@@ -138,7 +138,7 @@ three_more p a b c xs =
     ∙ ap (λ n. cond (p a) 1 0 + n) (sum_by-cons (λ y. cond (p y) 1 0) b (c ∷ xs) ∙ ap (λ n. cond (p b) 1 0 + n) (sum_by-cons (λ y. cond (p y) 1 0) c xs))
 
 pub between_numbers : (f : Point → ℕ) (i j n : ℕ) (fs : List Facet)
-    → between i j (half_edges_from n (map (numbered f) fs)) ≡ count_by (λ (e : Edge). f e.from == i && f e.to == j) (edges fs)
+    → count_between i j (half_edges_from n (map (numbered f) fs)) ≡ count_by (λ (e : Edge). f e.from == i && f e.to == j) (edges fs)
 between_numbers f i j n [] = refl
 between_numbers f i j n (t ∷ ts) =
     three_more (λ (s : HalfEdge). s.from == i && s.to == j) (record { from = f t.a; to = f t.b; slot = n }) (record { from = f t.b; to = f t.c; slot = n + 1 }) (record { from = f t.c; to = f t.a; slot = n + 2 }) (half_edges_from (n + 3) (map (numbered f) ts))
@@ -155,7 +155,7 @@ and_false_right false b h = refl
 
 module _ (fs : List Facet) where
   edges_between : (i j : ℕ) → i < length (vertices fs) → j < length (vertices fs)
-      → between i j (half_edges_from 0 (triples fs)) ≡ half_edge_count fs (get_or (vertices fs) i origin) (get_or (vertices fs) j origin)
+      → count_between i j (half_edges_from 0 (triples fs)) ≡ half_edge_count fs (get_or (vertices fs) i origin) (get_or (vertices fs) j origin)
   edges_between i j l m =
       between_numbers (number_of (vertices fs)) i j 0 fs
       ∙ count_alike (λ (e : Edge). number_of (vertices fs) e.from == i && number_of (vertices fs) e.to == j) (λ (e : Edge). same e.from (get_or (vertices fs) i origin) && same e.to (get_or (vertices fs) j origin)) (edges fs)
@@ -208,7 +208,7 @@ module _ (fs : List Facet) where
           by_test (inr s) =
               equal_false (f p) (f q) (λ e. let here : same p q ≡ true = ap (same p) (sym (apart p q k l e)) ∙ same-self p in cc) ∙ sym s
 
-      numbering : (p q : Point) → Both p q → between (f p) (f q) (half_edges_from 0 (map (numbered f) fs)) ≡ half_edge_count fs p q
+      numbering : (p q : Point) → Both p q → count_between (f p) (f q) (half_edges_from 0 (map (numbered f) fs)) ≡ half_edge_count fs p q
       numbering p q h =
           between_numbers f (f p) (f q) 0 fs
           ∙ count_alike (λ (e : Edge). f e.from == f p && f e.to == f q) (λ (e : Edge). same e.from p && same e.to q) (edges fs)
@@ -219,7 +219,7 @@ module _ (fs : List Facet) where
       by_cases (inl h) = h.0 ∙ sym h.1
       by_cases (inr h) = sym (numbering u v h) ∙ even (f u) (f v) ∙ numbering v u (h.1, h.0)
 
-  between_of : (u v : Point) → Both u v → between (number_of (vertices fs) u) (number_of (vertices fs) v) (half_edges_from 0 (triples fs)) ≡ half_edge_count fs u v
+  between_of : (u v : Point) → Both u v → count_between (number_of (vertices fs) u) (number_of (vertices fs) v) (half_edges_from 0 (triples fs)) ≡ half_edge_count fs u v
   between_of u v h =
       let a : (number_of (vertices fs) u < length (vertices fs)) × (get_or (vertices fs) (number_of (vertices fs) u) origin ≡ u) = number_found u (vertices fs) h.0 in
       let b : (number_of (vertices fs) v < length (vertices fs)) × (get_or (vertices fs) (number_of (vertices fs) v) origin ≡ v) = number_found v (vertices fs) h.1 in
@@ -227,7 +227,7 @@ module _ (fs : List Facet) where
       ∙ (λ i. half_edge_count fs (a.1 i) (b.1 i))
 
   module _ (es : List HalfEdge) (all : IsPermutation (half_edges_from 0 (triples fs)) es) where
-    sorted_between : (i j : ℕ) → between i j es ≡ between i j (half_edges_from 0 (triples fs))
+    sorted_between : (i j : ℕ) → count_between i j es ≡ count_between i j (half_edges_from 0 (triples fs))
     sorted_between i j = sum_by-IsPermutation (λ (s : HalfEdge). cond (s.from == i && s.to == j) 1 0) (half_edges_from 0 (triples fs)) es all
 
     pub balanced_from_even : IsEven es → IsBalanced fs
@@ -240,7 +240,7 @@ module _ (fs : List Facet) where
             sym (between_of u v h) ∙ sym (sorted_between i j) ∙ even i j ∙ sorted_between j i ∙ between_of v u (h.1, h.0)
 
     -- all numbers are those of vertices
-    idle_past : (i j : ℕ) → length (vertices fs) ≤ j → (between i j (half_edges_from 0 (triples fs)) ≡ 0) × (between j i (half_edges_from 0 (triples fs)) ≡ 0)
+    idle_past : (i j : ℕ) → length (vertices fs) ≤ j → (count_between i j (half_edges_from 0 (triples fs)) ≡ 0) × (count_between j i (half_edges_from 0 (triples fs)) ≡ 0)
     idle_past i j past = (
       between_numbers (number_of (vertices fs)) i j 0 fs
           ∙ count_none (λ (e : Edge). number_of (vertices fs) e.from == i && number_of (vertices fs) e.to == j) (edges fs)
@@ -296,7 +296,7 @@ module _ (fs : List Facet) where
                   let a : (i < length (vertices fs)) × (get_or (vertices fs) i origin ≡ e.from) = number_found e.from (vertices fs) k.0 in
                   let b : (j < length (vertices fs)) × (get_or (vertices fs) j origin ≡ e.to) = number_found e.to (vertices fs) k.1 in
                   let less : i < j = index_less (vertices fs) (vertices-ascend fs) i j a.0 b.0 ((λ i. is_before (a.1 i) (b.1 i)) ∙ up) in
-                  let even : between i j es ≡ between j i es = h.least i j less (omega (arith, b.0, few)) (earlier i j a b (first_parts before)) in
+                  let even : count_between i j es ≡ count_between j i es = h.least i j less (omega (arith, b.0, few)) (earlier i j a b (first_parts before)) in
                   apart (sym (between_of e.from e.to k) ∙ sym (sorted_between i j) ∙ even ∙ sorted_between j i ∙ between_of e.to e.from (k.1, k.0))
                 where
                   First : Type 0

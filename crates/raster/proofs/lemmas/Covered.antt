@@ -8,7 +8,7 @@ use Rattle.std.proofs.lemmas.Bool.{and_from}
 use Rattle.std.proofs.lemmas.Bool.Decides.{nat_tests}
 use Rattle.raster.specs.declared.span.Span.{Span}
 use Rattle.raster.specs.Span.{covers, is_span_within}
-use Rattle.raster.specs.Rows.{IsSplit, are_within, crosses, span_at}
+use Rattle.raster.specs.Rows.{IsRowStart, are_within, crosses, span_at}
 use Rattle.raster.proofs.lemmas.Areas.{and-left, and-right}
 
 one-elsewhere : (row from to i j : ℕ) (rest : Bool) → row ≢ j → rest ≡ false → (row == j && nat_le from i && nat_lt i to || rest) ≡ false
@@ -49,7 +49,7 @@ within-columns columns rows (s ∷ rest) h =
     step row from to b h k = grind (arith, nat_tests)
 
 -- the part of the spans between two splits has all that lies in the row
-pub covers-part : (spans : List Span) (start end i j : ℕ) → start ≤ end → IsSplit spans end (j + 1) → IsSplit spans start j → covers spans i j ≡ crosses (take (end - start) (drop start spans)) i
+pub covers-part : (spans : List Span) (start end i j : ℕ) → start ≤ end → IsRowStart spans end (j + 1) → IsRowStart spans start j → covers spans i j ≡ crosses (take (end - start) (drop start spans)) i
 covers-part spans start end i j order last first =
     let part : List Span = take (end - start) (drop start spans) in
     let tail : List Span = drop (end - start) (drop start spans) in

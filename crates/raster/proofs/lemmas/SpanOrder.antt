@@ -5,7 +5,7 @@ use Rattle.std.specs.List.{list_all}
 use Rattle.std.proofs.lemmas.Bool.Decides.{nat_tests}
 use Rattle.raster.specs.declared.span.Span.{Span}
 use Rattle.raster.specs.Span.{are_apart, is_span_before}
-use Rattle.raster.specs.Rows.{IsSplit, are_within, crosses, span_at}
+use Rattle.raster.specs.Rows.{IsRowStart, are_within, crosses, span_at}
 use Rattle.raster.proofs.lemmas.Areas.{and-left, and-right, before-test}
 
 pub all-at : {X : Type 0} (p : X → Bool) (xs : List X) (d : X) (k : ℕ) → list_all p xs ≡ true → k < length xs → p (get_or xs k d) ≡ true
@@ -29,7 +29,7 @@ last-or-before : (k n : ℕ) → k < n → (k ≡ n - 1) ⊎ (k < n - 1)
 last-or-before k n h = grind arith
 
 -- the spans of a row begin after a span of a lower row
-pub split-here : (spans : List Span) (start end number : ℕ) → are_apart spans ≡ true → IsSplit spans end (number + 1) → start ≤ end → 0 < start → ((span_at spans (start - 1)).row ≡ number → ⊥) → ((k : ℕ) → start ≤ k → k < length spans → number ≤ (span_at spans k).row) → IsSplit spans start number
+pub split-here : (spans : List Span) (start end number : ℕ) → are_apart spans ≡ true → IsRowStart spans end (number + 1) → start ≤ end → 0 < start → ((span_at spans (start - 1)).row ≡ number → ⊥) → ((k : ℕ) → start ≤ k → k < length spans → number ≤ (span_at spans k).row) → IsRowStart spans start number
 split-here spans start end number apart split order some other above =
     let last : (span_at spans (start - 1)).row < number = lower (span_at spans (start - 1)).row number (split.below (start - 1) (omega arith)) other in
     record {

@@ -19,7 +19,7 @@ use Rattle.exact_cut.specs.Walk.{Walk, IsWalkOf}
 use Rattle.exact_cut.specs.Lattice.{IsUncrossed, pixel, row_y}
 use Rattle.exact_cut.specs.declared.dda.lattice.Lattice.{Lattice}
 use Rattle.raster.specs.declared.crossings.RowCrossing.{RowCrossing}
-use Rattle.raster.specs.RowCrossing.{passed, sign_of, signs}
+use Rattle.raster.specs.RowCrossing.{passed, crossing_sign, signs}
 use Rattle.raster.specs.Crossings.{AreCrossingsWithin, crossings_along, crossings_in, row_passed, row_signs}
 
 abbrev unit : Bool → ℤ
@@ -163,13 +163,13 @@ AreAlong c old new = (j : ℕ) → crossings_in new j ≡ crossings_in old j ++ 
 pub signs-more : (t : Facet) (z : ℤ) (l : Lattice) (c : Walk) (old new : List (List RowCrossing)) → IsWalkOf t z l c → AreAlong c old new → (j : ℕ) → j < l.rows → row_signs new j ≡ row_signs old j +ℤ wind t (row_y l j) z
 signs-more t z l c old new h e j low =
     ap signs (e j)
-    ∙ total-append sign_of (crossings_in old j) (crossings_along c.row (int_eq c.sign (pos 1)) c.columns j)
+    ∙ total-append crossing_sign (crossings_in old j) (crossings_along c.row (int_eq c.sign (pos 1)) c.columns j)
     ∙ ap (λ (s : ℤ). row_signs old j +ℤ s) (walked-signs t z l c j h low)
 
 pub passed-more : (t : Facet) (z : ℤ) (l : Lattice) (c : Walk) (old new : List (List RowCrossing)) → IsWalkOf t z l c → AreAlong c old new → (i j : ℕ) → i < l.columns → j < l.rows → row_passed new j i ≡ row_passed old j i +ℤ (wind t (row_y l j) z -ℤ hit t (pixel l z i j))
 passed-more t z l c old new h e i j inside low =
     ap (λ (crossings : List RowCrossing). passed crossings i) (e j)
-    ∙ total-append (λ m. cond (nat_le m.column i) (sign_of m) (pos 0)) (crossings_in old j) (crossings_along c.row (int_eq c.sign (pos 1)) c.columns j)
+    ∙ total-append (λ m. cond (nat_le m.column i) (crossing_sign m) (pos 0)) (crossings_in old j) (crossings_along c.row (int_eq c.sign (pos 1)) c.columns j)
     ∙ ap (λ (s : ℤ). row_passed old j i +ℤ s) (walked-passed t z l c i j h inside low)
 
 pub within-more : (t : Facet) (z : ℤ) (l : Lattice) (c : Walk) (old new : List (List RowCrossing)) → IsWalkOf t z l c → AreAlong c old new → AreCrossingsWithin l.columns old → AreCrossingsWithin l.columns new

@@ -4,7 +4,7 @@ ghost use Rattle.std.specs.Int.{div_ceil};
 ghost use Rattle.std.specs.Io.KnownBytes.{Appends};
 ghost use Rattle.raster.specs.Devices.{AppendsFirst, Fails, greatest_count};
 ghost use Rattle.raster.specs.Image.{header, row_bytes};
-ghost use Rattle.raster.specs.Rows.{IsSplit};
+ghost use Rattle.raster.specs.Rows.{IsRowStart};
 ghost use Rattle.raster.specs.Span.{AreSpans, covers};
 ghost use Rattle.raster.specs.declared.pbm.chunk.TheConstants.{CHUNK_LEN};
 ghost use Rattle.raster.specs.declared.pbm.header.TheConstants.{HEADER_LIMIT};
@@ -83,9 +83,9 @@ impl Chunk {
     #[inline(always)]
     pub(crate) fn push_row(&mut self, g: &Grid, spans: &[Span], number: u32, end: usize) -> usize
         requires form { AreSpans g.now.columns g.now.rows spans.now }
-        requires split { IsSplit spans.now end (number + 1) }
+        requires split { IsRowStart spans.now end (number + 1) }
         requires room { length self.old + div_ceil g.now.columns 8 ≤ CHUNK_LEN }
-        ensures split { IsSplit spans.now result number }
+        ensures split { IsRowStart spans.now result number }
         ensures drawn { self.new ≡ self.old ++ row_bytes g.now.columns (λ i. covers spans.now i number) }
     {
         let filled = self.filled + g.columns().div_ceil(8) as usize;

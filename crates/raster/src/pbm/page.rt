@@ -1,9 +1,9 @@
 //! Images that are drawn before they are written, so that several threads can draw at the same time.
-ghost use Rattle.std.specs.Prelude.{◌≡◌, ◌≤◌, ◌+◌, [], ◌++◌, IfOk, length, true};
+ghost use Rattle.std.specs.Prelude.{◌≡◌, ◌≤◌, ◌+◌, [], ◌++◌, IfOk, length};
 ghost use Rattle.std.specs.Int.{div_ceil};
 ghost use Rattle.raster.specs.Span.{AreSpans, covers};
 ghost use Rattle.raster.specs.Image.{image_of_pixels, row_bytes};
-ghost use Rattle.raster.specs.Rows.{IsSplit};
+ghost use Rattle.raster.specs.Rows.{IsRowStart};
 
 use crate::grid::Grid;
 use crate::pbm::header::Header;
@@ -94,9 +94,9 @@ impl<A: Allocator> Page<A> {
     /// are in the rows below.
     fn push_row(&mut self, g: &Grid, spans: &[Span], number: u32, end: usize) -> usize
         requires form { AreSpans g.now.columns g.now.rows spans.now }
-        requires split { IsSplit spans.now end (number + 1) }
+        requires split { IsRowStart spans.now end (number + 1) }
         requires room { length self.old.bytes + div_ceil g.now.columns 8 ≤ self.old.room }
-        ensures split { IsSplit spans.now result number }
+        ensures split { IsRowStart spans.now result number }
         ensures drawn { self.new.bytes ≡ self.old.bytes ++ row_bytes g.now.columns (λ i. covers spans.now i number) }
         ensures room { self.new.room ≡ self.old.room }
     {

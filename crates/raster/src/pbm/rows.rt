@@ -3,7 +3,7 @@ ghost use Rattle.std.specs.Prelude.{◌≡◌, ◌≤◌, ◌+◌, ℕ, length, 
 ghost use Rattle.std.specs.Int.{div_ceil};
 ghost use Rattle.raster.specs.Span.{AreSpans, covers};
 ghost use Rattle.raster.specs.Image.{row_bytes};
-ghost use Rattle.raster.specs.Rows.{IsSplit, are_within, crosses};
+ghost use Rattle.raster.specs.Rows.{IsRowStart, are_within, crosses};
 
 use crate::grid::Grid;
 use crate::pbm::bits::set_pixels;
@@ -33,10 +33,10 @@ pub(crate) fn draw_layer_row(
     end: usize,
 ) -> usize
     requires form { AreSpans g.now.columns g.now.rows spans.now }
-    requires split { IsSplit spans.now end (number + 1) }
+    requires split { IsRowStart spans.now end (number + 1) }
     requires size { length row.old ≡ div_ceil g.now.columns 8 }
     requires blank { (k : ℕ) → slice_index row.old k ≡ 0 }
-    ensures split { IsSplit spans.now result number }
+    ensures split { IsRowStart spans.now result number }
     ensures drawn { row.new ≡ row_bytes g.now.columns (λ i. covers spans.now i number) }
 {
     let start = start_of_row(g, spans, number, end);
@@ -47,8 +47,8 @@ pub(crate) fn draw_layer_row(
 /// The number of spans in the rows below row `number`. The first `end` spans are those in it and in the rows below.
 fn start_of_row(g: &Grid, spans: &[Span], number: u32, end: usize) -> usize
     requires form { AreSpans g.now.columns g.now.rows spans.now }
-    requires split { IsSplit spans.now end (number + 1) }
-    ensures split { IsSplit spans.now result number }
+    requires split { IsRowStart spans.now end (number + 1) }
+    ensures split { IsRowStart spans.now result number }
     ensures order { result ≤ end }
 {
     let mut start = end;

@@ -2,12 +2,13 @@
 use Rattle.std.proofs.Common.{◌≡◌, ◌≤◌, ℕ, zero, suc, refl, List, ◌++◌, arith, lit≤}
 use Rattle.std.specs.Prelude.{pos, negsuc, ◌≤ℤ◌}
 use Rattle.std.proofs.lemmas.Int.{ints}
+use Rattle.geometry.specs.BoundingBox.{IsBox}
 use Rattle.geometry.specs.Facet.{Facet}
 use Rattle.geometry.specs.Winding.{turn_of, wind, hit, ray}
 use Rattle.raster.specs.declared.rule.Rule.TheVariants.{EvenOdd, NonZero, Positive}
 use Rattle.exact_int.specs.Bounds.{IsAtMost}
 use Rattle.geometry.specs.declared.limits.TheConstants.{COORDINATE_LIMIT}
-use Rattle.raster.specs.Grid.{Grid, IsBox, IsGrid, grid_with}
+use Rattle.raster.specs.Grid.{Grid, IsGrid, grid_with}
 use Rattle.raster.specs.Filler.{area_of}
 use Rattle.slicer_laws.specs.Boxes.{at, box}
 use Rattle.slicer_laws.specs.InsideOut.{inside_out}
@@ -62,10 +63,8 @@ tall_is_a_grid : IsGrid tall
 tall_is_a_grid =
     record {
       origin = (in_limits 0 (lit≤ tt), in_limits 0 (lit≤ tt), in_limits COORDINATE_LIMIT (lit≤ tt));
-      pitch_low = lit≤ tt;
-      pitch_high = lit≤ tt;
-      layer_height_low = lit≤ tt;
-      layer_height_high = lit≤ tt;
+      pitch = (lit≤ tt, lit≤ tt);
+      layer_height = (lit≤ tt, lit≤ tt);
       columns_low = lit≤ tt;
       columns_high = lit≤ tt;
       rows_low = lit≤ tt;

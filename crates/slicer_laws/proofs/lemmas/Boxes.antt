@@ -3,6 +3,7 @@ use Rattle.std.proofs.Common.{◌≡◌, ℕ, ◌↔◌, ◌⊎◌, inl, inr, Bo
 use Rattle.std.proofs.lemmas.Int.{ints}
 use Rattle.exact_int.proofs.lemmas.Identity.{reads, identity}
 use Rattle.exact_int.proofs.lemmas.Signs.{at_most_or_above, clash, mul_positive, mul_not_positive_right}
+use Rattle.geometry.specs.BoundingBox.{IsBox}
 use Rattle.geometry.specs.Point.{Point}
 use Rattle.geometry.specs.Facet.{Facet, facet_with, twice}
 use Rattle.geometry.specs.Winding.{left, turn_of, turn, wind, volume, normal_x, hit, ray}
@@ -12,7 +13,7 @@ use Rattle.exact_cut.proofs.lemmas.Ahead.{ahead, wind_values}
 use Rattle.exact_cut.proofs.lemmas.Turns.{turn-opposite, turn_of-above, turn_of-below, turn_of-up}
 use Rattle.raster.specs.declared.rule.Rule.{Rule}
 use Rattle.raster.specs.declared.rule.Rule.TheVariants.{EvenOdd, NonZero, Positive}
-use Rattle.raster.specs.Grid.{Grid, IsBox, centre}
+use Rattle.raster.specs.Grid.{Grid, centre}
 use Rattle.raster.specs.Rule.{is_inside}
 use Rattle.raster.specs.Filler.{is_filled}
 use Rattle.slicer_laws.proofs.lemmas.Shells.{ray-append}

@@ -6,7 +6,7 @@ use Rattle.geometry.specs.Facet.{Facet, twice}
 use Rattle.geometry.specs.Winding.{hit, hit_y, ray, ray_y}
 use Rattle.exact_cut.proofs.lemmas.Steps.{hit-swap, swap, swap_tri}
 use Rattle.mesh_weld.proofs.lemmas.Sums.{total-map, total-neg}
-use Rattle.raster.specs.Grid.{IsBox}
+use Rattle.geometry.specs.BoundingBox.{IsBox}
 use Rattle.slicer_laws.specs.Boxes.{box, holds, is_between}
 use Rattle.slicer_laws.specs.InsideOut.{inside_out}
 use Rattle.slicer_laws.proofs.lemmas.Boxes.{ray-box}

@@ -106,10 +106,8 @@ pub lower_part : (g : Grid) (m : ℕ) → IsGrid g → 1 ≤ m → m < g.layers 
 lower_part g m h low high =
     record {
       origin = h.origin;
-      pitch_low = h.pitch_low;
-      pitch_high = h.pitch_high;
-      layer_height_low = h.layer_height_low;
-      layer_height_high = h.layer_height_high;
+      pitch = h.pitch;
+      layer_height = h.layer_height;
       columns_low = h.columns_low;
       columns_high = h.columns_high;
       rows_low = h.rows_low;
@@ -144,10 +142,8 @@ upper_part g m h low high = (λ k. in_limit (layers_from m g).origin.z k.origin.
             subst (IsAtMost COORDINATE_LIMIT) (sym (stays g.origin.y)) h.origin.1,
             raised_in g.origin.z (m * g.layer_height) h.origin.2 k,
           );
-          pitch_low = h.pitch_low;
-          pitch_high = h.pitch_high;
-          layer_height_low = h.layer_height_low;
-          layer_height_high = h.layer_height_high;
+          pitch = h.pitch;
+          layer_height = h.layer_height;
           columns_low = h.columns_low;
           columns_high = h.columns_high;
           rows_low = h.rows_low;

@@ -9,7 +9,7 @@ use Rattle.stl_text.specs.declared.grammar.Separator.TheVariants as separator
 use Rattle.stl_text.specs.Layout.{IsClosing, IsSeparator, Skips, separator_tokens}
 use Rattle.stl_text.specs.declared.grammar.Separator.{Separator}
 use Rattle.stl_text.specs.FacetRun.{IsRestOf}
-use Rattle.stl_text.specs.Reader.{Reader, Spells, facet_tail, start}
+use Rattle.stl_text.specs.Reader.{Reader, Spells, facet_tail, reader_at_start}
 use Rattle.std.specs.List.{before_first}
 use Rattle.micro_num.specs.Numeral.{from_first}
 use Rattle.stl_text.specs.Text.{Token, keyword, normal_word, coordinate, rest_of_line, after_space, after_word, facet_keyword, facet_tokens, first_word, is_keyword, is_read_as, is_white, rest_after}
@@ -108,12 +108,12 @@ in_layout a b c opening parts first at_a next at_b last at_c closing =
     skips_then (separator_tokens separator.Opening) _ _ refl opening from_parts
 
 -- what a reader at the start of a text has read
-pub read_from : (tokens : List Token) (u : LengthUnit) (bytes rest : List ℕ) {old new : Reader} → old ≡ start u bytes → Spells tokens old new
+pub read_from : (tokens : List Token) (u : LengthUnit) (bytes rest : List ℕ) {old new : Reader} → old ≡ reader_at_start u bytes → Spells tokens old new
     → new.rest ≡ rest → rest_after u tokens bytes ≡ Some rest
 read_from tokens u bytes rest {old} {new} begins read after =
     subst (λ r. rest_after r.unit tokens r.rest ≡ Some new.rest) begins read.spelled ∙ ap {B = Option (List ℕ)} Some after
 
-pub separates : (p : Separator) (u : LengthUnit) (bytes : List ℕ) {old new : Reader} → old ≡ start u bytes → Spells (separator_tokens p) old new
+pub separates : (p : Separator) (u : LengthUnit) (bytes : List ℕ) {old new : Reader} → old ≡ reader_at_start u bytes → Spells (separator_tokens p) old new
     → 0 < length new.rest → after_space new.rest ≡ [] → IsSeparator (separator_tokens p) bytes
 separates p u bytes {old} {new} begins read some white = record {
   after = new.rest;
@@ -122,7 +122,7 @@ separates p u bytes {old} {new} begins read some white = record {
   white = white;
 }
 
-pub closes : (u : LengthUnit) (bytes rest : List ℕ) {old new : Reader} → old ≡ start u bytes → Spells (separator_tokens separator.Closing) old new
+pub closes : (u : LengthUnit) (bytes rest : List ℕ) {old new : Reader} → old ≡ reader_at_start u bytes → Spells (separator_tokens separator.Closing) old new
     → new.rest ≡ rest → 0 < length rest → IsClosing (length bytes - length rest) bytes
 closes u bytes rest {old} {new} begins read after some =
     let spelled : rest_after u (separator_tokens separator.Closing) bytes ≡ Some rest = read_from (separator_tokens separator.Closing) u bytes rest begins read after in

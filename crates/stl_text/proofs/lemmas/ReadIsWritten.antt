@@ -15,7 +15,7 @@ use Rattle.stl_text.specs.declared.word.Word.{Word}
 use Rattle.stl_text.specs.declared.word.Word.TheVariants.{FacetOrEnd, Solid}
 use Rattle.geometry.specs.Facet.{Facet}
 use Rattle.stl_text.specs.Text.{Token, keyword, normal_word, coordinate, rest_of_line, facet_tokens, facets_of, solid_tokens, is_keyword, is_white, is_line_end, begins_with, after_space, first_word, after_word, after_line, after_token, rest_after, Reads, keyword_of, keyword_text, end_keyword}
-use Rattle.stl_text.specs.Written.{Spaced, is_word, is_spaced_word, are_white, laid_out, IsWordOf, AreWordsOf, IsApart, IsRemark, IsLineBreak, IsEnd, WrittenSolid, AreWrittenSolids, Written}
+use Rattle.stl_text.specs.Written.{Spaced, is_word, is_spaced_word, are_white, laid_out, IsWordOf, AreWordsOf, IsApart, IsRemark, IsLineBreak, IsAfterSolids, WrittenSolid, AreWrittenSolids, Written}
 use Rattle.stl_text.proofs.lemmas.Determined.{read-is}
 use Rattle.stl_text.proofs.lemmas.OneReading.{then_on, rest-append}
 use Rattle.stl_text.proofs.lemmas.Solids.{end_tokens}
@@ -161,7 +161,7 @@ break_is : (bytes : List ℕ) → EndsLine bytes → 0 < length (after_space byt
 break_is [] ends some = absurd (omega (arith, some))
 break_is (b ∷ bytes) ends some = rw (line_end_white b ends) (rw one-add (ends, space_white bytes))
 
-end_is : (bytes : List ℕ) → EndsLine bytes → after_space bytes ≡ [] → IsEnd bytes
+end_is : (bytes : List ℕ) → EndsLine bytes → after_space bytes ≡ [] → IsAfterSolids bytes
 end_is [] ends none = tt
 end_is (b ∷ bytes) ends none =
     let whole : space_of (b ∷ bytes) ≡ b ∷ bytes =
@@ -283,7 +283,7 @@ record SolidsAt (unit : LengthUnit) (facets : List Facet) (front : List ℕ) : T
   last_text : List ℕ
   last_is : WrittenSolid unit last last_text
   after : List ℕ
-  after_is : IsEnd after
+  after_is : IsAfterSolids after
   each : facets ≡ facets_of solids ++ last
   text_is : front ≡ laid_out texts ++ (last_text ++ after)
 

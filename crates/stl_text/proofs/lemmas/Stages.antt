@@ -17,7 +17,7 @@ use Rattle.stl_text.specs.declared.stage.Stage.TheVariants as stage
 use Rattle.stl_text.specs.declared.stage.TheConstants.{LAST_WORD}
 use Rattle.stl_text.specs.Text.{Token, keyword_of, keyword_text, rest_of_line, facet_word, end_word, facet_keyword, end_keyword, facet_tokens, solid_tokens, is_keyword, is_facet_word, is_read_as, begins_with, after_token, rest_after, first_word, after_space, after_word, after_line, facets_of, facet_count, is_white, IsFaultOf, Wants}
 use Rattle.stl_text.specs.Reader.{facet_tail}
-use Rattle.stl_text.specs.Stage.{Goes, IsForm, IsStop, Stands, ReadInside, front, opened}
+use Rattle.stl_text.specs.Stage.{Goes, IsForm, IsStop, Stands, ReadInside, front, open_solid}
 use Rattle.stl_text.specs.FacetRun.{next_solid}
 use Rattle.stl_text.proofs.lemmas.OneFault.{facet_count-solids}
 use Rattle.stl_text.proofs.lemmas.Either.{cut_facet, facet_count-open, no_word-space}
@@ -63,15 +63,15 @@ pub end_read : (limit : ℕ) (unit : LengthUnit) (facets : List Facet) (text aft
 end_read limit unit facets text after s h =
     let P : List Token = flat_map solid_tokens s.solids in
     let rest : List ℕ = after_line (after_word after) in
-    let tokens : flat_map solid_tokens (s.solids ++ s.added ∷ []) ≡ (P ++ opened s.added) ++ end_tokens =
-    tokens-more s.solids s.added ∙ sym (append_assoc P (opened s.added) end_tokens) in
+    let tokens : flat_map solid_tokens (s.solids ++ s.added ∷ []) ≡ (P ++ open_solid s.added) ++ end_tokens =
+    tokens-more s.solids s.added ∙ sym (append_assoc P (open_solid s.added) end_tokens) in
     record {
       solids = s.solids ++ s.added ∷ [];
       added = [];
       items = s.items ∙ facets-more s.solids s.added ∙ sym (append-nil (facets_of (s.solids ++ s.added ∷ [])));
       form = (refl, omega (arith, length-append s.solids (s.added ∷ [])), s.form);
       spelled = ap (λ ps. rest_after unit ps text) tokens
-          ∙ spelled-append unit (P ++ opened s.added) end_tokens text after rest s.spelled (rw h refl);
+          ∙ spelled-append unit (P ++ open_solid s.added) end_tokens text after rest s.spelled (rw h refl);
     }
 
 -- `facet`
@@ -89,7 +89,7 @@ facet_begun limit unit facets t text after s h room = record {
 -- a whole facet
 facet_added : (limit : ℕ) (unit : LengthUnit) (facets : List Facet) (t : Facet) (text last : List ℕ) (solids : List (List Facet)) (added : List Facet)
     → facets ≡ facets_of solids ++ added → length facets < limit
-    → rest_after unit ((flat_map solid_tokens solids ++ opened added) ++ facet_tokens t) text ≡ Some last
+    → rest_after unit ((flat_map solid_tokens solids ++ open_solid added) ++ facet_tokens t) text ≡ Some last
     → Stands limit unit stage.Facets (facets ++ t ∷ []) text last
 facet_added limit unit facets t text last solids added items room spelled =
     let P : List Token = flat_map solid_tokens solids in
@@ -99,7 +99,7 @@ facet_added limit unit facets t text last solids added items room spelled =
       items = ap (λ xs. xs ++ t ∷ []) items ∙ append_assoc (facets_of solids) added (t ∷ []);
       form = omega (arith, length-append facets (t ∷ []), room);
       spelled = ap (λ ps. rest_after unit ps text)
-          (ap (λ ps. P ++ ps) (open-more added t) ∙ sym (append_assoc P (opened added) (facet_tokens t)))
+          (ap (λ ps. P ++ ps) (open-more added t) ∙ sym (append_assoc P (open_solid added) (facet_tokens t)))
           ∙ spelled;
     }
 
@@ -115,24 +115,24 @@ pub solid_passed : (limit : ℕ) (unit : LengthUnit) (facets : List Facet) (text
     → Stands limit unit stage.Facets facets text after → rest_after unit next_solid after ≡ Some last
     → Stands limit unit stage.Facets facets text last
 solid_passed limit unit facets text after last s spelled =
-    let Q : List Token = flat_map solid_tokens s.solids ++ opened s.added in
+    let Q : List Token = flat_map solid_tokens s.solids ++ open_solid s.added in
     record {
       solids = s.solids ++ s.added ∷ [];
       added = [];
       items = s.items ∙ facets-more s.solids s.added ∙ sym (append-nil (facets_of (s.solids ++ s.added ∷ [])));
       form = s.form;
-      spelled = ap (λ ps. rest_after unit (ps ++ opened []) text)
-          (tokens-more s.solids s.added ∙ sym (append_assoc (flat_map solid_tokens s.solids) (opened s.added) end_tokens))
-          ∙ ap (λ ps. rest_after unit ps text) (append_assoc Q end_tokens (opened []))
+      spelled = ap (λ ps. rest_after unit (ps ++ open_solid []) text)
+          (tokens-more s.solids s.added ∙ sym (append_assoc (flat_map solid_tokens s.solids) (open_solid s.added) end_tokens))
+          ∙ ap (λ ps. rest_after unit ps text) (append_assoc Q end_tokens (open_solid []))
           ∙ spelled-append unit Q next_solid text after last s.spelled spelled;
     }
 
 -- one word of a facet
 inside_spelled : (limit : ℕ) (unit : LengthUnit) (words : ℕ) (facets : List Facet) (t u : Facet) (text after : List ℕ)
     (s : Stands limit unit (stage.Inside words t) facets text after) → ReadInside unit words t after u
-    → rest_after unit ((flat_map solid_tokens s.solids ++ opened s.added) ++ facet_word ∷ take (words + 1) (facet_tail u)) text ≡ Some (after_word after)
+    → rest_after unit ((flat_map solid_tokens s.solids ++ open_solid s.added) ++ facet_word ∷ take (words + 1) (facet_tail u)) text ≡ Some (after_word after)
 inside_spelled limit unit words facets t u text after s read =
-    let Q : List Token = flat_map solid_tokens s.solids ++ opened s.added in
+    let Q : List Token = flat_map solid_tokens s.solids ++ open_solid s.added in
     ap (λ ps. rest_after unit (Q ++ facet_word ∷ ps) text) read.goes.on
     ∙ ap (λ ps. rest_after unit ps text) (sym (append_assoc Q (facet_word ∷ take words (facet_tail t)) (read.token ∷ [])))
     ∙ one_token unit (Q ++ facet_word ∷ take words (facet_tail t)) read.token text after (after_word after) s.spelled read.begins read.one_word
@@ -153,7 +153,7 @@ pub inside_whole : (limit : ℕ) (unit : LengthUnit) (words : ℕ) (facets : Lis
     → Stands limit unit stage.Facets (facets ++ u ∷ []) text (after_word after)
 inside_whole limit unit words facets t u text after s read last =
     let all : words + 1 ≡ 20 = omega (arith, s.form.0, last) in
-    let Q : List Token = flat_map solid_tokens s.solids ++ opened s.added in
+    let Q : List Token = flat_map solid_tokens s.solids ++ open_solid s.added in
     facet_added limit unit facets u text (after_word after) s.solids s.added s.items s.form.1
     (subst (λ n. rest_after unit (Q ++ facet_word ∷ take n (facet_tail u)) text ≡ Some (after_word after)) all
     (inside_spelled limit unit words facets t u text after s read))
@@ -239,7 +239,7 @@ stuck_between limit unit some facets text after f s stop no_solid =
     (omega (arith, facet_count-solids s.solids, items, form.1)) (stop (facet_count P)) no_solid
 
 facets_count : (limit : ℕ) (unit : LengthUnit) (facets : List Facet) (solids : List (List Facet)) (added : List Facet)
-    → facets ≡ facets_of solids ++ added → facet_count (flat_map solid_tokens solids ++ opened added) ≡ length facets
+    → facets ≡ facets_of solids ++ added → facet_count (flat_map solid_tokens solids ++ open_solid added) ≡ length facets
 facets_count limit unit facets solids added items =
     facet_count-open solids added ∙ sym (length-append (facets_of solids) added) ∙ ap length (sym items)
 
@@ -249,9 +249,9 @@ pub stuck_facets : (limit : ℕ) (unit : LengthUnit) (facets : List Facet) (text
     → (f ≡ fault.Ended Solid → after_space text ≡ []) → IsFaultOf limit unit text f
 stuck_facets limit unit facets text after f s stop no_solid =
     let P : List Token = flat_map solid_tokens s.solids in
-    let count : facet_count (P ++ opened s.added) ≡ length facets = facets_count limit unit facets s.solids s.added s.items in
-    stuck limit unit text after (s.solids ++ s.added ∷ []) (P ++ opened s.added) (rest_of_line ∷ []) end_word f
-    (tokens-more s.solids s.added ∙ sym (append_assoc P (opened s.added) end_tokens)) s.spelled (omega (arith, count, s.form))
+    let count : facet_count (P ++ open_solid s.added) ≡ length facets = facets_count limit unit facets s.solids s.added s.items in
+    stuck limit unit text after (s.solids ++ s.added ∷ []) (P ++ open_solid s.added) (rest_of_line ∷ []) end_word f
+    (tokens-more s.solids s.added ∙ sym (append_assoc P (open_solid s.added) end_tokens)) s.spelled (omega (arith, count, s.form))
     (subst (λ n. IsStop limit unit text end_word n after f) (sym count) stop) no_solid
 
 -- where one facet too many begins
@@ -260,7 +260,7 @@ pub too_many : (limit : ℕ) (unit : LengthUnit) (facets : List Facet) (text aft
     → (f ≡ fault.Ended Solid → after_space text ≡ []) → IsFaultOf limit unit text f
 too_many limit unit facets text after f s stop no_solid =
     let P : List Token = flat_map solid_tokens s.solids in
-    let Q : List Token = P ++ opened s.added in
+    let Q : List Token = P ++ open_solid s.added in
     let count : facet_count Q ≡ length facets = facets_count limit unit facets s.solids s.added s.items in
     let more : List Token = facet_tail zero_facet ++ end_tokens in
     stuck limit unit text after (s.solids ++ (s.added ++ zero_facet ∷ []) ∷ []) Q more facet_word f
@@ -275,7 +275,7 @@ pub stuck_inside : (limit : ℕ) (unit : LengthUnit) (words : ℕ) (facets : Lis
     → (f ≡ fault.Ended Solid → after_space text ≡ []) → IsFaultOf limit unit text f
 stuck_inside limit unit words facets t u p text after f s goes stop no_solid =
     let P : List Token = flat_map solid_tokens s.solids in
-    let Q : List Token = P ++ opened s.added in
+    let Q : List Token = P ++ open_solid s.added in
     let begun : List Token = facet_word ∷ take words (facet_tail t) in
     let left : List Token = drop (words + 1) (facet_tail u) in
     let count : facet_count Q ≡ length facets = facets_count limit unit facets s.solids s.added s.items in

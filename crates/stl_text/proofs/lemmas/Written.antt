@@ -15,7 +15,7 @@ use Rattle.stl_text.specs.declared.word.Word.{Word}
 use Rattle.stl_text.specs.declared.word.Word.TheVariants.{FacetOrEnd, Solid}
 use Rattle.geometry.specs.Facet.{Facet}
 use Rattle.stl_text.specs.Text.{Token, keyword, normal_word, coordinate, rest_of_line, end_word, facet_tokens, solid_tokens, is_white, is_line_end, is_read_as, begins_with, after_space, first_word, after_word, after_token, rest_after, Reads, keyword_of, keyword_text, end_keyword}
-use Rattle.stl_text.specs.Written.{Spaced, is_word, are_white, laid_out, IsWordOf, AreWordsOf, IsApart, IsRemark, IsLineBreak, IsEnd, WrittenSolid, AreWrittenSolids, Written}
+use Rattle.stl_text.specs.Written.{Spaced, is_word, are_white, laid_out, IsWordOf, AreWordsOf, IsApart, IsRemark, IsLineBreak, IsAfterSolids, WrittenSolid, AreWrittenSolids, Written}
 use Rattle.micro_num.proofs.lemmas.Grammar.{Starts, before-is, from-is}
 use Rattle.stl_text.proofs.lemmas.Solids.{facets-more, tokens-more}
 use Rattle.stl_text.proofs.lemmas.Steps.{spelled-append}
@@ -162,11 +162,11 @@ break_ends : (space more : List ℕ) → IsLineBreak space → EndsLine (space +
 break_ends [] more is = absurd is
 break_ends (b ∷ space) more is = is.0
 
-end_white : (bytes : List ℕ) → IsEnd bytes → are_white bytes ≡ true
+end_white : (bytes : List ℕ) → IsAfterSolids bytes → are_white bytes ≡ true
 end_white [] is = refl
 end_white (b ∷ bytes) is = break_white (b ∷ bytes) is
 
-end_ends : (bytes : List ℕ) → IsEnd bytes → EndsLine bytes
+end_ends : (bytes : List ℕ) → IsAfterSolids bytes → EndsLine bytes
 end_ends [] is = tt
 end_ends (b ∷ bytes) is = is.0
 

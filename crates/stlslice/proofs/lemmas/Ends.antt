@@ -28,8 +28,8 @@ use Rattle.stlslice.proofs.lemmas.Bytes.{each, of_input}
 use Rattle.stlslice.proofs.lemmas.OneAnswer.{one_outcome}
 
 -- nothing was written, or a part of the outcome was
-abbrev pub IsEnd : Task → List ℕ → Transcript → RunFault → Type 0
-IsEnd t input transcript f =
+abbrev pub IsRunEnd : Task → List ℕ → Transcript → RunFault → Type 0
+IsRunEnd t input transcript f =
     (IsWorkFault t input f × IsUntouched transcript) ⊎ ((text : List ℕ) × IsOutcome t input (Ok text) × IsUnwritten transcript text f)
 
 pub keeps_self : (a : Option (List ℕ)) → Keeps a a
@@ -41,7 +41,7 @@ no_memory t input f is = rw is (tt, (λ e. cc), (λ w e. cc))
 
 -- where a fault is passed on before the first byte is written, the run ends with it
 pub stopped : {T : Type 0} (r : Result T RunFault) (t : Task) (input : List ℕ) (transcript : Transcript) (f : RunFault) → IsUntouched transcript
-    → IsWorkFault t input f → IsErrAnd r (λ x. x ≡ f) → IfErr r (IsEnd t input transcript)
+    → IsWorkFault t input f → IsErrAnd r (λ x. x ≡ f) → IfErr r (IsRunEnd t input transcript)
 stopped (Ok x) t input transcript f kept known is = tt
 stopped (Err x) t input transcript f kept known is = inl (rw is known, kept)
 
@@ -57,7 +57,7 @@ sliced_there unit pitch layer rule workers report given input solid g job s plac
 
 -- where writing an outcome failed, a part of it was written, or nothing for want of memory
 ended : (t : Task) (input : List ℕ) (transcript : Transcript) (text : List ℕ) (f : RunFault) → IsOutcome t input (Ok text)
-    → ((f ≡ fault.Memory) × IsUntouched transcript) ⊎ IsUnwritten transcript text f → IsEnd t input transcript f
+    → ((f ≡ fault.Memory) × IsUntouched transcript) ⊎ IsUnwritten transcript text f → IsRunEnd t input transcript f
 ended t input transcript text f outcome (inl h) = inl (no_memory t input f h.0, h.1)
 ended t input transcript text f outcome (inr h) = inr (text, outcome, h)
 
@@ -68,7 +68,7 @@ written_first transcript text written h =
     let same : h.0 ≡ written = cc in
     subst (λ (w : ℕ). (w ≤ length text) × AppendsFirst transcript.old transcript.new w text) same (h.2, h.3)
 
-pub first_end : (t : Task) (input : List ℕ) (transcript : Transcript) (written : ℕ) → IsEnd t input transcript (fault.Write written)
+pub first_end : (t : Task) (input : List ℕ) (transcript : Transcript) (written : ℕ) → IsRunEnd t input transcript (fault.Write written)
     → (text : List ℕ) × IsOutcome t input (Ok text) × (written ≤ length text) × AppendsFirst transcript.old transcript.new written text
 first_end t input transcript written (inl h) = absurd (h.0.2 written refl)
 first_end t input transcript written (inr h) =
@@ -98,20 +98,20 @@ own_fault t input (fault.Outside columns rows layers) own is h =
     inl (same_fault t input (fault.Outside columns rows layers) own is h.0)
 
 refused_end : (t : Task) (input : List ℕ) (transcript : Transcript) (f own : RunFault) → IsOutcome t input (Err own)
-    → IsEnd t input transcript f → (f ≡ own) ⊎ (f ≡ fault.Read) ⊎ (f ≡ fault.Memory)
+    → IsRunEnd t input transcript f → (f ≡ own) ⊎ (f ≡ fault.Read) ⊎ (f ≡ fault.Memory)
 refused_end t input transcript f own is (inl h) = own_fault t input f own is h.0
 refused_end t input transcript f own is (inr h) = absurd (no_text t input h.0 own is h.1)
 
 -- a run that has read its input ends with this fault, or for want of memory
 pub refused : {T : Type 0} (r : Result T RunFault) (t : Task) (input : List ℕ) (old new : Option (List ℕ)) (transcript : Transcript)
-    → OnOk r ((text : List ℕ) × IsOutcome t input (Ok text) × Appends old new text) → IfErr r (IsEnd t input transcript)
+    → OnOk r ((text : List ℕ) × IsOutcome t input (Ok text) × Appends old new text) → IfErr r (IsRunEnd t input transcript)
     → (own : RunFault) → IsOutcome t input (Err own) → IsRefusal r own
 refused (Ok x) t input old new transcript ok err own is = no_text t input ok.0 own is ok.1
 refused (Err f) t input old new transcript ok err own is = refused_end t input transcript f own is err
 
 -- the count of a sink's failed calls stays, unless the run ends with the sink's fault
 pub sound_end : {T : Type 0} (r : Result T RunFault) (t : Task) (input : List ℕ) (transcript : Transcript)
-    → OnOk r (transcript.failed ≡ transcript.failed_before) → IfErr r (IsEnd t input transcript)
+    → OnOk r (transcript.failed ≡ transcript.failed_before) → IfErr r (IsRunEnd t input transcript)
     → ((written : ℕ) → r ≢ Err (fault.Write written)) → transcript.failed ≡ transcript.failed_before
 sound_end (Ok x) t input transcript same err differ = same
 sound_end (Err f) t input transcript same (inl h) differ = h.1.1
@@ -165,27 +165,27 @@ unready r t source sink settled is_made is_own f is reading own kept =
     (λ e. reading.unread (ap Err e)) (λ other. reading.sound (λ e. other (let same : f ≡ read.Read = cc in same))) kept
 
 run_faults : {T : Type 0} (r : Result T RunFault) (t : Task) (known : Option (List ℕ)) (input : List ℕ) (sink : Transcript) → IsInput known input
-    → IfErr r (IsEnd t input sink) → IfErr r (λ f. IfSome known (λ bytes. IsRunFault t bytes f))
+    → IfErr r (IsRunEnd t input sink) → IfErr r (λ f. IfSome known (λ bytes. IsRunFault t bytes f))
 run_faults (Ok x) t known input sink is err = tt
 run_faults (Err f) t known input sink is (inl h) = of_input known input (λ bytes. IsRunFault t bytes f) is h.0.0
 run_faults (Err f) t known input sink is (inr h) = rw h.2.1 (each known (λ bytes. IsRunFault t bytes (fault.Write h.2.0)) (λ bytes. tt))
 
-has_read : {T : Type 0} (r : Result T RunFault) (t : Task) (input : List ℕ) (sink : Transcript) → IfErr r (IsEnd t input sink) → r ≡ Err fault.Read → ⊥
+has_read : {T : Type 0} (r : Result T RunFault) (t : Task) (input : List ℕ) (sink : Transcript) → IfErr r (IsRunEnd t input sink) → r ≡ Err fault.Read → ⊥
 has_read r t input sink err e = by_end (IfErr-at_err _ e err)
   where
-    by_end : IsEnd t input sink fault.Read → ⊥
+    by_end : IsRunEnd t input sink fault.Read → ⊥
     by_end (inl h) = h.0.1 refl
     by_end (inr h) = let no : fault.Read ≡ fault.Write h.2.0 = h.2.1 in cc
 
-failed_once : {T : Type 0} (r : Result T RunFault) (t : Task) (input : List ℕ) (sink : Transcript) → IfErr r (IsEnd t input sink) → (written : ℕ)
+failed_once : {T : Type 0} (r : Result T RunFault) (t : Task) (input : List ℕ) (sink : Transcript) → IfErr r (IsRunEnd t input sink) → (written : ℕ)
     → r ≡ Err (fault.Write written) → Fails sink.failed_before sink.failed
 failed_once r t input sink err written e = by_end (IfErr-at_err _ e err)
   where
-    by_end : IsEnd t input sink (fault.Write written) → Fails sink.failed_before sink.failed
+    by_end : IsRunEnd t input sink (fault.Write written) → Fails sink.failed_before sink.failed
     by_end (inl h) = absurd (h.0.2 written refl)
     by_end (inr h) = h.2.4
 
-wrote_nothing : {T : Type 0} (r : Result T RunFault) (t : Task) (input : List ℕ) (sink : Transcript) → IfErr r (IsEnd t input sink)
+wrote_nothing : {T : Type 0} (r : Result T RunFault) (t : Task) (input : List ℕ) (sink : Transcript) → IfErr r (IsRunEnd t input sink)
     → IfErr r (λ f. ((written : ℕ) → f ≢ fault.Write written) → Keeps sink.old sink.new)
 wrote_nothing (Ok x) t input sink err = tt
 wrote_nothing (Err f) t input sink (inl h) = λ other. h.1.0
@@ -194,7 +194,7 @@ wrote_nothing (Err f) t input sink (inr h) = λ other. absurd (other h.2.0 h.2.1
 has_run : {T : Type 0} (r : Result T RunFault) (t : Task) (input : List ℕ) (source sink : Transcript) (settled : Bool)
     → IsInput source.old input → IsAtEnd source.new → source.failed ≡ source.failed_before
     → OnOk r (settled ≡ true) → OnOk r ((text : List ℕ) × IsOutcome t input (Ok text) × Appends sink.old sink.new text)
-    → OnOk r (sink.failed ≡ sink.failed_before) → IfErr r (IsEnd t input sink) → IsRun t r source sink settled
+    → OnOk r (sink.failed ≡ sink.failed_before) → IfErr r (IsRunEnd t input sink) → IsRun t r source sink settled
 has_run r t input source sink settled is whole sound flushed ok same err = record {
   whole = λ _ _. whole;
   flushed = flushed;
@@ -236,7 +236,7 @@ ran r t source sink settled is_made is_own made text reading outcome flushed ok 
     let known : IsOutcome t from.0 (Ok text) = outcome from.0 from.2 in
     has_run r t from.0 source sink settled from.1 (reading.whole (λ e. cc) (λ e. cc)) (reading.sound (λ e. cc)) flushed
     (on_ok_weaker r (λ out. (text, known, out)) ok) same
-    (IfErr-weaker r (λ f. ((f ≡ fault.Memory) × IsUntouched sink) ⊎ IsUnwritten sink text f) (IsEnd t from.0 sink)
+    (IfErr-weaker r (λ f. ((f ≡ fault.Memory) × IsUntouched sink) ⊎ IsUnwritten sink text f) (IsRunEnd t from.0 sink)
     (λ f h. ended t from.0 sink text f known h) err)
 
 -- the same, where memory is no fault of the writing

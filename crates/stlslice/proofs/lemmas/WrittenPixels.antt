@@ -12,11 +12,11 @@ use Rattle.contour.specs.Loops.{loops}
 use Rattle.raster.specs.Filler.{below, is_filled}
 use Rattle.raster.specs.Grid.{Grid, centre, plane}
 use Rattle.raster.specs.Image.{image_of_pixels}
-use Rattle.raster.specs.Rule.{is_inside}
+use Rattle.raster.specs.Rule.{IsInside, is_inside}
 use Rattle.raster.specs.declared.grid.GridFault.{GridFault}
 use Rattle.raster.specs.declared.rule.Rule.{Rule}
-use Rattle.build_book.specs.Promise.{IsInside, pixel_count}
-use Rattle.build_book.proofs.lemmas.Promise.{inside_decides}
+use Rattle.raster.proofs.lemmas.Rules.{inside_decides}
+use Rattle.build_book.specs.Promise.{pixel_count}
 use Rattle.task_words.specs.declared.task.Given.{Given}
 use Rattle.task_words.specs.declared.task.Task.TheVariants as task
 use Rattle.stlslice.specs.Outcome.{IsOutcome, boxed, closed, grid_for, misread, open_mesh, sliced, with_grid}

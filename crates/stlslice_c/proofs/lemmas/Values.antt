@@ -28,7 +28,7 @@ use Rattle.core.proofs.atomic.Steps.{Ptr-Good}
 use Rattle.std.specs.contracts.alloc.Global as heap
 use Rattle.std.proofs.alloc.Global.TheLaws as heap_laws
 use Rattle.std.specs.contracts.impls.GlobalAllocator.TheImpl.{ghosts}
-use Rattle.stlslice_c.specs.MeshPointer.{holds, session_row, token}
+use Rattle.stlslice_c.specs.MeshPointer.{owned, session_row, token}
 use Rattle.stlslice_c.specs.contracts.box_parts.BoxParts as parts
 use Rattle.stlslice_c.specs.contracts.mesh_pointer.MeshPointer as pointer
 
@@ -86,14 +86,14 @@ pointer_good null_ptr = (tt, ((Ptr-Good null_ptr).1, tt))
 
 module _ {M : Type 1} {𝓤 : Ura M} {𝓛 : Logic 𝓤} {K : Type 0} {Γ : List (Item 𝓤)} {G : Goal 𝓤 𝓛.H} where
   pub pointer_out : K → (d : MeshPointer.Denot) (vs : List Val)
-      → (vs ≡ alone (ptr_val d.at) ∷ [] → Seq K 𝓛 (‵ (holds token R d.at d.session) ∷ Γ) G)
+      → (vs ≡ alone (ptr_val d.at) ∷ [] → Seq K 𝓛 (‵ (owned token R d.at d.session) ∷ Γ) G)
       → Seq K 𝓛 (‵ (MeshPointer.own_val d vs) ∷ Γ) G
   pointer_out t d vs k =
       fsplit t $ fpick t (λ vss. fsplit t $ feq_l t (λ ev. fsplit t $ feq_l t (λ ep. drop t $
       k (subst (λ (ps : List Val). vs ≡ vstruct (of_list (ps ++ [])) ∷ []) ep ev))))
 
   pub pointer_in : K → (p : Ptr) (x : Option R.Denot)
-      → Step K 𝓛 (‵ (MeshPointer.own_val (record { at = p; session = x }) (alone (ptr_val p) ∷ [])) ∷ Γ) G (‵ (holds token R p x) ∷ Γ) G
+      → Step K 𝓛 (‵ (MeshPointer.own_val (record { at = p; session = x }) (alone (ptr_val p) ∷ [])) ∷ Γ) G (‵ (owned token R p x) ∷ Γ) G
   pointer_in t p x = step (λ s. let v : Val = alone (ptr_val p) in
       nothing t $ feq_i t (List Val) (ptr_val p ∷ []) (ptr_val p ∷ []) refl $ fjoin t $ feq_i t (List Val) (v ∷ []) (v ∷ []) refl $ fjoin t $
       fpack t (Valss (RawPtr ∷ [])) (within (shape pointer.the_type) (p, tt) (v ∷ [])) (ptr_val p ∷ [], tt) $ fjoin t $ s)

@@ -8,7 +8,7 @@ use lib.ListN.{get_elem?}
 use Rattle.atomic_table.proofs.Lists.{at_set, at_snoc}
 use Rattle.stripe_claims.specs.declared.machine.Hand.{Hand}
 use Rattle.stripe_claims.specs.declared.machine.Plan.{Plan}
-use Rattle.stripe_claims.specs.Machine.{one_if, times, once_below, beyond, hand, all_found, Moment, start, IsDraw, IsSplit, IsJoin, both_hands, nobody, Step, Step.draw, Step.split, Step.join, IsReachable, IsReachable.first, IsReachable.next, IsFair, NeverTwice, EndsLast}
+use Rattle.stripe_claims.specs.Machine.{one_if, times, once_below, beyond, hand, all_found, Moment, first_moment, IsDraw, IsSplit, IsJoin, both_hands, nobody, Step, Step.draw, Step.split, Step.join, IsReachable, IsReachable.first, IsReachable.next, IsFair, NeverTwice, EndsLast}
 use Rattle.stripe_claims.proofs.lemmas.Counts.{sum_by-two-le, once_at_most, once_when, beyond_below, sum_by-set, sum_by-one-le, sum_by-all, length-all, below-all, once_more, sum_by-below}
 
 -- a fact of each hand, after one has changed
@@ -48,7 +48,7 @@ past_by n w t h = grind (arith, nat_tests)
 beyond_by : (n w : ℕ) → one_if (nat_le n w) ≤ 1
 beyond_by n w = grind (arith, nat_tests)
 
-fair_start : (plan : Plan) → IsFair plan (start plan)
+fair_start : (plan : Plan) → IsFair plan (first_moment plan)
 fair_start plan =
     record {
       each_once = λ x. sym (nothing_below x);

@@ -8,7 +8,7 @@ use Rattle.std.proofs.lemmas.List.Sums.{sum_by_push}
 use Rattle.atomic_table.proofs.Lists.{at_index}
 use Rattle.stripe_claims.specs.declared.machine.Hand.{Hand}
 use Rattle.stripe_claims.specs.Machine.{one_if, times, once_below, IsEachOnce, beyond, given}
-use Rattle.stripe_claims.specs.Claims.{Claims, Pass, found_by_all, IsOwned, plan_of, IsEnd, HasReached}
+use Rattle.stripe_claims.specs.Claims.{Claims, Pass, found_by_all, IsOwned, plan_of, HasGathered, HasReached}
 use Rattle.stripe_claims.proofs.lemmas.Counts.{sum_by-flat, length-flat, sum_by-one-le, beyond_below, below-all, each-given}
 use Rattle.stripe_claims.proofs.lemmas.Moves.{Closed}
 
@@ -79,7 +79,7 @@ first_of P (p ∷ ps) lt all = (0, p, lt, refl, all 0 p lt)
 
 -- What closing tells of the passes that are handed in.
 pub record ClosedBy (claims : Claims) (passes : List Pass) (word : ℕ) : Type 0 where
-  pub machine : IsEnd claims passes word
+  pub machine : HasGathered claims passes word
   pub once : (x : ℕ) → times x (found_by_all passes) ≤ once_below x word
   pub count : length (found_by_all passes) ≤ word
   pub ended : Any (λ p. p.has_ended ≡ true) passes → claims.stripes < word
@@ -88,11 +88,11 @@ pub record ClosedBy (claims : Claims) (passes : List Pass) (word : ℕ) : Type 0
   pub given : length passes ≡ claims.passes → All (λ p. p.has_ended ≡ true) passes → IsEachOnce claims.stripes (given claims.stripes (found_by_all passes))
 
 -- where none is handed in, not all are, since claims have at least one
-pub closed_none : (claims : Claims) (passes : List Pass) (word : ℕ) → passes ≡ [] → IsEnd claims [] word → 0 < claims.passes → ClosedBy claims passes word
+pub closed_none : (claims : Claims) (passes : List Pass) (word : ℕ) → passes ≡ [] → HasGathered claims [] word → 0 < claims.passes → ClosedBy claims passes word
 closed_none claims passes word none last some =
     let zero = ap (λ (ps : List Pass). length ps) none in
     record {
-      machine = subst (λ ps. IsEnd claims ps word) (sym none) last;
+      machine = subst (λ ps. HasGathered claims ps word) (sym none) last;
       once = λ x. (let t = times_none x passes none in omega arith);
       count = (let l = length_none passes none in omega arith);
       ended = λ (k, p, lt, at, ended). absurd (omega arith);

@@ -9,7 +9,7 @@ use Rattle.atomic_table.proofs.Lists.{at_set}
 use Rattle.stripe_claims.specs.declared.machine.Hand.{Hand}
 use Rattle.stripe_claims.specs.declared.machine.Plan.{Plan}
 use Rattle.stripe_claims.specs.Machine.{one_if, times, once_below, IsEachOnce, beyond, hand, Moment, moment, Step.draw, Step.split, Step.join, IsReachable, IsReachable.first, IsReachable.next, IsKept, Appends, one_less, new_pass, both_hands, nobody}
-use Rattle.stripe_claims.specs.Claims.{Claims, Pass, IsOwned, plan_of, IsEnd, HasReached}
+use Rattle.stripe_claims.specs.Claims.{Claims, Pass, IsOwned, plan_of, HasGathered, HasReached}
 use Rattle.stripe_claims.proofs.lemmas.Counts.{sum_by-one-le, sum_by-only, sum_by-all, length-all}
 use Rattle.stripe_claims.proofs.lemmas.Fair.{always_fair, most_drawn, found_below}
 
@@ -155,7 +155,7 @@ pub closed : (claims : Claims) (h : Hand) (n : ℕ) → HasReached claims h n �
 closed claims h n last = closed_moment (plan_of claims) (moment n last.hands) last.id h last.reached last.there
 
 pub closes_alone : (plan : Plan) (claims : Claims) (words : List ℕ) (slots : List (Unit {0})) (n : ℕ) → plan.stripes ≡ claims.stripes → plan.passes ≡ claims.passes
-    → Final (IsKept plan) words slots → get_elem? words 0 ≡ some n → IsEnd claims [] n
+    → Final (IsKept plan) words slots → get_elem? words 0 ≡ some n → HasGathered claims [] n
 closes_alone plan claims words slots n stripes passes final at =
     let s = final.0 in
     record {
@@ -164,7 +164,7 @@ closes_alone plan claims words slots n stripes passes final at =
       joined = λ some. absurd (omega arith);
     }
 
-pub most_at_end : (claims : Claims) (n : ℕ) → IsEnd claims [] n → n ≤ claims.stripes + claims.passes
+pub most_at_end : (claims : Claims) (n : ℕ) → HasGathered claims [] n → n ≤ claims.stripes + claims.passes
 most_at_end claims n last = most_drawn (plan_of claims) (moment n last.hands) last.reached
 
 -- a pass that has not ended has found no number at `stripes` or above

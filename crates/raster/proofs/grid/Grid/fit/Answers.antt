@@ -1,8 +1,8 @@
 use Rattle.std.proofs.Common.{◌∙◌, ap, subst, sym}
 use Rattle.std.specs.Prelude.{IfSome, Option, option_map}
-use Rattle.geometry.specs.BoundingBox.{Bounds, bounds}
+use Rattle.geometry.specs.BoundingBox.{Bounds, IsBox, bounds}
 use Rattle.geometry.specs.Point.{Point}
-use Rattle.raster.specs.Grid.{IsBox, grid_of_box}
+use Rattle.raster.specs.Grid.{grid_of_box}
 use Rattle.raster.proofs.lemmas.Boxes.{bounds-back, bounds-box, box_of}
 use Rattle.raster.proofs.grid.Grid.fit.Goals as goal
 

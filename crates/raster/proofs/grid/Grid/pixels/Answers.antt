@@ -19,8 +19,8 @@ invariant_of-result c =
     record {
       x_in = rw (to_z-of_z w64 c.middle_before.result fits-x) c.middle_before.ensures.within;
       y_in = rw (to_z-of_z w64 c.middle_before-2.result fits-y) c.middle_before-2.ensures.within;
-      step_above = c.self.invariant.pitch_low;
-      step_in = c.self.invariant.pitch_high;
+      step_above = c.self.invariant.pitch.0;
+      step_in = c.self.invariant.pitch.1;
       columns_in = c.self.invariant.columns_high;
       rows_in = c.self.invariant.rows_high;
       last_in = subst (λ (m : ℤ). (m +ℤ pos (2 * c.self.inside.pitch * c.self.inside.rows)) ≤ℤ pos (CENTRE_LIMIT + 2 * c.self.inside.pitch)) (sym y2)

@@ -2,7 +2,7 @@ use Rattle.std.proofs.Common.{◌≡◌, ◌≤◌}
 use Rattle.std.specs.Int.{div_ceil}
 use Rattle.raster.specs.Span.{covers}
 use Rattle.raster.specs.ImageWriter.{pending}
-use Rattle.raster.specs.Rows.{IsSplit}
+use Rattle.raster.specs.Rows.{IsRowStart}
 use Rattle.raster.proofs.lemmas.Written.{IsUnderWay, lower_rows}
 use Rattle.raster.proofs.pbm.image_writer.push_image.Given as goal
 
@@ -11,7 +11,7 @@ invariant-loop-row g l =
     record {
       needed : l.needed ≡ div_ceil l.g.columns 8;
       rows : l.row ≤ l.g.rows;
-      split : IsSplit l.spans l.end l.row;
+      split : IsRowStart l.spans l.end l.row;
       text : IsUnderWay (g.W.Sink.contents l.fn.w) (g.W.Sink.contents l.w) (pending l.fn.chunk l.g l.spans) l.before l.written l.chunk (lower_rows l.g.columns (covers l.spans) l.row);
       same : g.W.Failures.failure_count l.w ≡ g.W.Failures.failure_count l.fn.w;
     }

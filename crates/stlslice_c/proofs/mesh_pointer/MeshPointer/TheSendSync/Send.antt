@@ -12,13 +12,13 @@ use Rattle.std_alloc.proofs.SendSync.{quiet, lies}
 use Rattle.std.specs.contracts.alloc.Global as Heap
 use Rattle.std.specs.contracts.impls.GlobalAllocator.TheImpl.{ghosts}
 use Rattle.layer_session.proofs.session.Session.TheSendSync.{the_send as the_session_send}
-use Rattle.stlslice_c.specs.MeshPointer.{holds, session_row, token}
+use Rattle.stlslice_c.specs.MeshPointer.{owned, session_row, token}
 use Rattle.stlslice_c.specs.contracts.mesh_pointer.MeshPointer.{the_row, the_type}
 
 session_send : IsSend session_row
 session_send = the_session_send Heap.the_row ghosts heap.send heap.frees
 
-pointer_keyless : (p : Ptr) (x : Option session_row.Denot) → Keyless (holds token session_row p x)
+pointer_keyless : (p : Ptr) (x : Option session_row.Denot) → Keyless (owned token session_row p x)
 pointer_keyless p None = tt
 pointer_keyless p (Some x) =
     (lies session_row session_send p x, heap.frees.frees (record { memory = record { seal = tt } }) (raw (lone session_row.mir)) p)

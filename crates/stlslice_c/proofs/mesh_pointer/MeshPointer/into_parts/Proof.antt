@@ -23,7 +23,7 @@ use Rattle.std.specs.Prelude.{Option, Bool, true, false, is_some}
 use Rattle.core.specs.declared.option.Option.TheVariants.{None, Some}
 use Rattle.std_alloc.specs.Box.Ownership.{box_owns}
 use Rattle.std.proofs.raw_atomic.Walks.{proved_at, leaves}
-use Rattle.stlslice_c.specs.MeshPointer.{holds, token}
+use Rattle.stlslice_c.specs.MeshPointer.{owned, token}
 use Rattle.std.specs.contracts.impls.GlobalAllocator.TheImpl.{ghosts}
 use Rattle.stlslice_c.proofs.lemmas.Values.{both, alone, parts_good, parts_in, R, Z, LZ, MeshPointer, zal, pointer_good, pointer_out}
 use Rattle.stlslice_c.specs.contracts.mesh_pointer.MeshPointer.into_parts.{ended, clauses}
@@ -47,7 +47,7 @@ into_parts_spec 𝓤 𝓛 𝓜 𝓡 wired =
     proved_at 𝓛 ended hs c 𝓜 𝓡 (Goes-blank 𝓛 0 (plain (λ _. From)) yes (λ κs x f. tt), (Goes-blank 𝓛 0 (plain (λ _. Z)) yes (λ κs x f. tt), tt)) #self fn (code.unfolded 𝓤 H 𝓜 𝓡 wired) (λ z are.
     let κs = z.0.0 in let v = z.0.3.0 in let Post : Val → SProp 𝓤 = (walk_of 𝓛 ended hs c).post z in let Run : List Val → SProp 𝓤 = λ ws. WpFn 𝓤 H 𝓣.C 𝓣.Λ fn ws Post in
     qed 𝓛 ((‵ ftrue ⊛ ‵ (owns (types_at ended.signature.params κs) z.0.3 z.0.4)) ∷ raw ((c κs z.0.3).requires z.1) ∷ []) ∵ split ! $ move ! (1 ∷ []) $ fsplit ! $
-    pointer_out ! v z.0.4.0 (λ ws. let a = z.0.3.1.0 in move ! (3 ∷ []) $ heard ! (is_some v.session ≡ true) (λ some. let x₁ : R.Denot = (some_of v.session some).0 in let is : v.session ≡ Some x₁ = (some_of v.session some).1 in rewrite ! 0 (λ (x : Option R.Denot). ‵ (holds token R v.at x)) is refl $
+    pointer_out ! v z.0.4.0 (λ ws. let a = z.0.3.1.0 in move ! (3 ∷ []) $ heard ! (is_some v.session ≡ true) (λ some. let x₁ : R.Denot = (some_of v.session some).0 in let is : v.session ≡ Some x₁ = (some_of v.session some).1 in rewrite ! 0 (λ (x : Option R.Denot). ‵ (owned token R v.at x)) is refl $
     in_a_block ! v.at (λ p. box_owns token R p x₁) (fst∗ 𝓤 (never 𝓤) (sem 𝓛 (token (bare (lone R.mir)) null_ptr))) (λ b o e. move ! (1 ∷ []) $ fsplit ! $ handle_tells zal ! a z.0.4.1.0 (λ h hs' fits.
     let w : Val = alone (vptr b o) in let said = subst (λ (p : Ptr). z.0.4.0 ≡ alone (ptr_val p) ∷ []) e ws in
     suffices ! (Run (w ∷ h ∷ [])) (subst (λ (us : List Val). ent 𝓤 (Run (w ∷ h ∷ [])) (Run (us ++ (z.0.4.1.0 ++ [])))) (sym said) (subst (λ (us : List Val). ent 𝓤 (Run (w ∷ h ∷ [])) (Run (w ∷ (us ++ [])))) (sym hs') (id⊢ 𝓤 (Run (w ∷ h ∷ []))))) $
