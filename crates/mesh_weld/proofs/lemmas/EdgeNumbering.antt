@@ -55,7 +55,9 @@ half_edge_ends f n (t ∷ ts) (suc k) s l m =
     subst (λ i. ((get_or (half_edges_from n (map (numbered f) (t ∷ ts))) i nowhere).from ≡ f (edge_of ts k s).from) × ((get_or (half_edges_from n (map (numbered f) (t ∷ ts))) i nowhere).to ≡ f (edge_of ts k s).to)) at
     (half_edge_ends f (n + 3) ts k s (omega (arith, l)) m)
 
-edge-at : (fs : List Facet) (k s : ℕ) → k < length fs → s < 3 → (3 * k + s < length (edges fs)) × (get_or (edges fs) (3 * k + s) (edge origin origin) ≡ edge_of fs k s)
+-- edge s of facet k is edge 3 * k + s of the mesh
+pub edge-at : (fs : List Facet) (k s : ℕ) → k < length fs → s < 3
+    → (3 * k + s < length (edges fs)) × (get_or (edges fs) (3 * k + s) (edge origin origin) ≡ edge_of fs k s)
 edge-at [] k s l m = absurd (omega (arith, l))
 edge-at (t ∷ ts) zero zero l m = (omega arith, refl)
 edge-at (t ∷ ts) zero (suc zero) l m = (omega arith, refl)

@@ -44,6 +44,10 @@ none-or_some {X} p q (x ∷ xs) h = at_head (none-or_some p q xs parts.1) (p x) 
     at_head tail true passes = inr (x, passes, parts.0)
     at_head tail false fails = at_tail fails tail
 
+-- the edge the other way
+abbrev pub back : Edge → Edge
+back e = edge e.to e.from
+
 abbrev pub runs : Point → Point → Edge → Bool
 runs u v e = same e.from u && same e.to v
 
@@ -54,21 +58,21 @@ runs-is u v e h =
 
 -- what a test shows of each edge and of its reverse holds of each pair of points, if it holds of pairs with no edges
 module _ (facets : List Facet) (P : Edge → Type 0) (test : Edge → Bool)
-    (there : (e : Edge) → test e ≡ true → P e × P (edge e.to e.from))
+    (there : (e : Edge) → test e ≡ true → P e × P (back e))
     (nowhere : (u v : Point) → half_edge_count facets u v ≡ 0 → half_edge_count facets v u ≡ 0 → P (edge u v))
     (tested : list_all test (edges facets) ≡ true) where
   pub each_pair : (u v : Point) → P (edge u v)
   each_pair u v = first (none-or_some (runs u v) test (edges facets) tested)
     where
-      back : half_edge_count facets u v ≡ 0
+      second : half_edge_count facets u v ≡ 0
           → (half_edge_count facets v u ≡ 0) ⊎ ((e : Edge) × (runs v u e ≡ true) × (test e ≡ true)) → P (edge u v)
-      back none (inl none') = nowhere u v none none'
-      back none (inr some) =
+      second none (inl none') = nowhere u v none none'
+      second none (inr some) =
           let at : some.0 ≡ edge v u = runs-is v u some.0 some.1 in
-          subst (λ e. P (edge e.to e.from)) at (there some.0 some.2).1
+          subst (λ e. P (back e)) at (there some.0 some.2).1
 
       first : (half_edge_count facets u v ≡ 0) ⊎ ((e : Edge) × (runs u v e ≡ true) × (test e ≡ true)) → P (edge u v)
-      first (inl none) = back none (none-or_some (runs v u) test (edges facets) tested)
+      first (inl none) = second none (none-or_some (runs v u) test (edges facets) tested)
       first (inr some) = subst P (runs-is u v some.0 some.1) (there some.0 some.2).0
 
 abbrev pub is_even : List Facet → Edge → Bool
@@ -81,11 +85,11 @@ IsBalanced-by_edges facets tested =
     (λ u v none none'. none ∙ sym none') tested
 
 -- an edge is even, or does not run to a later point, or is not before the target
-abbrev is_past : List Facet → Edge → Edge → Bool
+abbrev pub is_past : List Facet → Edge → Edge → Bool
 is_past facets target e = is_even facets e || (not (is_before e.from e.to) || not (is_edge_before e target))
 
 abbrev pub is_past_both : List Facet → Edge → Edge → Bool
-is_past_both facets target e = is_past facets target e && is_past facets target (edge e.to e.from)
+is_past_both facets target e = is_past facets target e && is_past facets target (back e)
 
 abbrev IsPast : List Facet → Edge → Edge → Type 0
 IsPast facets target e = is_before e.from e.to ≡ true → half_edge_count facets e.from e.to ≢ half_edge_count facets e.to e.from
@@ -109,6 +113,6 @@ pub least-by_edges : (facets : List Facet) (target : Edge) → list_all (is_past
 least-by_edges facets target tested e =
     each_pair facets (IsPast facets target) (is_past_both facets target)
     (λ d h.
-    let parts : (is_past facets target d ≡ true) × (is_past facets target (edge d.to d.from) ≡ true) = and_parts _ _ h in
-    (is_past-is facets target d parts.0, is_past-is facets target (edge d.to d.from) parts.1))
+    let parts : (is_past facets target d ≡ true) × (is_past facets target (back d) ≡ true) = and_parts _ _ h in
+    (is_past-is facets target d parts.0, is_past-is facets target (back d) parts.1))
     (λ u v none none' up differ. absurd (differ (none ∙ sym none'))) tested e.from e.to

@@ -9,8 +9,8 @@ use Rattle.std.proofs.lemmas.Cmp.{then_total, on_total}
 use Rattle.geometry.specs.Point.{Point, same, is_before}
 use Rattle.geometry.specs.Facet.{Facet, Edge, edge, edges}
 use Rattle.mesh_weld.specs.Balance.{HasOpenEdge, IsBalanced, IsLeastOpen, half_edge_count, is_edge_before}
-use Rattle.mesh_weld.proofs.lemmas.Edges.{IsBalanced-by_edges, is_even, is_past_both, least-by_edges}
-use Rattle.mesh_weld.proofs.lemmas.Order.{before-irreflexive, is_before-is, place_cmp, place_total, ranked, same-by_cmp, same-self}
+use Rattle.mesh_weld.proofs.lemmas.Edges.{IsBalanced-by_edges, back, is_even, is_past, is_past_both, least-by_edges}
+use Rattle.mesh_weld.proofs.lemmas.Order.{before-irreflexive, is_before-is, lt_is, place_cmp, place_total, ranked, same-by_cmp, same-self}
 
 -- Edges by their starts, then by their ends, as one comparison.
 
@@ -32,11 +32,6 @@ edge_before-is d e =
     ∙ ap (λ b. is_lt (place_cmp d.from e.from) || (is_eq (place_cmp d.from e.from) && b)) (is_before-is d.to e.to)
     ∙ lt_of_two (place_cmp d.from e.from) (place_cmp d.to e.to)
 
-lt_is : (o : Ordering) → is_lt o ≡ true → o ≡ Less
-lt_is Less h = refl
-lt_is Equal h = cc
-lt_is Greater h = cc
-
 edge_before-trans : (d e f : Edge) → is_edge_before d e ≡ true → is_edge_before e f ≡ true → is_edge_before d f ≡ true
 edge_before-trans d e f h k =
     edge_before-is d f
@@ -54,13 +49,6 @@ not_before_self e = by_test (is_before e.from e.from) refl (is_before e.to e.to)
 
 abbrev IsOpen : List Facet → Edge → Type 0
 IsOpen facets e = (is_before e.from e.to ≡ true) × (is_even facets e ≡ false)
-
-abbrev back : Edge → Edge
-back e = edge e.to e.from
-
--- no open edge before the target, as `is_past_both` has it of an edge and of the edge back
-abbrev is_past : List Facet → Edge → Edge → Bool
-is_past facets target e = is_even facets e || (not (is_before e.from e.to) || not (is_edge_before e target))
 
 not_past : (a b c : Bool) → (a || (not b || not c)) ≡ false → (a ≡ false) × (b ≡ true) × (c ≡ true)
 not_past true b c h = cc

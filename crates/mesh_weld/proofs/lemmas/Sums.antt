@@ -4,11 +4,11 @@ use Rattle.std.proofs.Common.{◌≡◌, ℕ, ◌+◌, Bool, true, false, cond, 
 use Rattle.std.specs.Prelude.{count_by}
 use Rattle.std.proofs.lemmas.Int.{ints}
 use Rattle.geometry.specs.Point.{Point, same, half_micrometres_of}
-use Rattle.geometry.specs.Facet.{Facet, Edge, edge, edges, half_edges, twice}
+use Rattle.geometry.specs.Facet.{Facet, Edge, edges, half_edges, twice}
 use Rattle.geometry.specs.Winding.{total, turn, turn_x, wind, wind_y, hit, ray, neg_ray_back}
 use Rattle.mesh_weld.specs.Balance.{IsBalanced}
 use Rattle.mesh_weld.specs.Laws.{IsOpposite, round}
-use Rattle.mesh_weld.proofs.lemmas.Edges.{count_by-cons, runs, runs-is}
+use Rattle.mesh_weld.proofs.lemmas.Edges.{back, count_by-cons, runs, runs-is}
 use Rattle.mesh_weld.proofs.lemmas.Order.{same-self}
 use Rattle.mesh_weld.proofs.lemmas.Degenerate.{and_swap, own_opposite}
 use Rattle.exact_cut.proofs.lemmas.Turns.{turn-opposite, turn_x-opposite}
@@ -116,10 +116,7 @@ same_edges-sum (x ∷ xs) ys h f = by_place (λ zs g. same_edges-sum xs zs g f) 
         ∙ sym (taken.sums f)
 
 -- ---- the edges reversed
-abbrev back : Edge → Edge
-back e = edge e.to e.from
-
-count-back : (u v : Point) (es : List Edge) → count_by (runs u v) (map back es) ≡ count_by (runs v u) es
+pub count-back : (u v : Point) (es : List Edge) → count_by (runs u v) (map back es) ≡ count_by (runs v u) es
 count-back u v [] = refl
 count-back u v (e ∷ es) =
     count_by-cons (runs u v) (back e) (map back es)

@@ -1,11 +1,12 @@
 -- The nodes of a segment are ordered: the corners of a kept facet have three distinct numbers.
-use Rattle.std.proofs.Common.{◌≡◌, ◌≢◌, ℕ, zero, suc, ◌+◌, ◌*◌, ◌<◌, min, max, true, List, [], ◌∷◌, ◌++◌, ◌∙◌, refl, ap, sym, subst, length, get_or, arith, map, Some}
+use Rattle.std.proofs.Common.{◌≡◌, ◌≢◌, ℕ, ◌+◌, ◌*◌, ◌<◌, min, max, true, List, [], ◌∷◌, ◌++◌, ◌∙◌, ap, sym, subst, length, get_or, arith, map, Some}
 use Rattle.std.proofs.lemmas.List.Elements.{All-append, All-cons, All-nil}
 use Rattle.std.specs.Prelude.{All, slice_get}
 use Rattle.geometry.specs.Point.{Point, origin}
-use Rattle.geometry.specs.Facet.{Facet, Edge, corners, edge, edges}
+use Rattle.geometry.specs.Facet.{Facet, Edge, corners, edge}
 use Rattle.mesh_weld.specs.Solid.{number_of, triples, vertices}
 use Rattle.mesh_weld.specs.EdgeNumbers.{edge_of}
+use Rattle.mesh_weld.proofs.lemmas.EdgeNumbering.{edge-at}
 use Rattle.mesh_weld.proofs.lemmas.InOrder.{is_in}
 use Rattle.mesh_weld.proofs.lemmas.Transfer.{number_found, ends_are_vertices}
 use Rattle.plane_segments.specs.declared.segment.Segment.{Segment}
@@ -14,18 +15,6 @@ use Rattle.plane_segments.proofs.lemmas.Cutting.{facet_at-is, triples_at}
 
 between-ordered : (m n : ℕ) → (m ≡ n → ⊥) → min m n < max m n
 between-ordered m n h = grind arith
-
-edge-at : (fs : List Facet) (k s : ℕ) → k < length fs → s < 3
-    → (3 * k + s < length (edges fs)) × (get_or (edges fs) (3 * k + s) (edge origin origin) ≡ edge_of fs k s)
-edge-at [] k s l m = absurd (omega (arith, l))
-edge-at (t ∷ ts) zero zero l m = (omega arith, refl)
-edge-at (t ∷ ts) zero (suc zero) l m = (omega arith, refl)
-edge-at (t ∷ ts) zero (suc (suc zero)) l m = (omega arith, refl)
-edge-at (t ∷ ts) zero (suc (suc (suc s))) l m = absurd (omega (arith, m))
-edge-at (t ∷ ts) (suc k) s l m =
-    let at : suc (suc (suc (3 * k + s))) ≡ 3 * suc k + s = omega arith in
-    let rest : (3 * k + s < length (edges ts)) × (get_or (edges ts) (3 * k + s) (edge origin origin) ≡ edge_of ts k s) = edge-at ts k s (omega (arith, l)) m in
-    (let low : 3 * k + s < length (edges ts) = rest.0 in omega (arith, low), ap (λ i. get_or (edges (t ∷ ts)) i (edge origin origin)) (sym at) ∙ rest.1)
 
 module _ (facets : List Facet) where
   -- two points that are vertices

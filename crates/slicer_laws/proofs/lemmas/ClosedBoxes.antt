@@ -1,14 +1,14 @@
 -- Each edge of a box is taken once there and once back.
-use Rattle.std.proofs.Common.{◌≡◌, ℕ, ◌+◌, Bool, true, cond, ◌&&◌, List, [], ◌∷◌, length, map, refl, sym, ◌∙◌, ltb}
-use Rattle.std.specs.Prelude.{IsPermutation, count_by}
+use Rattle.std.proofs.Common.{◌≡◌, ℕ, Bool, true, cond, ◌&&◌, List, [], ◌∷◌, length, map, refl, ◌∙◌, ltb}
+use Rattle.std.specs.Prelude.{IsPermutation}
 use Rattle.std.specs.List.Sorted.{SwapsInRange, apply_swaps}
 use Rattle.std.proofs.lemmas.Bool.{and_parts, ltb-true}
 use Rattle.std.proofs.lemmas.List.Sorted.{sum_by-IsPermutation}
-use Rattle.geometry.specs.Point.{Point, same}
-use Rattle.geometry.specs.Facet.{Edge, edge, edges}
+use Rattle.geometry.specs.Point.{Point}
+use Rattle.geometry.specs.Facet.{edges}
 use Rattle.mesh_weld.specs.Balance.{IsBalanced}
-use Rattle.mesh_weld.proofs.lemmas.Edges.{count_by-cons, runs}
-use Rattle.mesh_weld.proofs.lemmas.Degenerate.{and_swap}
+use Rattle.mesh_weld.proofs.lemmas.Edges.{back, runs}
+use Rattle.mesh_weld.proofs.lemmas.Sums.{count-back}
 use Rattle.slicer_laws.specs.Boxes.{box}
 
 -- ---- an order reached by written-out exchanges
@@ -28,16 +28,6 @@ pub exchanged : {X : Type 0} (xs ys : List X) (moves : List (ℕ × ℕ)) → ar
 exchanged xs ys moves h e = record { moves = moves; below = in_range (length xs) moves h; is = e }
 
 -- ---- edges taken back
-abbrev back : Edge → Edge
-back e = edge e.to e.from
-
-count-back : (u v : Point) (es : List Edge) → count_by (runs u v) (map back es) ≡ count_by (runs v u) es
-count-back u v [] = refl
-count-back u v (e ∷ es) =
-    count_by-cons (runs u v) (back e) (map back es)
-    ∙ (λ i. cond (and_swap (same e.to u) (same e.from v) i) 1 0 + count-back u v es i)
-    ∙ sym (count_by-cons (runs v u) e es)
-
 -- each edge changes places with the one that is its way back
 returns-back : (low high : Point) → IsPermutation (map back (edges (box low high))) (edges (box low high))
 returns-back low high =
