@@ -61,7 +61,7 @@ pub(crate) fn group_facets<A: Allocator + Copy>(
     requires numbering { IfSome numbering (λ own. ArePairNumbers (half_edges_from 0 ids.now) own.numbers.items own.count) }
     requires small { IfSome numbering (λ own. AreInHalfWords (half_edges_from 0 ids.now)) }
     ensures edges { IfOk result (λ found. IfSome found (λ own. AreEdgesOf ids.now own.edges.numbers.items own.edges.count)) }
-    ensures orders { IfOk result (λ found. IfSome found (λ own. AreOrdersOf points.now ids.now own.orders.points.points.items own.orders.points.ranks.items own.orders.heights.order.items own.orders.heights.ranges.items own.orders.heights.greatest_rise)) }
+    ensures orders { IfOk result (λ found. IfSome found (λ own. AreOrdersOf points.now ids.now own.orders)) }
 {
     let Some(numbering) = numbering else {
         return Ok(None);
@@ -88,7 +88,7 @@ pub(crate) fn group_facets_by<R: Threads + Sync, A: Allocator + Copy + Send + Sy
     requires numbering { IfSome numbering (λ own. ArePairNumbers (half_edges_from 0 ids.now) own.numbers.items own.count) }
     requires small { IfSome numbering (λ own. AreInHalfWords (half_edges_from 0 ids.now)) }
     ensures edges { IfOk result (λ found. IfSome found (λ own. AreEdgesOf ids.now own.edges.numbers.items own.edges.count)) }
-    ensures orders { IfOk result (λ found. IfSome found (λ own. AreOrdersOf points.now ids.now own.orders.points.points.items own.orders.points.ranks.items own.orders.heights.order.items own.orders.heights.ranges.items own.orders.heights.greatest_rise)) }
+    ensures orders { IfOk result (λ found. IfSome found (λ own. AreOrdersOf points.now ids.now own.orders)) }
 {
     let Some(numbering) = numbering else {
         return Ok(None);
@@ -127,7 +127,7 @@ fn orders_of<A: Allocator + Copy>(
 ) -> Result<Option<Orders<A>>, AllocError>
     requires below { AreBelow points.now ids.now }
     requires few { length ids.now ≤ FACET_LIMIT }
-    ensures { IfOk result (λ found. IfSome found (λ own. AreOrdersOf points.now ids.now own.points.points.items own.points.ranks.items own.heights.order.items own.heights.ranges.items own.heights.greatest_rise)) }
+    ensures { IfOk result (λ found. IfSome found (λ own. AreOrdersOf points.now ids.now own)) }
 {
     let heights = order_by_height(alloc, points, ids)?;
     let Some(points) = rank_points(alloc, points)? else {

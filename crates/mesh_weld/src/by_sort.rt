@@ -29,7 +29,7 @@ pub(crate) fn sorted_numbering<A: Allocator + Copy>(
 ) -> Result<Numbering<A>, WeldFault>
     requires kept { length kept.now ≤ FACET_LIMIT }
     requires degenerate { length degenerate.now ≤ FACET_LIMIT }
-    ensures numbering { IfOk result (λ n. IsNumberingOf kept.now n.points.items n.numbers.items n.edges.numbers.items n.edges.count n.heights.order.items n.heights.ranges.items n.heights.greatest_rise) }
+    ensures numbering { IfOk result (IsNumberingOf kept.now) }
     ensures open { IfErr result (IsKeptFault kept.now degenerate.now) }
 {
     let CornerNumbers {

@@ -42,8 +42,8 @@ pub(crate) fn named_numbering<A: Allocator + Copy>(
     requires kept { length ids.items ≤ FACET_LIMIT }
     requires degenerate { length degenerate.now ≤ FACET_LIMIT }
     requires edges { IfSome found (λ own. AreEdgesOf ids.items own.edges.numbers.items own.edges.count) }
-    requires orders { IfSome found (λ own. AreOrdersOf points.items ids.items own.orders.points.points.items own.orders.points.ranks.items own.orders.heights.order.items own.orders.heights.ranges.items own.orders.heights.greatest_rise) }
-    ensures numbering { IfOk result (λ n. IsNumberingOf (facets_by points.items ids.items) n.points.items n.numbers.items n.edges.numbers.items n.edges.count n.heights.order.items n.heights.ranges.items n.heights.greatest_rise) }
+    requires orders { IfSome found (λ own. AreOrdersOf points.items ids.items own.orders) }
+    ensures numbering { IfOk result (IsNumberingOf (facets_by points.items ids.items)) }
     ensures open { IfErr result (IsKeptFault (facets_by points.items ids.items) degenerate.now) }
 {
     match found {
@@ -60,8 +60,8 @@ fn numbered<A: Allocator>(
 ) -> Numbering<A>
     requires named { AreNamed points.items ids.items }
     requires edges { AreEdgesOf ids.items found.edges.numbers.items found.edges.count }
-    requires orders { AreOrdersOf points.items ids.items found.orders.points.points.items found.orders.points.ranks.items found.orders.heights.order.items found.orders.heights.ranges.items found.orders.heights.greatest_rise }
-    ensures { IsNumberingOf (facets_by points.items ids.items) result.points.items result.numbers.items result.edges.numbers.items result.edges.count result.heights.order.items result.heights.ranges.items result.heights.greatest_rise }
+    requires orders { AreOrdersOf points.items ids.items found.orders }
+    ensures { IsNumberingOf (facets_by points.items ids.items) result }
 {
     drop(points);
     let Grouping {
@@ -108,7 +108,7 @@ fn numbering_by_sorts<A: Allocator + Copy>(
     requires below { AreBelow points.items ids.items }
     requires kept { length ids.items ≤ FACET_LIMIT }
     requires degenerate { length degenerate.now ≤ FACET_LIMIT }
-    ensures numbering { IfOk result (λ n. IsNumberingOf (facets_by points.items ids.items) n.points.items n.numbers.items n.edges.numbers.items n.edges.count n.heights.order.items n.heights.ranges.items n.heights.greatest_rise) }
+    ensures numbering { IfOk result (IsNumberingOf (facets_by points.items ids.items)) }
     ensures open { IfErr result (IsKeptFault (facets_by points.items ids.items) degenerate.now) }
 {
     let kept = list_facets(alloc, points.as_slice(), ids.as_slice())?;

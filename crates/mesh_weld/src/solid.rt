@@ -11,23 +11,16 @@ ghost use Rattle.geometry.specs.declared.limits.TheConstants.{FACET_LIMIT};
 
 use crate::facets::facet_by;
 use crate::height_order::HeightRange;
+use crate::numbering::Numbering;
 use geometry::{Facet, Point, higher, lower};
 use std::alloc::Allocator;
 use std::marker::Model;
 
-/// The kept facets of a closed mesh, which are those with three distinct corners, and their numbering. Each facet is kept
-/// by the numbers of its corners among the points alone.
+/// The kept facets of a closed mesh, which are those with three distinct corners, by their numbering alone. Each facet is
+/// kept by the numbers of its corners among the points.
 #[derive(Drop)]
 pub struct Solid<A: Allocator> {
-    pub(crate) points: Vec<Point, A>,
-    pub(crate) numbers: Vec<[u32; 3], A>,
-    /// Three numbers for each facet, one facet after the other.
-    pub(crate) edges: Vec<u32, A>,
-    pub(crate) edge_count: u32,
-    pub(crate) order: Vec<u32, A>,
-    /// Of each facet by its number.
-    pub(crate) ranges: Vec<HeightRange, A>,
-    pub(crate) greatest_rise: u32,
+    pub(crate) numbering: Numbering<A>,
     pub(crate) dropped: u32,
 }
 
@@ -39,10 +32,10 @@ impl<A: Allocator> Model for Solid<A> {
 
     ghost Value = { Solid };
 
-    ghost view = { λ s. record { facets = facets_by s.points.items s.numbers.items; dropped = s.dropped } };
+    ghost view = { λ s. record { facets = facets_by s.numbering.points.items s.numbering.numbers.items; dropped = s.dropped } };
 
-    ghost invariant = { λ s. IsNumberingOf (facets_by s.points.items s.numbers.items) s.points.items s.numbers.items s.edges.items s.edge_count s.order.items s.ranges.items s.greatest_rise
-        × (length s.numbers.items ≤ FACET_LIMIT) × HaveDistinctCorners (facets_by s.points.items s.numbers.items) };
+    ghost invariant = { λ s. IsNumberingOf (facets_by s.numbering.points.items s.numbering.numbers.items) s.numbering
+        × (length s.numbering.numbers.items ≤ FACET_LIMIT) × HaveDistinctCorners (facets_by s.numbering.points.items s.numbering.numbers.items) };
 }
 
 impl<A: Allocator> Solid<A> {
@@ -59,14 +52,14 @@ impl<A: Allocator> Solid<A> {
         ensures ascending { AllPairs (λ p q. is_before p q ≡ true) result.now }
         ensures members { (p : Point) → Contains result.now p ↔ Contains (flat_map corners self.now.facets) p }
     {
-        self.points.as_slice()
+        self.numbering.points.as_slice()
     }
 
     /// The kept facets in file order, each by the numbers of its corners among the vertices.
     pub fn triples(&self) -> &[[u32; 3]]
         ensures { result.now ≡ triples self.now.facets }
     {
-        self.numbers.as_slice()
+        self.numbering.numbers.as_slice()
     }
 
     /// For each kept facet the numbers of its edges 0, 1 and 2. Two edges have one number exactly where their ends are
@@ -74,21 +67,21 @@ impl<A: Allocator> Solid<A> {
     pub fn edge_numbers(&self) -> &[[u32; 3]]
         ensures { (count : ℕ) × AreEdgeNumbers self.now.facets result.now count }
     {
-        self.edges.as_slice().as_chunks::<3>().0
+        self.numbering.edges.numbers.as_slice().as_chunks::<3>().0
     }
 
     /// The number of edges: each edge's number is below this.
     pub fn edge_count(&self) -> u32
         ensures { (numbers : List (List ℕ)) (count : ℕ) → AreEdgeNumbers self.now.facets numbers count → result ≡ count }
     {
-        self.edge_count
+        self.numbering.edges.count
     }
 
     /// The least and the greatest x, y and z of the kept facets' corners, in micrometres; `None` where none is kept.
     pub fn corners(&self) -> Option<(Point, Point)>
         ensures { result ≡ extent self.now.facets }
     {
-        let points = self.points.as_slice();
+        let points = self.numbering.points.as_slice();
         let start = *points.first()?;
         let mut low = start;
         let mut high = start;
@@ -110,15 +103,15 @@ impl<A: Allocator> Solid<A> {
     fn has_facets_of(&self, other: &Solid<A>) -> bool
         ensures { IsTrue result ↔ (self.now.facets ≡ other.now.facets) }
     {
-        self.points.as_slice() == other.points.as_slice()
-            && self.numbers.as_slice() == other.numbers.as_slice()
+        self.numbering.points.as_slice() == other.numbering.points.as_slice()
+            && self.numbering.numbers.as_slice() == other.numbering.numbers.as_slice()
     }
 
     /// The numbers of the kept facets by ascending least height, and by number where least heights are equal.
     pub fn by_height(&self) -> &[u32]
         ensures { IsByHeight self.now.facets result.now }
     {
-        self.order.as_slice()
+        self.numbering.heights.order.as_slice()
     }
 
     /// The greatest rise of a kept facet, in micrometres: how far it reaches from its lowest corner up to its highest.
@@ -126,7 +119,7 @@ impl<A: Allocator> Solid<A> {
     pub fn greatest_rise(&self) -> u32
         ensures { IsGreatestRise self.now.facets result }
     {
-        self.greatest_rise
+        self.numbering.heights.greatest_rise
     }
 
     /// The number of kept facets. Each solid is closed, and none of its facets is degenerate.
@@ -136,7 +129,7 @@ impl<A: Allocator> Solid<A> {
         ensures closed { IsBalanced self.now.facets }
         ensures distinct { HaveDistinctCorners self.now.facets }
     {
-        self.numbers.len()
+        self.numbering.numbers.len()
     }
 
     /// The kept facet with this number, below `count`. Its three corners are distinct.
@@ -145,7 +138,7 @@ impl<A: Allocator> Solid<A> {
         ensures value { slice_get self.now.facets number ≡ Some result }
         ensures distinct { (result.a ≢ result.b) × (result.b ≢ result.c) × (result.c ≢ result.a) }
     {
-        facet_by(self.points.as_slice(), &self.numbers[number as usize])
+        facet_by(self.numbering.points.as_slice(), &self.numbering.numbers[number as usize])
     }
 
     /// The height range of the kept facet with this number, below `count`: the same as `lowest` and `highest` of the facet,
@@ -155,6 +148,6 @@ impl<A: Allocator> Solid<A> {
         ensures low { result.low ≡ least_z (facet_at self.now.facets number) }
         ensures high { result.high ≡ greatest_z (facet_at self.now.facets number) }
     {
-        self.ranges[number as usize]
+        self.numbering.heights.ranges[number as usize]
     }
 }

@@ -15,8 +15,7 @@ use crate::by_hash::{
 };
 use crate::facets::has_distinct_corners;
 use crate::half_edge::EdgeNumbering;
-use crate::height_order::HeightOrder;
-use crate::numbering::{Numbering, named_numbering};
+use crate::numbering::named_numbering;
 use crate::solid::Solid;
 use crate::weld_fault::WeldFault;
 use geometry::{Facet, Point};
@@ -203,7 +202,7 @@ impl<A: Allocator + Copy> NamedFacets<A> {
         requires named { AreNamed self.points.items self.ids.items }
         requires few { length self.ids.items + length self.degenerate.items ≤ FACET_LIMIT }
         requires edges { IfSome found (λ own. AreEdgesOf self.ids.items own.edges.numbers.items own.edges.count) }
-        requires orders { IfSome found (λ own. AreOrdersOf self.points.items self.ids.items own.orders.points.points.items own.orders.points.ranks.items own.orders.heights.order.items own.orders.heights.ranges.items own.orders.heights.greatest_rise) }
+        requires orders { IfSome found (λ own. AreOrdersOf self.points.items self.ids.items own.orders) }
         ensures { IsWeldOf (welder_by self.points.items self.ids.items self.degenerate.items) result }
     {
         let NamedFacets {
@@ -212,30 +211,9 @@ impl<A: Allocator + Copy> NamedFacets<A> {
             ids,
             degenerate,
         } = self;
-        let Numbering {
-            points,
-            numbers,
-            edges: EdgeNumbering {
-                numbers: edges,
-                count: edge_count,
-            },
-            heights: HeightOrder {
-                order,
-                ranges,
-                greatest_rise,
-            },
-        } = named_numbering(alloc, points, ids, degenerate.as_slice(), found)?;
+        let numbering = named_numbering(alloc, points, ids, degenerate.as_slice(), found)?;
         let dropped = degenerate.len() as u32;
-        Ok(Solid {
-            points,
-            numbers,
-            edges,
-            edge_count,
-            order,
-            ranges,
-            greatest_rise,
-            dropped,
-        })
+        Ok(Solid { numbering, dropped })
     }
 }
 

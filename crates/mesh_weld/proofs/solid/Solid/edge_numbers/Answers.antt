@@ -9,4 +9,4 @@ in_threes xs ys e = threes_by_count (length xs / 3) xs (omega arith) (omega arit
 
 pub returns : goal.returns
 returns g c =
-    (c.self.inside.edge_count, rw (c.as_chunks.ensures.front ∙ in_threes _ _ c.as_slice.ensures.value, ← c.self.view_is) c.self.invariant.0.edges_are)
+    (c.self.inside.numbering.edges.count, rw (c.as_chunks.ensures.front ∙ in_threes _ _ c.as_slice.ensures.value, ← c.self.view_is) c.self.invariant.0.edges_are)

@@ -6,14 +6,14 @@ use Rattle.mesh_weld.proofs.solid.Solid.has_facets_of.Given.{Over}
 use Rattle.mesh_weld.proofs.solid.Solid.has_facets_of.Goals.{After-eq}
 use Rattle.mesh_weld.proofs.solid.Solid.has_facets_of.Goals as goal
 
-points_decided : (g : Over) (c : After-eq g) → Decides c.eq.result (c.self.inside.points.items ≡ c.other.inside.points.items)
+points_decided : (g : Over) (c : After-eq g) → Decides c.eq.result (c.self.inside.numbering.points.items ≡ c.other.inside.numbering.points.items)
 points_decided g c =
     let d : Decides c.eq.result (c.as_slice.result.now ≡ c.as_slice-2.result.now) = slice_eq-Decides points_decide _ _ c.eq.result c.eq.ensures in
     (λ t. sym c.as_slice.ensures.value ∙ d.0 t ∙ c.as_slice-2.ensures.value, λ e. d.1 (c.as_slice.ensures.value ∙ e ∙ sym c.as_slice-2.ensures.value))
 
 -- what is stored, where the facets are equal
 stored : (g : Over) (c : After-eq g) → c.args.self.now.facets ≡ c.args.other.now.facets
-    → facets_by c.self.inside.points.items c.self.inside.numbers.items ≡ facets_by c.other.inside.points.items c.other.inside.numbers.items
+    → facets_by c.self.inside.numbering.points.items c.self.inside.numbering.numbers.items ≡ facets_by c.other.inside.numbering.points.items c.other.inside.numbering.numbers.items
 stored g c e = ap (λ (s : Solid). s.facets) c.self.view_is ∙ e ∙ sym (ap (λ (s : Solid). s.facets) c.other.view_is)
 
 pub returns-then-eq : goal.returns-then-eq

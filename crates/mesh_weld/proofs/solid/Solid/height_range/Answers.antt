@@ -8,18 +8,18 @@ use Rattle.mesh_weld.proofs.solid.Solid.height_range.Given.{Over}
 use Rattle.mesh_weld.proofs.solid.Solid.height_range.Goals.{After-self, After-index}
 use Rattle.mesh_weld.proofs.solid.Solid.height_range.Goals as goal
 
-inside : (g : Over) (c : After-self g) → c.args.number < length (facets_by c.self.inside.points.items c.self.inside.numbers.items)
+inside : (g : Over) (c : After-self g) → c.args.number < length (facets_by c.self.inside.numbering.points.items c.self.inside.numbering.numbers.items)
 inside g c = subst (λ (s : Solid). c.args.number < length s.facets) (sym c.self.view_is) c.requires
 
 pub index-requires : goal.index-requires
 index-requires g c =
     let low = inside g (goal.at.index-requires g c).After-self in
-    omega (arith, low, ap length c.self.invariant.0.ranges_are, length-map (facets_by c.self.inside.points.items c.self.inside.numbers.items) height_range, c.self.inside.ranges.ok.0)
+    omega (arith, low, ap length c.self.invariant.0.ranges_are, length-map (facets_by c.self.inside.numbering.points.items c.self.inside.numbering.numbers.items) height_range, c.self.inside.numbering.heights.ranges.ok.0)
 
-range_is : (g : Over) (c : After-index g) → c.args.number < length (facets_by c.self.inside.points.items c.self.inside.numbers.items)
+range_is : (g : Over) (c : After-index g) → c.args.number < length (facets_by c.self.inside.numbering.points.items c.self.inside.numbering.numbers.items)
     → c.index.result.now ≡ height_range (facet_at c.args.self.now.facets c.args.number)
 range_is g c low =
-    let facets = facets_by c.self.inside.points.items c.self.inside.numbers.items in
+    let facets = facets_by c.self.inside.numbering.points.items c.self.inside.numbering.numbers.items in
     subst (λ (s : Solid). c.index.result.now ≡ height_range (facet_at s.facets c.args.number)) c.self.view_is
     (c.index.ensures ∙ ap (λ l. get_or l c.args.number c.index.result.now) c.self.invariant.0.ranges_are
     ∙ get_or-map height_range facets c.args.number (facet_with origin origin origin) c.index.result.now low)

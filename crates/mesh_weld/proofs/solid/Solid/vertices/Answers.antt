@@ -8,10 +8,10 @@ use Rattle.mesh_weld.proofs.solid.Solid.vertices.Goals as goal
 
 pub returns-clause-ascending : goal.returns-clause-ascending
 returns-clause-ascending g c =
-    let points_are : c.as_slice.result.now ≡ vertices (facets_by c.self.inside.points.items c.self.inside.numbers.items) = c.as_slice.ensures.value ∙ c.self.invariant.0.points_are in
-    rw points_are (vertices-ascend (facets_by c.self.inside.points.items c.self.inside.numbers.items))
+    let points_are : c.as_slice.result.now ≡ vertices (facets_by c.self.inside.numbering.points.items c.self.inside.numbering.numbers.items) = c.as_slice.ensures.value ∙ c.self.invariant.0.points_are in
+    rw points_are (vertices-ascend (facets_by c.self.inside.numbering.points.items c.self.inside.numbering.numbers.items))
 
 pub returns-clause-members : goal.returns-clause-members
 returns-clause-members g c p =
-    let points_are : c.as_slice.result.now ≡ vertices (facets_by c.self.inside.points.items c.self.inside.numbers.items) = c.as_slice.ensures.value ∙ c.self.invariant.0.points_are in
-    rw (points_are, ← c.self.view_is) (in_order-contains (flat_map corners (facets_by c.self.inside.points.items c.self.inside.numbers.items)) p)
+    let points_are : c.as_slice.result.now ≡ vertices (facets_by c.self.inside.numbering.points.items c.self.inside.numbering.numbers.items) = c.as_slice.ensures.value ∙ c.self.invariant.0.points_are in
+    rw (points_are, ← c.self.view_is) (in_order-contains (flat_map corners (facets_by c.self.inside.numbering.points.items c.self.inside.numbering.numbers.items)) p)
