@@ -3,7 +3,7 @@ use Rattle.std.proofs.Common.{◌≡◌, ◌<◌, ◌↔◌, [], ◌∷◌, ℤ,
 use Rattle.std.proofs.lemmas.Int.{ints, quot-rem, rem_below}
 use lib.IntN.{*ℤ_comm}
 use Rattle.exact_int.proofs.lemmas.Identity.{reads, identity}
-use Rattle.exact_int.proofs.lemmas.Signs.{weak, mul_le_left, lt_of_mul_left}
+use Rattle.exact_int.proofs.lemmas.Signs.{weak, next_at_most, mul_le_left, lt_of_mul_left}
 
 above : (n s r d x y z : ℤ) → s +ℤ r ≡ n → r <ℤ d → x ≤ℤ y → y ≡ z → x ≡ s +ℤ d → n ≤ℤ z
 above n s r d x y z e b l f g = omega (arith, ints)
@@ -11,14 +11,11 @@ above n s r d x y z e b l f g = omega (arith, ints)
 less : (n s r x y z : ℤ) → s +ℤ r ≡ n → pos 0 <ℤ r → n ≤ℤ z → x ≡ s → y ≡ z → x <ℤ y
 less n s r x y z e b l f g = omega (arith, ints)
 
-next : (x y : ℤ) → x <ℤ y → (x +ℤ pos 1) ≤ℤ y
-next x y h = omega (arith, ints)
-
 -- by a quotient q and a remainder r, with n = q*d + r
 up : (n d q r : ℤ) → pos 0 <ℤ d → q *ℤ d +ℤ r ≡ n → pos 0 <ℤ r → r <ℤ d → (k : ℤ) → ((q +ℤ pos 1) ≤ℤ k) ↔ (n ≤ℤ (k *ℤ d))
 up n d q r h e p b k = (
   λ l. above n (q *ℤ d) r d (d *ℤ (q +ℤ pos 1)) (d *ℤ k) (k *ℤ d) e b (mul_le_left d (q +ℤ pos 1) k (weak d h) l) (*ℤ_comm d k) (identity (d ∷ q ∷ []) (search reads depth 40) refl),
-  λ l. next q k (lt_of_mul_left d q k (weak d h) (less n (q *ℤ d) r (d *ℤ q) (d *ℤ k) (k *ℤ d) e p l (*ℤ_comm d q) (*ℤ_comm d k))),
+  λ l. next_at_most q k (lt_of_mul_left d q k (weak d h) (less n (q *ℤ d) r (d *ℤ q) (d *ℤ k) (k *ℤ d) e p l (*ℤ_comm d q) (*ℤ_comm d k))),
 )
 
 above' : (n s r x y z : ℤ) → s +ℤ r ≡ n → r ≤ℤ pos 0 → x ≤ℤ y → y ≡ z → x ≡ s → n ≤ℤ z

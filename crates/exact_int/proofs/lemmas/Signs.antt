@@ -1,5 +1,5 @@
 -- Signs of products over ℤ. `≤ℤ` and `<ℤ` bind tighter than `*ℤ`, so a product beside them stands in parentheses.
-use Rattle.std.proofs.Common.{◌≡◌, zero, suc, ◌<◌, ◌⊎◌, [], ◌∷◌, ℤ, pos, negsuc, ◌-ℤ◌, ◌*ℤ◌, neg_ℤ, ◌≤ℤ◌, ◌<ℤ◌, refl, sym, ◌∙◌, ap, subst, arith, inl, inr}
+use Rattle.std.proofs.Common.{◌≡◌, zero, suc, ◌<◌, ◌⊎◌, [], ◌∷◌, ℤ, pos, negsuc, ◌+ℤ◌, ◌-ℤ◌, ◌*ℤ◌, neg_ℤ, ◌≤ℤ◌, ◌<ℤ◌, refl, sym, ◌∙◌, ap, subst, arith, inl, inr}
 use Rattle.std.proofs.Math.Nat.{mul-pos}
 use Rattle.std.proofs.lemmas.Int.{ints}
 use Rattle.exact_int.proofs.lemmas.Identity.{reads, identity}
@@ -13,8 +13,40 @@ sign_cases (negsuc n) = inl (omega (arith, ints))
 pub weak : (a : ℤ) → pos 0 <ℤ a → pos 0 ≤ℤ a
 weak a h = omega (arith, ints)
 
+pub weak_below : (a : ℤ) → a <ℤ pos 0 → a ≤ℤ pos 0
+weak_below a h = omega (arith, ints)
+
+pub neg_not_negative : (a : ℤ) → a ≤ℤ pos 0 → pos 0 ≤ℤ neg_ℤ a
+neg_not_negative a h = omega (arith, ints)
+
 pub at_most_or_above : (a b : ℤ) → (a ≤ℤ b) ⊎ (b <ℤ a)
 at_most_or_above a b = grind (arith, ints)
+
+pub not_both : (a b : ℤ) → a <ℤ b → b ≤ℤ a → ⊥
+not_both a b h k = omega (arith, ints)
+
+pub at_most_from_not_above : (a b : ℤ) → (a <ℤ b → ⊥) → b ≤ℤ a
+at_most_from_not_above a b h = by (at_most_or_above b a)
+  where
+    by : (b ≤ℤ a) ⊎ (a <ℤ b) → b ≤ℤ a
+    by (inl k) = k
+    by (inr k) = absurd (h k)
+
+pub antisym : (a b : ℤ) → a ≤ℤ b → b ≤ℤ a → a ≡ b
+antisym a b h k = omega (arith, ints)
+
+pub next_at_most : (a b : ℤ) → a <ℤ b → (a +ℤ pos 1) ≤ℤ b
+next_at_most a b h = omega (arith, ints)
+
+-- ---- sums
+pub add_not_negative : (a b : ℤ) → pos 0 ≤ℤ a → pos 0 ≤ℤ b → pos 0 ≤ℤ (a +ℤ b)
+add_not_negative a b h k = omega (arith, ints)
+
+pub add_positive_left : (a b : ℤ) → pos 0 <ℤ a → pos 0 ≤ℤ b → pos 0 <ℤ (a +ℤ b)
+add_positive_left a b h k = omega (arith, ints)
+
+pub add_positive_right : (a b : ℤ) → pos 0 ≤ℤ a → pos 0 <ℤ b → pos 0 <ℤ (a +ℤ b)
+add_positive_right a b h k = omega (arith, ints)
 
 -- ---- products
 pub mul_positive : (a b : ℤ) → pos 0 <ℤ a → pos 0 <ℤ b → pos 0 <ℤ (a *ℤ b)
@@ -28,7 +60,7 @@ mul_not_negative (pos m) (negsuc n) h k = absurd (omega (arith, ints))
 mul_not_negative (negsuc m) b h k = absurd (omega (arith, ints))
 
 -- the lemmas below apply these two to differences and negations, and rewrite by an identity
-neg_right : (a b : ℤ) → a *ℤ neg_ℤ b ≡ neg_ℤ (a *ℤ b)
+pub neg_right : (a b : ℤ) → a *ℤ neg_ℤ b ≡ neg_ℤ (a *ℤ b)
 neg_right a b = identity (a ∷ b ∷ []) (search reads depth 40) refl
 
 below_zero : (a : ℤ) → pos 0 <ℤ neg_ℤ a → a <ℤ pos 0
@@ -42,7 +74,7 @@ two_negs a b = identity (a ∷ b ∷ []) (search reads depth 40) refl
 
 pub mul_not_positive_right : (a b : ℤ) → pos 0 ≤ℤ a → b ≤ℤ pos 0 → (a *ℤ b) ≤ℤ pos 0
 mul_not_positive_right a b h k =
-    let p : pos 0 ≤ℤ neg_ℤ (a *ℤ b) = subst (λ z. pos 0 ≤ℤ z) (neg_right a b) (mul_not_negative a (neg_ℤ b) h (omega (arith, ints))) in
+    let p : pos 0 ≤ℤ neg_ℤ (a *ℤ b) = subst (λ z. pos 0 ≤ℤ z) (neg_right a b) (mul_not_negative a (neg_ℤ b) h (neg_not_negative b k)) in
     turn (a *ℤ b) p
   where
     turn : (z : ℤ) → pos 0 ≤ℤ neg_ℤ z → z ≤ℤ pos 0
@@ -65,7 +97,7 @@ pub right_of_positive : (a b : ℤ) → pos 0 ≤ℤ a → pos 0 <ℤ (a *ℤ b)
 right_of_positive a b h k = by (sign_cases b)
   where
     by : (b <ℤ pos 0) ⊎ (b ≡ pos 0) ⊎ (pos 0 <ℤ b) → pos 0 <ℤ b
-    by (inl n) = absurd (clash (a *ℤ b) k (mul_not_positive_right a b h (omega (arith, ints))))
+    by (inl n) = absurd (clash (a *ℤ b) k (mul_not_positive_right a b h (weak_below b n)))
     by (inr (inl e)) = absurd (clash_zero (a *ℤ b) k (zero_right a b e))
     by (inr (inr p)) = p
 
@@ -88,6 +120,9 @@ lt_from_difference a b h = omega (arith, ints)
 pub difference_from_lt : (a b : ℤ) → a <ℤ b → pos 0 <ℤ (b -ℤ a)
 difference_from_lt a b h = omega (arith, ints)
 
+pub difference_from_le : (a b : ℤ) → a ≤ℤ b → pos 0 ≤ℤ (b -ℤ a)
+difference_from_le a b h = omega (arith, ints)
+
 spread : (k a b : ℤ) → k *ℤ (b -ℤ a) ≡ k *ℤ b -ℤ k *ℤ a
 spread k a b = identity (k ∷ a ∷ b ∷ []) (search reads depth 40) refl
 
@@ -95,7 +130,7 @@ pub lt_of_mul_left : (k a b : ℤ) → pos 0 ≤ℤ k → (k *ℤ a) <ℤ (k *�
 lt_of_mul_left k a b h l = lt_from_difference a b (right_of_positive k (b -ℤ a) h (subst (λ z. pos 0 <ℤ z) (sym (spread k a b)) (difference_from_lt (k *ℤ a) (k *ℤ b) l)))
 
 pub mul_le_left : (k a b : ℤ) → pos 0 ≤ℤ k → a ≤ℤ b → (k *ℤ a) ≤ℤ (k *ℤ b)
-mul_le_left k a b h l = by (k *ℤ a) (k *ℤ b) (subst (λ z. pos 0 ≤ℤ z) (spread k a b) (mul_not_negative k (b -ℤ a) h (omega (arith, ints))))
+mul_le_left k a b h l = by (k *ℤ a) (k *ℤ b) (subst (λ z. pos 0 ≤ℤ z) (spread k a b) (mul_not_negative k (b -ℤ a) h (difference_from_le a b l)))
   where
     by : (x y : ℤ) → pos 0 ≤ℤ (y -ℤ x) → x ≤ℤ y
     by x y h = omega (arith, ints)
