@@ -2,11 +2,12 @@
 use Rattle.std.proofs.Common.{◌≡◌, zero, suc, get_or, List, [], ◌∷◌, ◌⊎◌, inl, inr, refl, sym, ◌∙◌, ap, subst, arith, map, fold}
 use Rattle.std.specs.Prelude.{All, Contains, None, Option, Some, ◌++◌, flat_map, option_map, slice_get, ℤ, ◌≤ℤ◌}
 use Rattle.std.specs.Int.{int_min, int_max}
-use Rattle.std.proofs.lemmas.Int.{ints, fold-int_min_bounds, fold-int_min_reached, fold-int_max_bounds, fold-int_max_reached}
+use Rattle.std.proofs.lemmas.Int.{fold-int_min_bounds, fold-int_min_reached, fold-int_max_bounds, fold-int_max_reached}
 use Rattle.std.proofs.lemmas.Grind.{flat_map-append}
 use Rattle.std.proofs.lemmas.List.Sums.{fold-append}
 use Rattle.std.proofs.lemmas.List.{get_or-map, length-map}
 use Rattle.std.proofs.lemmas.List.Elements.{All-cons, All-contains, Contains-append_right}
+use Rattle.exact_int.proofs.lemmas.Signs.{antisym}
 use Rattle.geometry.specs.Point.{Point}
 use Rattle.geometry.specs.Facet.{Facet, corners}
 use Rattle.geometry.specs.BoundingBox.{IsInBox, IsTight, bounds_of, corner_pair, extent, greatest_of, least_of}
@@ -162,9 +163,6 @@ module _ (p q : Point) (ps qs : List Point) (within : All (Contains (q ∷ qs)) 
       let r = pick (fold greatest_of p ps) in
       All-contains (λ x. x ≤ℤ r) (map pick (q ∷ qs)) _ (mapped pick (λ x. x ≤ℤ r) (q ∷ qs) (over (λ s. pick s ≤ℤ r) (greatest-above pick each p ps)))
       (greatest-reached pick each q qs)
-
-antisym : (x y : ℤ) → x ≤ℤ y → y ≤ℤ x → x ≡ y
-antisym x y h k = omega (arith, ints, h, k)
 
 point_is : (p q : Point) → p.x ≡ q.x → p.y ≡ q.y → p.z ≡ q.z → p ≡ q
 point_is p q x_is y_is z_is = λ i. record { x = x_is i; y = y_is i; z = z_is i }
