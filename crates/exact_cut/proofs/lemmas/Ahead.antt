@@ -3,7 +3,8 @@ use Rattle.std.proofs.Common.{◌≡◌, ℕ, zero, suc, ◌⊎◌, ◌↔◌, [
 use Rattle.std.proofs.lemmas.Int.{ints}
 use Rattle.exact_int.proofs.lemmas.Identity.{reads, identity}
 use Rattle.exact_int.proofs.lemmas.Signs.{at_most_or_above, mul_positive, mul_not_negative, mul_not_positive_right, mul_negative_right, right_of_positive, left_positive, lt_from_difference, difference_from_lt}
-use Rattle.exact_int.proofs.lemmas.Laws.{mul_assoc}
+use Rattle.exact_int.proofs.lemmas.Laws.{mul_assoc, one_mul, three_zeros}
+use Rattle.geometry.specs.TieRule.{IsBelow, IsAbove}
 use Rattle.geometry.specs.Point.{Point}
 use Rattle.geometry.specs.Facet.{Facet}
 use Rattle.geometry.specs.Winding.{left, turn, wind, volume, normal_x, normal_y, normal_z}
@@ -12,6 +13,7 @@ use Rattle.exact_cut.specs.Cut.{IsBetween, start, finish, Rises}
 use Rattle.exact_cut.specs.Crossing.{Winding, Crosses}
 use Rattle.exact_cut.specs.CutPoint.{CutIs, cut_y, cut_d}
 use Rattle.exact_cut.proofs.lemmas.Turns.{turn_of-up, turn_of-down, turn_of-below, turn_of-above}
+use Rattle.exact_cut.proofs.lemmas.Passing.{rises}
 use Rattle.exact_cut.proofs.lemmas.Winds.{Passes, passes, den_of, num_of}
 
 -- ---- the denominator, by the two edges' cross products
@@ -77,17 +79,14 @@ wind-normal t r s p q y z h = by (wind-den t r s p q y z h)
 
 -- ---- which edges pass a height
 pub data Sides (t : Facet) (z : ℤ) : Type 0 where
-  all_below : t.a.z ≤ℤ z → t.b.z ≤ℤ z → t.c.z ≤ℤ z → Sides t z
-  all_above : z <ℤ t.a.z → z <ℤ t.b.z → z <ℤ t.c.z → Sides t z
+  all_below : IsBelow t.a.z z → IsBelow t.b.z z → IsBelow t.c.z z → Sides t z
+  all_above : IsAbove t.a.z z → IsAbove t.b.z z → IsAbove t.c.z z → Sides t z
   between : (d u : ℕ) → Rises (finish t d) (start t d) z → Rises (start t u) (finish t u) z → Sides t z
-
-rises : (u v : Point) (z : ℤ) → u.z ≤ℤ z → z <ℤ v.z → Rises u v z
-rises u v z h k = record { low = h; high = k }
 
 pub sides : (t : Facet) (z : ℤ) → Sides t z
 sides t z = by (at_most_or_above t.a.z z) (at_most_or_above t.b.z z) (at_most_or_above t.c.z z)
   where
-    by : (t.a.z ≤ℤ z) ⊎ (z <ℤ t.a.z) → (t.b.z ≤ℤ z) ⊎ (z <ℤ t.b.z) → (t.c.z ≤ℤ z) ⊎ (z <ℤ t.c.z) → Sides t z
+    by : IsBelow t.a.z z ⊎ IsAbove t.a.z z → IsBelow t.b.z z ⊎ IsAbove t.b.z z → IsBelow t.c.z z ⊎ IsAbove t.c.z z → Sides t z
     by (inl a) (inl b) (inl c) = all_below a b c
     by (inl a) (inl b) (inr c) = between 2 1 (rises t.a t.c z a c) (rises t.b t.c z b c)
     by (inl a) (inr b) (inl c) = between 1 0 (rises t.c t.b z c b) (rises t.a t.b z a b)
@@ -97,16 +96,13 @@ sides t z = by (at_most_or_above t.a.z z) (at_most_or_above t.b.z z) (at_most_or
     by (inr a) (inr b) (inl c) = between 1 2 (rises t.c t.b z c b) (rises t.c t.a z c a)
     by (inr a) (inr b) (inr c) = all_above a b c
 
-no_turns : (a b c : ℤ) → a ≡ pos 0 → b ≡ pos 0 → c ≡ pos 0 → a +ℤ b +ℤ c ≡ pos 0
-no_turns a b c e f g = omega (arith, ints)
-
-pub wind-below : (t : Facet) (y z : ℤ) → t.a.z ≤ℤ z → t.b.z ≤ℤ z → t.c.z ≤ℤ z → wind t y z ≡ pos 0
+pub wind-below : (t : Facet) (y z : ℤ) → IsBelow t.a.z z → IsBelow t.b.z z → IsBelow t.c.z z → wind t y z ≡ pos 0
 unfolding wind
-wind-below t y z a b c = no_turns (turn t.a t.b y z) (turn t.b t.c y z) (turn t.c t.a y z) (turn_of-below t.a.z t.b.z z _ a b) (turn_of-below t.b.z t.c.z z _ b c) (turn_of-below t.c.z t.a.z z _ c a)
+wind-below t y z a b c = three_zeros (turn t.a t.b y z) (turn t.b t.c y z) (turn t.c t.a y z) (turn_of-below t.a.z t.b.z z _ a b) (turn_of-below t.b.z t.c.z z _ b c) (turn_of-below t.c.z t.a.z z _ c a)
 
-pub wind-above : (t : Facet) (y z : ℤ) → z <ℤ t.a.z → z <ℤ t.b.z → z <ℤ t.c.z → wind t y z ≡ pos 0
+pub wind-above : (t : Facet) (y z : ℤ) → IsAbove t.a.z z → IsAbove t.b.z z → IsAbove t.c.z z → wind t y z ≡ pos 0
 unfolding wind
-wind-above t y z a b c = no_turns (turn t.a t.b y z) (turn t.b t.c y z) (turn t.c t.a y z) (turn_of-above t.a.z t.b.z z _ a b) (turn_of-above t.b.z t.c.z z _ b c) (turn_of-above t.c.z t.a.z z _ c a)
+wind-above t y z a b c = three_zeros (turn t.a t.b y z) (turn t.b t.c y z) (turn t.c t.a y z) (turn_of-above t.a.z t.b.z z _ a b) (turn_of-above t.b.z t.c.z z _ b c) (turn_of-above t.c.z t.a.z z _ c a)
 
 -- ---- wind is -1, 0 or 1; where it is not 0, its product with the normal's x part is above 0
 case_unit : (w up down : ℤ) → WindCase w up down → (w ≡ pos 0) ⊎ (w ≡ pos 1) ⊎ (w ≡ negsuc 0)
@@ -302,9 +298,6 @@ module _ (t : Facet) (r s p q : Point) (y z : ℤ) (h : Passes t r s p q z) (ax 
   pub meets-by : Meets t num den y z
   meets-by = subst (λ n. Meets t n den y z) num-is (subst (λ d. Meets t (num_of r s p q y z) d y z) den-is (meets t r s p q y z h))
 
-  one_times : (x : ℤ) → pos 1 *ℤ x ≡ x
-  one_times x = omega (arith, ints)
-
   minus_times : (x : ℤ) → negsuc 0 *ℤ x ≡ neg_ℤ x
   minus_times x = omega (arith, ints)
 
@@ -318,7 +311,7 @@ module _ (t : Facet) (r s p q : Point) (y z : ℤ) (h : Passes t r s p q z) (ax 
   pub sides-up : (y *ℤ bd) <ℤ by → ay ≤ℤ (y *ℤ ad) → Crosses t y z (pos 1) num den
   sides-up u d =
       let e = wind-by (pos 1) (pos 0) ((turn-ahead p q y z bx by bd h.up b).0 u) ((turn-ahead_down r s y z ax ay ad h.down a).1 d) in
-      crosses_by t y z _ _ _ _ _ _ refl (one_times num) (one_times den) (settle (pos 1) e (λ f. absurd (omega (arith, ints))))
+      crosses_by t y z _ _ _ _ _ _ refl (one_mul num) (one_mul den) (settle (pos 1) e (λ f. absurd (omega (arith, ints))))
 
   pub sides-down : by ≤ℤ (y *ℤ bd) → (y *ℤ ad) <ℤ ay → Crosses t y z (negsuc 0) (neg_ℤ num) (neg_ℤ den)
   sides-down u d =
@@ -337,4 +330,4 @@ wind-outside t y z n = by (sides t z)
     by : Sides t z → wind t y z ≡ pos 0
     by (all_below a b c) = wind-below t y z a b c
     by (all_above a b c) = wind-above t y z a b c
-    by (between d u h k) = absurd (n (record { some_below = start_among t (λ p. p.z ≤ℤ z) u k.low; some_above = start_among t (λ p. z <ℤ p.z) d h.high }))
+    by (between d u h k) = absurd (n (record { some_below = start_among t (λ p. IsBelow p.z z) u k.low; some_above = start_among t (λ p. IsAbove p.z z) d h.high }))

@@ -2,9 +2,10 @@
 use Rattle.std.proofs.Common.{◌≡◌, ◌↔◌, ◌⊎◌, inl, inr, ℕ, zero, suc, ◌+◌, ◌*◌, ◌-◌, ◌<◌, ◌≤◌, Bool, true, false, List, [], ◌∷◌, length, slice_index, ℤ, pos, ◌+ℤ◌, ◌-ℤ◌, ◌*ℤ◌, ◌≤ℤ◌, ◌<ℤ◌, unsigned_abs, int_lt, if◌then◌else◌, refl, sym, ◌∙◌, ap, subst, arith}
 use Rattle.std.proofs.Math.Nat.{mul-suc}
 use Rattle.std.proofs.lemmas.Int.{ints}
+use lib.IntN.{+ℤ_idr, -ℤ-+ℤ_cancel, *ℤ_comm}
 use Rattle.exact_int.specs.Bounds.{IsAtMost}
 use Rattle.exact_int.proofs.lemmas.Identity.{reads, identity}
-use Rattle.exact_int.proofs.lemmas.Signs.{at_most_or_above, mul_le_left}
+use Rattle.exact_int.proofs.lemmas.Signs.{at_most_or_above, next_at_most, add_not_negative, mul_le_left, difference_from_le}
 use Rattle.exact_cut.specs.Bounds.{step_limit, whole_limit}
 use Rattle.exact_cut.specs.Column.{clamp}
 use Rattle.exact_cut.specs.Dda.{IsDda, IsOnRows, next, columns_along, position_of, increment_of}
@@ -34,15 +35,6 @@ module _ (s : Dda) where
   pub stepped-next : (one unit : ℤ) → one ≡ (if int_lt excess (pos 0) then pos 1 else pos 0) → unit ≡ (if int_lt excess (pos 0) then s.unit else pos 0) → stepped_by one unit ≡ next s
   stepped-next one unit h k = by (int_lt excess (pos 0)) (int_lt (s.remainder +ℤ s.increment_remainder) s.unit) refl refl h k
     where
-      back : (w p : ℤ) → w +ℤ p -ℤ pos 1 +ℤ pos 1 ≡ w +ℤ p
-      back w p = omega (arith, ints)
-
-      kept : (a u : ℤ) → a -ℤ u +ℤ u ≡ a
-      kept a u = omega (arith, ints)
-
-      same : (a : ℤ) → a +ℤ pos 0 ≡ a
-      same a = omega (arith, ints)
-
       clash : (a u : ℤ) → int_lt (a -ℤ u) (pos 0) ≡ true → int_lt a u ≡ false → ⊥
       clash a u e f = omega (arith, ints)
 
@@ -53,11 +45,11 @@ module _ (s : Dda) where
           → one ≡ (if b then pos 1 else pos 0) → unit ≡ (if b then s.unit else pos 0) → stepped_by one unit ≡ next s
       by true true e f h k =
           (λ i. stepped_by (h i) (k i))
-          ∙ (λ i. record { unit = s.unit; whole = back s.whole s.increment i; remainder = kept (s.remainder +ℤ s.increment_remainder) s.unit i; increment = s.increment; increment_remainder = s.increment_remainder })
+          ∙ (λ i. record { unit = s.unit; whole = -ℤ-+ℤ_cancel (s.whole +ℤ s.increment) (pos 1) i; remainder = -ℤ-+ℤ_cancel (s.remainder +ℤ s.increment_remainder) s.unit i; increment = s.increment; increment_remainder = s.increment_remainder })
           ∙ sym (next-near s f)
       by false false e f h k =
           (λ i. stepped_by (h i) (k i))
-          ∙ (λ i. record { unit = s.unit; whole = same (s.whole +ℤ s.increment -ℤ pos 1) i; remainder = same excess i; increment = s.increment; increment_remainder = s.increment_remainder })
+          ∙ (λ i. record { unit = s.unit; whole = +ℤ_idr (s.whole +ℤ s.increment -ℤ pos 1) i; remainder = +ℤ_idr excess i; increment = s.increment; increment_remainder = s.increment_remainder })
           ∙ sym (next-far s f)
       by true false e f h k = absurd (clash (s.remainder +ℤ s.increment_remainder) s.unit e f)
       by false true e f h k = absurd (clash' (s.remainder +ℤ s.increment_remainder) s.unit e f)
@@ -86,25 +78,19 @@ IsDda-next s h =
     by_cases s IsDda (λ l. record {
       unit_in = h.unit_in;
       increment_in = h.increment_in;
-      not_negative = add s.remainder s.increment_remainder h.not_negative h.increment_not_negative;
+      not_negative = add_not_negative s.remainder s.increment_remainder h.not_negative h.increment_not_negative;
       below = l;
       increment_not_negative = h.increment_not_negative;
       increment_below = h.increment_below;
     }) (λ l. record {
       unit_in = h.unit_in;
       increment_in = h.increment_in;
-      not_negative = take s.unit (s.remainder +ℤ s.increment_remainder) l;
+      not_negative = difference_from_le s.unit (s.remainder +ℤ s.increment_remainder) l;
       below = less s.remainder s.increment_remainder s.unit h.below h.increment_below;
       increment_not_negative = h.increment_not_negative;
       increment_below = h.increment_below;
     })
   where
-    add : (a b : ℤ) → pos 0 ≤ℤ a → pos 0 ≤ℤ b → pos 0 ≤ℤ (a +ℤ b)
-    add a b h k = omega (arith, ints)
-
-    take : (a b : ℤ) → a ≤ℤ b → pos 0 ≤ℤ (b -ℤ a)
-    take a b h = omega (arith, ints)
-
     less : (a b c : ℤ) → a <ℤ c → b <ℤ c → ((a +ℤ b) -ℤ c) <ℤ c
     less a b c h k = omega (arith, ints)
 
@@ -173,7 +159,7 @@ some_left left count s e h = subst (λ n. 0 < n) (sym (ap length e) ∙ length-c
 
 -- ---- the ceiling
 pub ceiling_of : (s : Dda) → IsDda s → (q : ℤ) → (s.whole ≤ℤ q) ↔ (position_of s ≤ℤ (q *ℤ s.unit))
-ceiling_of s h q = (λ l. up (s.unit *ℤ s.whole) (s.unit *ℤ q) _ s.remainder _ (mul_le_left s.unit s.whole q positive l) (turned s.whole s.unit) (turned q s.unit) h.not_negative, λ l. by (at_most_or_above s.whole q) l)
+ceiling_of s h q = (λ l. up (s.unit *ℤ s.whole) (s.unit *ℤ q) _ s.remainder _ (mul_le_left s.unit s.whole q positive l) (*ℤ_comm s.unit s.whole) (*ℤ_comm s.unit q) h.not_negative, λ l. by (at_most_or_above s.whole q) l)
   where
     weak : (u l : ℤ) → pos 0 ≤ℤ l → l <ℤ u → pos 0 ≤ℤ u
     weak u l h k = omega (arith, ints)
@@ -181,14 +167,8 @@ ceiling_of s h q = (λ l. up (s.unit *ℤ s.whole) (s.unit *ℤ q) _ s.remainder
     positive : pos 0 ≤ℤ s.unit
     positive = weak s.unit s.remainder h.not_negative h.below
 
-    turned : (a b : ℤ) → b *ℤ a ≡ a *ℤ b
-    turned a b = identity (a ∷ b ∷ []) (search reads depth 40) refl
-
     up : (a b c d e : ℤ) → a ≤ℤ b → a ≡ c → b ≡ e → pos 0 ≤ℤ d → (c -ℤ d) ≤ℤ e
     up a b c d e h k l m = omega (arith, ints)
-
-    one_more : (q w : ℤ) → q <ℤ w → (q +ℤ pos 1) ≤ℤ w
-    one_more q w h = omega (arith, ints)
 
     clash : (a b c d u : ℤ) → a ≤ℤ b → a ≡ d +ℤ u → b ≡ c → (l : ℤ) → l <ℤ u → (c -ℤ l) ≤ℤ d → ⊥
     clash a b c d u h e f l k m = omega (arith, ints)
@@ -197,8 +177,8 @@ ceiling_of s h q = (λ l. up (s.unit *ℤ s.whole) (s.unit *ℤ q) _ s.remainder
     by (inl p) l = p
     by (inr p) l =
         absurd (clash (s.unit *ℤ (q +ℤ pos 1)) (s.unit *ℤ s.whole) (s.whole *ℤ s.unit) (q *ℤ s.unit) s.unit
-        (mul_le_left s.unit (q +ℤ pos 1) s.whole positive (one_more q s.whole p))
-        (identity (q ∷ s.unit ∷ []) (search reads depth 40) refl) (turned s.whole s.unit) s.remainder h.below l)
+        (mul_le_left s.unit (q +ℤ pos 1) s.whole positive (next_at_most q s.whole p))
+        (identity (q ∷ s.unit ∷ []) (search reads depth 40) refl) (*ℤ_comm s.unit s.whole) s.remainder h.below l)
 
 -- ---- numbers that fit
 pub remainder_in : {m : ℕ} (l u : ℤ) → pos 0 ≤ℤ l → l <ℤ u → IsAtMost m u → IsAtMost m l

@@ -5,11 +5,21 @@ use Rattle.std.proofs.Math.Nat.{mul-le-mul}
 use mir.Syntax.{w64, w128}
 use Rattle.exact_int.specs.Bounds.{IsAtMost}
 use Rattle.exact_int.proofs.lemmas.Identity.{reads, identity}
-use Rattle.exact_int.proofs.lemmas.Signs.{at_most_or_above}
+use Rattle.exact_int.proofs.lemmas.Signs.{at_most_or_above, difference_from_le}
 use Rattle.exact_cut.specs.Bounds.{increment_limit, unit_limit}
 use Rattle.exact_cut.specs.Dda.{IsDivisionOf, IsDda}
 use Rattle.exact_cut.specs.declared.dda.Division.{Division}
 use Rattle.exact_cut.specs.declared.dda.Dda.{Dda}
+
+-- a factor is within a bound of the product, if the other one is above 0
+pub factor_in : {s : ℕ} (w u : ℤ) → pos 0 <ℤ u → unsigned_abs (w *ℤ u) ≤ s → unsigned_abs w ≤ s
+factor_in {s} w u p h = by (unsigned_abs w) (unsigned_abs u) (unsigned_abs (w *ℤ u)) s (one u p) (unsigned_abs-mul w u) h
+  where
+    one : (u : ℤ) → pos 0 <ℤ u → 1 ≤ unsigned_abs u
+    one u h = omega (arith, ints)
+
+    by : (w u p s : ℕ) → 1 ≤ u → p ≡ w * u → p ≤ s → w ≤ s
+    by w u p s h e k = omega (arith, mul-le-mul {n₁ = w} {m₁ = 1} {n₂ = w} {m₂ = u} (omega arith) h)
 
 -- w is the ceiling of n / u
 module _ (n u w : ℤ) (h : (q : ℤ) → (w ≤ℤ q) ↔ (n ≤ℤ (q *ℤ u))) where
@@ -17,10 +27,7 @@ module _ (n u w : ℤ) (h : (q : ℤ) → (w ≤ℤ q) ↔ (n ≤ℤ (q *ℤ u))
   self = omega (arith, ints)
 
   pub remainder_not_negative : pos 0 ≤ℤ (w *ℤ u -ℤ n)
-  remainder_not_negative = by n (w *ℤ u) ((h w).0 self)
-    where
-      by : (a b : ℤ) → a ≤ℤ b → pos 0 ≤ℤ (b -ℤ a)
-      by a b h = omega (arith, ints)
+  remainder_not_negative = difference_from_le n (w *ℤ u) ((h w).0 self)
 
   pub remainder_below : (w *ℤ u -ℤ n) <ℤ u
   remainder_below = by (at_most_or_above n ((w -ℤ pos 1) *ℤ u))
@@ -42,13 +49,7 @@ module _ (n u w : ℤ) (h : (q : ℤ) → (w ≤ℤ q) ↔ (n ≤ℤ (q *ℤ u))
       by n u a h k = omega (arith, ints)
 
   pub quotient_in : pos 0 <ℤ u → unsigned_abs w ≤ unsigned_abs n + unsigned_abs u
-  quotient_in p = by (unsigned_abs w) (unsigned_abs u) (unsigned_abs (w *ℤ u)) _ (one u p) (unsigned_abs-mul w u) product_in
-    where
-      one : (u : ℤ) → pos 0 <ℤ u → 1 ≤ unsigned_abs u
-      one u h = omega (arith, ints)
-
-      by : (w u p s : ℕ) → 1 ≤ u → p ≡ w * u → p ≤ s → w ≤ s
-      by w u p s h e k = omega (arith, mul-le-mul {n₁ = w} {m₁ = 1} {n₂ = w} {m₂ = u} (omega arith) h)
+  quotient_in p = factor_in w u p product_in
 
   pub product_at_most : {a b : ℕ} → IsAtMost a n → IsAtMost b u → IsAtMost (a + b) (w *ℤ u)
   product_at_most h k = record { at_most = omega (arith, product_in, h.at_most, k.at_most) }

@@ -2,7 +2,7 @@
 use Rattle.std.proofs.Common.{◌≡◌, ℕ, ◌≤◌, Bool, true, false, nat_lt, if◌then◌else◌, negsuc, ◌<◌, ◌↔◌, ◌⊎◌, inl, inr, [], ◌∷◌, ℤ, pos, ◌+ℤ◌, ◌-ℤ◌, ◌*ℤ◌, ◌≤ℤ◌, ◌<ℤ◌, refl, sym, subst, arith}
 use Rattle.std.proofs.lemmas.Int.{ints}
 use Rattle.exact_int.proofs.lemmas.Identity.{reads, identity}
-use Rattle.exact_int.proofs.lemmas.Signs.{at_most_or_above, mul_positive}
+use Rattle.exact_int.proofs.lemmas.Signs.{at_most_or_above, not_both, mul_positive}
 use Rattle.exact_cut.specs.Column.{IsLeastColumn, clamp}
 
 -- i is the ceiling of (num - first * den) / (2 * step * den)
@@ -28,11 +28,8 @@ not_left i num den first step k h = (
 before : (i num den first step k : ℤ) → IsCeiling i num den first step → k <ℤ i → ((first +ℤ pos 2 *ℤ step *ℤ k) *ℤ den) <ℤ num
 before i num den first step k h l = by (at_most_or_above num ((first +ℤ pos 2 *ℤ step *ℤ k) *ℤ den))
   where
-    no : (x y : ℤ) → x <ℤ y → y ≤ℤ x → ⊥
-    no x y h k = omega (arith, ints)
-
     by : (num ≤ℤ ((first +ℤ pos 2 *ℤ step *ℤ k) *ℤ den)) ⊎ (((first +ℤ pos 2 *ℤ step *ℤ k) *ℤ den) <ℤ num) → ((first +ℤ pos 2 *ℤ step *ℤ k) *ℤ den) <ℤ num
-    by (inl p) = absurd (no k i l ((not_left i num den first step k h).1 p))
+    by (inl p) = absurd (not_both k i l ((not_left i num den first step k h).1 p))
     by (inr p) = p
 
 module _ (i num den first : ℤ) (step columns : ℕ) (h : IsCeiling i num den first (pos step)) where

@@ -1,169 +1,122 @@
 -- Which edges pass a height, by where the corners lie.
-use Rattle.std.proofs.Common.{◌≡◌, ℕ, zero, suc, ◌<◌, ◌⊎◌, ℤ, ◌≤ℤ◌, ◌<ℤ◌, refl, arith, inl, inr}
-use Rattle.std.proofs.lemmas.Int.{ints}
+use Rattle.std.proofs.Common.{◌≡◌, ℕ, zero, suc, ◌<◌, ◌⊎◌, ℤ, refl, arith, inl, inr}
+use Rattle.exact_int.proofs.lemmas.Signs.{not_both}
+use Rattle.geometry.specs.TieRule.{IsBelow, IsAbove}
 use Rattle.geometry.specs.Point.{Point}
 use Rattle.geometry.specs.Facet.{Facet}
 use Rattle.exact_cut.specs.Cut.{start, finish, Rises, IsBetween, IsCut}
 
-rises : (u v : Point) (z : ℤ) → u.z ≤ℤ z → z <ℤ v.z → Rises u v z
+pub rises : (u v : Point) (z : ℤ) → IsBelow u.z z → IsAbove v.z z → Rises u v z
 rises u v z h k = record { low = h; high = k }
 
-not_low : (u v : Point) (z : ℤ) → z <ℤ u.z → Rises u v z → ⊥
-not_low u v z h k = omega (arith, ints)
+not_low : (u v : Point) (z : ℤ) → IsAbove u.z z → Rises u v z → ⊥
+not_low u v z h k = not_both z u.z h k.low
 
-not_high : (u v : Point) (z : ℤ) → v.z ≤ℤ z → Rises u v z → ⊥
-not_high u v z h k = omega (arith, ints)
+not_high : (u v : Point) (z : ℤ) → IsBelow v.z z → Rises u v z → ⊥
+not_high u v z h k = not_both z v.z k.high h
 
-clash : (u z : ℤ) → u ≤ℤ z → z <ℤ u → ⊥
-clash u z h k = omega (arith, ints)
+-- the edge with this number passes z downward, or upward
+abbrev FallsAt : Facet → ℤ → ℕ → Type 0
+FallsAt t z e = Rises (finish t e) (start t e) z
 
-pub cut-below-above-above : (t : Facet) (z : ℤ) → t.a.z ≤ℤ z → z <ℤ t.b.z → z <ℤ t.c.z → IsCut t z (record { down = 2; up = 0 })
+abbrev RisesAt : Facet → ℤ → ℕ → Type 0
+RisesAt t z e = Rises (start t e) (finish t e) z
+
+-- the one of three edges of which P holds
+module _ (P : ℕ → Type 0) where
+  only_0 : (P 1 → ⊥) → (P 2 → ⊥) → (e : ℕ) → e < 3 → P e → e ≡ 0
+  only_0 m n zero l h = refl
+  only_0 m n (suc zero) l h = absurd (m h)
+  only_0 m n (suc (suc zero)) l h = absurd (n h)
+  only_0 m n (suc (suc (suc e))) l h = absurd (omega arith)
+
+  only_1 : (P 0 → ⊥) → (P 2 → ⊥) → (e : ℕ) → e < 3 → P e → e ≡ 1
+  only_1 m n zero l h = absurd (m h)
+  only_1 m n (suc zero) l h = refl
+  only_1 m n (suc (suc zero)) l h = absurd (n h)
+  only_1 m n (suc (suc (suc e))) l h = absurd (omega arith)
+
+  only_2 : (P 0 → ⊥) → (P 1 → ⊥) → (e : ℕ) → e < 3 → P e → e ≡ 2
+  only_2 m n zero l h = absurd (m h)
+  only_2 m n (suc zero) l h = absurd (n h)
+  only_2 m n (suc (suc zero)) l h = refl
+  only_2 m n (suc (suc (suc e))) l h = absurd (omega arith)
+
+pub cut-below-above-above : (t : Facet) (z : ℤ) → IsBelow t.a.z z → IsAbove t.b.z z → IsAbove t.c.z z → IsCut t z (record { down = 2; up = 0 })
 cut-below-above-above t z a b c = record {
   down_in = omega arith;
   up_in = omega arith;
   falls = rises t.a t.c z a c;
   rises = rises t.a t.b z a b;
-  one_down = one_down;
-  one_up = one_up;
+  one_down = only_2 (FallsAt t z) (not_low t.b t.a z b) (not_low t.c t.b z c);
+  one_up = only_0 (RisesAt t z) (not_low t.b t.c z b) (not_low t.c t.a z c);
 }
-  where
-    one_down : (e : ℕ) → e < 3 → Rises (finish t e) (start t e) z → e ≡ 2
-    one_down zero l h = absurd (not_low t.b t.a z b h)
-    one_down (suc zero) l h = absurd (not_low t.c t.b z c h)
-    one_down (suc (suc zero)) l h = refl
-    one_down (suc (suc (suc n))) l h = absurd (omega arith)
 
-    one_up : (e : ℕ) → e < 3 → Rises (start t e) (finish t e) z → e ≡ 0
-    one_up zero l h = refl
-    one_up (suc zero) l h = absurd (not_low t.b t.c z b h)
-    one_up (suc (suc zero)) l h = absurd (not_low t.c t.a z c h)
-    one_up (suc (suc (suc n))) l h = absurd (omega arith)
-
-pub cut-above-below-above : (t : Facet) (z : ℤ) → z <ℤ t.a.z → t.b.z ≤ℤ z → z <ℤ t.c.z → IsCut t z (record { down = 0; up = 1 })
+pub cut-above-below-above : (t : Facet) (z : ℤ) → IsAbove t.a.z z → IsBelow t.b.z z → IsAbove t.c.z z → IsCut t z (record { down = 0; up = 1 })
 cut-above-below-above t z a b c = record {
   down_in = omega arith;
   up_in = omega arith;
   falls = rises t.b t.a z b a;
   rises = rises t.b t.c z b c;
-  one_down = one_down;
-  one_up = one_up;
+  one_down = only_0 (FallsAt t z) (not_low t.c t.b z c) (not_low t.a t.c z a);
+  one_up = only_1 (RisesAt t z) (not_low t.a t.b z a) (not_low t.c t.a z c);
 }
-  where
-    one_down : (e : ℕ) → e < 3 → Rises (finish t e) (start t e) z → e ≡ 0
-    one_down zero l h = refl
-    one_down (suc zero) l h = absurd (not_low t.c t.b z c h)
-    one_down (suc (suc zero)) l h = absurd (not_low t.a t.c z a h)
-    one_down (suc (suc (suc n))) l h = absurd (omega arith)
 
-    one_up : (e : ℕ) → e < 3 → Rises (start t e) (finish t e) z → e ≡ 1
-    one_up zero l h = absurd (not_low t.a t.b z a h)
-    one_up (suc zero) l h = refl
-    one_up (suc (suc zero)) l h = absurd (not_low t.c t.a z c h)
-    one_up (suc (suc (suc n))) l h = absurd (omega arith)
-
-pub cut-below-below-above : (t : Facet) (z : ℤ) → t.a.z ≤ℤ z → t.b.z ≤ℤ z → z <ℤ t.c.z → IsCut t z (record { down = 2; up = 1 })
+pub cut-below-below-above : (t : Facet) (z : ℤ) → IsBelow t.a.z z → IsBelow t.b.z z → IsAbove t.c.z z → IsCut t z (record { down = 2; up = 1 })
 cut-below-below-above t z a b c = record {
   down_in = omega arith;
   up_in = omega arith;
   falls = rises t.a t.c z a c;
   rises = rises t.b t.c z b c;
-  one_down = one_down;
-  one_up = one_up;
+  one_down = only_2 (FallsAt t z) (not_high t.b t.a z a) (not_low t.c t.b z c);
+  one_up = only_1 (RisesAt t z) (not_high t.a t.b z b) (not_low t.c t.a z c);
 }
-  where
-    one_down : (e : ℕ) → e < 3 → Rises (finish t e) (start t e) z → e ≡ 2
-    one_down zero l h = absurd (not_high t.b t.a z a h)
-    one_down (suc zero) l h = absurd (not_low t.c t.b z c h)
-    one_down (suc (suc zero)) l h = refl
-    one_down (suc (suc (suc n))) l h = absurd (omega arith)
 
-    one_up : (e : ℕ) → e < 3 → Rises (start t e) (finish t e) z → e ≡ 1
-    one_up zero l h = absurd (not_high t.a t.b z b h)
-    one_up (suc zero) l h = refl
-    one_up (suc (suc zero)) l h = absurd (not_low t.c t.a z c h)
-    one_up (suc (suc (suc n))) l h = absurd (omega arith)
-
-pub cut-above-above-below : (t : Facet) (z : ℤ) → z <ℤ t.a.z → z <ℤ t.b.z → t.c.z ≤ℤ z → IsCut t z (record { down = 1; up = 2 })
+pub cut-above-above-below : (t : Facet) (z : ℤ) → IsAbove t.a.z z → IsAbove t.b.z z → IsBelow t.c.z z → IsCut t z (record { down = 1; up = 2 })
 cut-above-above-below t z a b c = record {
   down_in = omega arith;
   up_in = omega arith;
   falls = rises t.c t.b z c b;
   rises = rises t.c t.a z c a;
-  one_down = one_down;
-  one_up = one_up;
+  one_down = only_1 (FallsAt t z) (not_low t.b t.a z b) (not_low t.a t.c z a);
+  one_up = only_2 (RisesAt t z) (not_low t.a t.b z a) (not_low t.b t.c z b);
 }
-  where
-    one_down : (e : ℕ) → e < 3 → Rises (finish t e) (start t e) z → e ≡ 1
-    one_down zero l h = absurd (not_low t.b t.a z b h)
-    one_down (suc zero) l h = refl
-    one_down (suc (suc zero)) l h = absurd (not_low t.a t.c z a h)
-    one_down (suc (suc (suc n))) l h = absurd (omega arith)
 
-    one_up : (e : ℕ) → e < 3 → Rises (start t e) (finish t e) z → e ≡ 2
-    one_up zero l h = absurd (not_low t.a t.b z a h)
-    one_up (suc zero) l h = absurd (not_low t.b t.c z b h)
-    one_up (suc (suc zero)) l h = refl
-    one_up (suc (suc (suc n))) l h = absurd (omega arith)
-
-pub cut-below-above-below : (t : Facet) (z : ℤ) → t.a.z ≤ℤ z → z <ℤ t.b.z → t.c.z ≤ℤ z → IsCut t z (record { down = 1; up = 0 })
+pub cut-below-above-below : (t : Facet) (z : ℤ) → IsBelow t.a.z z → IsAbove t.b.z z → IsBelow t.c.z z → IsCut t z (record { down = 1; up = 0 })
 cut-below-above-below t z a b c = record {
   down_in = omega arith;
   up_in = omega arith;
   falls = rises t.c t.b z c b;
   rises = rises t.a t.b z a b;
-  one_down = one_down;
-  one_up = one_up;
+  one_down = only_1 (FallsAt t z) (not_low t.b t.a z b) (not_high t.a t.c z c);
+  one_up = only_0 (RisesAt t z) (not_low t.b t.c z b) (not_high t.c t.a z a);
 }
-  where
-    one_down : (e : ℕ) → e < 3 → Rises (finish t e) (start t e) z → e ≡ 1
-    one_down zero l h = absurd (not_low t.b t.a z b h)
-    one_down (suc zero) l h = refl
-    one_down (suc (suc zero)) l h = absurd (not_high t.a t.c z c h)
-    one_down (suc (suc (suc n))) l h = absurd (omega arith)
 
-    one_up : (e : ℕ) → e < 3 → Rises (start t e) (finish t e) z → e ≡ 0
-    one_up zero l h = refl
-    one_up (suc zero) l h = absurd (not_low t.b t.c z b h)
-    one_up (suc (suc zero)) l h = absurd (not_high t.c t.a z a h)
-    one_up (suc (suc (suc n))) l h = absurd (omega arith)
-
-pub cut-above-below-below : (t : Facet) (z : ℤ) → z <ℤ t.a.z → t.b.z ≤ℤ z → t.c.z ≤ℤ z → IsCut t z (record { down = 0; up = 2 })
+pub cut-above-below-below : (t : Facet) (z : ℤ) → IsAbove t.a.z z → IsBelow t.b.z z → IsBelow t.c.z z → IsCut t z (record { down = 0; up = 2 })
 cut-above-below-below t z a b c = record {
   down_in = omega arith;
   up_in = omega arith;
   falls = rises t.b t.a z b a;
   rises = rises t.c t.a z c a;
-  one_down = one_down;
-  one_up = one_up;
+  one_down = only_0 (FallsAt t z) (not_high t.c t.b z b) (not_low t.a t.c z a);
+  one_up = only_2 (RisesAt t z) (not_low t.a t.b z a) (not_high t.b t.c z c);
 }
-  where
-    one_down : (e : ℕ) → e < 3 → Rises (finish t e) (start t e) z → e ≡ 0
-    one_down zero l h = refl
-    one_down (suc zero) l h = absurd (not_high t.c t.b z b h)
-    one_down (suc (suc zero)) l h = absurd (not_low t.a t.c z a h)
-    one_down (suc (suc (suc n))) l h = absurd (omega arith)
 
-    one_up : (e : ℕ) → e < 3 → Rises (start t e) (finish t e) z → e ≡ 2
-    one_up zero l h = absurd (not_low t.a t.b z a h)
-    one_up (suc zero) l h = absurd (not_high t.b t.c z c h)
-    one_up (suc (suc zero)) l h = refl
-    one_up (suc (suc (suc n))) l h = absurd (omega arith)
-
-pub cut-below-below-below : (t : Facet) (z : ℤ) → t.a.z ≤ℤ z → t.b.z ≤ℤ z → t.c.z ≤ℤ z → IsBetween t z → ⊥
+pub cut-below-below-below : (t : Facet) (z : ℤ) → IsBelow t.a.z z → IsBelow t.b.z z → IsBelow t.c.z z → IsBetween t z → ⊥
 cut-below-below-below t z a b c h = by h.some_above
   where
-    by : (z <ℤ t.a.z) ⊎ (z <ℤ t.b.z) ⊎ (z <ℤ t.c.z) → ⊥
-    by (inl k) = clash t.a.z z a k
-    by (inr (inl k)) = clash t.b.z z b k
-    by (inr (inr k)) = clash t.c.z z c k
+    by : IsAbove t.a.z z ⊎ IsAbove t.b.z z ⊎ IsAbove t.c.z z → ⊥
+    by (inl k) = not_both z t.a.z k a
+    by (inr (inl k)) = not_both z t.b.z k b
+    by (inr (inr k)) = not_both z t.c.z k c
 
-pub cut-above-above-above : (t : Facet) (z : ℤ) → z <ℤ t.a.z → z <ℤ t.b.z → z <ℤ t.c.z → IsBetween t z → ⊥
+pub cut-above-above-above : (t : Facet) (z : ℤ) → IsAbove t.a.z z → IsAbove t.b.z z → IsAbove t.c.z z → IsBetween t z → ⊥
 cut-above-above-above t z a b c h = by h.some_below
   where
-    by : (t.a.z ≤ℤ z) ⊎ (t.b.z ≤ℤ z) ⊎ (t.c.z ≤ℤ z) → ⊥
-    by (inl k) = clash t.a.z z k a
-    by (inr (inl k)) = clash t.b.z z k b
-    by (inr (inr k)) = clash t.c.z z k c
+    by : IsBelow t.a.z z ⊎ IsBelow t.b.z z ⊎ IsBelow t.c.z z → ⊥
+    by (inl k) = not_both z t.a.z a k
+    by (inr (inl k)) = not_both z t.b.z b k
+    by (inr (inr k)) = not_both z t.c.z c k
 
 -- for `search`
 pub ruleset cut_edges = (cut-below-below-below, cut-above-above-above, cut-below-below-above, cut-below-above-below, cut-below-above-above, cut-above-below-below, cut-above-below-above, cut-above-above-below)

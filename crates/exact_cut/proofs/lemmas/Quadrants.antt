@@ -1,8 +1,9 @@
 -- How the segment from (xd, yd) to (xu, yu) passes the half lines from the origin along x and along y, by the quadrants of its ends.
 use Rattle.std.proofs.Common.{◌≡◌, [], ◌∷◌, ℤ, pos, negsuc, ◌+ℤ◌, ◌-ℤ◌, ◌*ℤ◌, neg_ℤ, ◌≤ℤ◌, ◌<ℤ◌, int_lt, if◌then◌else◌, refl, sym, ◌∙◌, ap, subst, arith}
 use Rattle.std.proofs.lemmas.Int.{ints}
+use lib.IntN.{*ℤ_comm}
 use Rattle.exact_int.proofs.lemmas.Identity.{reads, identity}
-use Rattle.exact_int.proofs.lemmas.Signs.{weak, mul_positive, mul_not_negative, mul_not_positive_right}
+use Rattle.exact_int.proofs.lemmas.Signs.{weak, weak_below, neg_not_negative, two_negs, mul_positive, mul_not_negative, mul_not_positive_right}
 use Rattle.exact_cut.specs.Laws.{where_not_zero}
 
 -- the turn of the edge up, and of the edge down, by the side on which its cut point lies
@@ -67,21 +68,15 @@ below-1 m n h k = omega (arith, ints)
 below-2 : (m n : ℤ) → m ≤ℤ pos 0 → pos 0 ≤ℤ n → (m -ℤ n) ≤ℤ pos 0
 below-2 m n h k = omega (arith, ints)
 
-swap-mul : (a b : ℤ) → a *ℤ b ≡ b *ℤ a
-swap-mul a b = identity (a ∷ b ∷ []) (search reads depth 40) refl
-
 -- products of one number above 0 or at most 0 with another
-pp : (a b : ℤ) → pos 0 <ℤ a → pos 0 <ℤ b → pos 0 <ℤ (a *ℤ b)
-pp = mul_positive
-
 pn : (a b : ℤ) → pos 0 <ℤ a → b ≤ℤ pos 0 → (a *ℤ b) ≤ℤ pos 0
 pn a b h k = mul_not_positive_right a b (weak a h) k
 
 np : (a b : ℤ) → a ≤ℤ pos 0 → pos 0 <ℤ b → (a *ℤ b) ≤ℤ pos 0
-np a b h k = subst (λ x. x ≤ℤ pos 0) (swap-mul b a) (pn b a k h)
+np a b h k = subst (λ x. x ≤ℤ pos 0) (*ℤ_comm b a) (pn b a k h)
 
 nn : (a b : ℤ) → a ≤ℤ pos 0 → b ≤ℤ pos 0 → pos 0 ≤ℤ (a *ℤ b)
-nn a b h k = subst (λ x. pos 0 ≤ℤ x) (identity (a ∷ b ∷ []) (search reads depth 40) refl) (mul_not_negative (neg_ℤ a) (neg_ℤ b) (omega (arith, ints)) (omega (arith, ints)))
+nn a b h k = subst (λ x. pos 0 ≤ℤ x) (two_negs a b) (mul_not_negative (neg_ℤ a) (neg_ℤ b) (neg_not_negative a h) (neg_not_negative b k))
 
 same-above : (k v : ℤ) → SameSign k v → pos 0 <ℤ k → pos 0 <ℤ v
 same-above k v (both_above a b) h = b
@@ -102,9 +97,6 @@ same-not_below : (k v : ℤ) → SameSign k v → pos 0 ≤ℤ k → pos 0 ≤�
 same-not_below k v (both_above a b) h = omega (arith, ints)
 same-not_below k v (both_zero a b) h = omega (arith, ints)
 same-not_below k v (both_below a b) h = absurd (omega (arith, ints))
-
-weak_below : (a : ℤ) → a <ℤ pos 0 → a ≤ℤ pos 0
-weak_below a h = omega (arith, ints)
 
 nothing : (a : ℤ) → a -ℤ a ≡ pos 0
 nothing a = identity (a ∷ []) (search reads depth 40) refl
@@ -148,16 +140,16 @@ module _ (xu yu xd yd tu td su sd w wy v : ℤ) (w_is : w ≡ tu +ℤ td) (wy_is
       → (xd *ℤ yu -ℤ yd *ℤ xu ≡ pos 0 → xu ≤ℤ pos 0 → yu ≤ℤ pos 0 → pos 0 <ℤ xd → pos 0 <ℤ yd → ⊥)
       → UpTurn tu yu → DownTurn td yd → UpTurn su xu → DownTurn sd xd → Claim
   quadrants s t1 t2 (up_yes e1 h1) (down_yes e2 h2) (up_yes e3 h3) (down_yes e4 h4) = collect (taken w v) (taken wy v) (where_not_zero tu su) (where_not_zero td sd) (pos 0) (pos 0) (pos 1) (negsuc 0) (taken_none w v (sum_is w tu td (pos 1) (negsuc 0) (pos 0) w_is e1 e2 refl)) (taken_none wy v (sum_neg wy su sd (pos 1) (negsuc 0) (pos 0) wy_is e3 e4 refl)) (λ i. where_not_zero (e1 i) (e3 i)) (λ i. where_not_zero (e2 i) (e4 i)) refl
-  quadrants s t1 t2 (up_yes e1 h1) (down_yes e2 h2) (up_yes e3 h3) (down_no e4 h4) = collect (taken w v) (taken wy v) (where_not_zero tu su) (where_not_zero td sd) (pos 0) (negsuc 0) (pos 1) (pos 0) (taken_none w v (sum_is w tu td (pos 1) (negsuc 0) (pos 0) w_is e1 e2 refl)) (taken_minus wy v (sum_neg wy su sd (pos 1) (pos 0) (negsuc 0) wy_is e3 e4 refl) (same-below (xd *ℤ yu -ℤ yd *ℤ xu) v s (below-1 (xd *ℤ yu) (yd *ℤ xu) (np xd yu h4 h1) (pp yd xu h2 h3)))) (λ i. where_not_zero (e1 i) (e3 i)) (λ i. where_not_zero (e2 i) (e4 i)) refl
-  quadrants s t1 t2 (up_yes e1 h1) (down_yes e2 h2) (up_no e3 h3) (down_yes e4 h4) = collect (taken w v) (taken wy v) (where_not_zero tu su) (where_not_zero td sd) (pos 0) (pos 1) (pos 0) (negsuc 0) (taken_none w v (sum_is w tu td (pos 1) (negsuc 0) (pos 0) w_is e1 e2 refl)) (taken_one wy v (sum_neg wy su sd (pos 0) (negsuc 0) (pos 1) wy_is e3 e4 refl) (same-above (xd *ℤ yu -ℤ yd *ℤ xu) v s (above-1 (xd *ℤ yu) (yd *ℤ xu) (pp xd yu h4 h1) (pn yd xu h2 h3)))) (λ i. where_not_zero (e1 i) (e3 i)) (λ i. where_not_zero (e2 i) (e4 i)) refl
+  quadrants s t1 t2 (up_yes e1 h1) (down_yes e2 h2) (up_yes e3 h3) (down_no e4 h4) = collect (taken w v) (taken wy v) (where_not_zero tu su) (where_not_zero td sd) (pos 0) (negsuc 0) (pos 1) (pos 0) (taken_none w v (sum_is w tu td (pos 1) (negsuc 0) (pos 0) w_is e1 e2 refl)) (taken_minus wy v (sum_neg wy su sd (pos 1) (pos 0) (negsuc 0) wy_is e3 e4 refl) (same-below (xd *ℤ yu -ℤ yd *ℤ xu) v s (below-1 (xd *ℤ yu) (yd *ℤ xu) (np xd yu h4 h1) (mul_positive yd xu h2 h3)))) (λ i. where_not_zero (e1 i) (e3 i)) (λ i. where_not_zero (e2 i) (e4 i)) refl
+  quadrants s t1 t2 (up_yes e1 h1) (down_yes e2 h2) (up_no e3 h3) (down_yes e4 h4) = collect (taken w v) (taken wy v) (where_not_zero tu su) (where_not_zero td sd) (pos 0) (pos 1) (pos 0) (negsuc 0) (taken_none w v (sum_is w tu td (pos 1) (negsuc 0) (pos 0) w_is e1 e2 refl)) (taken_one wy v (sum_neg wy su sd (pos 0) (negsuc 0) (pos 1) wy_is e3 e4 refl) (same-above (xd *ℤ yu -ℤ yd *ℤ xu) v s (above-1 (xd *ℤ yu) (yd *ℤ xu) (mul_positive xd yu h4 h1) (pn yd xu h2 h3)))) (λ i. where_not_zero (e1 i) (e3 i)) (λ i. where_not_zero (e2 i) (e4 i)) refl
   quadrants s t1 t2 (up_yes e1 h1) (down_yes e2 h2) (up_no e3 h3) (down_no e4 h4) = collect (taken w v) (taken wy v) (where_not_zero tu su) (where_not_zero td sd) (pos 0) (pos 0) (pos 0) (pos 0) (taken_none w v (sum_is w tu td (pos 1) (negsuc 0) (pos 0) w_is e1 e2 refl)) (taken_none wy v (sum_neg wy su sd (pos 0) (pos 0) (pos 0) wy_is e3 e4 refl)) (λ i. where_not_zero (e1 i) (e3 i)) (λ i. where_not_zero (e2 i) (e4 i)) refl
-  quadrants s t1 t2 (up_yes e1 h1) (down_no e2 h2) (up_yes e3 h3) (down_yes e4 h4) = collect (taken w v) (taken wy v) (where_not_zero tu su) (where_not_zero td sd) (pos 1) (pos 0) (pos 1) (pos 0) (taken_one w v (sum_is w tu td (pos 1) (pos 0) (pos 1) w_is e1 e2 refl) (same-above (xd *ℤ yu -ℤ yd *ℤ xu) v s (above-1 (xd *ℤ yu) (yd *ℤ xu) (pp xd yu h4 h1) (np yd xu h2 h3)))) (taken_none wy v (sum_neg wy su sd (pos 1) (negsuc 0) (pos 0) wy_is e3 e4 refl)) (λ i. where_not_zero (e1 i) (e3 i)) (λ i. where_not_zero (e2 i) (e4 i)) refl
+  quadrants s t1 t2 (up_yes e1 h1) (down_no e2 h2) (up_yes e3 h3) (down_yes e4 h4) = collect (taken w v) (taken wy v) (where_not_zero tu su) (where_not_zero td sd) (pos 1) (pos 0) (pos 1) (pos 0) (taken_one w v (sum_is w tu td (pos 1) (pos 0) (pos 1) w_is e1 e2 refl) (same-above (xd *ℤ yu -ℤ yd *ℤ xu) v s (above-1 (xd *ℤ yu) (yd *ℤ xu) (mul_positive xd yu h4 h1) (np yd xu h2 h3)))) (taken_none wy v (sum_neg wy su sd (pos 1) (negsuc 0) (pos 0) wy_is e3 e4 refl)) (λ i. where_not_zero (e1 i) (e3 i)) (λ i. where_not_zero (e2 i) (e4 i)) refl
   quadrants (both_above a b) t1 t2 (up_yes e1 h1) (down_no e2 h2) (up_yes e3 h3) (down_no e4 h4) = collect (taken w v) (taken wy v) (where_not_zero tu su) (where_not_zero td sd) (pos 1) (pos 0) (pos 1) (pos 0) (taken_one w v (sum_is w tu td (pos 1) (pos 0) (pos 1) w_is e1 e2 refl) b) (taken_minus_not wy v (sum_neg wy su sd (pos 1) (pos 0) (negsuc 0) wy_is e3 e4 refl) (weak v b)) (λ i. where_not_zero (e1 i) (e3 i)) (λ i. where_not_zero (e2 i) (e4 i)) refl
   quadrants (both_zero a b) t1 t2 (up_yes e1 h1) (down_no e2 h2) (up_yes e3 h3) (down_no e4 h4) = absurd (t1 a h4 h2 h3 h1)
   quadrants (both_below a b) t1 t2 (up_yes e1 h1) (down_no e2 h2) (up_yes e3 h3) (down_no e4 h4) = collect (taken w v) (taken wy v) (where_not_zero tu su) (where_not_zero td sd) (pos 0) (negsuc 0) (pos 1) (pos 0) (taken_one_not w v (sum_is w tu td (pos 1) (pos 0) (pos 1) w_is e1 e2 refl) (weak_below v b)) (taken_minus wy v (sum_neg wy su sd (pos 1) (pos 0) (negsuc 0) wy_is e3 e4 refl) b) (λ i. where_not_zero (e1 i) (e3 i)) (λ i. where_not_zero (e2 i) (e4 i)) refl
   quadrants s t1 t2 (up_yes e1 h1) (down_no e2 h2) (up_no e3 h3) (down_yes e4 h4) = collect (taken w v) (taken wy v) (where_not_zero tu su) (where_not_zero td sd) (taken (pos 1) v) (taken (pos 1) v) (pos 0) (pos 0) (ap (λ x. taken x v) (sum_is w tu td (pos 1) (pos 0) (pos 1) w_is e1 e2 refl)) (ap (λ x. taken x v) (sum_neg wy su sd (pos 0) (negsuc 0) (pos 1) wy_is e3 e4 refl)) (λ i. where_not_zero (e1 i) (e3 i)) (λ i. where_not_zero (e2 i) (e4 i)) (nothing (taken (pos 1) v))
   quadrants s t1 t2 (up_yes e1 h1) (down_no e2 h2) (up_no e3 h3) (down_no e4 h4) = collect (taken w v) (taken wy v) (where_not_zero tu su) (where_not_zero td sd) (pos 0) (pos 0) (pos 0) (pos 0) (taken_one_not w v (sum_is w tu td (pos 1) (pos 0) (pos 1) w_is e1 e2 refl) (same-not_above (xd *ℤ yu -ℤ yd *ℤ xu) v s (below-2 (xd *ℤ yu) (yd *ℤ xu) (np xd yu h4 h1) (nn yd xu h2 h3)))) (taken_none wy v (sum_neg wy su sd (pos 0) (pos 0) (pos 0) wy_is e3 e4 refl)) (λ i. where_not_zero (e1 i) (e3 i)) (λ i. where_not_zero (e2 i) (e4 i)) refl
-  quadrants s t1 t2 (up_no e1 h1) (down_yes e2 h2) (up_yes e3 h3) (down_yes e4 h4) = collect (taken w v) (taken wy v) (where_not_zero tu su) (where_not_zero td sd) (negsuc 0) (pos 0) (pos 0) (negsuc 0) (taken_minus w v (sum_is w tu td (pos 0) (negsuc 0) (negsuc 0) w_is e1 e2 refl) (same-below (xd *ℤ yu -ℤ yd *ℤ xu) v s (below-1 (xd *ℤ yu) (yd *ℤ xu) (pn xd yu h4 h1) (pp yd xu h2 h3)))) (taken_none wy v (sum_neg wy su sd (pos 1) (negsuc 0) (pos 0) wy_is e3 e4 refl)) (λ i. where_not_zero (e1 i) (e3 i)) (λ i. where_not_zero (e2 i) (e4 i)) refl
+  quadrants s t1 t2 (up_no e1 h1) (down_yes e2 h2) (up_yes e3 h3) (down_yes e4 h4) = collect (taken w v) (taken wy v) (where_not_zero tu su) (where_not_zero td sd) (negsuc 0) (pos 0) (pos 0) (negsuc 0) (taken_minus w v (sum_is w tu td (pos 0) (negsuc 0) (negsuc 0) w_is e1 e2 refl) (same-below (xd *ℤ yu -ℤ yd *ℤ xu) v s (below-1 (xd *ℤ yu) (yd *ℤ xu) (pn xd yu h4 h1) (mul_positive yd xu h2 h3)))) (taken_none wy v (sum_neg wy su sd (pos 1) (negsuc 0) (pos 0) wy_is e3 e4 refl)) (λ i. where_not_zero (e1 i) (e3 i)) (λ i. where_not_zero (e2 i) (e4 i)) refl
   quadrants s t1 t2 (up_no e1 h1) (down_yes e2 h2) (up_yes e3 h3) (down_no e4 h4) = collect (taken w v) (taken wy v) (where_not_zero tu su) (where_not_zero td sd) (taken (negsuc 0) v) (taken (negsuc 0) v) (pos 0) (pos 0) (ap (λ x. taken x v) (sum_is w tu td (pos 0) (negsuc 0) (negsuc 0) w_is e1 e2 refl)) (ap (λ x. taken x v) (sum_neg wy su sd (pos 1) (pos 0) (negsuc 0) wy_is e3 e4 refl)) (λ i. where_not_zero (e1 i) (e3 i)) (λ i. where_not_zero (e2 i) (e4 i)) (nothing (taken (negsuc 0) v))
   quadrants (both_above a b) t1 t2 (up_no e1 h1) (down_yes e2 h2) (up_no e3 h3) (down_yes e4 h4) = collect (taken w v) (taken wy v) (where_not_zero tu su) (where_not_zero td sd) (pos 0) (pos 1) (pos 0) (negsuc 0) (taken_minus_not w v (sum_is w tu td (pos 0) (negsuc 0) (negsuc 0) w_is e1 e2 refl) (weak v b)) (taken_one wy v (sum_neg wy su sd (pos 0) (negsuc 0) (pos 1) wy_is e3 e4 refl) b) (λ i. where_not_zero (e1 i) (e3 i)) (λ i. where_not_zero (e2 i) (e4 i)) refl
   quadrants (both_zero a b) t1 t2 (up_no e1 h1) (down_yes e2 h2) (up_no e3 h3) (down_yes e4 h4) = absurd (t2 a h3 h1 h4 h2)

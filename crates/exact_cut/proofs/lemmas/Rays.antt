@@ -2,7 +2,8 @@
 use Rattle.std.proofs.Common.{◌≡◌, ◌⊎◌, inl, inr, zero, suc, [], ◌∷◌, ℤ, pos, negsuc, ◌+ℤ◌, ◌-ℤ◌, ◌*ℤ◌, neg_ℤ, ◌≤ℤ◌, ◌<ℤ◌, refl, sym, ◌∙◌, ap, subst, arith}
 use Rattle.std.proofs.lemmas.Int.{ints}
 use Rattle.exact_int.proofs.lemmas.Identity.{reads, identity}
-use Rattle.exact_int.proofs.lemmas.Signs.{clash, weak, sign_cases, mul_positive, mul_negative_right, right_of_positive}
+use Rattle.exact_int.proofs.lemmas.Signs.{clash, not_both, weak, sign_cases, mul_positive, mul_negative_right, right_of_positive}
+use Rattle.geometry.specs.TieRule.{IsBelow, IsAbove}
 use Rattle.geometry.specs.Point.{Point}
 use Rattle.geometry.specs.Facet.{Facet}
 use Rattle.geometry.specs.Winding.{left, turn_of, turn, wind, volume, normal_x, normal_y, hit, left_x, turn_x, wind_y, hit_y}
@@ -20,14 +21,14 @@ cut-left_x_down : (u v : Point) (x z : ℤ) → left_x v u x z ≡ x *ℤ cut_d 
 cut-left_x_down u v x z = identity (u.x ∷ u.z ∷ v.x ∷ v.z ∷ x ∷ z ∷ []) (search reads depth 40 fits 5000) refl
 
 -- ---- turns by sides
-up-turn : (u v z l m : ℤ) → u ≤ℤ z → z <ℤ v → l ≡ m → UpTurn (turn_of u v z l) m
+up-turn : (u v z l m : ℤ) → IsBelow u z → IsAbove v z → l ≡ m → UpTurn (turn_of u v z l) m
 up-turn u v z l m h k e = by (turn_of-up u v z l h k)
   where
     by : ((turn_of u v z l ≡ pos 1) × (pos 0 <ℤ l)) ⊎ ((turn_of u v z l ≡ pos 0) × (l ≤ℤ pos 0)) → UpTurn (turn_of u v z l) m
     by (inl a) = up_yes a.0 (subst (λ i. pos 0 <ℤ i) e a.1)
     by (inr a) = up_no a.0 (subst (λ i. i ≤ℤ pos 0) e a.1)
 
-down-turn : (u v z l m c : ℤ) → v ≤ℤ z → z <ℤ u → l ≡ m -ℤ c → DownTurn (turn_of u v z l) (c -ℤ m)
+down-turn : (u v z l m c : ℤ) → IsBelow v z → IsAbove u z → l ≡ m -ℤ c → DownTurn (turn_of u v z l) (c -ℤ m)
 down-turn u v z l m c h k e = by (turn_of-down u v z l h k)
   where
     below : (l m c : ℤ) → l ≡ m -ℤ c → l <ℤ pos 0 → pos 0 <ℤ (c -ℤ m)
@@ -170,11 +171,8 @@ hits-differ t c r s p q h apart =
     a4 : DownTurn sd xd
     a4 = down-turn s.z r.z c.z (left_x s r c.x c.z) (c.x *ℤ cut_d r s) (cut_x r s c.z) h.down.low h.down.high (cut-left_x_down r s c.x c.z)
 
-    clash : (i : ℤ) → i <ℤ pos 0 → pos 0 ≤ℤ i → ⊥
-    clash i h k = omega (arith, ints)
-
     by : (h.height <ℤ pos 0) ⊎ (h.height ≡ pos 0) ⊎ (pos 0 <ℤ h.height) → taken w v -ℤ taken wy v ≡ where_not_zero tu su +ℤ where_not_zero td sd
-    by (inl n) = absurd (clash h.height n h.not_negative)
+    by (inl n) = absurd (not_both h.height (pos 0) n h.not_negative)
     by (inr (inl e)) =
         let ey = add_nothing (cut_d r s *ℤ yu) (cut_d p q *ℤ yd) h.height (normal_x t) e (along-y r s p q c.y c.z ∙ ap (λ i. cut_d p q *ℤ yd +ℤ i) h.den_is) in
         let ex = take_nothing (cut_d r s *ℤ xu) (cut_d p q *ℤ xd) h.height (normal_y t) e (along-x r s p q c.x c.z ∙ ap (λ i. cut_d p q *ℤ xd +ℤ i) h.den_x_is) in

@@ -6,7 +6,7 @@ use Rattle.std.proofs.lemmas.Nat.{div-add-mod'}
 use Rattle.std.proofs.Math.Nat.{mod-lt, suc-mul}
 use lib.IntN.{*ℤ_comm}
 use Rattle.exact_int.proofs.lemmas.Identity.{reads, identity}
-use Rattle.exact_int.proofs.lemmas.Signs.{lt_of_mul_left, weak}
+use Rattle.exact_int.proofs.lemmas.Signs.{antisym, lt_of_mul_left, weak}
 use Rattle.geometry.specs.Point.{Point}
 use Rattle.exact_cut.specs.CutPoint.{cut_x, cut_y, cut_d}
 use Rattle.exact_cut.specs.PlanePoint.{IsNearest, nearest, passing_point}
@@ -75,12 +75,9 @@ at_most num den m n h a b =
 -- just this number is nearest
 pub nearest-is : (num den n : ℤ) → pos 0 <ℤ den → IsNearest num den n ↔ (n ≡ nearest num den)
 nearest-is num den n h = (
-  λ a. same (at_most num den n (nearest num den) h a near) (at_most num den (nearest num den) n h near a),
+  λ a. antisym n (nearest num den) (at_most num den n (nearest num den) h a near) (at_most num den (nearest num den) n h near a),
   λ e. subst (IsNearest num den) (sym e) near,
 )
   where
     near : IsNearest num den (nearest num den)
     near = nearest-near num den h
-
-    same : {m n : ℤ} → m ≤ℤ n → n ≤ℤ m → m ≡ n
-    same {m} {n} h k = omega (arith, ints, h, k)

@@ -1,6 +1,7 @@
 -- The rows of a lattice: their centres are in range, and which of them are before a cut point.
 use Rattle.std.proofs.Common.{◌≡◌, ℕ, ◌<◌, ◌≤◌, [], ◌∷◌, ℤ, pos, ◌+ℤ◌, ◌*ℤ◌, ◌≤ℤ◌, ◌<ℤ◌, refl, subst, arith}
 use Rattle.std.proofs.lemmas.Int.{ints}
+use lib.IntN.{*ℤ_comm}
 use Rattle.exact_int.specs.Bounds.{IsAtMost}
 use Rattle.exact_int.proofs.lemmas.Identity.{reads, identity}
 use Rattle.exact_int.proofs.lemmas.Signs.{mul_le_left, mul_not_negative}
@@ -34,11 +35,8 @@ centre-mono first step i j h = by first _ _ (mul_le_left (pos 2 *ℤ pos step) (
 pub not_before : (num den first : ℤ) (step count i j : ℕ) → pos 0 <ℤ den → IsLeastColumn num den first step count i → i ≤ j → j < count → num ≤ℤ (centre_x first step j *ℤ den)
 not_before num den first step count i j p h l b =
     chain num (centre_x first step i *ℤ den) (centre_x first step j *ℤ den) (h.not_left (omega arith))
-    (subst (λ x. x ≤ℤ (centre_x first step j *ℤ den)) (turned den (centre_x first step i))
-    (subst (λ x. (den *ℤ centre_x first step i) ≤ℤ x) (turned den (centre_x first step j)) (mul_le_left den (centre_x first step i) (centre_x first step j) (omega (arith, ints)) (centre-mono first step i j l))))
+    (subst (λ x. x ≤ℤ (centre_x first step j *ℤ den)) (*ℤ_comm den (centre_x first step i))
+    (subst (λ x. (den *ℤ centre_x first step i) ≤ℤ x) (*ℤ_comm den (centre_x first step j)) (mul_le_left den (centre_x first step i) (centre_x first step j) (omega (arith, ints)) (centre-mono first step i j l))))
   where
-    turned : (a b : ℤ) → a *ℤ b ≡ b *ℤ a
-    turned a b = identity (a ∷ b ∷ []) (search reads depth 40) refl
-
     chain : (a b c : ℤ) → a ≤ℤ b → b ≤ℤ c → a ≤ℤ c
     chain a b c h k = omega (arith, ints)

@@ -1,8 +1,9 @@
 -- Where no point of a facet lies between two points of a line along x, or along y, the rays along it from both hit the facet alike.
 use Rattle.std.proofs.Common.{◌+◌, ◌≡◌, ◌⊎◌, inl, inr, ℕ, [], ◌∷◌, ℤ, pos, negsuc, ◌+ℤ◌, ◌-ℤ◌, ◌*ℤ◌, neg_ℤ, ◌≤ℤ◌, ◌<ℤ◌, refl, sym, ◌∙◌, ap, subst, arith}
 use Rattle.std.proofs.lemmas.Int.{ints}
+use lib.IntN.{+ℤ_comm}
 use Rattle.exact_int.proofs.lemmas.Identity.{reads, identity}
-use Rattle.exact_int.proofs.lemmas.Signs.{weak, at_most_or_above, two_negs}
+use Rattle.exact_int.proofs.lemmas.Signs.{weak, weak_below, neg_not_negative, at_most_or_above, not_both, at_most_from_not_above, add_not_negative, add_positive_right, neg_right, two_negs, difference_from_lt, difference_from_le}
 use Rattle.geometry.specs.Point.{Point}
 use Rattle.geometry.specs.Facet.{Facet}
 use Rattle.geometry.specs.Winding.{hit, wind, left, volume, hit_y, wind_y}
@@ -16,7 +17,7 @@ use Rattle.exact_cut.proofs.lemmas.Ahead.{WindCase, winds_up, winds_down, winds_
 use Rattle.exact_cut.proofs.lemmas.Hitting.{hit-wind, hit-zero}
 use Rattle.exact_cut.proofs.lemmas.Quadrants.{taken, taken_none}
 use Rattle.exact_cut.proofs.lemmas.Rays.{hit-taken, hit_y-taken}
-use Rattle.exact_cut.proofs.lemmas.Touching.{on_a, on_b, on_c, not_negative_a, not_negative_b, not_negative_c, plus, below, not_below, m1, n1, m2, n2, m1_in, n1_in, m2_in, n2_in, total, corners}
+use Rattle.exact_cut.proofs.lemmas.Touching.{on_a, on_b, on_c, not_negative_a, not_negative_b, not_negative_c, m1, n1, m2, n2, m1_in, n1_in, m2_in, n2_in, total, corners}
 
 -- by whole numbers that are not negative
 between_from : (t : Facet) (p q : Point) (l m n i j : ℤ) → pos 0 ≤ℤ l → pos 0 ≤ℤ m → pos 0 ≤ℤ n → pos 0 <ℤ (l +ℤ m +ℤ n) → pos 0 ≤ℤ i → pos 0 ≤ℤ j → pos 0 <ℤ (i +ℤ j)
@@ -47,7 +48,7 @@ pub record Mean (t : Facet) (num den y z : ℤ) : Type 0 where
 -- where it lies from x1 to x2
 mean-between : (t : Facet) (num den y z x1 x2 : ℤ) → pos 0 <ℤ den → Mean t num den y z → (x1 *ℤ den) <ℤ num → num ≤ℤ (x2 *ℤ den) → Between t (record { x = x1; y = y; z = z }) (record { x = x2; y = y; z = z })
 mean-between t num den y z x1 x2 h k a b =
-    between_from t (record { x = x1; y = y; z = z }) (record { x = x2; y = y; z = z }) k.l k.m k.n i j k.l_in k.m_in k.n_in (subst (λ e. pos 0 <ℤ e) (sym k.total) h) (not_below num (x2 *ℤ den) b) (weak j (below (x1 *ℤ den) num a)) (more i j (not_below num (x2 *ℤ den) b) (below (x1 *ℤ den) num a))
+    between_from t (record { x = x1; y = y; z = z }) (record { x = x2; y = y; z = z }) k.l k.m k.n i j k.l_in k.m_in k.n_in (subst (λ e. pos 0 <ℤ e) (sym k.total) h) (difference_from_le num (x2 *ℤ den) b) (weak j (difference_from_lt (x1 *ℤ den) num a)) (add_positive_right i j (difference_from_le num (x2 *ℤ den) b) (difference_from_lt (x1 *ℤ den) num a))
     (ap (λ e. (i +ℤ j) *ℤ e) k.mean_x ∙ along-x x1 x2 num den ∙ ap (λ e. e *ℤ (i *ℤ x1 +ℤ j *ℤ x2)) (sym k.total))
     (ap (λ e. (i +ℤ j) *ℤ e) k.mean_y ∙ along-y i j den y ∙ ap (λ e. e *ℤ (i *ℤ y +ℤ j *ℤ y)) (sym k.total))
     (ap (λ e. (i +ℤ j) *ℤ e) k.mean_z ∙ along-y i j den z ∙ ap (λ e. e *ℤ (i *ℤ z +ℤ j *ℤ z)) (sym k.total))
@@ -57,9 +58,6 @@ mean-between t num den y z x1 x2 h k a b =
 
     j : ℤ
     j = num -ℤ x1 *ℤ den
-
-    more : (i j : ℤ) → pos 0 ≤ℤ i → pos 0 <ℤ j → pos 0 <ℤ (i +ℤ j)
-    more i j h k = omega (arith, ints)
 
     along-x : (x1 x2 num den : ℤ) → ((x2 *ℤ den -ℤ num) +ℤ (num -ℤ x1 *ℤ den)) *ℤ num ≡ den *ℤ ((x2 *ℤ den -ℤ num) *ℤ x1 +ℤ (num -ℤ x1 *ℤ den) *ℤ x2)
     along-x x1 x2 num den = identity (x1 ∷ x2 ∷ num ∷ den ∷ []) (search reads depth 40) refl
@@ -139,9 +137,9 @@ module _ (t : Facet) (y z w : ℤ) (d u : ℕ) (falls : Rises (finish t d) (star
     l = on_a d i1 j1 +ℤ on_a u i2 j2;
     m = on_b d i1 j1 +ℤ on_b u i2 j2;
     n = on_c d i1 j1 +ℤ on_c u i2 j2;
-    l_in = plus _ _ (not_negative_a d i1 j1 (m1_in t at d u falls rises k1 k2 h1 h2) (n1_in t at d u falls rises k1 k2 h1 h2)) (not_negative_a u i2 j2 (m2_in t at d u falls rises k1 k2 h1 h2) (n2_in t at d u falls rises k1 k2 h1 h2));
-    m_in = plus _ _ (not_negative_b d i1 j1 (m1_in t at d u falls rises k1 k2 h1 h2) (n1_in t at d u falls rises k1 k2 h1 h2)) (not_negative_b u i2 j2 (m2_in t at d u falls rises k1 k2 h1 h2) (n2_in t at d u falls rises k1 k2 h1 h2));
-    n_in = plus _ _ (not_negative_c d i1 j1 (m1_in t at d u falls rises k1 k2 h1 h2) (n1_in t at d u falls rises k1 k2 h1 h2)) (not_negative_c u i2 j2 (m2_in t at d u falls rises k1 k2 h1 h2) (n2_in t at d u falls rises k1 k2 h1 h2));
+    l_in = add_not_negative _ _ (not_negative_a d i1 j1 (m1_in t at d u falls rises k1 k2 h1 h2) (n1_in t at d u falls rises k1 k2 h1 h2)) (not_negative_a u i2 j2 (m2_in t at d u falls rises k1 k2 h1 h2) (n2_in t at d u falls rises k1 k2 h1 h2));
+    m_in = add_not_negative _ _ (not_negative_b d i1 j1 (m1_in t at d u falls rises k1 k2 h1 h2) (n1_in t at d u falls rises k1 k2 h1 h2)) (not_negative_b u i2 j2 (m2_in t at d u falls rises k1 k2 h1 h2) (n2_in t at d u falls rises k1 k2 h1 h2));
+    n_in = add_not_negative _ _ (not_negative_c d i1 j1 (m1_in t at d u falls rises k1 k2 h1 h2) (n1_in t at d u falls rises k1 k2 h1 h2)) (not_negative_c u i2 j2 (m2_in t at d u falls rises k1 k2 h1 h2) (n2_in t at d u falls rises k1 k2 h1 h2));
     total = total t at d u falls rises k1 k2 h1 h2 ∙ spans-sum k1 k2 s.z r.z p.z q.z z ∙ whole;
     mean_x = corners t at d u falls rises k1 k2 h1 h2 (λ o. o.x) ∙ cuts-sum k1 k2 s.z r.z s.x r.x p.z q.z p.x q.x z ∙ num-weights (cut_x r s z) (cut_y r s z) (cut_d r s) (cut_x p q z) (cut_y p q z) (cut_d p q) y w;
     mean_y = corners t at d u falls rises k1 k2 h1 h2 (λ o. o.y) ∙ cuts-sum k1 k2 s.z r.z s.y r.y p.z q.z p.y q.y z ∙ scan-weights (cut_y r s z) (cut_d r s) (cut_y p q z) (cut_d p q) y w;
@@ -153,13 +151,7 @@ one_of : (w a : ℤ) → w ≡ pos 1 → pos 0 ≤ℤ a → pos 0 ≤ℤ (w *ℤ
 one_of w a e h = subst (λ i. pos 0 ≤ℤ i) (identity (a ∷ []) (search reads depth 40) refl ∙ ap (λ i. i *ℤ a) (sym e)) h
 
 minus_of : (w a : ℤ) → w ≡ negsuc 0 → a ≤ℤ pos 0 → pos 0 ≤ℤ (w *ℤ a)
-minus_of w a e h = subst (λ i. pos 0 ≤ℤ i) (identity (a ∷ []) (search reads depth 40) refl ∙ ap (λ i. i *ℤ a) (sym e)) (flip a h)
-  where
-    flip : (a : ℤ) → a ≤ℤ pos 0 → pos 0 ≤ℤ neg_ℤ a
-    flip a h = omega (arith, ints)
-
-neg-right : (w a : ℤ) → w *ℤ neg_ℤ a ≡ neg_ℤ (w *ℤ a)
-neg-right w a = identity (w ∷ a ∷ []) (search reads depth 40) refl
+minus_of w a e h = subst (λ i. pos 0 ≤ℤ i) (identity (a ∷ []) (search reads depth 40) refl ∙ ap (λ i. i *ℤ a) (sym e)) (neg_not_negative a h)
 
 swapped : (c m : ℤ) → m -ℤ c ≡ neg_ℤ (c -ℤ m)
 swapped c m = identity (c ∷ m ∷ []) (search reads depth 40) refl
@@ -167,12 +159,9 @@ swapped c m = identity (c ∷ m ∷ []) (search reads depth 40) refl
 -- w is 0, or both weights are at least 0
 weights_in : (w lu ld yu yd : ℤ) → WindCase w lu ld → lu ≡ yu → ld ≡ neg_ℤ yd → (w ≡ pos 0) ⊎ ((pos 0 ≤ℤ (w *ℤ yu)) × (pos 0 ≤ℤ neg_ℤ (w *ℤ yd)))
 weights_in w lu ld yu yd (winds_up e a b) f g =
-    inr (one_of w yu e (weak yu (subst (λ i. pos 0 <ℤ i) f a)), subst (λ i. pos 0 ≤ℤ i) (neg-right w yd) (one_of w (neg_ℤ yd) e (subst (λ i. pos 0 ≤ℤ i) g b)))
+    inr (one_of w yu e (weak yu (subst (λ i. pos 0 <ℤ i) f a)), subst (λ i. pos 0 ≤ℤ i) (neg_right w yd) (one_of w (neg_ℤ yd) e (subst (λ i. pos 0 ≤ℤ i) g b)))
 weights_in w lu ld yu yd (winds_down e a b) f g =
-    inr (minus_of w yu e (subst (λ i. i ≤ℤ pos 0) f a), subst (λ i. pos 0 ≤ℤ i) (neg-right w yd) (minus_of w (neg_ℤ yd) e (at_most (neg_ℤ yd) (subst (λ i. i <ℤ pos 0) g b))))
-  where
-    at_most : (a : ℤ) → a <ℤ pos 0 → a ≤ℤ pos 0
-    at_most a h = omega (arith, ints)
+    inr (minus_of w yu e (subst (λ i. i ≤ℤ pos 0) f a), subst (λ i. pos 0 ≤ℤ i) (neg_right w yd) (minus_of w (neg_ℤ yd) e (weak_below (neg_ℤ yd) (subst (λ i. i <ℤ pos 0) g b))))
 weights_in w lu ld yu yd (winds_not e) f g = inl e
 
 pub no_hit : (t : Facet) (p : Point) → wind t p.y p.z ≡ pos 0 → hit t p ≡ pos 0
@@ -182,11 +171,8 @@ no_hit t p e = hit-taken t p ∙ taken_none (wind t p.y p.z) (volume t p) e
 ends-swapped : (m n : ℕ) → m + n ≡ n + m
 ends-swapped m n = omega arith
 
-sums-swapped : (a b : ℤ) → a +ℤ b ≡ b +ℤ a
-sums-swapped a b = omega (arith, ints)
-
 flipped : (m n : ℕ) (l w a b : ℤ) → pos (m + n) *ℤ l ≡ w *ℤ (a +ℤ b) → pos (n + m) *ℤ l ≡ w *ℤ (b +ℤ a)
-flipped m n l w a b e = ap (λ i. pos i *ℤ l) (ends-swapped n m) ∙ e ∙ ap (λ i. w *ℤ i) (sums-swapped a b)
+flipped m n l w a b e = ap (λ i. pos i *ℤ l) (ends-swapped n m) ∙ e ∙ ap (λ i. w *ℤ i) (+ℤ_comm a b)
 
 pub between-flip : (t : Facet) (p q : Point) → Between t p q → Between t q p
 between-flip t p q b = record {
@@ -216,20 +202,10 @@ step-x t x1 x2 y z n = by (sides t z)
     still : wind t y z ≡ pos 0 → hit t one ≡ hit t two
     still e = no_hit t one e ∙ sym (no_hit t two e)
 
-    not_above : (a b : ℤ) → (a <ℤ b → ⊥) → b ≤ℤ a
-    not_above a b h = by_cases (at_most_or_above b a)
-      where
-        by_cases : (b ≤ℤ a) ⊎ (a <ℤ b) → b ≤ℤ a
-        by_cases (inl k) = k
-        by_cases (inr k) = absurd (h k)
-
-    clash : (a b : ℤ) → a <ℤ b → b ≤ℤ a → ⊥
-    clash a b h k = omega (arith, ints)
-
     crossed : (num den : ℤ) → Crosses t y z (wind t y z) num den → Mean t num den y z → (num ≤ℤ (x1 *ℤ den)) ⊎ ((x1 *ℤ den) <ℤ num) → (num ≤ℤ (x2 *ℤ den)) ⊎ ((x2 *ℤ den) <ℤ num) → hit t one ≡ hit t two
     crossed num den c k (inl a) (inl b) =
-        hit-zero t one (not_above (pos 0) (wind t y z *ℤ volume t one) (λ l. clash (x1 *ℤ den) num ((c.ahead_of x1).1 l) a))
-        ∙ sym (hit-zero t two (not_above (pos 0) (wind t y z *ℤ volume t two) (λ l. clash (x2 *ℤ den) num ((c.ahead_of x2).1 l) b)))
+        hit-zero t one (at_most_from_not_above (pos 0) (wind t y z *ℤ volume t one) (λ l. not_both (x1 *ℤ den) num ((c.ahead_of x1).1 l) a))
+        ∙ sym (hit-zero t two (at_most_from_not_above (pos 0) (wind t y z *ℤ volume t two) (λ l. not_both (x2 *ℤ den) num ((c.ahead_of x2).1 l) b)))
     crossed num den c k (inr a) (inr b) = hit-wind t one ((c.ahead_of x1).0 a) ∙ sym (hit-wind t two ((c.ahead_of x2).0 b))
     crossed num den c k (inr a) (inl b) = absurd (n (mean-between t num den y z x1 x2 c.den_positive k a b))
     crossed num den c k (inl a) (inr b) = absurd (n (between-flip t two one (mean-between t num den y z x2 x1 c.den_positive k b a)))

@@ -2,7 +2,8 @@
 use Rattle.std.proofs.Common.{◌≡◌, ℕ, zero, suc, [], ◌∷◌, ℤ, pos, negsuc, ◌+ℤ◌, ◌-ℤ◌, ◌*ℤ◌, neg_ℤ, ◌≤ℤ◌, ◌<ℤ◌, refl, sym, ◌∙◌, ap, subst, arith}
 use Rattle.std.proofs.lemmas.Int.{ints}
 use Rattle.exact_int.proofs.lemmas.Identity.{reads, identity}
-use Rattle.exact_int.proofs.lemmas.Signs.{weak, mul_positive, mul_not_negative}
+use Rattle.exact_int.proofs.lemmas.Signs.{weak, neg_not_negative, add_not_negative, add_positive_left, add_positive_right, mul_positive, mul_not_negative, difference_from_lt, difference_from_le}
+use Rattle.exact_int.proofs.lemmas.Laws.{three_zeros}
 use Rattle.geometry.specs.Point.{Point}
 use Rattle.geometry.specs.Facet.{Facet}
 use Rattle.geometry.specs.Winding.{hit, wind, turn, hit_y, wind_y, turn_x}
@@ -70,15 +71,6 @@ not_negative_c zero m n h k = nought
 not_negative_c (suc zero) m n h k = k
 not_negative_c (suc (suc e)) m n h k = h
 
-pub plus : (a b : ℤ) → pos 0 ≤ℤ a → pos 0 ≤ℤ b → pos 0 ≤ℤ (a +ℤ b)
-plus a b h k = omega (arith, ints)
-
-positive-left : (a b : ℤ) → pos 0 <ℤ a → pos 0 ≤ℤ b → pos 0 <ℤ (a +ℤ b)
-positive-left a b h k = omega (arith, ints)
-
-positive-right : (a b : ℤ) → pos 0 ≤ℤ a → pos 0 <ℤ b → pos 0 <ℤ (a +ℤ b)
-positive-right a b h k = omega (arith, ints)
-
 -- sums over the corners
 pub regroup : (la lb lc ma mb mc a b c : ℤ) → (la +ℤ ma) *ℤ a +ℤ (lb +ℤ mb) *ℤ b +ℤ (lc +ℤ mc) *ℤ c ≡ (la *ℤ a +ℤ lb *ℤ b +ℤ lc *ℤ c) +ℤ (ma *ℤ a +ℤ mb *ℤ b +ℤ mc *ℤ c)
 regroup la lb lc ma mb mc a b c = identity (la ∷ lb ∷ lc ∷ ma ∷ mb ∷ mc ∷ a ∷ b ∷ c ∷ []) (search reads depth 40 fits 5000) refl
@@ -128,12 +120,6 @@ balanced k1 k2 s1 r1 s r p1 q1 p q z g e = by e
 level : (k1 k2 s1 r1 p1 q1 z : ℤ) → k1 *ℤ ((r1 *ℤ (s1 -ℤ z) +ℤ s1 *ℤ (z -ℤ r1)) -ℤ z *ℤ (s1 -ℤ r1)) +ℤ k2 *ℤ ((p1 *ℤ (q1 -ℤ z) +ℤ q1 *ℤ (z -ℤ p1)) -ℤ z *ℤ (q1 -ℤ p1)) ≡ pos 0
 level k1 k2 s1 r1 p1 q1 z = identity (k1 ∷ k2 ∷ s1 ∷ r1 ∷ p1 ∷ q1 ∷ z ∷ []) (search reads depth 40 fits 5000) refl
 
-pub not_below : (a b : ℤ) → a ≤ℤ b → pos 0 ≤ℤ (b -ℤ a)
-not_below a b h = omega (arith, ints)
-
-pub below : (a b : ℤ) → a <ℤ b → pos 0 <ℤ (b -ℤ a)
-below a b h = omega (arith, ints)
-
 module _ (t : Facet) (c : Point) (d u : ℕ) (falls : Rises (finish t d) (start t d) c.z) (rises : Rises (start t u) (finish t u) c.z) (k1 k2 : ℤ) (h1 : pos 0 ≤ℤ k1) (h2 : pos 0 ≤ℤ k2) where
   abbrev pub m1 : ℤ
   m1 = k1 *ℤ (c.z -ℤ (finish t d).z)
@@ -148,16 +134,16 @@ module _ (t : Facet) (c : Point) (d u : ℕ) (falls : Rises (finish t d) (start 
   n2 = k2 *ℤ (c.z -ℤ (start t u).z)
 
   pub m1_in : pos 0 ≤ℤ m1
-  m1_in = mul_not_negative k1 (c.z -ℤ (finish t d).z) h1 (not_below (finish t d).z c.z falls.low)
+  m1_in = mul_not_negative k1 (c.z -ℤ (finish t d).z) h1 (difference_from_le (finish t d).z c.z falls.low)
 
   pub n1_in : pos 0 ≤ℤ n1
-  n1_in = mul_not_negative k1 ((start t d).z -ℤ c.z) h1 (weak _ (below c.z (start t d).z falls.high))
+  n1_in = mul_not_negative k1 ((start t d).z -ℤ c.z) h1 (weak _ (difference_from_lt c.z (start t d).z falls.high))
 
   pub m2_in : pos 0 ≤ℤ m2
-  m2_in = mul_not_negative k2 ((finish t u).z -ℤ c.z) h2 (weak _ (below c.z (finish t u).z rises.high))
+  m2_in = mul_not_negative k2 ((finish t u).z -ℤ c.z) h2 (weak _ (difference_from_lt c.z (finish t u).z rises.high))
 
   pub n2_in : pos 0 ≤ℤ n2
-  n2_in = mul_not_negative k2 (c.z -ℤ (start t u).z) h2 (not_below (start t u).z c.z rises.low)
+  n2_in = mul_not_negative k2 (c.z -ℤ (start t u).z) h2 (difference_from_le (start t u).z c.z rises.low)
 
   pub total : (on_a d m1 n1 +ℤ on_a u m2 n2) +ℤ (on_b d m1 n1 +ℤ on_b u m2 n2) +ℤ (on_c d m1 n1 +ℤ on_c u m2 n2) ≡ (m1 +ℤ n1) +ℤ (m2 +ℤ n2)
   total = regroup-sum (on_a d m1 n1) (on_b d m1 n1) (on_c d m1 n1) (on_a u m2 n2) (on_b u m2 n2) (on_c u m2 n2) ∙ (λ i. summed d m1 n1 i +ℤ summed u m2 n2 i)
@@ -181,9 +167,9 @@ module _ (t : Facet) (c : Point) (d u : ℕ) (falls : Rises (finish t d) (start 
       → Touches t c
   touching some ex ey =
       touches_from t c (on_a d m1 n1 +ℤ on_a u m2 n2) (on_b d m1 n1 +ℤ on_b u m2 n2) (on_c d m1 n1 +ℤ on_c u m2 n2)
-      (plus (on_a d m1 n1) (on_a u m2 n2) (not_negative_a d m1 n1 m1_in n1_in) (not_negative_a u m2 n2 m2_in n2_in))
-      (plus (on_b d m1 n1) (on_b u m2 n2) (not_negative_b d m1 n1 m1_in n1_in) (not_negative_b u m2 n2 m2_in n2_in))
-      (plus (on_c d m1 n1) (on_c u m2 n2) (not_negative_c d m1 n1 m1_in n1_in) (not_negative_c u m2 n2 m2_in n2_in))
+      (add_not_negative (on_a d m1 n1) (on_a u m2 n2) (not_negative_a d m1 n1 m1_in n1_in) (not_negative_a u m2 n2 m2_in n2_in))
+      (add_not_negative (on_b d m1 n1) (on_b u m2 n2) (not_negative_b d m1 n1 m1_in n1_in) (not_negative_b u m2 n2 m2_in n2_in))
+      (add_not_negative (on_c d m1 n1) (on_c u m2 n2) (not_negative_c d m1 n1 m1_in n1_in) (not_negative_c u m2 n2 m2_in n2_in))
       (subst (λ x. pos 0 <ℤ x) (sym total) (four m1 n1 m2 n2 m1_in n2_in some))
       (mean (λ p. p.x) c.x (balanced k1 k2 (start t d).z (finish t d).z (start t d).x (finish t d).x (start t u).z (finish t u).z (start t u).x (finish t u).x c.z c.x ex))
       (mean (λ p. p.y) c.y (balanced k1 k2 (start t d).z (finish t d).z (start t d).y (finish t d).y (start t u).z (finish t u).z (start t u).y (finish t u).y c.z c.y ey))
@@ -205,20 +191,17 @@ opposite-3 a c = identity (a ∷ c ∷ []) (search reads depth 40) refl
 opposite-4 : (a b c d : ℤ) → a *ℤ d -ℤ b *ℤ c ≡ pos 0 → neg_ℤ c *ℤ b +ℤ a *ℤ d ≡ pos 0
 opposite-4 a b c d e = identity (a ∷ b ∷ c ∷ d ∷ []) (search reads depth 40) refl ∙ e
 
-flip : (a : ℤ) → a ≤ℤ pos 0 → pos 0 ≤ℤ neg_ℤ a
-flip a h = omega (arith, ints)
-
 apart : (t : Facet) (c : Point) (d u : ℕ) → (Touches t c → ⊥) → Rises (finish t d) (start t d) c.z → Rises (start t u) (finish t u) c.z → Apart (finish t d) (start t d) (start t u) (finish t u) c.x c.y c.z
 apart t c d u n falls rises = record {
   first = λ e hx hy kx ky.
-      n (touching t c d u falls rises xu (neg_ℤ xd) (weak xu kx) (flip xd hx)
-      (positive-left (xu *ℤ ((start t d).z -ℤ c.z)) (neg_ℤ xd *ℤ ((finish t u).z -ℤ c.z)) (mul_positive xu ((start t d).z -ℤ c.z) kx (below c.z (start t d).z falls.high))
-      (mul_not_negative (neg_ℤ xd) ((finish t u).z -ℤ c.z) (flip xd hx) (weak _ (below c.z (finish t u).z rises.high))))
+      n (touching t c d u falls rises xu (neg_ℤ xd) (weak xu kx) (neg_not_negative xd hx)
+      (add_positive_left (xu *ℤ ((start t d).z -ℤ c.z)) (neg_ℤ xd *ℤ ((finish t u).z -ℤ c.z)) (mul_positive xu ((start t d).z -ℤ c.z) kx (difference_from_lt c.z (start t d).z falls.high))
+      (mul_not_negative (neg_ℤ xd) ((finish t u).z -ℤ c.z) (neg_not_negative xd hx) (weak _ (difference_from_lt c.z (finish t u).z rises.high))))
       (opposite-1 xd yd xu yu) (opposite-2 xd yd xu yu e));
   second = λ e hx hy kx ky.
-      n (touching t c d u falls rises (neg_ℤ xu) xd (flip xu hx) (weak xd kx)
-      (positive-right (neg_ℤ xu *ℤ ((start t d).z -ℤ c.z)) (xd *ℤ ((finish t u).z -ℤ c.z)) (mul_not_negative (neg_ℤ xu) ((start t d).z -ℤ c.z) (flip xu hx) (weak _ (below c.z (start t d).z falls.high)))
-      (mul_positive xd ((finish t u).z -ℤ c.z) kx (below c.z (finish t u).z rises.high)))
+      n (touching t c d u falls rises (neg_ℤ xu) xd (neg_not_negative xu hx) (weak xd kx)
+      (add_positive_right (neg_ℤ xu *ℤ ((start t d).z -ℤ c.z)) (xd *ℤ ((finish t u).z -ℤ c.z)) (mul_not_negative (neg_ℤ xu) ((start t d).z -ℤ c.z) (neg_not_negative xu hx) (weak _ (difference_from_lt c.z (start t d).z falls.high)))
+      (mul_positive xd ((finish t u).z -ℤ c.z) kx (difference_from_lt c.z (finish t u).z rises.high)))
       (opposite-3 xd xu) (opposite-4 xd yd xu yu e));
 }
   where
@@ -233,9 +216,6 @@ apart t c d u n falls rises = record {
 
     yd : ℤ
     yd = cut_y (finish t d) (start t d) c.z -ℤ c.y *ℤ cut_d (finish t d) (start t d)
-
-three_zeros : (a b c : ℤ) → a ≡ pos 0 → b ≡ pos 0 → c ≡ pos 0 → a +ℤ b +ℤ c ≡ pos 0
-three_zeros a b c e f g = (λ i. e i +ℤ f i +ℤ g i)
 
 -- where the facet has no segment at the point's height
 outside : (t : Facet) (c : Point) → wind t c.y c.z ≡ pos 0 → wind_y t c.x c.z ≡ pos 0

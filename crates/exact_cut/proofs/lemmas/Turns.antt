@@ -2,23 +2,24 @@
 use Rattle.std.proofs.Common.{◌≡◌, ◌⊎◌, [], ◌∷◌, ℤ, pos, negsuc, neg_ℤ, ◌≤ℤ◌, ◌<ℤ◌, refl, ◌∙◌, ap, arith}
 use Rattle.std.proofs.lemmas.Int.{ints}
 use Rattle.exact_int.proofs.lemmas.Identity.{reads, identity}
+use Rattle.geometry.specs.TieRule.{IsBelow, IsAbove}
 use Rattle.geometry.specs.Point.{Point}
 use Rattle.geometry.specs.Winding.{left, turn_of, turn, left_x, turn_x}
 
 -- ---- by the tests alone
-pub turn_of-up : (u v z l : ℤ) → u ≤ℤ z → z <ℤ v → ((turn_of u v z l ≡ pos 1) × (pos 0 <ℤ l)) ⊎ ((turn_of u v z l ≡ pos 0) × (l ≤ℤ pos 0))
+pub turn_of-up : (u v z l : ℤ) → IsBelow u z → IsAbove v z → ((turn_of u v z l ≡ pos 1) × (pos 0 <ℤ l)) ⊎ ((turn_of u v z l ≡ pos 0) × (l ≤ℤ pos 0))
 unfolding turn_of
 turn_of-up u v z l h k = grind (arith, ints)
 
-pub turn_of-down : (u v z l : ℤ) → v ≤ℤ z → z <ℤ u → ((turn_of u v z l ≡ negsuc 0) × (l <ℤ pos 0)) ⊎ ((turn_of u v z l ≡ pos 0) × (pos 0 ≤ℤ l))
+pub turn_of-down : (u v z l : ℤ) → IsBelow v z → IsAbove u z → ((turn_of u v z l ≡ negsuc 0) × (l <ℤ pos 0)) ⊎ ((turn_of u v z l ≡ pos 0) × (pos 0 ≤ℤ l))
 unfolding turn_of
 turn_of-down u v z l h k = grind (arith, ints)
 
-pub turn_of-below : (u v z l : ℤ) → u ≤ℤ z → v ≤ℤ z → turn_of u v z l ≡ pos 0
+pub turn_of-below : (u v z l : ℤ) → IsBelow u z → IsBelow v z → turn_of u v z l ≡ pos 0
 unfolding turn_of
 turn_of-below u v z l h k = grind (arith, ints)
 
-pub turn_of-above : (u v z l : ℤ) → z <ℤ u → z <ℤ v → turn_of u v z l ≡ pos 0
+pub turn_of-above : (u v z l : ℤ) → IsAbove u z → IsAbove v z → turn_of u v z l ≡ pos 0
 unfolding turn_of
 turn_of-above u v z l h k = grind (arith, ints)
 

@@ -1,8 +1,7 @@
 -- What `Walk` gives: its columns are those of the facet's crossings, row by row, and they tell which rays hit.
-use Rattle.std.proofs.Common.{◌≡◌, ◌⊎◌, inl, inr, Bool, true, false, ◌&&◌, nat_lt, nat_le, if◌then◌else◌, ℕ, zero, suc, ◌+◌, ◌-◌, ◌<◌, ◌≤◌, [], ◌∷◌, List, length, slice_index, ℤ, pos, negsuc, ◌+ℤ◌, ◌-ℤ◌, ◌*ℤ◌, ◌≤ℤ◌, ◌<ℤ◌, refl, sym, ◌∙◌, subst, arith}
-use Rattle.std.proofs.lemmas.Int.{ints}
+use Rattle.std.proofs.Common.{◌≡◌, ◌⊎◌, inl, inr, Bool, true, false, ◌&&◌, nat_lt, nat_le, if◌then◌else◌, ℕ, zero, suc, ◌+◌, ◌-◌, ◌<◌, ◌≤◌, [], ◌∷◌, List, length, slice_index, ℤ, pos, negsuc, ◌+ℤ◌, ◌-ℤ◌, ◌*ℤ◌, refl, sym, ◌∙◌, subst, arith}
 use Rattle.exact_int.proofs.lemmas.Identity.{reads, identity}
-use Rattle.exact_int.proofs.lemmas.Signs.{at_most_or_above}
+use Rattle.exact_int.proofs.lemmas.Signs.{not_both, at_most_from_not_above}
 use Rattle.geometry.specs.Facet.{Facet}
 use Rattle.geometry.specs.Winding.{wind, volume, hit}
 use Rattle.exact_cut.specs.Column.{centre_x, IsLeastColumn}
@@ -54,18 +53,8 @@ splits t y z sign num den first step columns column c k = (
   λ i b. hit-wind t (record { x = centre_x first step i; y = y; z = z }) ((c.ahead_of (centre_x first step i)).0 (k.before_left i b)) ∙ sym c.sign_is,
   λ i b e.
       hit-zero t (record { x = centre_x first step i; y = y; z = z })
-      (not_above (wind t y z *ℤ volume t (record { x = centre_x first step i; y = y; z = z })) (λ a. clash num (centre_x first step i *ℤ den) (not_before num den first step columns column i c.den_positive k b e) ((c.ahead_of (centre_x first step i)).1 a))),
+      (at_most_from_not_above (pos 0) (wind t y z *ℤ volume t (record { x = centre_x first step i; y = y; z = z })) (λ a. not_both (centre_x first step i *ℤ den) num ((c.ahead_of (centre_x first step i)).1 a) (not_before num den first step columns column i c.den_positive k b e))),
 )
-  where
-    not_above : (x : ℤ) → (pos 0 <ℤ x → ⊥) → x ≤ℤ pos 0
-    not_above x h = by (at_most_or_above x (pos 0))
-      where
-        by : (x ≤ℤ pos 0) ⊎ (pos 0 <ℤ x) → x ≤ℤ pos 0
-        by (inl k) = k
-        by (inr k) = absurd (h k)
-
-    clash : (a b : ℤ) → a ≤ℤ b → b <ℤ a → ⊥
-    clash a b h k = omega (arith, ints)
 
 pub crossed_at : (t : Facet) (z : ℤ) (l : Lattice) (sign : ℤ) (j column : ℕ) (num den : ℤ) → Crosses t (row_y l j) z sign num den → IsLeastColumn num den l.x2 l.step l.columns column → IsCrossedAt t z l sign j column
 crossed_at t z l sign j column num den c k =

@@ -1,7 +1,8 @@
 -- A facet's one edge down and one edge up at a height: they make up its winding, and the line through their cut points is in the facet's plane.
-use Rattle.std.proofs.Common.{◌≡◌, ℕ, zero, suc, [], ◌∷◌, ℤ, pos, ◌+ℤ◌, ◌-ℤ◌, ◌*ℤ◌, neg_ℤ, ◌≤ℤ◌, ◌<ℤ◌, refl, ◌∙◌, ap, arith}
+use Rattle.std.proofs.Common.{◌≡◌, ℕ, zero, suc, [], ◌∷◌, ℤ, pos, ◌+ℤ◌, ◌-ℤ◌, ◌*ℤ◌, neg_ℤ, ◌≤ℤ◌, refl, ◌∙◌, ap, arith}
 use Rattle.std.proofs.lemmas.Int.{ints}
 use Rattle.exact_int.proofs.lemmas.Identity.{reads, identity}
+use Rattle.geometry.specs.TieRule.{IsBelow, IsAbove}
 use Rattle.geometry.specs.Point.{Point}
 use Rattle.geometry.specs.Facet.{Facet, facet_with}
 use Rattle.geometry.specs.Winding.{left, turn, wind, determinant, volume, normal_x, normal_y}
@@ -19,8 +20,8 @@ num_of r s p q y z =
 
 -- an amount of edges that is 0 at an edge whose ends lie on one side of z
 pub record Quiet (f : Point → Point → ℤ) (z : ℤ) : Type 0 where
-  pub below : (u v : Point) → u.z ≤ℤ z → v.z ≤ℤ z → f u v ≡ pos 0
-  pub above : (u v : Point) → z <ℤ u.z → z <ℤ v.z → f u v ≡ pos 0
+  pub below : (u v : Point) → IsBelow u.z z → IsBelow v.z z → f u v ≡ pos 0
+  pub above : (u v : Point) → IsAbove u.z z → IsAbove v.z z → f u v ≡ pos 0
 
 -- the facet's one edge down, from s to r, and its one edge up, from p to q, at the height z.
 -- `height` is how far the corner that is alone on its side lies from z; it may be 0 where that corner is the lower one

@@ -1,9 +1,9 @@
-use Rattle.std.proofs.Common.{◌≡◌, ℕ, ◌+◌, ◌*◌, ◌≤◌, ℤ, pos, ◌-ℤ◌, ◌*ℤ◌, ◌≤ℤ◌, ◌<ℤ◌, unsigned_abs, subst, arith}
-use Rattle.std.proofs.lemmas.Int.{ints, to_z-of_z, unsigned_abs-mul}
-use Rattle.std.proofs.Math.Nat.{mul-le-mul}
+use Rattle.std.proofs.Common.{◌≡◌, ◌+◌, ◌≤◌, ℤ, pos, ◌-ℤ◌, ◌*ℤ◌, ◌≤ℤ◌, ◌<ℤ◌, unsigned_abs, subst, arith}
+use Rattle.std.proofs.lemmas.Int.{ints, to_z-of_z}
 use mir.Syntax.{w128}
 use Rattle.exact_cut.specs.Dda.{IsDivisionOf}
 use Rattle.exact_cut.specs.declared.dda.Division.{Division}
+use Rattle.exact_cut.proofs.lemmas.Divisions.{factor_in}
 use Rattle.exact_cut.proofs.dda.divide.Goals as goal
 
 division_of : {n' u' : ℤ} (n u : ℤ) (d : Division) → n' ≡ n → u' ≡ u → IsDivisionOf n' u' d → IsDivisionOf n u d
@@ -11,17 +11,10 @@ division_of {u' = u'} n u d e f h = subst (λ v. IsDivisionOf n v d) f (subst (�
 
 quotient_of : (n u : ℤ) (d : Division) → pos 0 <ℤ u → IsDivisionOf n u d → unsigned_abs d.quotient ≤ unsigned_abs n + unsigned_abs u
 quotient_of n u d p h =
-    by (unsigned_abs d.quotient) (unsigned_abs u) (unsigned_abs (d.quotient *ℤ u)) (unsigned_abs n + unsigned_abs u) (one u p) (unsigned_abs-mul d.quotient u)
-    (product n u (d.quotient *ℤ u) d.remainder h.value h.not_negative h.below)
+    factor_in d.quotient u p (product n u (d.quotient *ℤ u) d.remainder h.value h.not_negative h.below)
   where
-    one : (u : ℤ) → pos 0 <ℤ u → 1 ≤ unsigned_abs u
-    one u h = omega (arith, ints)
-
     product : (n u p r : ℤ) → n ≡ p -ℤ r → pos 0 ≤ℤ r → r <ℤ u → unsigned_abs p ≤ unsigned_abs n + unsigned_abs u
     product n u p r e h k = omega (arith, ints)
-
-    by : (q u p s : ℕ) → 1 ≤ u → p ≡ q * u → p ≤ s → q ≤ s
-    by q u p s h e k = omega (arith, mul-le-mul {n₁ = q} {m₁ = 1} {n₂ = q} {m₂ = u} (omega arith) h)
 
 pub returns-in-Some-clause-division : goal.returns-in-Some-clause-division
 returns-in-Some-clause-division c =
