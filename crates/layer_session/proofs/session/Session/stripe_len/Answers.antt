@@ -10,6 +10,6 @@ pub returns-clause-value : goal.returns-clause-value
 returns-clause-value g c =
     let job : Job = c.args.self.now.job in
     let layers : List ℕ = range_with_len (stripe_start c.args.s) (stripe_length job.grid c.args.s) in
-    let count : c.min-layers.result ≡ stripe_length job.grid c.args.s = search rules in
+    let count : c.from.result ≡ stripe_length job.grid c.args.s = search rules in
     ap (λ (n : ℕ). n * c.image_len.result) (count ∙ sym (length-range_with_len (stripe_start c.args.s) (stripe_length job.grid c.args.s)))
     ∙ sym (length-same (image_of job) c.image_len.result c.image_len.ensures.value layers)
