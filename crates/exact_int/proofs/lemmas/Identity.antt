@@ -63,7 +63,7 @@ read_neg {ρ} {a} p = record { ex = opp p.ex; all_fit = p.all_fit; is = λ e. ap
 
 module _ {ρ : List ℤ} (w : Width) (z : ℤ) (p : Read ρ z) (s : Size z) where
   pub back-is : both p.all_fit (ltb s.bound (2 ^ hbits w)) ≡ true → value ρ p.ex ≡ to_z w (of_z w z)
-  back-is e = p.is (both-left p.all_fit (ltb s.bound (2 ^ hbits w)) e) ∙ sym (to_z-of_z w z (fits w s (both-right p.all_fit (ltb s.bound (2 ^ hbits w)) e)))
+  back-is e = p.is (both-left p.all_fit (ltb s.bound (2 ^ hbits w)) e) ∙ sym (to_z-of_z w z (fits w s (sym (both-right p.all_fit (ltb s.bound (2 ^ hbits w)) e))))
 
   abbrev pub read_back : Read ρ (to_z w (of_z w z))
   read_back = record { ex = p.ex; all_fit = both p.all_fit (ltb s.bound (2 ^ hbits w)); is = back-is }
@@ -103,8 +103,9 @@ all_hold : (b : Bool) (p : Poly) → verdict_of b p ≡ holds → (b ≡ true) �
 all_hold true p e = (refl, no_terms p e)
 all_hold false p e = cc
 
--- `a ≡ b` in the variables ρ, as `identity (x ∷ y ∷ []) (search reads depth 40 fits 5000) refl`
-pub identity : (ρ : List ℤ) {a b : ℤ} → (s : Sides ρ a b) → verdict s ≡ holds → a ≡ b
+-- `a ≡ b` in the variables ρ, as `identity (x ∷ y ∷ []) (search reads depth 40 fits 5000) refl`.
+-- The verdict stands on the right, so that the term that `refl` is of is `holds`, and not the verdict written out
+pub identity : (ρ : List ℤ) {a b : ℤ} → (s : Sides ρ a b) → holds ≡ verdict s → a ≡ b
 identity ρ s e =
-    let h = all_hold (both s.left.all_fit s.right.all_fit) (left_over (norm (s.left.ex ⊖ s.right.ex))) e in
+    let h = all_hold (both s.left.all_fit s.right.all_fit) (left_over (norm (s.left.ex ⊖ s.right.ex))) (sym e) in
     sym (s.left.is (both-left s.left.all_fit s.right.all_fit h.0)) ∙ ring ρ s.left.ex s.right.ex h.1 ∙ s.right.is (both-right s.left.all_fit s.right.all_fit h.0)

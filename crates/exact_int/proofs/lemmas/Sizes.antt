@@ -39,9 +39,9 @@ size_neg {a} p = record { bound = p.bound; ok = neg_of a p.bound p.ok }
 pub within : (a b c : ℕ) → a ≤ b → b ≤ c → a ≤ c
 within a b c h k = omega arith
 
--- z fits the width, as `fits w (search sizes) refl`
-pub fits : (w : Width) {z : ℤ} (s : Size z) → ltb s.bound (2 ^ hbits w) ≡ true → FitsSigned w z
-fits w {z} s e = fits_signed_from_abs w z (below (unsigned_abs z) s.bound (2 ^ hbits w) s.ok (ltb→lt s.bound (2 ^ hbits w) (subst T (sym e) tt)))
+-- z fits the width, as `fits w (search sizes) refl`; the test stands on the right, so that `refl` is of `true`
+pub fits : (w : Width) {z : ℤ} (s : Size z) → true ≡ ltb s.bound (2 ^ hbits w) → FitsSigned w z
+fits w {z} s e = fits_signed_from_abs w z (below (unsigned_abs z) s.bound (2 ^ hbits w) s.ok (ltb→lt s.bound (2 ^ hbits w) (subst T e tt)))
   where
     below : (a b c : ℕ) → a ≤ b → b < c → a < c
     below a b c h k = omega arith
@@ -78,8 +78,8 @@ cast_in w n m h = record { at_most = within (unsigned_abs (to_z w n)) n m (cast_
 
 pub ruleset sizes = (size_add, size_mul, size_neg, size_pos, size_back, size_known)
 
-pub is_at_most : (m : ℕ) {z : ℤ} (s : Size z) → ltb s.bound (m + 1) ≡ true → IsAtMost m z
-is_at_most m {z} s e = record { at_most = below (unsigned_abs z) s.bound m s.ok (ltb→lt s.bound (m + 1) (subst T (sym e) tt)) }
+pub is_at_most : (m : ℕ) {z : ℤ} (s : Size z) → true ≡ ltb s.bound (m + 1) → IsAtMost m z
+is_at_most m {z} s e = record { at_most = below (unsigned_abs z) s.bound m s.ok (ltb→lt s.bound (m + 1) (subst T e tt)) }
   where
     below : (a b c : ℕ) → a ≤ b → b < c + 1 → a ≤ c
     below a b c h k = omega arith
