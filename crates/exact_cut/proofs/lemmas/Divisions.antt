@@ -86,6 +86,9 @@ division_above n u g p e h k a b = record { value = given n p e u k ∙ ap (λ x
     less : (e u : ℤ) → e <ℤ pos 0 → (e +ℤ u) <ℤ u
     less e u a = omega (arith, ints)
 
+pub opposite_fits : (u : ℤ) → pos 0 <ℤ u → FitsSigned w64 u → FitsSigned w64 (pos 0 -ℤ u)
+opposite_fits u h f = omega (arith, ints, f)
+
 pub next_remainder_fits : (e u : ℤ) → FitsSigned w64 u → e <ℤ pos 0 → (pos 0 -ℤ u) <ℤ e → FitsSigned w64 (e +ℤ u)
 next_remainder_fits e u f a b = omega (arith, ints, f)
 

@@ -1,6 +1,6 @@
 -- Which edges pass a height, by where the corners lie.
-use Rattle.std.proofs.Common.{◌≡◌, ℕ, zero, suc, ◌<◌, ◌⊎◌, ℤ, refl, arith, inl, inr}
-use Rattle.exact_int.proofs.lemmas.Signs.{not_both}
+use Rattle.std.proofs.Common.{◌≡◌, ◌↔◌, IsTrue, true, false, ℕ, zero, suc, ◌<◌, ◌⊎◌, ℤ, refl, subst, arith, inl, inr}
+use Rattle.exact_int.proofs.lemmas.Signs.{at_most_or_above, not_both}
 use Rattle.geometry.specs.TieRule.{IsBelow, IsAbove}
 use Rattle.geometry.specs.Point.{Point}
 use Rattle.geometry.specs.Facet.{Facet}
@@ -8,6 +8,17 @@ use Rattle.exact_cut.specs.Cut.{start, finish, Rises, IsBetween, IsCut}
 
 pub rises : (u v : Point) (z : ℤ) → IsBelow u.z z → IsAbove v.z z → Rises u v z
 rises u v z h k = record { low = h; high = k }
+
+-- the tie rule's answer for a corner, where the code's plane z' is z
+pub below_by : {height z' z : ℤ} → z' ≡ z → IsTrue true ↔ IsBelow height z' → IsBelow height z
+below_by {height} e h = subst (IsBelow height) e (h.0 refl)
+
+pub above_by : {height z' z : ℤ} → z' ≡ z → IsTrue false ↔ IsBelow height z' → IsAbove height z
+above_by {height} {z'} e h = subst (IsAbove height) e (by (at_most_or_above height z'))
+  where
+    by : IsBelow height z' ⊎ IsAbove height z' → IsAbove height z'
+    by (inl k) = let never = h.1 k in absurd (cc)
+    by (inr k) = k
 
 not_low : (u v : Point) (z : ℤ) → IsAbove u.z z → Rises u v z → ⊥
 not_low u v z h k = not_both z u.z h k.low
@@ -117,6 +128,3 @@ cut-above-above-above t z a b c h = by h.some_below
     by (inl k) = not_both z t.a.z a k
     by (inr (inl k)) = not_both z t.b.z b k
     by (inr (inr k)) = not_both z t.c.z c k
-
--- for `search`
-pub ruleset cut_edges = (cut-below-below-below, cut-above-above-above, cut-below-below-above, cut-below-above-below, cut-below-above-above, cut-above-below-below, cut-above-below-above, cut-above-above-below)
