@@ -5,6 +5,30 @@ use Rattle.exact_cut.specs.Bounds.{denominator_limit, numerator_limit}
 use Rattle.exact_int.proofs.lemmas.Identity.{reads, identity}
 use Rattle.exact_cut.proofs.scanline.section.meet.Goals as goal
 
+pub overflow_mul-result : goal.overflow_mul-result
+overflow_mul-result c =
+    let a = c.args.near.now in
+    let b = c.args.far.now in
+    fits w128 (search (sizes, a.x_in, b.y_in) depth 40) refl
+
+pub overflow_mul-result-2 : goal.overflow_mul-result-2
+overflow_mul-result-2 c =
+    let a = c.args.near.now in
+    let b = c.args.far.now in
+    fits w128 (search (sizes, a.y_in, b.x_in) depth 40) refl
+
+pub overflow_mul-result-3 : goal.overflow_mul-result-3
+overflow_mul-result-3 c =
+    let a = c.args.near.now in
+    let b = c.args.far.now in
+    fits w128 (search (sizes, b.x_in, a.d_in) depth 40) refl
+
+pub overflow_mul-result-4 : goal.overflow_mul-result-4
+overflow_mul-result-4 c =
+    let a = c.args.near.now in
+    let b = c.args.far.now in
+    fits w128 (search (sizes, a.x_in, b.d_in) depth 40) refl
+
 pub overflow_sub-result : goal.overflow_sub-result
 overflow_sub-result c =
     let a = c.args.near.now in
