@@ -12,7 +12,7 @@ use Rattle.exact_cut.specs.CutPoint.{cut_x, cut_y, cut_d}
 use Rattle.exact_cut.proofs.lemmas.Turns.{turn_of-up, turn_of-down, turn_of-below, turn_of-above}
 use Rattle.exact_cut.proofs.lemmas.Winds.{Passes, Quiet, den_of, num_of}
 use Rattle.exact_cut.proofs.lemmas.Ahead.{span_positive, cut-left, cut-left_down}
-use Rattle.exact_cut.proofs.lemmas.Quadrants.{UpTurn, up_yes, up_no, DownTurn, down_yes, down_no, SameSign, both_above, both_zero, both_below, taken, quadrants, quadrants-flat}
+use Rattle.exact_cut.proofs.lemmas.Quadrants.{UpTurn, up_yes, up_no, DownTurn, down_yes, down_no, SameSign, both_above, both_zero, both_below, ahead_only, quadrants, quadrants-flat}
 
 cut-left_x : (u v : Point) (x z : ℤ) → left_x u v x z ≡ cut_x u v z -ℤ x *ℤ cut_d u v
 cut-left_x u v x z = identity (u.x ∷ u.z ∷ v.x ∷ v.z ∷ x ∷ z ∷ []) (search reads depth 40 fits 5000) refl
@@ -92,11 +92,11 @@ along-x : (r s p q : Point) (x z : ℤ)
 along-x r s p q x z = identity (r.x ∷ r.z ∷ s.x ∷ s.z ∷ p.x ∷ p.z ∷ q.x ∷ q.z ∷ x ∷ z ∷ []) (search reads depth 40 fits 5000) refl
 
 -- ---- the facet's two hits
-pub hit-taken : (t : Facet) (p : Point) → hit t p ≡ taken (wind t p.y p.z) (volume t p)
+pub hit-taken : (t : Facet) (p : Point) → hit t p ≡ ahead_only (wind t p.y p.z) (volume t p)
 unfolding hit
 hit-taken t p = refl
 
-pub hit_y-taken : (t : Facet) (p : Point) → hit_y t p ≡ taken (wind_y t p.x p.z) (volume t p)
+pub hit_y-taken : (t : Facet) (p : Point) → hit_y t p ≡ ahead_only (wind_y t p.x p.z) (volume t p)
 unfolding hit_y
 hit_y-taken t p = refl
 
@@ -171,7 +171,7 @@ hits-differ t c r s p q h apart =
     a4 : DownTurn sd xd
     a4 = down-turn s.z r.z c.z (left_x s r c.x c.z) (c.x *ℤ cut_d r s) (cut_x r s c.z) h.down.low h.down.high (cut-left_x_down r s c.x c.z)
 
-    by : (h.height <ℤ pos 0) ⊎ (h.height ≡ pos 0) ⊎ (pos 0 <ℤ h.height) → taken w v -ℤ taken wy v ≡ where_not_zero tu su +ℤ where_not_zero td sd
+    by : (h.height <ℤ pos 0) ⊎ (h.height ≡ pos 0) ⊎ (pos 0 <ℤ h.height) → ahead_only w v -ℤ ahead_only wy v ≡ where_not_zero tu su +ℤ where_not_zero td sd
     by (inl n) = absurd (not_both h.height (pos 0) n h.not_negative)
     by (inr (inl e)) =
         let ey = add_nothing (cut_d r s *ℤ yu) (cut_d p q *ℤ yd) h.height (normal_x t) e (along-y r s p q c.y c.z ∙ ap (λ i. cut_d p q *ℤ yd +ℤ i) h.den_is) in

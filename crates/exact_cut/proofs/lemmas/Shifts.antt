@@ -9,6 +9,7 @@ use Rattle.geometry.specs.Winding.{left, left_x, turn, turn_x, turn_of, wind, wi
 use Rattle.exact_cut.specs.Crossing.{Winding}
 use Rattle.exact_cut.specs.RelativeFacet.{minus, relative_to}
 use Rattle.exact_cut.proofs.lemmas.Ahead.{wind_values}
+pub use Rattle.exact_cut.proofs.lemmas.Quadrants.{ahead_only}
 use Rattle.exact_cut.proofs.lemmas.Steps.{swap, swap_tri, hit-swap}
 
 abbrev pub point_with : ℤ → ℤ → ℤ → Point
@@ -55,10 +56,6 @@ volume-shift t c = λ i.
     determinant (less_nothing (t.a.x -ℤ c.x) i) (less_nothing (t.a.y -ℤ c.y) i) (less_nothing (t.a.z -ℤ c.z) i)
     (less_nothing (t.b.x -ℤ c.x) i) (less_nothing (t.b.y -ℤ c.y) i) (less_nothing (t.b.z -ℤ c.z) i)
     (less_nothing (t.c.x -ℤ c.x) i) (less_nothing (t.c.y -ℤ c.y) i) (less_nothing (t.c.z -ℤ c.z) i)
-
--- the wind where it and the volume say that the facet is ahead
-abbrev pub ahead_only : ℤ → ℤ → ℤ
-ahead_only w v = if int_lt (pos 0) (w *ℤ v) then w else pos 0
 
 pub hit_from : (t s : Facet) (c : Point) {r w v : ℤ} → s ≡ relative_to t c → w ≡ wind s (pos 0) (pos 0) → v ≡ volume s origin → r ≡ ahead_only w v → r ≡ hit t c
 unfolding hit

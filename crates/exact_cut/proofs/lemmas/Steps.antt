@@ -15,7 +15,7 @@ use Rattle.exact_cut.specs.CutPoint.{cut_x, cut_y, cut_d}
 use Rattle.exact_cut.proofs.lemmas.Winds.{Passes, passes, den_of, num_of}
 use Rattle.exact_cut.proofs.lemmas.Ahead.{WindCase, winds_up, winds_down, winds_not, wind_case, crosses, cut-left, cut-left_down, Sides, all_below, all_above, between, sides, wind-below, wind-above}
 use Rattle.exact_cut.proofs.lemmas.Hitting.{hit-wind, hit-zero}
-use Rattle.exact_cut.proofs.lemmas.Quadrants.{taken, taken_none}
+use Rattle.exact_cut.proofs.lemmas.Quadrants.{ahead_only, taken_none}
 use Rattle.exact_cut.proofs.lemmas.Rays.{hit-taken, hit_y-taken}
 use Rattle.exact_cut.proofs.lemmas.Touching.{on_a, on_b, on_c, not_negative_a, not_negative_b, not_negative_c, m1, n1, m2, n2, m1_in, n1_in, m2_in, n2_in, total, corners}
 
@@ -273,11 +273,11 @@ chosen-neg k w = by (int_lt (pos 0) k)
     by true = refl
     by false = refl
 
-taken-neg : (w v : ℤ) → taken (neg_ℤ w) (neg_ℤ v) ≡ neg_ℤ (taken w v)
+taken-neg : (w v : ℤ) → ahead_only (neg_ℤ w) (neg_ℤ v) ≡ neg_ℤ (ahead_only w v)
 taken-neg w v = chosen-neg (neg_ℤ w *ℤ neg_ℤ v) w ∙ ap (λ k. neg_ℤ (if int_lt (pos 0) k then w else pos 0)) (two_negs w v)
 
 pub hit-swap : (t : Facet) (c : Point) → hit_y t c ≡ neg_ℤ (hit (swap_tri t) (swap c))
-hit-swap t c = hit_y-taken t c ∙ (λ i. taken (wind-swap t c.x c.z i) (vol-swap t c i)) ∙ taken-neg (wind (swap_tri t) c.x c.z) (volume (swap_tri t) (swap c)) ∙ ap neg_ℤ (sym (hit-taken (swap_tri t) (swap c)))
+hit-swap t c = hit_y-taken t c ∙ (λ i. ahead_only (wind-swap t c.x c.z i) (vol-swap t c i)) ∙ taken-neg (wind (swap_tri t) c.x c.z) (volume (swap_tri t) (swap c)) ∙ ap neg_ℤ (sym (hit-taken (swap_tri t) (swap c)))
 
 pub step-y : (t : Facet) (x y1 y2 z : ℤ) → (Between t (record { x = x; y = y1; z = z }) (record { x = x; y = y2; z = z }) → ⊥)
     → hit_y t (record { x = x; y = y1; z = z }) ≡ hit_y t (record { x = x; y = y2; z = z })
