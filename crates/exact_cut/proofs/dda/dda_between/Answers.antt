@@ -3,7 +3,7 @@ use Rattle.std.proofs.lemmas.Int.{to_z_pos, to_z-of_z}
 use lib.Dec.{lit≤}
 use mir.Syntax.{w64, w128}
 use Rattle.exact_int.specs.Bounds.{IsAtMost}
-use Rattle.exact_int.proofs.lemmas.Sizes.{sizes, fits, cast_in, is_at_most}
+use Rattle.exact_int.proofs.lemmas.Sizes.{sizes, size_known, fits, cast_in, is_at_most}
 use Rattle.exact_int.proofs.lemmas.Identity.{reads, identity}
 use Rattle.exact_cut.specs.Bounds.{denominator_limit, distance_limit, increment_limit, quotient_limit, unit_limit}
 use Rattle.exact_cut.specs.Dda.{IsDivisionOf}
@@ -87,15 +87,15 @@ returns c =
     let step = to_z_pos w128 l.step (let h = l.step_in in omega arith) in
     let p = c.divide-position.result in
     let q = c.divide_increment-increment.result in
-    let f1 : FitsSigned w64 l.x2 = fits w64 (search (sizes, l.x_in)) refl in
-    let f2 : FitsSigned w128 l.x2 = fits w128 (search (sizes, l.x_in)) refl in
-    let f3 : FitsSigned w128 num = fits w128 (search (sizes, num_in)) refl in
-    let f4 : FitsSigned w128 den = fits w128 (search (sizes, den_in)) refl in
+    let f1 : FitsSigned w64 l.x2 = fits w64 (size_known l.x_in) refl in
+    let f2 : FitsSigned w128 l.x2 = fits w128 (size_known l.x_in) refl in
+    let f3 : FitsSigned w128 num = fits w128 (size_known num_in) refl in
+    let f4 : FitsSigned w128 den = fits w128 (size_known den_in) refl in
     let f5 : FitsSigned w128 (pos 2 *ℤ s) = fits w128 (search (sizes, s_in)) refl in
     let f6 : FitsSigned w128 (pos 2 *ℤ s *ℤ den) = fits w128 (search (sizes, s_in, den_in)) refl in
     let f7 : FitsSigned w128 (l.x2 *ℤ den) = fits w128 (search (sizes, l.x_in, den_in)) refl in
     let f8 : FitsSigned w128 (num -ℤ l.x2 *ℤ den) = fits w128 (search (sizes, l.x_in, num_in, den_in)) refl in
-    let f9 : FitsSigned w128 slope = fits w128 (search (sizes, slope_in)) refl in
+    let f9 : FitsSigned w128 slope = fits w128 (size_known slope_in) refl in
     let f10 : FitsSigned w128 (pos 2 *ℤ s *ℤ slope) = fits w128 (search (sizes, s_in, slope_in)) refl in
     let unit_in : IsAtMost unit_limit (pos 2 *ℤ s *ℤ den) = is_at_most unit_limit (search (sizes, s_in, den_in) depth 40) refl in
     let distance_in : IsAtMost distance_limit (num -ℤ l.x2 *ℤ den) = is_at_most distance_limit (search (sizes, l.x_in, num_in, den_in) depth 40) refl in
@@ -106,11 +106,11 @@ returns c =
     let q_below : q.remainder <ℤ (pos 2 *ℤ s *ℤ den) = simp to_z-of_z at c.divide_increment-increment.ensures.below in
     let p_remainder = remainder_in p.remainder (pos 2 *ℤ s *ℤ den) p_division.not_negative p_division.below unit_in in
     let q_remainder = remainder_in q.remainder (pos 2 *ℤ s *ℤ den) c.divide_increment-increment.ensures.not_negative q_below unit_in in
-    let f11 : FitsSigned w128 p.quotient = fits w128 (search (sizes, p_in)) refl in
-    let f12 : FitsSigned w128 p.remainder = fits w128 (search (sizes, p_remainder)) refl in
-    let f13 : FitsSigned w128 q.quotient = fits w128 (search (sizes, q_in)) refl in
-    let f14 : FitsSigned w128 q.remainder = fits w128 (search (sizes, q_remainder)) refl in
-    let f15 : FitsSigned w64 c.scanline.result = fits w64 (search (sizes, c.scanline.ensures.within)) refl in
+    let f11 : FitsSigned w128 p.quotient = fits w128 (size_known p_in) refl in
+    let f12 : FitsSigned w128 p.remainder = fits w128 (size_known p_remainder) refl in
+    let f13 : FitsSigned w128 q.quotient = fits w128 (size_known q_in) refl in
+    let f14 : FitsSigned w128 q.remainder = fits w128 (size_known q_remainder) refl in
+    let f15 : FitsSigned w64 c.scanline.result = fits w64 (size_known c.scanline.ensures.within) refl in
     let num_is : num ≡ num_between c.args.near.now c.args.far.now c.scanline.result = simp to_z-of_z at c.meet-num.ensures.num in
     record {
       dda = simp to_z-of_z (IsDda-of (num -ℤ l.x2 *ℤ den) (pos 2 *ℤ s *ℤ den) p q p_division c.divide_increment-increment.ensures.not_negative q_below unit_in q_in);

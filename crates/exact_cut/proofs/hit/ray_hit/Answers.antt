@@ -13,8 +13,8 @@ value-is : (c : goal.After-wind_if_ahead) → c.wind_if_ahead.result ≡ hit (tw
 value-is c =
     let w = c.wind_about_x in
     let v = c.determinant in
-    let f1 : FitsSigned w32 w.result = fits w32 (search (sizes, w.ensures.small)) refl in
-    let f2 : FitsSigned w128 v.result = fits w128 (search (sizes, v.ensures.bound)) refl in
+    let f1 : FitsSigned w32 w.result = fits w32 (size_known w.ensures.small) refl in
+    let f2 : FitsSigned w128 v.result = fits w128 (size_known v.ensures.bound) refl in
     hit_from (twice c.args.f.now) (facet_of c.relative-g.result) c.args.c.now c.relative-g.ensures w.ensures.value v.ensures.value (simp to_z-of_z at c.wind_if_ahead.ensures)
 
 unit-is : (c : goal.After-wind_if_ahead) → IsAtMost 1 c.wind_if_ahead.result

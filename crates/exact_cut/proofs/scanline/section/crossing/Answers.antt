@@ -1,7 +1,7 @@
 use Rattle.std.proofs.Common.{◌≡◌, ℤ, pos, FitsSigned, to_z, of_z, refl, ◌∙◌, ap, sym, subst, ◌<ℤ◌}
 use Rattle.std.proofs.lemmas.Int.{to_z-of_z}
 use mir.Syntax.{w64, w128}
-use Rattle.exact_int.proofs.lemmas.Sizes.{sizes, fits}
+use Rattle.exact_int.proofs.lemmas.Sizes.{size_known, fits}
 use Rattle.geometry.specs.Facet.{Facet, twice}
 use Rattle.geometry.specs.Winding.{wind}
 use Rattle.exact_cut.proofs.lemmas.Sections.{same_side, up_alone, down_alone, up_meets, down_meets, crossed, crosses_as, meets_as}
@@ -23,7 +23,7 @@ of-requires-clause-den_positive c =
     let up = c.is_ahead-is_up_ahead in
     let m = c.meet-num in
     let w = up_alone (twice c.args.f.now) (to_z w64 (of_z w64 c.args.y2)) (to_z w64 (of_z w64 c.args.z2)) c.in_ok-ends.ends c.in_ok-ends.ensures down.result up.result down.ensures up.ensures c.if-is_up_ahead-is_down_ahead.false c.if-is_up_ahead.true in
-    let f1 : FitsSigned w128 m.result.1 = fits w128 (search (sizes, m.ensures.den_in)) refl in
+    let f1 : FitsSigned w128 m.result.1 = fits w128 (size_known m.ensures.den_in) refl in
     simp to_z-of_z (subst (λ d. pos 0 <ℤ d) (sym m.ensures.den) w.den_positive)
 
 pub of-requires-else-is_up_ahead-clause-den_positive : goal.of-requires-else-is_up_ahead-clause-den_positive
@@ -32,7 +32,7 @@ of-requires-else-is_up_ahead-clause-den_positive c =
     let up = c.is_ahead-is_up_ahead in
     let m = c.meet-num-else-is_up_ahead in
     let w = down_alone (twice c.args.f.now) (to_z w64 (of_z w64 c.args.y2)) (to_z w64 (of_z w64 c.args.z2)) c.in_ok-ends.ends c.in_ok-ends.ensures down.result up.result down.ensures up.ensures c.if-is_up_ahead-is_down_ahead.false c.if-is_up_ahead.false in
-    let f1 : FitsSigned w128 m.result.1 = fits w128 (search (sizes, m.ensures.den_in)) refl in
+    let f1 : FitsSigned w128 m.result.1 = fits w128 (size_known m.ensures.den_in) refl in
     simp to_z-of_z (subst (λ d. pos 0 <ℤ d) (sym m.ensures.den) w.den_positive)
 
 pub returns-then-is_up_ahead-clause-crosses : goal.returns-then-is_up_ahead-clause-crosses
@@ -43,8 +43,8 @@ returns-then-is_up_ahead-clause-crosses c =
     let w = up_alone (twice c.args.f.now) (to_z w64 (of_z w64 c.args.y2)) (to_z w64 (of_z w64 c.args.z2)) c.in_ok-ends.ends c.in_ok-ends.ensures down.result up.result down.ensures up.ensures c.if-is_up_ahead-is_down_ahead.false c.if-is_up_ahead.true in
     let f1 = c.ranges.y2 in
     let f2 = c.ranges.z2 in
-    let f3 : FitsSigned w128 m.result.0 = fits w128 (search (sizes, m.ensures.num_in)) refl in
-    let f4 : FitsSigned w128 m.result.1 = fits w128 (search (sizes, m.ensures.den_in)) refl in
+    let f3 : FitsSigned w128 m.result.0 = fits w128 (size_known m.ensures.num_in) refl in
+    let f4 : FitsSigned w128 m.result.1 = fits w128 (size_known m.ensures.den_in) refl in
     let k = simp to_z-of_z at c.of.ensures in
     simp to_z-of_z at (crosses_as (ap (λ r. r.sign) k) (ap (λ r. r.num) k ∙ m.ensures.num) (ap (λ r. r.den) k ∙ m.ensures.den) w)
 
@@ -56,8 +56,8 @@ returns-else-is_up_ahead-clause-crosses c =
     let w = down_alone (twice c.args.f.now) (to_z w64 (of_z w64 c.args.y2)) (to_z w64 (of_z w64 c.args.z2)) c.in_ok-ends.ends c.in_ok-ends.ensures down.result up.result down.ensures up.ensures c.if-is_up_ahead-is_down_ahead.false c.if-is_up_ahead.false in
     let f1 = c.ranges.y2 in
     let f2 = c.ranges.z2 in
-    let f3 : FitsSigned w128 m.result.0 = fits w128 (search (sizes, m.ensures.num_in)) refl in
-    let f4 : FitsSigned w128 m.result.1 = fits w128 (search (sizes, m.ensures.den_in)) refl in
+    let f3 : FitsSigned w128 m.result.0 = fits w128 (size_known m.ensures.num_in) refl in
+    let f4 : FitsSigned w128 m.result.1 = fits w128 (size_known m.ensures.den_in) refl in
     let k = simp to_z-of_z at c.of-else-is_up_ahead.ensures in
     simp to_z-of_z at (crosses_as (ap (λ r. r.sign) k) (ap (λ r. r.num) k ∙ m.ensures.num) (ap (λ r. r.den) k ∙ m.ensures.den) w)
 
@@ -67,8 +67,8 @@ returns-then-is_up_ahead-clause-in_plane c =
     let w = up_meets (twice c.args.f.now) (to_z w64 (of_z w64 c.args.y2)) (to_z w64 (of_z w64 c.args.z2)) c.in_ok-ends.ends c.in_ok-ends.ensures in
     let f1 = c.ranges.y2 in
     let f2 = c.ranges.z2 in
-    let f3 : FitsSigned w128 m.result.0 = fits w128 (search (sizes, m.ensures.num_in)) refl in
-    let f4 : FitsSigned w128 m.result.1 = fits w128 (search (sizes, m.ensures.den_in)) refl in
+    let f3 : FitsSigned w128 m.result.0 = fits w128 (size_known m.ensures.num_in) refl in
+    let f4 : FitsSigned w128 m.result.1 = fits w128 (size_known m.ensures.den_in) refl in
     let k = simp to_z-of_z at c.of.ensures in
     simp to_z-of_z at (meets_as (ap (λ r. r.num) k ∙ m.ensures.num) (ap (λ r. r.den) k ∙ m.ensures.den) w)
 
@@ -78,8 +78,8 @@ returns-else-is_up_ahead-clause-in_plane c =
     let w = down_meets (twice c.args.f.now) (to_z w64 (of_z w64 c.args.y2)) (to_z w64 (of_z w64 c.args.z2)) c.in_ok-ends.ends c.in_ok-ends.ensures in
     let f1 = c.ranges.y2 in
     let f2 = c.ranges.z2 in
-    let f3 : FitsSigned w128 m.result.0 = fits w128 (search (sizes, m.ensures.num_in)) refl in
-    let f4 : FitsSigned w128 m.result.1 = fits w128 (search (sizes, m.ensures.den_in)) refl in
+    let f3 : FitsSigned w128 m.result.0 = fits w128 (size_known m.ensures.num_in) refl in
+    let f4 : FitsSigned w128 m.result.1 = fits w128 (size_known m.ensures.den_in) refl in
     let k = simp to_z-of_z at c.of-else-is_up_ahead.ensures in
     simp to_z-of_z at (meets_as (ap (λ r. r.num) k ∙ m.ensures.num) (ap (λ r. r.den) k ∙ m.ensures.den) w)
 
