@@ -138,7 +138,10 @@ impl<A: Allocator> Solid<A> {
         ensures value { slice_get self.now.facets number ≡ Some result }
         ensures distinct { (result.a ≢ result.b) × (result.b ≢ result.c) × (result.c ≢ result.a) }
     {
-        facet_by(self.numbering.points.as_slice(), &self.numbering.numbers[number as usize])
+        facet_by(
+            self.numbering.points.as_slice(),
+            &self.numbering.numbers[number as usize],
+        )
     }
 
     /// The height range of the kept facet with this number, below `count`: the same as `lowest` and `highest` of the facet,

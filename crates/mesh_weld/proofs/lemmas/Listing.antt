@@ -1,5 +1,9 @@
 -- A list that grows by three elements at a time, each with its number.
 use Rattle.std.proofs.Common.{◌≡◌, ℕ, ◌+◌, List, [], ◌∷◌, ◌++◌, length, ap, ◌∙◌, length-append, append_assoc, arith}
+use Rattle.std.proofs.lemmas.List.{length_push}
+
+pub longer : {X : Type 0} (xs ys : List X) (x : X) → ys ≡ xs ++ x ∷ [] → length ys ≡ length xs + 1
+longer xs ys x e = ap length e ∙ length_push xs x
 
 pub three_more : {X : Type 0} (e f g : ℕ → X) (rest l m n o all : List X) (i j k : ℕ)
     → i ≡ length l → j ≡ length m → k ≡ length n

@@ -36,7 +36,8 @@ pub returns-clause-numbering : goal.returns-clause-numbering
 returns-clause-numbering g c =
     let kept = c.args.kept.now in
     let numbers = numbers_are g (goal.at.returns-clause-numbering g c).In_ok-numbers in
-    let own : facets_by c.as_slice-4.result.now c.as_slice-5.result.now ≡ kept =
+    let named = facets_by c.as_slice-4.result.now c.as_slice-5.result.now in
+    let own : named ≡ kept =
     (λ i. facets_by (c.as_slice-4.ensures.value i) (c.as_slice-5.ensures.value i))
     ∙ numbered_again kept c.in_ok-points.field-0.points.items c.in_ok-numbers.numbers.items c.in_ok-points.ensures.points numbers in
     let few : length (vertices kept) ≤ 2 ^ 32 = omega (arith, few_vertices kept) in
@@ -46,6 +47,6 @@ returns-clause-numbering g c =
       numbers_are = numbers;
       edges_are = edge_numbers kept few c.in_ok-edges.edges.numbers.items c.in_ok-edges.edges.count c.in_ok-edges.ensures.numbering;
       order_is = subst (λ l. IsByHeight l c.in_ok-heights.heights.order.items) own c.in_ok-heights.ensures.order;
-      ranges_are = c.in_ok-heights.ensures.ranges ∙ ap height_ranges own;
+      ranges_are = ◌∙◌ {b = height_ranges named} c.in_ok-heights.ensures.ranges (ap height_ranges own);
       rise_is = subst (λ l. IsGreatestRise l c.in_ok-heights.heights.greatest_rise) own c.in_ok-heights.ensures.rise;
     }

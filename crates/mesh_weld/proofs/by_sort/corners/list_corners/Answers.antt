@@ -2,8 +2,30 @@ use Rattle.std.proofs.Common.{◌≡◌, ◌<◌, ℕ, ◌+◌, ◌*◌, List, �
 use Rattle.std.proofs.lemmas.List.{drop_more, drop_all}
 use Rattle.geometry.specs.Facet.{Facet}
 use Rattle.mesh_weld.specs.Corners.{corners_from}
-use Rattle.mesh_weld.proofs.lemmas.Listing.{three_more}
+use Rattle.mesh_weld.proofs.lemmas.Listing.{longer, three_more}
 use Rattle.mesh_weld.proofs.by_sort.corners.list_corners.Goals as goal
+
+pub overflow_mul-facets : goal.overflow_mul-facets
+overflow_mul-facets g c = omega (arith, c.requires)
+
+pub loop-facet-init : goal.loop-facet-init
+loop-facet-init g c = record {
+  so_far = ap (λ l. l ++ corners_from 0 c.args.facets.now) c.in_ok-list.ensures.items;
+  count = c.in_ok-list.ensures.len;
+}
+
+pub push_corner-requires : goal.push_corner-requires
+push_corner-requires g c = omega (arith, c.loop-facet.invariant.count, c.loop-facet-test.true, c.requires)
+
+pub push_corner-requires-in-loop-facet : goal.push_corner-requires-in-loop-facet
+push_corner-requires-in-loop-facet g c =
+    let before = c.loop-facet.list in let first = c.push_corner.new.list in
+    omega (arith, c.loop-facet.invariant.count, c.loop-facet-test.true, c.requires, longer before.items first.items (record { point = c.corner.result; slot = before.len }) c.in_ok-push_corner.ensures, before.ok.0, first.ok.0)
+
+pub push_corner-requires-in-loop-facet-2 : goal.push_corner-requires-in-loop-facet-2
+push_corner-requires-in-loop-facet-2 g c =
+    let before = c.loop-facet.list in let first = c.push_corner.new.list in let second = c.push_corner-in-loop-facet.new.list in
+    omega (arith, c.loop-facet.invariant.count, c.loop-facet-test.true, c.requires, longer before.items first.items (record { point = c.corner.result; slot = before.len }) c.in_ok-push_corner.ensures, longer first.items second.items (record { point = c.corner-in-loop-facet.result; slot = first.len }) c.in_ok-push_corner-2.ensures, before.ok.0, first.ok.0, second.ok.0)
 
 pub loop-facet-preserved : goal.loop-facet-preserved
 loop-facet-preserved g c =
