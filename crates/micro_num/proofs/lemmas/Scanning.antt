@@ -1,14 +1,16 @@
 -- A scan of a word from left to right finds the parts that its marks cut it into.
-use Rattle.std.proofs.Common.{◌≡◌, ℕ, zero, suc, ◌+◌, ◌<◌, Bool, true, false, not, List, [], ◌∷◌, ◌++◌, length, length-append, take, arith, refl, sym, ◌∙◌, ap, subst}
+use Rattle.std.proofs.Common.{◌≡◌, ℕ, zero, suc, ◌+◌, ◌*◌, ◌-◌, ◌<◌, Bool, true, false, not, List, [], ◌∷◌, ◌++◌, length, length-append, take, arith, refl, sym, ◌∙◌, ap, subst}
 use Rattle.std.specs.Prelude.{Option, Some, None, ◌==◌, if◌then◌else◌}
 use Rattle.std.specs.Char.{is_ascii_digit}
 use Rattle.std.specs.List.{list_all, before_first, position_or_len}
 use Rattle.std.proofs.lemmas.List.{take-append-drop}
 use Rattle.std.proofs.lemmas.List.Folds.{list_all-append}
+use Rattle.std.proofs.lemmas.List.Sums.{fold-append}
 use Rattle.std.proofs.Math.Numerals.{one-add}
 use Rattle.std.proofs.lemmas.Bool.{and_parts, eqb-true, ltb-true}
 use Rattle.micro_num.specs.Numeral.{Sign, unsigned, Exponent, Numeral, is_point, is_exponent_mark, sign_text, fraction_text, exponent_text, numeral_text, fraction_digits, mantissa_digits, is_exponent, IsNumeral, sign_of, after_sign, from_first, exponent_of, numeral_of}
-use Rattle.micro_num.specs.Scan.{is_other, digits_after_point, rest_after_point, scanned, is_numeral, IsEnded}
+use Rattle.micro_num.specs.Micrometres.{digits_value}
+use Rattle.micro_num.specs.Scan.{is_other, digits_after, digits_after_point, rest_after_point, scanned, is_numeral, IsEnded, IsLeading}
 use Rattle.exact_int.proofs.lemmas.Lists.{all-weaker}
 use Rattle.micro_num.proofs.lemmas.Grammar.{Starts, before-is, from-is, sign-text, exponent-text, regrouped, IsUnsigned, sign-is, after_sign-is, exponent-is, numeral_digits, numeral_unsigned, numeral_of-is, numeral_of-text, front-text}
 
@@ -204,3 +206,15 @@ numeral_of-scanned word = by_test (is_numeral n) refl (numeral_of word) refl
         let is : is_numeral m ≡ true = rw (read.0.0, read.0.1) refl in
         let other' : is_numeral m ≡ false = ap is_numeral (sym same) ∙ other in
         cc
+
+-- the leading digits of a number whose two parts were read one after the other
+pub split_leads : (bytes text : List ℕ) (n m : ℕ) {v j : ℕ} {whole fraction : List ℕ} → whole ≡ take n bytes → fraction ≡ take m text
+    → IsLeading v j (digits_after (digits_after 0 (take n bytes)) (take m text)) → IsLeading v j (digits_value (whole ++ fraction))
+split_leads bytes text n m {v} {j} {whole} {fraction} front back leads =
+    subst (λ d. IsLeading v j d) (sym value) leads
+  where
+    value : digits_value (whole ++ fraction) ≡ digits_after (digits_after 0 (take n bytes)) (take m text)
+    value =
+        fold-append (λ n d. 10 * n + (d - 48)) 0 whole fraction
+        ∙ ap (λ w. digits_after (digits_after 0 w) fraction) front
+        ∙ ap (λ f. digits_after (digits_after 0 (take n bytes)) f) back

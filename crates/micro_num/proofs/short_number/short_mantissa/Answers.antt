@@ -2,6 +2,7 @@ use Rattle.std.proofs.Common.{◌∙◌, List, ℕ, ap, append-nil, subst, sym, 
 use Rattle.micro_num.specs.Micrometres.{digits_value}
 use Rattle.micro_num.specs.Scan.{IsLeading, digits_after}
 use Rattle.micro_num.proofs.lemmas.LeadingDigits.{IsLeading-none}
+use Rattle.micro_num.proofs.lemmas.Scanning.{split_leads}
 use Rattle.micro_num.proofs.short_number.short_mantissa.Goals as goal
 
 -- Where a part is too long, there is no mantissa, of which a clause would say something.
@@ -27,3 +28,10 @@ returns-in_default-clause-leads c =
 
 pub returns-in_default-clause-few : goal.returns-in_default-clause-few
 returns-in_default-clause-few c = c.in_ok-digits.ensures.few
+
+pub returns-in_ok-more-clause-leads : goal.returns-in_ok-more-clause-leads
+returns-in_ok-more-clause-leads c =
+    search (split_leads c.args.bytes.now, c.in_ok-more.ensures.leads _ (c.in_ok-digits.ensures.leads 0 IsLeading-none))
+
+pub returns-in_ok-more-clause-few : goal.returns-in_ok-more-clause-few
+returns-in_ok-more-clause-few c = c.in_ok-more.ensures.few ∙ c.in_ok-digits.ensures.few
