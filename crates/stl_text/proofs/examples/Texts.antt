@@ -1,9 +1,10 @@
 -- Worked texts: what they read as, and their faults.
-use Rattle.std.proofs.Common.{◌≡◌, ℕ, List, [], ◌∷◌, ◌++◌, refl, length, lit≤, drop, take, replicate, ◌<◌, arith}
-use Rattle.std.specs.Prelude.{pos, negsuc, codes, false, flat_map}
+use Rattle.std.proofs.Common.{◌≡◌, ℕ, ◌+◌, List, [], ◌∷◌, ◌++◌, refl, length, lit≤, drop, take, replicate, ◌<◌, arith}
+use Rattle.std.specs.Prelude.{pos, negsuc, codes, false, flat_map, Err, Some}
 use Rattle.micro_num.specs.declared.unit.Unit.TheVariants.{Millimetre}
+use Rattle.micro_num.specs.declared.num_fault.NumFault.{NumFault}
 use Rattle.micro_num.specs.declared.num_fault.NumFault.TheVariants.{NotNumber, TooLong, OutOfRange}
-use Rattle.micro_num.specs.Micrometres.{magnitude}
+use Rattle.micro_num.specs.Micrometres.{coordinate_of, magnitude}
 use Rattle.stl_text.specs.declared.word.Word.TheVariants.{EndFacet, FacetOrEnd, Loop, Solid}
 use Rattle.stl_text.specs.declared.stl_fault.StlFault.TheVariants as fault
 use Rattle.geometry.proofs.examples.Meshes.{at, cube, file_text}
@@ -80,19 +81,25 @@ misspelled =
       other = refl;
     }
 
-wrong_vertex : List ℕ
-wrong_vertex = codes "solid\nfacet normal 0 0 1\nouter loop\nvertex 1 x 3"
-
 abbrev one_read : Facet
 one_read = facet_with (at (pos 1000) (pos 0) (pos 0)) (at (pos 0) (pos 0) (pos 0)) (at (pos 0) (pos 0) (pos 0))
 
-bad_number : Text.IsFaultOf 12 Millimetre wrong_vertex (fault.Number NotNumber 45)
-unfolding magnitude wrong_vertex
-bad_number =
+-- a word that stands for no number, as the second coordinate of the first vertex
+abbrev after_one : List ℕ → List ℕ
+after_one word = codes " " ++ word ++ codes " 3"
+
+abbrev vertex_with : List ℕ → List ℕ
+vertex_with word = codes "solid\nfacet normal 0 0 1\nouter loop\nvertex 1" ++ after_one word
+
+no_number : (cause : NumFault) (word : List ℕ)
+    → Text.rest_after Millimetre (take 11 (Text.solid_tokens (one_read ∷ []))) (vertex_with word) ≡ Some (after_one word)
+    → 45 + length (Text.after_space (after_one word)) ≡ length (vertex_with word) → word ≡ Text.first_word (after_one word) → 0 < length word
+    → coordinate_of Millimetre word ≡ Err cause → Text.IsFaultOf 12 Millimetre (vertex_with word) (fault.Number cause 45)
+no_number cause word spelled offset stands some refused =
     record {
       z = pos 0;
       facets_before = 1;
-      word = codes "x";
+      word = word;
       wants = record {
         solids = (one_read ∷ []) ∷ [];
         front = take 11 (Text.solid_tokens (one_read ∷ []));
@@ -100,14 +107,26 @@ bad_number =
         cut = refl;
         count = refl;
         few = lit≤ tt;
-        rest = codes " x 3";
-        spelled = refl;
-        offset = refl;
-        stands = refl;
+        rest = after_one word;
+        spelled = spelled;
+        offset = offset;
+        stands = stands;
       };
-      stands = lit≤ tt;
-      refused = refl;
+      stands = some;
+      refused = refused;
     }
+
+bad_number : Text.IsFaultOf 12 Millimetre (vertex_with (codes "x")) (fault.Number NotNumber 45)
+unfolding magnitude
+bad_number = no_number NotNumber (codes "x") refl refl refl (lit≤ tt) refl
+
+number_too_long : Text.IsFaultOf 12 Millimetre (vertex_with (replicate 256 48)) (fault.Number TooLong 45)
+unfolding magnitude
+number_too_long = no_number TooLong (replicate 256 48) refl refl refl (lit≤ tt) refl
+
+number_out_of_range : Text.IsFaultOf 12 Millimetre (vertex_with (codes "1e9")) (fault.Number OutOfRange 45)
+unfolding magnitude
+number_out_of_range = no_number OutOfRange (codes "1e9") refl refl refl (lit≤ tt) refl
 
 -- the third facet of the box's file, with a limit of two facets
 too_many : Text.IsFaultOf 2 Millimetre (file_text (cube 0 2)) (fault.TooMany 252)
@@ -223,55 +242,6 @@ cut_short =
       };
       kind_is = refl;
       no_solid = λ e. cc;
-    }
-
-abbrev vertex_with : List ℕ → List ℕ
-vertex_with word = codes "solid\nfacet normal 0 0 1\nouter loop\nvertex 1 " ++ word ++ codes " 3"
-
-number_too_long : Text.IsFaultOf 12 Millimetre (vertex_with (replicate 256 48)) (fault.Number TooLong 45)
-unfolding magnitude
-number_too_long =
-    record {
-      z = pos 0;
-      facets_before = 1;
-      word = replicate 256 48;
-      wants = record {
-        solids = (one_read ∷ []) ∷ [];
-        front = take 11 (Text.solid_tokens (one_read ∷ []));
-        more = drop 12 (Text.solid_tokens (one_read ∷ []));
-        cut = refl;
-        count = refl;
-        few = lit≤ tt;
-        rest = codes " " ++ replicate 256 48 ++ codes " 3";
-        spelled = refl;
-        offset = refl;
-        stands = refl;
-      };
-      stands = lit≤ tt;
-      refused = refl;
-    }
-
-number_out_of_range : Text.IsFaultOf 12 Millimetre (vertex_with (codes "1e9")) (fault.Number OutOfRange 45)
-unfolding magnitude
-number_out_of_range =
-    record {
-      z = pos 0;
-      facets_before = 1;
-      word = codes "1e9";
-      wants = record {
-        solids = (one_read ∷ []) ∷ [];
-        front = take 11 (Text.solid_tokens (one_read ∷ []));
-        more = drop 12 (Text.solid_tokens (one_read ∷ []));
-        cut = refl;
-        count = refl;
-        few = lit≤ tt;
-        rest = codes " 1e9 3";
-        spelled = refl;
-        offset = refl;
-        stands = refl;
-      };
-      stands = lit≤ tt;
-      refused = refl;
     }
 
 -- the first of these solids, as it is written

@@ -341,10 +341,10 @@ module _ (limit : ℕ) (unit : LengthUnit) (bytes : List ℕ) where
   rest_of (closed solids rest spelled few) = rest
   rest_of (opened solids facets rest spelled few) = rest
 
-  wants_at : (solids : List (List Facet)) (front : List Token) (token : Token) (more : List Token) (rest : List ℕ)
+  wants : (solids : List (List Facet)) (front : List Token) (token : Token) (more : List Token) (rest : List ℕ) (at : ℕ) (word : List ℕ)
       → flat_map solid_tokens solids ≡ front ++ token ∷ more → facet_count front ≤ limit → rest_after unit front bytes ≡ Some rest
-      → Wants limit unit bytes (length bytes - length (after_space rest)) token (facet_count front) (first_word rest)
-  wants_at solids front token more rest cut few spelled =
+      → at + length (after_space rest) ≡ length bytes → word ≡ first_word rest → Wants limit unit bytes at token (facet_count front) word
+  wants solids front token more rest at word cut few spelled offset stands =
       record {
         solids = solids;
         front = front;
@@ -354,9 +354,16 @@ module _ (limit : ℕ) (unit : LengthUnit) (bytes : List ℕ) where
         few = few;
         rest = rest;
         spelled = spelled;
-        offset = omega (arith, after_space-le rest, rest-le unit front bytes rest spelled);
-        stands = refl;
+        offset = offset;
+        stands = stands;
       }
+
+  wants_at : (solids : List (List Facet)) (front : List Token) (token : Token) (more : List Token) (rest : List ℕ)
+      → flat_map solid_tokens solids ≡ front ++ token ∷ more → facet_count front ≤ limit → rest_after unit front bytes ≡ Some rest
+      → Wants limit unit bytes (length bytes - length (after_space rest)) token (facet_count front) (first_word rest)
+  wants_at solids front token more rest cut few spelled =
+      wants solids front token more rest (length bytes - length (after_space rest)) (first_word rest) cut few spelled
+      (omega (arith, after_space-le rest, rest-le unit front bytes rest spelled)) refl
 
   ended : (solids : List (List Facet)) (front : List Token) (token : Token) (more : List Token) (rest : List ℕ) (kind : Word)
       → flat_map solid_tokens solids ≡ front ++ token ∷ more → facet_count front ≤ limit → rest_after unit front bytes ≡ Some rest
@@ -368,18 +375,7 @@ module _ (limit : ℕ) (unit : LengthUnit) (bytes : List ℕ) where
         record {
           token = token;
           facets_before = facet_count front;
-          wants = record {
-            solids = solids;
-            front = front;
-            more = more;
-            cut = cut;
-            count = refl;
-            few = few;
-            rest = rest;
-            spelled = spelled;
-            offset = omega (arith, at_end);
-            stands = sym none;
-          };
+          wants = wants solids front token more rest (length bytes) [] cut few spelled (omega (arith, at_end)) (sym none);
           kind_is = kind_is;
           no_solid = no_solid;
         },

@@ -5,6 +5,7 @@ use Rattle.std.specs.Char.{is_ascii_digit, to_ascii_lowercase}
 use Rattle.std.specs.Str.{str_to_ascii_lowercase}
 use Rattle.std.specs.List.{list_all, before_first, position_or_len}
 use Rattle.std.proofs.lemmas.Bool.{and_parts, cases_lt, lt-leb, ne_eqb, not-true, eqb-true}
+use Rattle.std.proofs.lemmas.Bool.Decides.{nat_tests}
 use Rattle.std.proofs.lemmas.List.{length-map, length-take-le, take-append-drop}
 use Rattle.std.proofs.lemmas.List.Sums.{prefix_len-le-length}
 use Rattle.std.proofs.lemmas.List.Folds.{list_all-append}
@@ -18,13 +19,17 @@ use Rattle.micro_num.specs.Micrometres.{coordinate_of, numeral_coordinate}
 use Rattle.micro_num.specs.Scan.{IsEnded}
 use Rattle.exact_int.proofs.lemmas.Lists.{all-weaker}
 use Rattle.micro_num.proofs.lemmas.Grammar.{Starts, before-is, from-is, from_starts, bounds, numeral_of-is}
-use Rattle.stl_text.specs.Text.{after_space, is_white, is_keyword}
+use Rattle.stl_text.specs.Text.{after_space, is_white, is_keyword, is_line_end}
 use Rattle.stl_text.specs.Written.{IsApart}
 use Rattle.micro_num.specs.declared.limits.TheConstants.{WORD_LIMIT}
 
 -- a byte of a word
 abbrev pub is_clear : ℕ → Bool
 is_clear byte = not (is_white byte)
+
+-- a byte that ends a line is white space
+pub line_end_white : (b : ℕ) → is_line_end b ≡ true → is_white b ≡ true
+line_end_white b h = grind (arith, nat_tests)
 
 module _ (front : List ℕ) (n : ℕ) (clear : list_all (λ byte. not (is_white byte)) (take n front) ≡ true) (apart : IsApart (drop n front)) where
   starts : (xs : List ℕ) → IsApart xs → Starts is_white xs
@@ -98,8 +103,8 @@ no_keyword text front other = by_test (is_keyword text (before_first is_white fr
 
 -- Numbers.
 
-join : (xs ys : List ℕ) → list_all is_clear xs ≡ true → list_all is_clear ys ≡ true → list_all is_clear (xs ++ ys) ≡ true
-join xs ys h k = list_all-append is_clear xs ys ∙ rw h k
+pub clear-append : (xs ys : List ℕ) → list_all is_clear xs ≡ true → list_all is_clear ys ≡ true → list_all is_clear (xs ++ ys) ≡ true
+clear-append xs ys h k = list_all-append is_clear xs ys ∙ rw h k
 
 digits_clear : (ds : List ℕ) → list_all is_ascii_digit ds ≡ true → list_all is_clear ds ≡ true
 digits_clear ds h = all-weaker is_ascii_digit is_clear (λ d is. above_clear d (omega (arith, (bounds d is).0))) ds h
@@ -126,15 +131,15 @@ exponent_clear None h = refl
 exponent_clear (Some e) h =
     let parts = and_parts _ _ h in
     let digits = and_parts _ _ parts.1 in
-    rw (mark_clear e.mark parts.0) (join (sign_text e.sign) e.digits (sign_clear e.sign) (digits_clear e.digits digits.1))
+    rw (mark_clear e.mark parts.0) (clear-append (sign_text e.sign) e.digits (sign_clear e.sign) (digits_clear e.digits digits.1))
 
 numeral_clear : (n : Numeral) → IsNumeral n → list_all is_clear (numeral_text n) ≡ true
 numeral_clear n is =
     let digits = and_parts _ _ is.0 in
     let each = and_parts _ _ (sym (list_all-append is_ascii_digit n.whole (fraction_digits n.fraction)) ∙ digits.1) in
-    join (sign_text n.sign ++ n.whole ++ fraction_text n.fraction) (exponent_text n.exponent)
-    (join (sign_text n.sign ++ n.whole) (fraction_text n.fraction)
-    (join (sign_text n.sign) n.whole (sign_clear n.sign) (digits_clear n.whole each.0)) (fraction_clear n.fraction each.1))
+    clear-append (sign_text n.sign ++ n.whole ++ fraction_text n.fraction) (exponent_text n.exponent)
+    (clear-append (sign_text n.sign ++ n.whole) (fraction_text n.fraction)
+    (clear-append (sign_text n.sign) n.whole (sign_clear n.sign) (digits_clear n.whole each.0)) (fraction_clear n.fraction each.1))
     (exponent_clear n.exponent is.1)
 
 pub coordinate_clear : (unit : LengthUnit) (word : List ℕ) (z : ℤ) → coordinate_of unit word ≡ Ok z → list_all is_clear word ≡ true

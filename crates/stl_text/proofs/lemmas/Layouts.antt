@@ -1,5 +1,5 @@
 -- A facet in a layout: separators and what stands between them.
-use Rattle.std.proofs.Common.{◌≡◌, ℕ, ◌-◌, ◌<◌, Bool, true, false, List, [], ◌∷◌, ◌++◌, length, drop, refl, sym, ◌∙◌, ap, subst, arith, length-drop}
+use Rattle.std.proofs.Common.{◌≡◌, ℕ, ◌-◌, ◌<◌, ◌≤◌, Bool, true, false, List, [], ◌∷◌, ◌++◌, length, drop, refl, sym, ◌∙◌, ap, subst, arith, length-drop}
 use Rattle.std.specs.Prelude.{Option, Some, None, nat_lt, if◌then◌else◌}
 use Rattle.std.proofs.lemmas.List.{drop-append-le}
 use Rattle.micro_num.specs.declared.unit.Unit.{Unit as LengthUnit}
@@ -112,6 +112,10 @@ pub read_from : (tokens : List Token) (u : LengthUnit) (bytes rest : List ℕ) {
     → new.rest ≡ rest → rest_after u tokens bytes ≡ Some rest
 read_from tokens u bytes rest {old} {new} begins read after =
     subst (λ r. rest_after r.unit tokens r.rest ≡ Some new.rest) begins read.spelled ∙ ap {B = Option (List ℕ)} Some after
+
+pub read_within : (tokens : List Token) (u : LengthUnit) (bytes rest : List ℕ) {old new : Reader} → old ≡ reader_at_start u bytes → Spells tokens old new
+    → new.rest ≡ rest → length rest ≤ length bytes
+read_within tokens u bytes rest begins read after = rest-le u tokens bytes rest (read_from tokens u bytes rest begins read after)
 
 pub separates : (p : Separator) (u : LengthUnit) (bytes : List ℕ) {old new : Reader} → old ≡ reader_at_start u bytes → Spells (separator_tokens p) old new
     → 0 < length new.rest → after_space new.rest ≡ [] → IsSeparator (separator_tokens p) bytes

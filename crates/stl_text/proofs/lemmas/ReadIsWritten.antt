@@ -19,7 +19,8 @@ use Rattle.stl_text.specs.Written.{Spaced, is_word, is_spaced_word, are_white, l
 use Rattle.stl_text.proofs.lemmas.Determined.{read-is}
 use Rattle.stl_text.proofs.lemmas.OneReading.{then_on, rest-append}
 use Rattle.stl_text.proofs.lemmas.Solids.{end_tokens}
-use Rattle.stl_text.proofs.lemmas.Written.{EndsLine, line_end_white, some-lower}
+use Rattle.stl_text.proofs.lemmas.Fronts.{line_end_white}
+use Rattle.stl_text.proofs.lemmas.Written.{EndsLine, some-lower}
 
 -- A text is its white space, its first word and what is after the word.
 

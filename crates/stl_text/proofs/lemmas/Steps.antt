@@ -1,19 +1,21 @@
 -- Reading tokens one after another: a whole reading, or its fault, from those of the parts.
 use Rattle.std.proofs.Common.{◌≡◌, ◌≢◌, ℕ, Bool, true, false, List, [], ◌∷◌, ◌++◌, length, refl, ◌∙◌, ap, subst, arith}
-use Rattle.std.specs.Prelude.{Option, Some, None, Ok, Err, Result, ℤ, nat_lt, ◌==◌, if◌then◌else◌}
+use Rattle.std.specs.Prelude.{FitsSigned, Option, Some, None, Ok, Err, Result, ℤ, nat_lt, ◌==◌, if◌then◌else◌}
 use Rattle.micro_num.specs.declared.unit.Unit.{Unit as LengthUnit}
 use Rattle.micro_num.specs.declared.num_fault.NumFault.{NumFault}
 use Rattle.micro_num.specs.declared.num_fault.NumFault.TheVariants.{TooLong, OutOfRange}
+use Rattle.geometry.specs.Point.{Point}
 use Rattle.exact_int.specs.Bounds.{IsAtMost}
 use Rattle.exact_int.proofs.lemmas.Sizes.{back_of}
 use Rattle.micro_num.specs.Numeral.{Numeral, numeral_of}
 use Rattle.micro_num.specs.Micrometres.{coordinate_of, numeral_coordinate, is_coordinate, micro}
 use Rattle.stl_text.specs.declared.word.Word.{Word}
 use Rattle.stl_text.specs.declared.word.Word.TheVariants.{Solid, FacetOrEnd, Normal, Outer, Loop, Vertex, Number, EndLoop, EndFacet}
-use Rattle.stl_text.specs.Text.{Token, is_keyword, is_wanted, keyword_text, HasOneKeyword, rest_after}
+use Rattle.stl_text.specs.Text.{Token, coordinate, is_keyword, is_wanted, keyword_text, HasOneKeyword, rest_after}
 use Rattle.stl_text.specs.Reader.{Reader, Spells}
 use Rattle.std.proofs.lemmas.Bool.{eqb-true, leb-true}
 use Rattle.std.proofs.Common.{to_z, of_z, w32}
+use Rattle.std.proofs.lemmas.Int.{to_z-of_z}
 use Rattle.stl_text.proofs.lemmas.OneReading.{then_on, rest-append}
 use Rattle.geometry.specs.declared.limits.TheConstants.{COORDINATE_LIMIT}
 use Rattle.micro_num.specs.declared.limits.TheConstants.{WORD_LIMIT}
@@ -30,6 +32,16 @@ spells_then ps qs {old} {mid} {new} first last =
       spelled = spelled-append old.unit ps qs old.rest mid.rest new.rest first.spelled on;
       same_unit = last.same_unit ∙ first.same_unit;
     }
+
+-- the three coordinates of a point, which fit its type
+pub point_spelled : (x y z : ℤ) {r0 r1 r2 r3 : Reader} {p : Point} → Spells (coordinate x ∷ []) r0 r1 → Spells (coordinate y ∷ []) r1 r2
+    → Spells (coordinate z ∷ []) r2 r3 → FitsSigned w32 x → FitsSigned w32 y → FitsSigned w32 z
+    → p ≡ record { x = to_z w32 (of_z w32 x); y = to_z w32 (of_z w32 y); z = to_z w32 (of_z w32 z) }
+    → Spells (coordinate p.x ∷ coordinate p.y ∷ coordinate p.z ∷ []) r0 r3
+point_spelled x y z at_x at_y at_z x_fits y_fits z_fits is =
+    rw is
+    (simp to_z-of_z
+    (spells_then (coordinate x ∷ coordinate y ∷ []) (coordinate z ∷ []) (spells_then (coordinate x ∷ []) (coordinate y ∷ []) at_x at_y) at_z))
 
 -- only one keyword fits this kind of word
 pub record NamesKeyword (kind : Word) : Type 0 where

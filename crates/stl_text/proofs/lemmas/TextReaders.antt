@@ -1,11 +1,9 @@
 -- Reading a text in chunks: what a reader knows of the text so far, whatever follows it.
 use Rattle.std.proofs.Common.{◌≡◌, ℕ, ◌+◌, ◌-◌, ◌<◌, ◌≤◌, Bool, true, false, not, List, [], ◌∷◌, ◌++◌, length, take, drop, refl, sym, ◌∙◌, ap, subst, ◌⊎◌, inl, inr, arith, append_assoc, append-nil, length-append, length-drop}
-use Rattle.std.specs.Prelude.{Some, ◌==◌, ◌||◌}
+use Rattle.std.specs.Prelude.{Some}
 use Rattle.std.specs.List.{list_all, before_first, position_or_len}
 use Rattle.std.proofs.Math.Numerals.{one-add}
-use Rattle.std.proofs.lemmas.Bool.{eqb-true}
 use Rattle.std.proofs.lemmas.List.{take-append-drop}
-use Rattle.std.proofs.lemmas.List.Folds.{list_all-append}
 use Rattle.micro_num.specs.declared.unit.Unit.{Unit as LengthUnit}
 use Rattle.micro_num.proofs.lemmas.Grammar.{Starts, from_starts}
 use Rattle.geometry.specs.Facet.{Facet}
@@ -21,7 +19,7 @@ use Rattle.stl_text.specs.TextReader.{EndsAt, IsAfter, IsReading, IsReadingAt, T
 use Rattle.stl_text.specs.FacetRun.{IsFacetRun, IsRestOf, StandsBefore}
 use Rattle.stl_text.specs.declared.word.Word.TheVariants.{FacetOrEnd}
 use Rattle.stl_text.proofs.lemmas.Locality.{line-on, line-over, seen_keyword, space-on, space-over, starts-on, tokens-on, word-first, word_next}
-use Rattle.stl_text.proofs.lemmas.Fronts.{is_clear}
+use Rattle.stl_text.proofs.lemmas.Fronts.{clear-append, is_clear, line_end_white}
 use Rattle.stl_text.proofs.lemmas.FacetRuns.{added_rest, drop_rest, no_rest, rest_after-rest, rest_then, rest_within, same_rest, whole_rest}
 use Rattle.stl_text.proofs.lemmas.Stages.{facet_read}
 use Rattle.stl_text.proofs.lemmas.Either.{after_space-le, no_word-space}
@@ -262,6 +260,11 @@ facet_passed limit unit p q t text ahead rest w none spelled some fewer room lim
 
 -- A run of facets.
 
+-- the facets that a reader has, after those that were taken off it, and then those of the run
+pub run_added : (taken had run items all : List Facet) → all ≡ had ++ items → items ≡ run → taken ++ all ≡ (taken ++ had) ++ run
+run_added taken had run items all added same =
+    ap (λ fs. taken ++ fs) (added ∙ ap (λ xs. had ++ xs) same) ∙ sym (append_assoc taken had run)
+
 pub run_passed : (limit : ℕ) (unit : LengthUnit) (p q : TextReader) (facets : List Facet) (fed chunk ahead from to : List ℕ)
     → Waits limit unit p stage.Facets false (fed ++ chunk) ahead → p.held ≡ [] → IsFacetRun unit chunk facets from to → length ahead ≡ length from
     → length p.facets + length facets ≤ limit
@@ -426,9 +429,6 @@ joined : (held word rest more ahead : List ℕ) → ahead ≡ word ++ rest → h
 joined held word rest more ahead whole =
     ap (λ v. held ++ (v ++ more)) whole ∙ ap (λ v. held ++ v) (append_assoc word rest more) ∙ sym (append_assoc held word (rest ++ more))
 
-kept_clear : (held word : List ℕ) → list_all is_clear held ≡ true → list_all is_clear word ≡ true → list_all is_clear (held ++ word) ≡ true
-kept_clear held word h k = list_all-append is_clear held word ∙ rw h k
-
 pub kept_word : (limit : ℕ) (unit : LengthUnit) (p : TextReader) (s : Stage) (text ahead kept word rest : List ℕ) (at n : ℕ)
     → Waits limit unit p s false text ahead → 0 < length p.held → n ≡ position_or_len is_white ahead → word ≡ take n ahead → rest ≡ drop n ahead
     → kept ≡ p.held ++ word → 0 < length rest → at ≡ p.count - length rest - length kept → Next limit unit s p.facets text kept rest at
@@ -436,7 +436,7 @@ kept_word limit unit p s text ahead kept word rest at n w some n_is word_is rest
     let cut : Cut ahead word rest = cut_at ahead word rest n n_is word_is rest_is in
     let lengths : length ahead ≡ length word + length rest = ap length cut.whole ∙ length-append word rest in
     let size : length kept ≡ length p.held + length word = ap length kept_is ∙ length-append p.held word in
-    let clear : list_all is_clear kept ≡ true = ap (list_all is_clear) kept_is ∙ kept_clear p.held word w.clear cut.clear in
+    let clear : list_all is_clear kept ≡ true = ap (list_all is_clear) kept_is ∙ clear-append p.held word w.clear cut.clear in
     let kept_some : 0 < length kept = omega (arith, size, some) in
     next_word limit unit p s text ahead kept rest at w clear kept_some cut.starts left_some
     (λ more. ap after_space (joined p.held word rest more ahead cut.whole ∙ ap (λ k. k ++ (rest ++ more)) (sym kept_is))
@@ -453,7 +453,7 @@ kept_on limit unit p q s text ahead word rest last n w some n_is word_is rest_is
     let same : ahead ≡ word = cut.whole ∙ ap (λ r. word ++ r) empty ∙ append-nil word in
     let kept : List ℕ = p.held ++ word in
     let size : length kept ≡ length p.held + length word = length-append p.held word in
-    let clear : list_all is_clear kept ≡ true = kept_clear p.held word w.clear cut.clear in
+    let clear : list_all is_clear kept ≡ true = clear-append p.held word w.clear cut.clear in
     let kept_some : 0 < length kept = omega (arith, size, some) in
     subst (λ r. Waits limit unit q s false text r) (sym last_is)
     (word_held limit unit p q s text ahead kept w limit_is unit_is count_is facets_is held_is clear kept_some
@@ -466,17 +466,9 @@ nil-of-length (x ∷ xs) h = absurd (omega (arith, h))
 
 -- A line break is white space.
 
-line_white : (b : ℕ) → is_line_end b ≡ true → is_white b ≡ true
-line_white b h = by_tests (b == 10) (b == 13) refl refl h
-  where
-    by_tests : (x y : Bool) → (b == 10) ≡ x → (b == 13) ≡ y → (x || y) ≡ true → is_white b ≡ true
-    by_tests true y is other e = ap is_white (eqb-true b 10 is)
-    by_tests false true other is e = ap is_white (eqb-true b 13 is)
-    by_tests false false other other' e = cc
-
 break_seen : (rest more : List ℕ) → Starts is_line_end rest → 0 < length rest → after_space (rest ++ more) ≡ after_space (drop 1 rest ++ more)
 break_seen [] more starts some = absurd (omega (arith, some))
-break_seen (b ∷ bs) more starts some = rw (line_white b starts) (rw one-add refl)
+break_seen (b ∷ bs) more starts some = rw (line_end_white b starts) (rw one-add refl)
 
 pub break_passed : (limit : ℕ) (unit : LengthUnit) (q : TextReader) (s : Stage) (text ahead rest last : List ℕ) → Waits limit unit q s false text rest
     → q.held ≡ [] → rest ≡ after_line ahead → 0 < length rest → last ≡ drop 1 rest → Waits limit unit q s false text last

@@ -17,6 +17,7 @@ use Rattle.geometry.specs.Facet.{Facet}
 use Rattle.stl_text.specs.Text.{Token, keyword, normal_word, coordinate, rest_of_line, end_word, facet_tokens, solid_tokens, is_white, is_line_end, is_read_as, begins_with, after_space, first_word, after_word, after_token, rest_after, Reads, keyword_of, keyword_text, end_keyword}
 use Rattle.stl_text.specs.Written.{Spaced, is_word, are_white, laid_out, IsWordOf, AreWordsOf, IsApart, IsRemark, IsLineBreak, IsAfterSolids, WrittenSolid, AreWrittenSolids, Written}
 use Rattle.micro_num.proofs.lemmas.Grammar.{Starts, before-is, from-is}
+use Rattle.stl_text.proofs.lemmas.Fronts.{line_end_white}
 use Rattle.stl_text.proofs.lemmas.Solids.{facets-more, tokens-more}
 use Rattle.stl_text.proofs.lemmas.Steps.{spelled-append}
 
@@ -128,9 +129,6 @@ keyword_is_word word text is clear =
     ap (λ r. r && list_all (λ b. not (is_white b)) word) (sym (some-lower word))
     ∙ ap (λ r. nat_lt 0 (length (str_to_ascii_lowercase word)) && r) (sym (clear-lower word))
     ∙ ap is_word is ∙ clear
-
-pub line_end_white : (b : ℕ) → is_line_end b ≡ true → is_white b ≡ true
-line_end_white b h = grind (arith, nat_tests)
 
 -- a text that begins with the end of a line, or is empty
 abbrev pub EndsLine : List ℕ → Type 0

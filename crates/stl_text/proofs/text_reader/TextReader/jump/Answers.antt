@@ -1,8 +1,8 @@
-use Rattle.std.proofs.Common.{◌≡◌, ◌≤◌, false, ◌+◌, ◌++◌, ◌<◌, [], append_assoc, length, length-append, refl, sym, ◌∙◌, ap, subst, arith}
+use Rattle.std.proofs.Common.{◌≡◌, ◌≤◌, false, ◌+◌, ◌++◌, ◌<◌, [], length, length-append, refl, sym, ◌∙◌, ap, subst, arith}
 use Rattle.std.proofs.lemmas.Bool.{eqb-false}
 use Rattle.stl_text.specs.Stage.{in_facets}
 use Rattle.stl_text.specs.TextReader.{IsReading, IsReadingAt, TextReader, Waits, at_word}
-use Rattle.stl_text.proofs.lemmas.TextReaders.{run_passed, within_limit}
+use Rattle.stl_text.proofs.lemmas.TextReaders.{run_added, run_passed, within_limit}
 use Rattle.stl_text.proofs.text_reader.TextReader.jump.Goals as goal
 
 pub returns-in-Err-clause-read : goal.returns-in-Err-clause-read
@@ -37,5 +37,4 @@ returns-clause-read g c = λ limit unit taken fed chunk run is.
     ) in
     subst (λ pl. IsReadingAt limit unit q pl text to) (sym at_state)
     (run_passed limit unit p q facets.items fed chunk ahead c.args.run.now.from.now to w free run c.if-ahead-run.false room refl refl refl refl
-    (ap (λ fs. taken ++ fs) (c.in_default.ensures.added ∙ ap (λ xs. i.facets.items ++ xs) c.deref.ensures.value)
-    ∙ sym (append_assoc taken i.facets.items facets.items)))
+    (run_added taken i.facets.items facets.items c.deref.result.now c.add_all.new.facets.items c.in_default.ensures.added c.deref.ensures.value))
