@@ -1,6 +1,7 @@
 -- The edges that pass a height are those that a search of the three edges finds.
 use Rattle.std.proofs.Common.{◌≡◌, ℕ, zero, suc, ◌<◌, Bool, true, false, List, [], refl, sym, ◌∙◌, ap, subst, arith, inl, inr, map, get_or, length}
 use Rattle.std.specs.Prelude.{Option, Some, None, IsSome, is_some, ◌↔◌, ℤ, ◌≤ℤ◌, ◌<ℤ◌, find, slice_get}
+use Rattle.std.proofs.lemmas.Bool.{false_from_ne_true, false≢true}
 use Rattle.std.proofs.lemmas.Int.{ints}
 use Rattle.std.proofs.lemmas.List.{get_or-map}
 use Rattle.std.proofs.lemmas.Option.{get_or_from_slice_get}
@@ -25,10 +26,6 @@ rises-high a b z h = grind (arith, ints)
 abbrev pub edge_at : Facet → ℕ → Edge
 edge_at t e = edge (start t e) (finish t e)
 
-not_true : (b : Bool) → (b ≡ true → ⊥) → b ≡ false
-not_true true h = absurd (h refl)
-not_true false h = refl
-
 differ : (m n : ℕ) → m < n → m ≡ n → ⊥
 differ m n h e = omega arith
 
@@ -37,21 +34,21 @@ only_found : (p : Edge → Bool) (t : Facet) (e : ℕ) → e < 3 → p (edge_at 
     → ((d : ℕ) → d < 3 → p (edge_at t d) ≡ true → d ≡ e) → find p (half_edges t) ≡ Some (edge_at t e)
 only_found p t zero h holds only = let e : p (edge t.a t.b) ≡ true = holds in rw e
 only_found p t (suc zero) h holds only =
-    let none : p (edge t.a t.b) ≡ false = not_true _ (λ q. differ 0 1 (omega arith) (only 0 (omega arith) q)) in
+    let none : p (edge t.a t.b) ≡ false = false_from_ne_true _ (λ q. differ 0 1 (omega arith) (only 0 (omega arith) q)) in
     let e : p (edge t.b t.c) ≡ true = holds in
     rw (none, e)
 only_found p t (suc (suc zero)) h holds only =
-    let none : p (edge t.a t.b) ≡ false = not_true _ (λ q. differ 0 2 (omega arith) (only 0 (omega arith) q)) in
-    let none' : p (edge t.b t.c) ≡ false = not_true _ (λ q. differ 1 2 (omega arith) (only 1 (omega arith) q)) in
+    let none : p (edge t.a t.b) ≡ false = false_from_ne_true _ (λ q. differ 0 2 (omega arith) (only 0 (omega arith) q)) in
+    let none' : p (edge t.b t.c) ≡ false = false_from_ne_true _ (λ q. differ 1 2 (omega arith) (only 1 (omega arith) q)) in
     let e : p (edge t.c t.a) ≡ true = holds in
     rw (none, none', e)
 only_found p t (suc (suc (suc n))) h holds only = absurd (omega arith)
 
 none_found : (p : Edge → Bool) (t : Facet) → ((d : ℕ) → d < 3 → p (edge_at t d) ≡ true → ⊥) → find p (half_edges t) ≡ None
 none_found p t none =
-    let none0 : p (edge t.a t.b) ≡ false = not_true _ (none 0 (omega arith)) in
-    let none1 : p (edge t.b t.c) ≡ false = not_true _ (none 1 (omega arith)) in
-    let none2 : p (edge t.c t.a) ≡ false = not_true _ (none 2 (omega arith)) in
+    let none0 : p (edge t.a t.b) ≡ false = false_from_ne_true _ (none 0 (omega arith)) in
+    let none1 : p (edge t.b t.c) ≡ false = false_from_ne_true _ (none 1 (omega arith)) in
+    let none2 : p (edge t.c t.a) ≡ false = false_from_ne_true _ (none 2 (omega arith)) in
     rw (none0, none1, none2)
 
 -- heights of corners, in half-micrometres
@@ -105,12 +102,9 @@ between-by_cut facets z n t c e cut = subst (λ u. IsBetween (twice u) z) (sym (
 pub none-only : {X : Type 0} (o : Option X) (facets : List Facet) (z : ℤ) (n : ℕ) (t : Facet) → o ≡ None → slice_get facets n ≡ Some t
     → (IsBetween (twice t) z → ⊥) → IsSome o ↔ IsBetween (twice (facet_at facets n)) z
 none-only o facets z n t e f not_between = (
-  λ h. absurd (apart (sym (ap is_some e) ∙ h)),
+  λ h. absurd (false≢true (sym (ap is_some e) ∙ h)),
   λ b. absurd (not_between (subst (λ u. IsBetween (twice u) z) (facet_at-is facets n t f) b)),
 )
-  where
-    apart : false ≡ true → ⊥
-    apart e = cc
 
 -- the node of edge 0, 1 or 2, by the numbers of the corners
 edge_node-is : (points : List Point) (t : Facet) (e : ℕ) → e < 3
