@@ -8,6 +8,7 @@ pub mod Links
 pub mod LoopRays
 pub mod Slots
 pub mod Balanced
+pub mod Runs
 pub mod Followers
 pub mod Walks
 pub mod Traces

@@ -3,13 +3,13 @@ use Rattle.std.proofs.Common.{◌≡◌, ℕ, zero, suc, ◌+◌, ◌<◌, ◌�
 use Rattle.std.specs.Prelude.{Option, ℤ, filter_map, find, count_by, int_le, int_lt, ◌==◌}
 use Rattle.std.specs.List.{enumerate_from, cons_option}
 use Rattle.std.proofs.lemmas.Int.{ints}
-use Rattle.std.proofs.lemmas.Bool.{and_from, eqb-true, eq-eqb, or_cases, or_left, or_right}
+use Rattle.std.proofs.lemmas.Bool.{and_from, cases_lt, eqb-true, eq-eqb, ne_eqb, or_cases, or_left, or_right, true≢false}
 use Rattle.geometry.specs.Point.{Point, origin, same}
 use Rattle.geometry.specs.Facet.{Facet, facet_with, Edge, edge, edges, half_edges}
 use Rattle.mesh_weld.specs.Balance.{IsBalanced, half_edge_count}
 use Rattle.mesh_weld.specs.Solid.{vertices, number_of, facet_at}
 use Rattle.mesh_weld.specs.EdgeNumbers.{AreEdgeNumbers, HaveSameEnds, edge_of, edge_number}
-use Rattle.mesh_weld.proofs.lemmas.InOrder.{is_in}
+use Rattle.mesh_weld.proofs.lemmas.InOrder.{both_ways, is_in}
 use Rattle.mesh_weld.proofs.lemmas.Order.{same-self}
 use Rattle.mesh_weld.proofs.lemmas.Edges.{count_by-cons, runs, runs-is}
 use Rattle.plane_segments.specs.Node.{Node, between, is_node}
@@ -68,16 +68,12 @@ module _ (facets : List Facet) where
         ap (λ ns. edge_at_node ns (get_or numbers n []) (node_at n k)) (triples_at facets n l)
         ∙ by_tests k m (is_node (node_at n 0) (node_at n k)) (is_node (node_at n 1) (node_at n k)) refl refl
       where
-        not_both : (b : Bool) → b ≡ true → b ≡ false → ⊥
-        not_both true h k = absurd (cc)
-        not_both false h k = absurd (cc)
-
         by_tests : (k : ℕ) → k < 3 → (b c : Bool) → is_node (node_at n 0) (node_at n k) ≡ b → is_node (node_at n 1) (node_at n k) ≡ c
             → cond b (get_or (get_or numbers n []) 0 0) (cond c (get_or (get_or numbers n []) 1 0) (get_or (get_or numbers n []) 2 0)) ≡ get_or (get_or numbers n []) k 0
         by_tests k m true c p q = (numbered.shared n 0 n k l (omega arith) l m).1 (same_ends n 0 n k l (omega arith) l m p)
         by_tests k m false true p q = (numbered.shared n 1 n k l (omega arith) l m).1 (same_ends n 1 n k l (omega arith) l m q)
-        by_tests zero m false false p q = absurd (not_both _ (own_node (node_at n 0) (node_at n 0) refl) p)
-        by_tests (suc zero) m false false p q = absurd (not_both _ (own_node (node_at n 1) (node_at n 1) refl) q)
+        by_tests zero m false false p q = absurd (true≢false (sym (own_node (node_at n 0) (node_at n 0) refl) ∙ p))
+        by_tests (suc zero) m false false p q = absurd (true≢false (sym (own_node (node_at n 1) (node_at n 1) refl) ∙ q))
         by_tests (suc (suc zero)) m false false p q = refl
         by_tests (suc (suc (suc k))) m false false p q = absurd (omega (arith, m))
 
@@ -156,11 +152,6 @@ either_way : (dc there back r s : Bool) → (r ≡ true → dc ≡ there) → (s
     → cond (dc && (r || s)) 1 0 ≡ cond there (cond r 1 0) 0 + cond back (cond s 1 0) 0
 either_way dc there back r s h k l = grind arith
 
-pub same_test : (a b : Bool) → (a ≡ true → b ≡ true) → (b ≡ true → a ≡ true) → a ≡ b
-same_test true b h k = sym (h refl)
-same_test false true h k = k refl
-same_test false false h k = refl
-
 runs-own : (c : Edge) (u v : Point) → c.from ≡ u → c.to ≡ v → runs u v c ≡ true
 runs-own c u v h k =
     and_from (same c.from u) (same c.to v) (ap (same c.from) (sym h) ∙ same-self c.from) (ap (same c.to) (sym k) ∙ same-self c.to)
@@ -229,19 +220,26 @@ abbrev pub seg_pick : (Segment → Bool) → Option Segment → ℕ
 seg_pick test None = 0
 seg_pick test (Some s) = cond (test s) 1 0
 
-module _ (facets : List Facet) (numbers : List (List ℕ)) (count : ℕ) (numbered : AreEdgeNumbers facets numbers count) (z : ℤ) where
-  abbrev no_triangle : Facet
-  no_triangle = facet_with origin origin origin
+-- facets from the n-th on
+module _ (facets : List Facet) where
+  abbrev pub Agree : ℕ → List Facet → Type 0
+  Agree n ts = (k : ℕ) → k < length ts → (n + k < length facets) × (facet_at facets (n + k) ≡ get_or ts k (facet_with origin origin origin))
 
-  -- facets from the n-th on
-  abbrev Agree : ℕ → List Facet → Type 0
-  Agree n ts = (k : ℕ) → k < length ts → (n + k < length facets) × (facet_at facets (n + k) ≡ get_or ts k no_triangle)
+  pub Agree-head : (n : ℕ) (t : Facet) (ts : List Facet) → Agree n (t ∷ ts) → (n < length facets) × (facet_at facets n ≡ t)
+  Agree-head n t ts h = let same : n + 0 ≡ n = omega arith in subst (λ m. (m < length facets) × (facet_at facets m ≡ t)) same (h 0 (omega arith))
 
-  Agree-more : (n : ℕ) (t : Facet) (ts : List Facet) → Agree n (t ∷ ts) → Agree (n + 1) ts
+  pub Agree-more : (n : ℕ) (t : Facet) (ts : List Facet) → Agree n (t ∷ ts) → Agree (n + 1) ts
   Agree-more n t ts h k l =
       let up : n + suc k ≡ (n + 1) + k = omega arith in
-      subst (λ m. (m < length facets) × (facet_at facets m ≡ get_or ts k no_triangle)) up (h (suc k) (omega (arith, l)))
+      subst (λ m. (m < length facets) × (facet_at facets m ≡ get_or ts k (facet_with origin origin origin))) up (h (suc k) (omega (arith, l)))
 
+  pub Agree-whole : Agree 0 facets
+  Agree-whole k l = let same : 0 + k ≡ k = omega arith in (omega (arith, l), ap (facet_at facets) same)
+
+pub never_both : (z : ℤ) (u v : Point) → rises_through (height u) (height v) z ≡ true → rises_through (height v) (height u) z ≡ true → ⊥
+never_both z u v h k = grind (arith, ints)
+
+module _ (facets : List Facet) (numbers : List (List ℕ)) (count : ℕ) (numbered : AreEdgeNumbers facets numbers count) (z : ℤ) where
   module _ (e : ℕ) (f s : ℕ) (l : f < length facets) (m : s < 3) (is : edge_number numbers f s ≡ e) where
     abbrev d : Edge
     d = edge_of facets f s
@@ -249,7 +247,7 @@ module _ (facets : List Facet) (numbers : List (List ℕ)) (count : ℕ) (number
     same_edge : (n k : ℕ) → n < length facets → k < 3
         → eqb (edge_of_facet facets numbers n (node_at facets n k)) e ≡ (runs d.from d.to (edge_of facets n k) || runs d.to d.from (edge_of facets n k))
     same_edge n k h j =
-        same_test _ _
+        both_ways _ _
         (λ t. runs-ends (edge_of facets n k) d ((numbered.shared n k f s h j l m).0 (sym (own_edge facets numbers count numbered n k h j) ∙ eqb-true _ e t ∙ sym is)))
         (λ r. eq-eqb _ e (own_edge facets numbers count numbered n k h j ∙ (numbered.shared n k f s h j l m).1 (ends-run (edge_of facets n k) d r) ∙ is))
 
@@ -262,12 +260,12 @@ module _ (facets : List Facet) (numbers : List (List ℕ)) (count : ℕ) (number
 
     over_facets : (q : Edge → Bool) (w : q d ≡ true → q (edge d.to d.from) ≡ true → ⊥) (test : Segment → Bool)
         → ((n : ℕ) (t : Facet) → n < length facets → facet_at facets n ≡ t → seg_pick test (segment_of (vertices facets) z (n, t)) ≡ ahead q d w (half_edges t))
-        → (n : ℕ) (ts : List Facet) → Agree n ts
+        → (n : ℕ) (ts : List Facet) → Agree facets n ts
         → count_by test (filter_map (segment_of (vertices facets) z) (enumerate_from n ts)) ≡ ahead q d w (edges ts)
     over_facets q w test each n [] h = ahead-none q d w
     over_facets q w test each n (t ∷ ts) h =
         pick_one (segment_of (vertices facets) z (n, t)) (filter_map (segment_of (vertices facets) z) (enumerate_from (n + 1) ts))
-        ∙ (λ i. each n t here.0 here.1 i + over_facets q w test each (n + 1) ts (Agree-more n t ts h) i)
+        ∙ (λ i. each n t here.0 here.1 i + over_facets q w test each (n + 1) ts (Agree-more facets n t ts h) i)
         ∙ ahead-append q d w (half_edges t) (edges ts)
       where
         pick_one : (o : Option Segment) (rest : List Segment) → count_by test (cons_option o rest) ≡ seg_pick test o + count_by test rest
@@ -275,18 +273,12 @@ module _ (facets : List Facet) (numbers : List (List ℕ)) (count : ℕ) (number
         pick_one (Some x) rest = count_by-cons test x rest
 
         here : (n < length facets) × (facet_at facets n ≡ t)
-        here = let zr : n + 0 ≡ n = omega arith in subst (λ m. (m < length facets) × (facet_at facets m ≡ t)) zr (h 0 (omega arith))
+        here = Agree-head facets n t ts h
 
-    not_both_ways : (u v : Point) → rises_through (height u) (height v) z ≡ true → rises_through (height v) (height u) z ≡ true → ⊥
-    not_both_ways u v h k = grind (arith, ints)
-
-    starts_count : count_by (λ x. start_edge facets numbers x == e) (segments facets z) ≡ ahead (is_downward z) d (not_both_ways d.to d.from) (edges facets)
+    starts_count : count_by (λ x. start_edge facets numbers x == e) (segments facets z) ≡ ahead (is_downward z) d (never_both z d.to d.from) (edges facets)
     starts_count =
-        over_facets (is_downward z) (not_both_ways d.to d.from) (λ x. start_edge facets numbers x == e) each 0 facets whole
+        over_facets (is_downward z) (never_both z d.to d.from) (λ x. start_edge facets numbers x == e) each 0 facets (Agree-whole facets)
       where
-        whole : Agree 0 facets
-        whole k l = let zr : 0 + k ≡ k = omega arith in (omega (arith, l), ap (facet_at facets) zr)
-
         by_edges : (n : ℕ) (a b : Option Edge)
             → seg_pick (λ x. start_edge facets numbers x == e) (both_of (λ (d u : Edge). record { facet = n; from = node_of (vertices facets) d; to = node_of (vertices facets) u }) a b)
             ≡ picks a b (λ c. eqb (edge_of_facet facets numbers n (node_of (vertices facets) c)) e)
@@ -295,20 +287,17 @@ module _ (facets : List Facet) (numbers : List (List ℕ)) (count : ℕ) (number
         by_edges n (Some a) (Some b) = refl
 
         each : (n : ℕ) (t : Facet) → n < length facets → facet_at facets n ≡ t
-            → seg_pick (λ x. start_edge facets numbers x == e) (segment_of (vertices facets) z (n, t)) ≡ ahead (is_downward z) d (not_both_ways d.to d.from) (half_edges t)
+            → seg_pick (λ x. start_edge facets numbers x == e) (segment_of (vertices facets) z (n, t)) ≡ ahead (is_downward z) d (never_both z d.to d.from) (half_edges t)
         each n t h a =
             by_edges n (find (is_downward z) (half_edges t)) (find (is_upward z) (half_edges t))
             ∙ downs z t (λ c. eqb (edge_of_facet facets numbers n (node_of (vertices facets) c)) e)
-            ∙ those_ahead (is_downward z) d (not_both_ways d.to d.from) (λ c. eqb (edge_of_facet facets numbers n (node_of (vertices facets) c)) e) (half_edges t)
+            ∙ those_ahead (is_downward z) d (never_both z d.to d.from) (λ c. eqb (edge_of_facet facets numbers n (node_of (vertices facets) c)) e) (half_edges t)
             (λ k j. same_side n t h a k j)
 
-    finishes_count : count_by (λ x. finish_edge facets numbers x == e) (segments facets z) ≡ ahead (is_upward z) d (not_both_ways d.from d.to) (edges facets)
+    finishes_count : count_by (λ x. finish_edge facets numbers x == e) (segments facets z) ≡ ahead (is_upward z) d (never_both z d.from d.to) (edges facets)
     finishes_count =
-        over_facets (is_upward z) (not_both_ways d.from d.to) (λ x. finish_edge facets numbers x == e) each 0 facets whole
+        over_facets (is_upward z) (never_both z d.from d.to) (λ x. finish_edge facets numbers x == e) each 0 facets (Agree-whole facets)
       where
-        whole : Agree 0 facets
-        whole k l = let zr : 0 + k ≡ k = omega arith in (omega (arith, l), ap (facet_at facets) zr)
-
         by_edges : (n : ℕ) (a b : Option Edge)
             → seg_pick (λ x. finish_edge facets numbers x == e) (both_of (λ (d u : Edge). record { facet = n; from = node_of (vertices facets) d; to = node_of (vertices facets) u }) a b)
             ≡ picks b a (λ c. eqb (edge_of_facet facets numbers n (node_of (vertices facets) c)) e)
@@ -318,11 +307,11 @@ module _ (facets : List Facet) (numbers : List (List ℕ)) (count : ℕ) (number
         by_edges n (Some a) (Some b) = refl
 
         each : (n : ℕ) (t : Facet) → n < length facets → facet_at facets n ≡ t
-            → seg_pick (λ x. finish_edge facets numbers x == e) (segment_of (vertices facets) z (n, t)) ≡ ahead (is_upward z) d (not_both_ways d.from d.to) (half_edges t)
+            → seg_pick (λ x. finish_edge facets numbers x == e) (segment_of (vertices facets) z (n, t)) ≡ ahead (is_upward z) d (never_both z d.from d.to) (half_edges t)
         each n t h a =
             by_edges n (find (is_downward z) (half_edges t)) (find (is_upward z) (half_edges t))
             ∙ ups z t (λ c. eqb (edge_of_facet facets numbers n (node_of (vertices facets) c)) e)
-            ∙ those_ahead (is_upward z) d (not_both_ways d.from d.to) (λ c. eqb (edge_of_facet facets numbers n (node_of (vertices facets) c)) e) (half_edges t)
+            ∙ those_ahead (is_upward z) d (never_both z d.from d.to) (λ c. eqb (edge_of_facet facets numbers n (node_of (vertices facets) c)) e) (half_edges t)
             (λ k j. same_side n t h a k j)
 
     pub even_at : IsBalanced facets → count_by (λ x. start_edge facets numbers x == e) (segments facets z) ≡ count_by (λ x. finish_edge facets numbers x == e) (segments facets z)
@@ -346,19 +335,13 @@ module _ (facets : List Facet) (numbers : List (List ℕ)) (count : ℕ) (number
   none_past g low e past a (x ∷ list) h =
       count_by-cons (λ x. g x == e) x list
       ∙ (let small : g x < count = low x h.1 in
-      let other : eqb (g x) e ≡ false = unequal (g x) e (omega (arith, small, past)) in
+      let other : eqb (g x) e ≡ false = ne_eqb (g x) e (λ q. omega (arith, q, small, past)) in
       λ i. cond (other i) 1 0 + none_past g low e past (x.facet + 1) list h.2 i)
-    where
-      unequal : (a b : ℕ) → a < b → eqb a b ≡ false
-      unequal a b l = grind arith
 
   pub even : IsBalanced facets → AreEven (map (start_edge facets numbers) (segments facets z)) (map (finish_edge facets numbers) (segments facets z))
   even balanced e =
-      count-map (start_edge facets numbers) e (segments facets z) ∙ by_use (below_or_not e count) ∙ sym (count-map (finish_edge facets numbers) e (segments facets z))
+      count-map (start_edge facets numbers) e (segments facets z) ∙ by_use (cases_lt e count) ∙ sym (count-map (finish_edge facets numbers) e (segments facets z))
     where
-      below_or_not : (a b : ℕ) → (a < b) ⊎ (b ≤ a)
-      below_or_not a b = grind arith
-
       by_use : (e < count) ⊎ (count ≤ e)
           → count_by (λ x. start_edge facets numbers x == e) (segments facets z) ≡ count_by (λ x. finish_edge facets numbers x == e) (segments facets z)
       by_use (inl h) = let u = numbered.used e h in even_at e u.0 u.1 u.2 u.3 u.4 balanced

@@ -6,7 +6,7 @@ use Rattle.std.specs.List.{range_with_len, prefix_len}
 use Rattle.std.specs.List.Sorted.{IsNonDecreasing}
 use Rattle.std.proofs.lemmas.List.Sums.{sum_by-append}
 use Rattle.std.proofs.lemmas.List.Sorted.{sum_by-IsPermutation}
-use Rattle.std.proofs.lemmas.Bool.{eqb-true}
+use Rattle.std.proofs.lemmas.Bool.{eq-eqb, eqb-true, ne_eqb}
 use Rattle.std.proofs.lemmas.Bool.Decides.{nat_tests}
 use Rattle.mesh_weld.proofs.lemmas.Edges.{count_by-cons}
 use Rattle.contour.specs.Active.{merge}
@@ -25,14 +25,8 @@ times n xs = count_by (λ m. m == n) xs
 abbrev pub AreEven : List ℕ → List ℕ → Type 0
 AreEven starts finishes = (e : ℕ) → times e starts ≡ times e finishes
 
-eqb-own : (n : ℕ) → eqb n n ≡ true
-eqb-own n = grind (arith, nat_tests)
-
-eqb-other : (m n : ℕ) → n < m → eqb m n ≡ false
-eqb-other m n h = grind (arith, nat_tests)
-
 pub times-own : (x : ℕ) (xs : List ℕ) → times x (x ∷ xs) ≡ 1 + times x xs
-times-own x xs = count_by-cons (λ m. m == x) x xs ∙ ap (λ b. cond b 1 0 + times x xs) (eqb-own x)
+times-own x xs = count_by-cons (λ m. m == x) x xs ∙ ap (λ b. cond b 1 0 + times x xs) (eq-eqb x x refl)
 
 pub times-other : (n x : ℕ) (xs : List ℕ) → eqb x n ≡ false → times n (x ∷ xs) ≡ times n xs
 times-other n x xs h = count_by-cons (λ m. m == n) x xs ∙ ap (λ b. cond b 1 0 + times n xs) h ∙ plain (times n xs)
@@ -89,7 +83,7 @@ NotBelow-lower m x (y ∷ ys) h k = let le = k.0 in (omega arith, NotBelow-lower
 times-below : (n x : ℕ) (ys : List ℕ) → n < x → NotBelow x ys → times n ys ≡ 0
 times-below n x [] h k = refl
 times-below n x (y ∷ ys) h k =
-    let le = k.0 in times-other n y ys (eqb-other y n (omega arith)) ∙ times-below n x ys h k.1
+    let le = k.0 in times-other n y ys (ne_eqb y n (λ e. omega (arith, e, le))) ∙ times-below n x ys h k.1
 
 none_or_more : (n : ℕ) → 0 ≡ 1 + n → ⊥
 none_or_more n e = omega arith
@@ -97,7 +91,7 @@ none_or_more n e = omega arith
 not_before : (x : ℕ) (xs : List ℕ) (y : ℕ) (ys : List ℕ) → NotBelow y ys → times x (x ∷ xs) ≡ times x (y ∷ ys) → x < y → ⊥
 not_before x xs y ys up e l =
     none_or_more (times x xs)
-    (sym (times-other x y ys (eqb-other y x l) ∙ times-below x y ys l up) ∙ sym e ∙ times-own x xs)
+    (sym (times-other x y ys (ne_eqb y x (λ q. omega (arith, q, l))) ∙ times-below x y ys l up) ∙ sym e ∙ times-own x xs)
 
 heads_agree : (x : ℕ) (xs : List ℕ) (y : ℕ) (ys : List ℕ) → NotBelow x xs → NotBelow y ys
     → ((n : ℕ) → times n (x ∷ xs) ≡ times n (y ∷ ys)) → x ≡ y

@@ -4,7 +4,7 @@ use Rattle.std.proofs.Common.{◌≡◌, ℕ, zero, suc, ◌+◌, ◌*◌, ◌^�
 use Rattle.std.proofs.Math.Seq.{take-add}
 use Rattle.std.specs.Prelude.{All, filter, ℤ, pos, neg_ℤ, unsigned_abs, ◌*ℤ◌, ◌-ℤ◌, ◌≤ℤ◌}
 use Rattle.std.specs.List.{AllPairs, AllByRecursion, prefix_len}
-use Rattle.std.proofs.lemmas.Bool.{cases_lt}
+use Rattle.std.proofs.lemmas.Bool.{both_ways, cases_lt}
 use Rattle.std.proofs.lemmas.Int.{fits_signed_from_abs, ints, to_z-of_z}
 use Rattle.std.proofs.lemmas.List.{get_or-take, length-take}
 use Rattle.std.proofs.lemmas.List.Elements.{All-get_or, filter-append, recursion_from_All}
@@ -25,15 +25,12 @@ fails-at p [] k d h l = absurd (omega (arith, l))
 fails-at p (x ∷ xs) zero d h l = h.0
 fails-at p (x ∷ xs) (suc k) d h l = fails-at p xs k d h.1 (omega (arith, l))
 
-both_ways : (b : Bool) → b ≡ true → b ≡ false → ⊥
-both_ways b t f = cc
-
 fades-before : {X : Type 0} (p : X → Bool) (xs : List X) (k : ℕ) (d : X) → Fades p xs → k < length xs → p (get_or xs k d) ≡ true → k < prefix_len p xs
 fades-before p [] k d h l e = absurd (omega (arith, l))
 fades-before p (x ∷ xs) zero d h l e = rw e (omega arith)
 fades-before {X} p (x ∷ xs) (suc k) d h l e =
     let inside : k < length xs = omega (arith, l) in
-    by_test (fades-before p xs k d h.1 inside e) (p x) (λ f. both_ways (p (get_or xs k d)) e (fails-at p xs k d (h.0 f) inside))
+    by_test (fades-before p xs k d h.1 inside e) (p x) (λ f. both_ways (p (get_or xs k d)) (fails-at p xs k d (h.0 f) inside) e)
   where
     by_test : k < prefix_len p xs → (b : Bool) → (b ≡ false → ⊥) → suc k < cond b (1 + prefix_len p xs) 0
     by_test less true f = omega (arith, less)
@@ -43,7 +40,7 @@ pub fades-from : {X : Type 0} (p : X → Bool) (xs : List X) (k : ℕ) (d : X) �
 fades-from p xs k d e = by_cases (cases_lt k (prefix_len p xs))
   where
     by_cases : (k < prefix_len p xs) ⊎ (prefix_len p xs ≤ k) → prefix_len p xs ≤ k
-    by_cases (inl less) = absurd (both_ways (p (get_or xs k d)) (prefix_len_passes p xs k d less) e)
+    by_cases (inl less) = absurd (both_ways (p (get_or xs k d)) e (prefix_len_passes p xs k d less))
     by_cases (inr not_less) = not_less
 
 -- the order by height, on either side of a facet in it

@@ -1,27 +1,27 @@
 -- The slots that linking finds are those of the followers.
-use Rattle.std.proofs.Common.{◌≡◌, ℕ, zero, suc, ◌+◌, ◌<◌, ◌≤◌, Bool, true, false, cond, not, eqb, List, [], ◌∷◌, ◌⊎◌, inl, inr, refl, sym, ◌∙◌, ap, subst, length, take, drop, get_or, arith, map, Some, None}
-use Rattle.std.specs.Prelude.{Result, Ok, Err, IfOk, Option, ℤ, filter, filter_map, find, count_by, slice_get, option_map, ◌==◌}
-use Rattle.std.specs.List.{enumerate_from, cons_option, prefix_len, position_or_len}
+use Rattle.std.proofs.Common.{◌≡◌, ℕ, zero, suc, ◌+◌, ◌<◌, ◌≤◌, Bool, true, false, cond, not, eqb, List, [], ◌∷◌, ◌⊎◌, inl, inr, refl, sym, ◌∙◌, ap, subst, length, take, drop, get_or, arith, map, Some}
+use Rattle.std.specs.Prelude.{All, Result, Ok, Err, IfOk, ℤ, filter, count_by, slice_get, option_map, ◌==◌}
+use Rattle.std.specs.List.{prefix_len, position_or_len}
 use Rattle.std.proofs.lemmas.List.{get_or-map, length-map, length-drop, take_all}
 use Rattle.std.proofs.lemmas.List.Sums.{count_by_more_yes}
 use Rattle.std.proofs.lemmas.Option.{slice_get-get_or, slice_get-map}
 use Rattle.std.proofs.lemmas.Bool.{eqb-true, eq-eqb, ne_eqb}
-use Rattle.geometry.specs.Point.{origin}
-use Rattle.geometry.specs.Facet.{Facet, facet_with, Edge, edge, half_edges}
+use Rattle.geometry.specs.Facet.{Facet}
 use Rattle.mesh_weld.specs.Balance.{IsBalanced}
-use Rattle.mesh_weld.specs.Solid.{vertices, facet_at}
 use Rattle.mesh_weld.specs.EdgeNumbers.{AreEdgeNumbers, edge_of}
 use Rattle.mesh_weld.proofs.lemmas.Edges.{count_by-cons}
+use Rattle.mesh_weld.proofs.lemmas.InOrder.{both_ways}
 use Rattle.plane_segments.specs.Node.{is_node}
 use Rattle.plane_segments.specs.declared.segment.Segment.{Segment}
-use Rattle.plane_segments.specs.Segment.{both_of, is_downward, is_segment, is_upward, node_of, segment_of, segments}
+use Rattle.plane_segments.specs.Segment.{is_segment, segments}
 use Rattle.plane_segments.proofs.lemmas.FacetOrder.{AreFrom, segments_ascend}
 use Rattle.plane_segments.proofs.lemmas.Nodes.{own_node}
 use Rattle.contour.specs.Loops.{follower, rank_at_end}
 use Rattle.contour.specs.Linker.{AreLinks, AreSegmentEdges, ArePopped, edge_of_facet, finish_edge, slots, start_edge}
 use Rattle.contour.specs.declared.linker.TheConstants.{NONE}
-use Rattle.contour.proofs.lemmas.Balanced.{node_at, own_edge, same_ends, same_nodes, segment_edges-even, same_test}
+use Rattle.contour.proofs.lemmas.Balanced.{node_at, own_edge, same_ends, same_nodes, segment_edges-even}
 use Rattle.contour.proofs.lemmas.Counts.{AreEven, times}
+use Rattle.contour.proofs.lemmas.Runs.{Runs, segments_run}
 use Rattle.contour.proofs.lemmas.Slots.{AtSlot, length-slots, slots-at}
 
 -- ---- lists by tests
@@ -94,81 +94,13 @@ times_past e i j xs l m h =
     let more = count_by_more_yes (λ n. n == e) xs i 0 m (eq-eqb (get_or xs i 0) e h) in
     let up = times_up e (i + 1) j xs (omega (arith, l)) in omega (arith, more, up)
 
--- ---- a segment runs between the nodes of two edges of its facet
-pub record Passes (facets : List Facet) (x : Segment) : Type 0 where
-  pub inside : x.facet < length facets
-  pub down : ℕ
-  pub down_in : down < 3
-  pub from_is : x.from ≡ node_at facets x.facet down
-  pub up : ℕ
-  pub up_in : up < 3
-  pub to_is : x.to ≡ node_at facets x.facet up
-
-abbrev Found : Facet → Option Edge → Type 0
-Found t None = Unit {0}
-Found t (Some d) = (k : ℕ) × (k < 3) × (d ≡ get_or (half_edges t) k (edge origin origin))
-
-found : (q : Edge → Bool) (t : Facet) → Found t (find q (half_edges t))
-found q t = by_tests (q (edge t.a t.b)) (q (edge t.b t.c)) (q (edge t.c t.a))
-  where
-    by_tests : (a b c : Bool) → Found t (cond a (Some (edge t.a t.b)) (cond b (Some (edge t.b t.c)) (cond c (Some (edge t.c t.a)) None)))
-    by_tests true b c = (0, omega arith, refl)
-    by_tests false true c = (1, omega arith, refl)
-    by_tests false false true = (2, omega arith, refl)
-    by_tests false false false = tt
-
-abbrev AllPass : List Facet → List Segment → Type 0
-AllPass facets [] = Unit {0}
-AllPass facets (x ∷ list) = Passes facets x × AllPass facets list
-
-all_pass : (facets : List Facet) (z : ℤ) (n : ℕ) (ts : List Facet)
-    → ((k : ℕ) → k < length ts → (n + k < length facets) × (facet_at facets (n + k) ≡ get_or ts k (facet_with origin origin origin)))
-    → AllPass facets (filter_map (segment_of (vertices facets) z) (enumerate_from n ts))
-all_pass facets z n [] h = tt
-all_pass facets z n (t ∷ ts) h =
-    by_edges (find (is_downward z) (half_edges t)) (find (is_upward z) (half_edges t)) (found (is_downward z) t) (found (is_upward z) t)
-    (all_pass facets z (n + 1) ts (λ k l. later k (h (suc k) (omega (arith, l)))))
-  where
-    rest : List Segment
-    rest = filter_map (segment_of (vertices facets) z) (enumerate_from (n + 1) ts)
-
-    later : (k : ℕ) → (n + suc k < length facets) × (facet_at facets (n + suc k) ≡ get_or ts k (facet_with origin origin origin))
-        → (n + 1 + k < length facets) × (facet_at facets (n + 1 + k) ≡ get_or ts k (facet_with origin origin origin))
-    later k q = let y : n + suc k ≡ n + 1 + k = omega arith in subst (λ m. (m < length facets) × (facet_at facets m ≡ get_or ts k (facet_with origin origin origin))) y q
-
-    here : (n < length facets) × (facet_at facets n ≡ t)
-    here = let y : n + 0 ≡ n = omega arith in subst (λ m. (m < length facets) × (facet_at facets m ≡ t)) y (h 0 (omega arith))
-
-    by_edges : (a b : Option Edge) → Found t a → Found t b → AllPass facets (filter_map (segment_of (vertices facets) z) (enumerate_from (n + 1) ts))
-        → AllPass facets (cons_option (both_of (λ (d u : Edge). record { facet = n; from = node_of (vertices facets) d; to = node_of (vertices facets) u }) a b)
-        (filter_map (segment_of (vertices facets) z) (enumerate_from (n + 1) ts)))
-    by_edges None b p q more = more
-    by_edges (Some a) None p q more = more
-    by_edges (Some a) (Some b) p q more = (
-      record {
-        inside = here.0;
-        down = p.0;
-        down_in = p.1;
-        from_is = ap (node_of (vertices facets)) (p.2 ∙ ap (λ (u : Facet). get_or (half_edges u) p.0 (edge origin origin)) (sym here.1));
-        up = q.0;
-        up_in = q.1;
-        to_is = ap (node_of (vertices facets)) (q.2 ∙ ap (λ (u : Facet). get_or (half_edges u) q.0 (edge origin origin)) (sym here.1));
-      },
-      more,
-    )
-
-pass_at : (facets : List Facet) (list : List Segment) (j : ℕ) (d : Segment) → AllPass facets list → j < length list → Passes facets (get_or list j d)
-pass_at facets [] j d h l = absurd (omega (arith, l))
-pass_at facets (x ∷ list) zero d h l = h.0
-pass_at facets (x ∷ list) (suc j) d h l = pass_at facets list j d h.1 (omega (arith, l))
-
-module _ (facets : List Facet) (numbers : List (List ℕ)) (count : ℕ) (numbered : AreEdgeNumbers facets numbers count) where
+module _ (facets : List Facet) (numbers : List (List ℕ)) (count : ℕ) (numbered : AreEdgeNumbers facets numbers count) (z : ℤ) where
   -- two nodes of edges are one where the edges have one number
   same_numbers : (n k m j : ℕ) → n < length facets → k < 3 → m < length facets → j < 3
       → is_node (node_at facets n k) (node_at facets m j)
       ≡ eqb (edge_of_facet facets numbers n (node_at facets n k)) (edge_of_facet facets numbers m (node_at facets m j))
   same_numbers n k m j l l' r r' =
-      same_test _ _
+      both_ways _ _
       (λ t. eq-eqb _ _ (own_edge facets numbers count numbered n k l l'
       ∙ (numbered.shared n k m j l l' r r').1 (same_ends facets n k m j l l' r r' t)
       ∙ sym (own_edge facets numbers count numbered m j r r')))
@@ -176,17 +108,17 @@ module _ (facets : List Facet) (numbers : List (List ℕ)) (count : ℕ) (number
       (same_nodes facets (edge_of facets n k) (edge_of facets m j)
       ((numbered.shared n k m j l l' r r').0 (sym (own_edge facets numbers count numbered n k l l') ∙ eqb-true _ _ t ∙ own_edge facets numbers count numbered m j r r'))))
 
-  starts_where : (x s : Segment) → Passes facets x → Passes facets s → is_node x.from s.to ≡ eqb (start_edge facets numbers x) (finish_edge facets numbers s)
+  starts_where : (x s : Segment) → Runs facets z x → Runs facets z s → is_node x.from s.to ≡ eqb (start_edge facets numbers x) (finish_edge facets numbers s)
   starts_where x s p q =
       (λ i. is_node (p.from_is i) (q.to_is i)) ∙ same_numbers x.facet p.down s.facet q.up p.inside p.down_in q.inside q.up_in
       ∙ (λ i. eqb (edge_of_facet facets numbers x.facet (sym p.from_is i)) (edge_of_facet facets numbers s.facet (sym q.to_is i)))
 
-  ends_where : (x s : Segment) → Passes facets x → Passes facets s → is_node x.to s.to ≡ eqb (finish_edge facets numbers x) (finish_edge facets numbers s)
+  ends_where : (x s : Segment) → Runs facets z x → Runs facets z s → is_node x.to s.to ≡ eqb (finish_edge facets numbers x) (finish_edge facets numbers s)
   ends_where x s p q =
       (λ i. is_node (p.to_is i) (q.to_is i)) ∙ same_numbers x.facet p.up s.facet q.up p.inside p.up_in q.inside q.up_in
       ∙ (λ i. eqb (edge_of_facet facets numbers x.facet (sym p.to_is i)) (edge_of_facet facets numbers s.facet (sym q.to_is i)))
 
-  module _ (list : List Segment) (b : ℕ) (ascends : AreFrom 0 b list) (passes : AllPass facets list)
+  module _ (list : List Segment) (b : ℕ) (ascends : AreFrom 0 b list) (runs : All (Runs facets z) list)
       (starts finishes : List ℕ) (starts_are : starts ≡ map (start_edge facets numbers) list) (finishes_are : finishes ≡ map (finish_edge facets numbers) list)
       (even : AreEven starts finishes) (next : List ℕ) (size : length next ≡ length list) (taken : ArePopped next starts finishes (length list)) where
     finish_at : (j : ℕ) (d : Segment) → j < length list → get_or finishes j 0 ≡ finish_edge facets numbers (get_or list j d)
@@ -225,12 +157,12 @@ module _ (facets : List Facet) (numbers : List (List ℕ)) (count : ℕ) (number
 
         own_test : (k : ℕ) → k < length list → is_node (get_or list k d).from (get_or list j d).to ≡ eqb (start_edge facets numbers (get_or list k d)) (get_or finishes j 0)
         own_test k h =
-            starts_where (get_or list k d) (get_or list j d) (pass_at facets list k d passes h) (pass_at facets list j d passes l)
+            starts_where (get_or list k d) (get_or list j d) (runs k d h) (runs j d l)
             ∙ ap (eqb (start_edge facets numbers (get_or list k d))) (sym (finish_at j d l))
 
         end_test : (k : ℕ) → k < length list → is_node (get_or list k d).to (get_or list j d).to ≡ eqb (finish_edge facets numbers (get_or list k d)) (get_or finishes j 0)
         end_test k h =
-            ends_where (get_or list k d) (get_or list j d) (pass_at facets list k d passes h) (pass_at facets list j d passes l)
+            ends_where (get_or list k d) (get_or list j d) (runs k d h) (runs j d l)
             ∙ ap (eqb (finish_edge facets numbers (get_or list k d))) (sym (finish_at j d l))
 
         starters : filter (λ t. is_node t.from (get_or list j d).to) list ≡ map (λ i. get_or list i d) (slots 0 (get_or finishes j 0) starts)
@@ -287,15 +219,14 @@ pub segment_edges-links : (facets : List Facet) (list : List Segment) (starts fi
     → AreSegmentEdges facets list starts finishes → IsBalanced facets → length next ≡ length list → ArePopped next starts finishes (length list)
     → AreLinks list next
 segment_edges-links facets list starts finishes next e p balanced size taken =
-    let whole = all_pass facets e.0 0 facets (λ k l. (omega (arith, l), let z : 0 + k ≡ k = omega arith in ap (facet_at facets) z)) in
-    let passes = subst (AllPass facets) (sym e.1) whole in
+    let runs = subst (All (Runs facets e.0)) (sym e.1) (segments_run facets e.0) in
     let ascends = subst (AreFrom 0 (length facets)) (sym e.1) (segments_ascend facets e.0) in
     let even = segment_edges-even facets list starts finishes e p balanced in
     record {
       size = size;
-      within = links_within facets p.numbers p.count p.numbered list (length facets) ascends passes starts finishes p.starts_are p.finishes_are even next size taken;
-      follows = links_follow facets p.numbers p.count p.numbered list (length facets) ascends passes starts finishes p.starts_are p.finishes_are even next size taken;
-      one = links_one facets p.numbers p.count p.numbered list (length facets) ascends passes starts finishes p.starts_are p.finishes_are even next size taken;
+      within = links_within facets p.numbers p.count p.numbered e.0 list (length facets) ascends runs starts finishes p.starts_are p.finishes_are even next size taken;
+      follows = links_follow facets p.numbers p.count p.numbered e.0 list (length facets) ascends runs starts finishes p.starts_are p.finishes_are even next size taken;
+      one = links_one facets p.numbers p.count p.numbered e.0 list (length facets) ascends runs starts finishes p.starts_are p.finishes_are even next size taken;
     }
 
 -- what follows of an `Ok` result from two facts of it

@@ -2,12 +2,14 @@
 use Rattle.std.proofs.Common.{◌≡◌, List, [], ◌∷◌, inl, inr, refl, sym, ◌∙◌, subst}
 use Rattle.std.specs.Prelude.{ℤ, pos}
 use Rattle.std.specs.List.{AllByRecursion}
+use Rattle.std.proofs.lemmas.List.Elements.{recursion_from_All}
 use Rattle.geometry.specs.Facet.{Facet, twice}
 use Rattle.geometry.specs.Winding.{total, wind}
 use Rattle.plane_segments.specs.declared.segment.Segment.{Segment}
 use Rattle.plane_segments.specs.Segment.{segments}
 use Rattle.contour.specs.Loops.{AreLoops, IsCycle, loop_facets}
-use Rattle.contour.proofs.lemmas.LoopWinds.{Runs, cycle_winds-cancel, segments_run}
+use Rattle.contour.proofs.lemmas.LoopWinds.{cycle_winds-cancel}
+use Rattle.contour.proofs.lemmas.Runs.{Runs, segments_run}
 use Rattle.contour.proofs.lemmas.Unique.{Has, cycle-has, loops-are}
 
 pub at_member : (P : Segment → Type 0) (list : List Segment) (s : Segment) → AllByRecursion P list → Has s list → P s
@@ -24,7 +26,7 @@ pub loop_winds-cancel : (facets : List Facet) (loop : List Segment) (y z : ℤ) 
 loop_winds-cancel facets loop y z closes =
     let list = segments facets z in
     let runs : AllByRecursion (Runs facets z) loop =
-    at_all (Runs facets z) loop (λ s h. at_member (Runs facets z) list s (segments_run facets z) (cycle-has list loop s closes h)) in
+    at_all (Runs facets z) loop (λ s h. at_member (Runs facets z) list s (recursion_from_All (Runs facets z) list (segments_run facets z)) (cycle-has list loop s closes h)) in
     cycle_winds-cancel facets y z list loop runs closes
 
 pub loops-are_one : (facets : List Facet) (z : ℤ) (a b : List (List Segment)) → AreLoops (segments facets z) a → AreLoops (segments facets z) b → a ≡ b

@@ -15,7 +15,7 @@ use Rattle.plane_segments.proofs.lemmas.NodeOrder.{ends_in, node_of-ordered}
 use Rattle.contour.specs.Loops.{AreLoops, IsCycle}
 use Rattle.contour.proofs.lemmas.Balanced.{node_at}
 use Rattle.contour.proofs.lemmas.LoopLaws.{at_all, at_member}
-use Rattle.contour.proofs.lemmas.LoopWinds.{Runs, segments_run}
+use Rattle.contour.proofs.lemmas.Runs.{Runs, segments_run}
 use Rattle.contour.proofs.lemmas.Unique.{cycle-has}
 
 module _ (facets : List Facet) (distinct : HaveDistinctCorners facets) where
@@ -36,8 +36,7 @@ module _ (facets : List Facet) (distinct : HaveDistinctCorners facets) where
 
   segments-ordered : (z : ℤ) → All HasOrderedNodes (segments facets z)
   segments-ordered z =
-      All-weaker (Runs facets z) HasOrderedNodes (runs-ordered z) (segments facets z)
-      (All-from_recursion (Runs facets z) (segments facets z) (segments_run facets z))
+      All-weaker (Runs facets z) HasOrderedNodes (runs-ordered z) (segments facets z) (segments_run facets z)
 
 -- a cycle of ordered segments
 cycle-ordered : (list : List Segment) → All HasOrderedNodes list → (loop : List Segment) → IsCycle list loop → All HasOrderedNodes loop

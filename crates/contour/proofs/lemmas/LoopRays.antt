@@ -7,6 +7,7 @@ use Rattle.std.proofs.lemmas.List.{map_more}
 use Rattle.std.proofs.lemmas.List.Elements.{All-filter, All-from_recursion, recursion_from_All}
 use Rattle.std.proofs.lemmas.Option.{get_or_from_slice_get, slice_get_within}
 use Rattle.exact_int.specs.Bounds.{IsAtMost}
+use Rattle.exact_int.proofs.lemmas.Sizes.{sum_of}
 use Rattle.geometry.specs.Point.{Point}
 use Rattle.geometry.specs.Facet.{Facet, twice}
 use Rattle.geometry.specs.Winding.{hit, ray}
@@ -92,9 +93,6 @@ pub record Summed (facets : List Facet) (c : Point) (list : List Segment) (i : �
   pub sum_is : sum ≡ ray (loop_facets facets (take i list)) c
   pub small : IsAtMost i sum
 
-abs_sum : (a b : ℤ) (m n : ℕ) → unsigned_abs a ≤ m → unsigned_abs b ≤ n → unsigned_abs (a +ℤ b) ≤ m + n
-abs_sum a b m n h k = grind (arith, ints)
-
 read_back : (n : ℕ) (z : ℤ) → IsAtMost n z → n ≤ FACET_LIMIT + 1 → to_z w32 (of_z w32 z) ≡ z
 read_back n z small few = to_z-of_z w32 z (fits_signed_from_abs w32 z (below small.at_most))
   where
@@ -109,7 +107,7 @@ sum_more facets c list i d t sum more l few at so_far more_is unit =
     (record { sum_is = sum_is; small = small })
   where
     small : IsAtMost (i + 1) (sum +ℤ more)
-    small = record { at_most = abs_sum sum more i 1 so_far.small.at_most unit.at_most }
+    small = record { at_most = sum_of sum more i 1 so_far.small.at_most unit.at_most }
 
     whole : to_z w32 (of_z w32 (sum +ℤ more)) ≡ sum +ℤ more
     whole = read_back (i + 1) (sum +ℤ more) small (omega arith)

@@ -1,27 +1,28 @@
 -- The winds of a loop's facets cancel: an edge at which a segment ends has the opposite amount where the next one starts.
-use Rattle.std.proofs.Common.{◌≡◌, ℕ, suc, ◌+◌, ◌<◌, Bool, true, false, cond, not, ◌&&◌, List, [], ◌∷◌, inl, inr, refl, sym, ◌∙◌, ap, subst, length, get_or, arith, Some, None, neg_ℤ}
-use Rattle.std.specs.Prelude.{Option, ℤ, pos, ◌+ℤ◌, ◌-ℤ◌, filter, filter_map, find, int_le, slice_get}
-use Rattle.std.specs.List.{AllByRecursion, cons_option, enumerate_from}
+use Rattle.std.proofs.Common.{◌≡◌, ℕ, Bool, true, false, cond, not, ◌&&◌, List, [], ◌∷◌, inl, inr, refl, sym, ◌∙◌, ap, subst, arith, Some, None, neg_ℤ}
+use Rattle.std.specs.Prelude.{Option, ℤ, pos, ◌+ℤ◌, ◌-ℤ◌, filter, find, int_le, slice_get}
+use Rattle.std.specs.List.{AllByRecursion}
 use Rattle.std.proofs.lemmas.Int.{ints}
 use Rattle.std.proofs.lemmas.List.Elements.{All-from_recursion}
 use Rattle.std.proofs.lemmas.Option.{get_or_from_slice_get, slice_get_within}
-use Rattle.geometry.specs.Point.{Point, half_micrometres_of, origin}
-use Rattle.geometry.specs.Facet.{Facet, facet_with, Edge, edge, half_edges, twice}
+use Rattle.geometry.specs.Point.{Point, half_micrometres_of}
+use Rattle.geometry.specs.Facet.{Facet, Edge, half_edges, twice}
 use Rattle.geometry.specs.Winding.{hit, neg_ray_back, ray, total, turn, turn_of, wind}
 use Rattle.mesh_weld.specs.Balance.{IsBalanced}
 use Rattle.mesh_weld.specs.EdgeNumbers.{AreEdgeNumbers, HaveSameEnds, edge_of}
-use Rattle.mesh_weld.specs.Solid.{facet_at, vertices}
+use Rattle.mesh_weld.specs.Solid.{facet_at}
 use Rattle.mesh_weld.specs.Laws.{IsOpposite, round}
 use Rattle.mesh_weld.proofs.lemmas.Sums.{total-difference, total-map}
 use Rattle.exact_cut.proofs.lemmas.Turns.{turn-opposite}
 use Rattle.plane_segments.specs.Node.{is_node}
 use Rattle.plane_segments.specs.declared.segment.Segment.{Segment}
-use Rattle.plane_segments.specs.Segment.{both_of, height, is_downward, is_upward, node_of, segment_of, segments}
+use Rattle.plane_segments.specs.Segment.{height, is_downward, is_upward, segments}
 use Rattle.contour.specs.Loops.{Closes, IsCycle, follower, loop_facets, loops, rank_at_end}
 use Rattle.geometry.specs.TieRule.{rises_through}
-use Rattle.contour.proofs.lemmas.Balanced.{first_of, low_at, node_at, rises-is, same_ends}
+use Rattle.contour.proofs.lemmas.Balanced.{first_of, low_at, never_both, rises-is, same_ends}
 use Rattle.contour.proofs.lemmas.LoopRays.{in_loop}
 use Rattle.contour.proofs.lemmas.LoopsClose.{loops_close}
+use Rattle.contour.proofs.lemmas.Runs.{Runs, segments_run}
 
 total-both : {X : Type 0} (f g h : X → ℤ) → ((x : X) → f x ≡ g x +ℤ h x) → (xs : List X) → total f xs ≡ total g xs +ℤ total h xs
 total-both f g h e [] = refl
@@ -44,21 +45,6 @@ by_flags false true false t amount p q r = let w = r refl in omega (arith, ints,
 by_flags false false true t amount p q r = let x = p refl in omega (arith, ints, x)
 by_flags false false false t amount p q r = let x = p refl in let y = q refl in let w = r refl in omega (arith, ints, x, y, w)
 
--- ---- what find finds
-abbrev FoundAt : (Edge → Bool) → Facet → Option Edge → Type 0
-FoundAt q t None = Unit {0}
-FoundAt q t (Some d) = (k : ℕ) × (k < 3) × (d ≡ get_or (half_edges t) k (edge origin origin)) × (q d ≡ true)
-
-found_at : (q : Edge → Bool) (t : Facet) → FoundAt q t (find q (half_edges t))
-found_at q t = by_tests (q (edge t.a t.b)) (q (edge t.b t.c)) (q (edge t.c t.a)) refl refl refl
-  where
-    by_tests : (a b c : Bool) → q (edge t.a t.b) ≡ a → q (edge t.b t.c) ≡ b → q (edge t.c t.a) ≡ c
-        → FoundAt q t (cond a (Some (edge t.a t.b)) (cond b (Some (edge t.b t.c)) (cond c (Some (edge t.c t.a)) None)))
-    by_tests true b c h k l = (0, omega arith, refl, h)
-    by_tests false true c h k l = (1, omega arith, refl, k)
-    by_tests false false true h k l = (2, omega arith, refl, l)
-    by_tests false false false h k l = tt
-
 kept_pass : {X : Type 0} (p : X → Bool) (xs : List X) → AllByRecursion (λ x. p x ≡ true) (filter p xs)
 kept_pass p [] = tt
 kept_pass p (x ∷ xs) = by_test (p x) refl (kept_pass p xs)
@@ -72,70 +58,6 @@ at_node list s t e =
     subst (λ u. is_node u.from s.to ≡ true) (get_or_from_slice_get (filter (λ u. is_node u.from s.to) list) (rank_at_end list s) t t e)
     (All-from_recursion (λ u. is_node u.from s.to ≡ true) (filter (λ u. is_node u.from s.to) list) (kept_pass (λ u. is_node u.from s.to) list)
     (rank_at_end list s) t (slice_get_within (filter (λ u. is_node u.from s.to) list) (rank_at_end list s) t e))
-
-pub never_both : (z : ℤ) (u v : Point) → rises_through (height u) (height v) z ≡ true → rises_through (height v) (height u) z ≡ true → ⊥
-never_both z u v h k = grind (arith, ints)
-
--- ---- a segment runs from its facet's edge down to its facet's edge up
-pub record Runs (facets : List Facet) (z : ℤ) (x : Segment) : Type 0 where
-  pub inside : x.facet < length facets
-  pub down : ℕ
-  pub down_in : down < 3
-  pub down_is : find (is_downward z) (half_edges (facet_at facets x.facet)) ≡ Some (edge_of facets x.facet down)
-  pub falls : is_downward z (edge_of facets x.facet down) ≡ true
-  pub from_is : x.from ≡ node_at facets x.facet down
-  pub up : ℕ
-  pub up_in : up < 3
-  pub up_is : find (is_upward z) (half_edges (facet_at facets x.facet)) ≡ Some (edge_of facets x.facet up)
-  pub rises : is_upward z (edge_of facets x.facet up) ≡ true
-  pub to_is : x.to ≡ node_at facets x.facet up
-
-runs_from : (facets : List Facet) (z : ℤ) (n : ℕ) (ts : List Facet)
-    → ((k : ℕ) → k < length ts → (n + k < length facets) × (facet_at facets (n + k) ≡ get_or ts k (facet_with origin origin origin)))
-    → AllByRecursion (Runs facets z) (filter_map (segment_of (vertices facets) z) (enumerate_from n ts))
-runs_from facets z n [] h = tt
-runs_from facets z n (t ∷ ts) h =
-    by_edges (find (is_downward z) (half_edges t)) (find (is_upward z) (half_edges t)) refl refl (found_at (is_downward z) t) (found_at (is_upward z) t)
-    (runs_from facets z (n + 1) ts (λ k l. later k (h (suc k) (omega (arith, l)))))
-  where
-    later : (k : ℕ) → (n + suc k < length facets) × (facet_at facets (n + suc k) ≡ get_or ts k (facet_with origin origin origin))
-        → (n + 1 + k < length facets) × (facet_at facets (n + 1 + k) ≡ get_or ts k (facet_with origin origin origin))
-    later k q =
-        let y : n + suc k ≡ n + 1 + k = omega arith in
-        subst (λ m. (m < length facets) × (facet_at facets m ≡ get_or ts k (facet_with origin origin origin))) y q
-
-    here : (n < length facets) × (facet_at facets n ≡ t)
-    here = let y : n + 0 ≡ n = omega arith in subst (λ m. (m < length facets) × (facet_at facets m ≡ t)) y (h 0 (omega arith))
-
-    side_is : (d : Edge) (k : ℕ) → d ≡ get_or (half_edges t) k (edge origin origin) → d ≡ edge_of facets n k
-    side_is d k e = e ∙ ap (λ u. get_or (half_edges u) k (edge origin origin)) (sym here.1)
-
-    by_edges : (a b : Option Edge) → find (is_downward z) (half_edges t) ≡ a → find (is_upward z) (half_edges t) ≡ b
-        → FoundAt (is_downward z) t a → FoundAt (is_upward z) t b
-        → AllByRecursion (Runs facets z) (filter_map (segment_of (vertices facets) z) (enumerate_from (n + 1) ts))
-        → AllByRecursion (Runs facets z) (cons_option (both_of (λ (d u : Edge). record { facet = n; from = node_of (vertices facets) d; to = node_of (vertices facets) u }) a b)
-        (filter_map (segment_of (vertices facets) z) (enumerate_from (n + 1) ts)))
-    by_edges None b e f p q more = more
-    by_edges (Some d) None e f p q more = more
-    by_edges (Some d) (Some u) e f p q more = (
-      record {
-        inside = here.0;
-        down = p.0;
-        down_in = p.1;
-        down_is = ap (λ v. find (is_downward z) (half_edges v)) here.1 ∙ e ∙ ap Some (side_is d p.0 p.2);
-        falls = ap (is_downward z) (sym (side_is d p.0 p.2)) ∙ p.3;
-        from_is = ap (node_of (vertices facets)) (side_is d p.0 p.2);
-        up = q.0;
-        up_in = q.1;
-        up_is = ap (λ v. find (is_upward z) (half_edges v)) here.1 ∙ f ∙ ap Some (side_is u q.0 q.2);
-        rises = ap (is_upward z) (sym (side_is u q.0 q.2)) ∙ q.3;
-        to_is = ap (node_of (vertices facets)) (side_is u q.0 q.2);
-      },
-      more,
-    )
-
-pub segments_run : (facets : List Facet) (z : ℤ) → AllByRecursion (Runs facets z) (segments facets z)
-segments_run facets z = runs_from facets z 0 facets (λ k l. (omega (arith, l), let y : 0 + k ≡ k = omega arith in ap (facet_at facets) y))
 
 -- ---- amounts that are opposite where an edge is taken back, and nothing where it is not cut
 module _ (facets : List Facet) (z : ℤ) (amount : Point → Point → ℤ) (opposite : IsOpposite amount)
@@ -207,7 +129,7 @@ module _ (facets : List Facet) (numbers : List (List ℕ)) (count : ℕ) (number
       (slice_get_within (loops (segments facets c.z)) k list is))
 
   runs : AllByRecursion (Runs facets c.z) list
-  runs = (in_loop (segments facets c.z) (Runs facets c.z) (All-from_recursion (Runs facets c.z) (segments facets c.z) (segments_run facets c.z)) k list is).0
+  runs = (in_loop (segments facets c.z) (Runs facets c.z) (segments_run facets c.z) k list is).0
 
   winds : total (λ t. wind (twice t) c.y c.z) (loop_facets facets list) ≡ pos 0
   winds = cycle_winds-cancel facets c.y c.z (segments facets c.z) list runs closes

@@ -2,6 +2,7 @@
 use Rattle.std.proofs.Common.{◌≡◌, ℕ, zero, suc, ◌+◌, ◌<◌, ◌≤◌, Bool, true, false, cond, List, [], ◌∷◌, ◌++◌, ◌⊎◌, inl, inr, refl, ◌∙◌, ap, subst, length, get_or, set, replicate, map, arith}
 use Rattle.std.specs.Prelude.{ℤ, slice_index}
 use Rattle.std.specs.List.{range_with_len}
+use Rattle.std.proofs.lemmas.Bool.{cases_lt}
 use Rattle.std.proofs.lemmas.List.{get_or-map, get_or-replicate, length-map, length-replicate}
 use Rattle.std.proofs.lemmas.List.FromFn.{get_or-range_with_len, length-range_with_len}
 use Rattle.geometry.specs.Facet.{Facet}
@@ -60,11 +61,8 @@ module _ (list : List Segment) (next : List ℕ) (links : AreLinks list next) (o
   traced : (n first : ℕ) (visited : List Bool) (flat : List Segment) (ends : List ℕ) → AreTraced list next first visited flat ends
       → length list ≤ first + n → Found
   traced zero first visited flat ends g l = (parts_from 0 ends flat, trace-ends list next first visited flat ends g (omega (arith, l)))
-  traced (suc n) first visited flat ends g l = by_place (traced n (first + 1)) (below_or_not first (length list))
+  traced (suc n) first visited flat ends g l = by_place (traced n (first + 1)) (cases_lt first (length list))
     where
-      below_or_not : (a b : ℕ) → (a < b) ⊎ (b ≤ a)
-      below_or_not a b = grind arith
-
       Rest : Type 0
       Rest = (visited : List Bool) (flat : List Segment) (ends : List ℕ) → AreTraced list next (first + 1) visited flat ends
           → length list ≤ first + 1 + n → Found

@@ -1,10 +1,9 @@
 -- Loops as points: a flat list of them, and where they start and end.
-use Rattle.std.proofs.Common.{◌≡◌, ℕ, ◌+◌, ◌-◌, ◌<◌, true, List, [], ◌∷◌, ◌++◌, inl, inr, refl, sym, ◌∙◌, ap, subst, length, take, drop, get_or, map, arith, Some}
-use Rattle.std.specs.Prelude.{◌≤◌, ◌<ℤ◌, All, ℤ, pos, filter, find, flat_map, slice_get}
+use Rattle.std.proofs.Common.{◌≡◌, ℕ, ◌+◌, ◌-◌, ◌<◌, true, List, [], ◌∷◌, inl, inr, refl, sym, ◌∙◌, ap, subst, length, take, drop, get_or, map, Some}
+use Rattle.std.specs.Prelude.{◌≤◌, All, ℤ, pos, filter, find, flat_map, slice_get}
 use Rattle.std.specs.List.{AllByRecursion}
-use Rattle.std.proofs.lemmas.Int.{ints}
 use Rattle.std.proofs.lemmas.List.{take-map, drop-map}
-use Rattle.std.proofs.lemmas.List.Elements.{All-filter, All-from_recursion, recursion_from_All}
+use Rattle.std.proofs.lemmas.List.Elements.{All-append, All-filter, All-from_recursion, All-nil, recursion_from_All}
 use Rattle.geometry.specs.Point.{Point, half_micrometres_of}
 use Rattle.geometry.specs.TieRule.{rises_through}
 use Rattle.geometry.specs.Facet.{Facet, Edge, half_edges, twice}
@@ -16,14 +15,16 @@ use Rattle.plane_segments.proofs.lemmas.FacetOrder.{segments_below}
 use Rattle.contour.specs.Loops.{AreEnds, follower, is_leader, loops, parts_from}
 use Rattle.exact_cut.specs.Cut.{IsBetween, Rises}
 use Rattle.exact_cut.specs.CutPoint.{cut_d, cut_x, cut_y}
+use Rattle.exact_cut.proofs.lemmas.Ahead.{span_positive}
 use Rattle.exact_cut.proofs.lemmas.Rounding.{nearest-near}
 use Rattle.mesh_weld.specs.EdgeNumbers.{HaveSameEnds, edge_of}
 use Rattle.exact_cut.specs.PlanePoint.{IsStart, passing_point}
 use Rattle.exact_cut.specs.declared.plane_point.PlanePoint.{PlanePoint}
 use Rattle.contour.specs.Outlines.{IsStartOf, end_point, falling_point, point_or_origin, rising_point, start_point}
 use Rattle.contour.proofs.lemmas.LoopRays.{follower_in, loops_in}
-use Rattle.contour.proofs.lemmas.LoopWinds.{Runs, at_node, never_both, segments_run}
-use Rattle.contour.proofs.lemmas.Balanced.{same_ends}
+use Rattle.contour.proofs.lemmas.LoopWinds.{at_node}
+use Rattle.contour.proofs.lemmas.Balanced.{never_both, same_ends}
+use Rattle.contour.proofs.lemmas.Runs.{Runs, segments_run}
 use Rattle.contour.proofs.lemmas.Parts.{parts-whole}
 
 -- parts of a list that is mapped
@@ -34,22 +35,18 @@ parts-map f at (e ∷ ends) xs =
     (λ i. take-map f (e - at) xs i ∷ parts_from e ends (drop-map f (e - at) xs i))
     ∙ ap (λ ps. map f (take (e - at) xs) ∷ ps) (parts-map f e ends (drop (e - at) xs))
 
-append_all : {X : Type 0} (P : X → Type 0) (xs ys : List X) → AllByRecursion P xs → AllByRecursion P ys → AllByRecursion P (xs ++ ys)
-append_all P [] ys h k = k
-append_all P (x ∷ xs) ys h k = (h.0, append_all P xs ys h.1 k)
-
 flat_all : (P : Segment → Type 0) (n : ℕ) (parts : List (List Segment)) → AllByRecursion (λ part. AllByRecursion P part × (length part ≤ n)) parts
-    → AllByRecursion P (flat_map (λ part. part) parts)
-flat_all P n [] h = tt
-flat_all P n (part ∷ parts) h = append_all P part (flat_map (λ part. part) parts) h.0.0 (flat_all P n parts h.1)
+    → All P (flat_map (λ part. part) parts)
+flat_all P n [] h = All-nil P
+flat_all P n (part ∷ parts) h =
+    All-append P part (flat_map (λ part. part) parts) (All-from_recursion P part h.0.0) (flat_all P n parts h.1)
 
 -- a flat list of the loops of a plane is of the mesh's segments
 pub flat_within : (facets : List Facet) (z : ℤ) (flat : List Segment) (ends : List ℕ) → AreEnds 0 ends (length flat)
     → parts_from 0 ends flat ≡ loops (segments facets z) → All (λ t. t.facet < length facets) flat
 flat_within facets z flat ends h e =
     subst (All P) (sym (ap (flat_map (λ part. part)) e) ∙ parts-whole ends flat h)
-    (All-from_recursion P (flat_map (λ part. part) (loops list))
-    (flat_all P (length list + 1) (loops list) (loops_in list P 0 all (filter (is_leader list) list) kept)))
+    (flat_all P (length list + 1) (loops list) (loops_in list P 0 all (filter (is_leader list) list) kept))
   where
     list : List Segment
     list = segments facets z
@@ -78,17 +75,14 @@ start-none facets z s t e not_between =
     ∙ not_found_down t z not_between))
 
 -- ---- the laws: where a segment of the mesh starts, and that it ends where its follower starts
-deep : (low high : Point) (z : ℤ) → Rises low high z → pos 0 <ℤ cut_d low high
-deep low high z r = omega (arith, ints, r.low, r.high)
-
 start-is : (facets : List Facet) (z : ℤ) (s : Segment) → Runs facets z s → IsStartOf facets z s (start_point facets z s)
 start-is facets z s r =
     subst (IsStartOf facets z s) (sym (ap (point_or_origin (falling_point z)) r.down_is)) (record {
       edge = e;
       node = r.from_is;
       falls = falls;
-      x = nearest-near (cut_x low high z) (cut_d low high) (deep low high z falls);
-      y = nearest-near (cut_y low high z) (cut_d low high) (deep low high z falls);
+      x = nearest-near (cut_x low high z) (cut_d low high) (span_positive low high z falls);
+      y = nearest-near (cut_y low high z) (cut_d low high) (span_positive low high z falls);
     })
   where
     e : Edge
@@ -118,15 +112,12 @@ join facets z s t r q h =
     by_ends d u f r (inr e) =
         λ i. passing_point (half_micrometres_of (sym e.1 i)) (half_micrometres_of (sym e.0 i)) z
 
-all_run : (facets : List Facet) (z : ℤ) → All (Runs facets z) (segments facets z)
-all_run facets z = All-from_recursion (Runs facets z) (segments facets z) (segments_run facets z)
-
 pub starts-cut : (facets : List Facet) (z : ℤ) → All (λ t. IsStartOf facets z t (start_point facets z t)) (segments facets z)
-starts-cut facets z = λ k d l. start-is facets z (get_or (segments facets z) k d) (all_run facets z k d l)
+starts-cut facets z = λ k d l. start-is facets z (get_or (segments facets z) k d) (segments_run facets z k d l)
 
 pub outlines-join : (facets : List Facet) (z : ℤ)
     → All (λ s. (t : Segment) → follower (segments facets z) s ≡ Some t → end_point facets z s ≡ start_point facets z t) (segments facets z)
 outlines-join facets z = λ k d l t e.
     let list = segments facets z in
     let s = get_or list k d in
-    join facets z s t (all_run facets z k d l) (follower_in list (Runs facets z) (all_run facets z) s t e) (at_node list s t e)
+    join facets z s t (segments_run facets z k d l) (follower_in list (Runs facets z) (segments_run facets z) s t e) (at_node list s t e)

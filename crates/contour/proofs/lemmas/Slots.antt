@@ -1,22 +1,14 @@
 -- The slots of an edge in a list, and the linked lists that keep them: pushed from the last slot to the first, and popped
 -- from the first on.
-use Rattle.std.proofs.Common.{◌≡◌, ℕ, zero, suc, ◌+◌, ◌<◌, ◌≤◌, Bool, true, false, cond, eqb, List, [], ◌∷◌, ◌⊎◌, inl, inr, refl, sym, ◌∙◌, ap, subst, length, take, drop, get_or, set, arith, get_or-set_same, get_or-set_other}
+use Rattle.std.proofs.Common.{◌≡◌, ℕ, zero, suc, ◌+◌, ◌<◌, ◌≤◌, cond, List, [], ◌∷◌, ◌⊎◌, inl, inr, refl, sym, ◌∙◌, ap, subst, length, take, drop, get_or, set, arith, get_or-set_same, get_or-set_other}
 use Rattle.std.specs.Prelude.{◌==◌}
 use Rattle.std.proofs.lemmas.List.{drop_more, get_or_default, get_or_past, get_or-drop, take_all}
 use Rattle.std.proofs.lemmas.List.Sums.{count_by_more_yes, count_by_more_no}
-use Rattle.std.proofs.lemmas.Bool.{eqb-true, eqb-false, eq-eqb, ne_eqb}
+use Rattle.std.proofs.lemmas.Bool.{cases_eq, cases_lt, eq-eqb, ne_eqb}
 use Rattle.contour.specs.Linker.{ArePopped, HasFirsts, HasLeft, HasNexts, IsClear, slot_after, slots}
 use Rattle.contour.specs.declared.linker.TheConstants.{NONE}
 use Rattle.contour.proofs.lemmas.Counts.{AreEven, times, times-own, times-other}
 use Rattle.geometry.specs.declared.limits.TheConstants.{FACET_LIMIT}
-
--- equal or not
-pub either : (a b : ℕ) → (a ≡ b) ⊎ (a ≡ b → ⊥)
-either a b = by_test (eqb a b) refl
-  where
-    by_test : (t : Bool) → eqb a b ≡ t → (a ≡ b) ⊎ (a ≡ b → ⊥)
-    by_test true h = inl (eqb-true a b h)
-    by_test false h = inr (eqb-false a b h)
 
 slots-own : (n x e : ℕ) (xs : List ℕ) → x ≡ e → slots n e (x ∷ xs) ≡ n ∷ slots (n + 1) e xs
 slots-own n x e xs h = ap (λ b. cond b (n ∷ slots (n + 1) e xs) (slots (n + 1) e xs)) (eq-eqb x e h)
@@ -26,7 +18,7 @@ slots-other n x e xs h = ap (λ b. cond b (n ∷ slots (n + 1) e xs) (slots (n +
 
 pub length-slots : (n e : ℕ) (xs : List ℕ) → length (slots n e xs) ≡ times e xs
 length-slots n e [] = refl
-length-slots n e (x ∷ xs) = by_test (length-slots (n + 1) e xs) (either x e)
+length-slots n e (x ∷ xs) = by_test (length-slots (n + 1) e xs) (cases_eq x e)
   where
     by_test : length (slots (n + 1) e xs) ≡ times e xs → (x ≡ e) ⊎ (x ≡ e → ⊥) → length (slots n e (x ∷ xs)) ≡ times e (x ∷ xs)
     by_test rest (inl h) =
@@ -55,7 +47,7 @@ slot_later n x e xs found more k m h same behind = record {
 
 pub slots-at : (n e : ℕ) (xs : List ℕ) (k : ℕ) → k < length (slots n e xs) → AtSlot n e xs (slots n e xs) k
 slots-at n e [] k l = absurd (omega (arith, l))
-slots-at n e (x ∷ xs) k l = by_test (λ m. slots-at (n + 1) e xs m) (either x e) k l
+slots-at n e (x ∷ xs) k l = by_test (λ m. slots-at (n + 1) e xs m) (cases_eq x e) k l
   where
     own : (k : ℕ) → x ≡ e → k < length (n ∷ slots (n + 1) e xs) → ((m : ℕ) → m < length (slots (n + 1) e xs) → AtSlot (n + 1) e xs (slots (n + 1) e xs) m)
         → AtSlot n e (x ∷ xs) (n ∷ slots (n + 1) e xs) k
@@ -82,7 +74,7 @@ module _ (heads starts : List ℕ) (i : ℕ) (l : i < length starts) (edge : get
   from_here e = ap (slots i e) (drop_more starts i 0 l)
 
   pub push-firsts : HasFirsts (set heads (get_or starts i 0) i) i starts
-  push-firsts e = by_test (either (get_or starts i 0) e)
+  push-firsts e = by_test (cases_eq (get_or starts i 0) e)
     where
       by_test : (get_or starts i 0 ≡ e) ⊎ (get_or starts i 0 ≡ e → ⊥)
           → get_or (set heads (get_or starts i 0) i) e NONE ≡ get_or (slots i e (drop i starts)) 0 NONE
@@ -95,7 +87,7 @@ module _ (heads starts : List ℕ) (i : ℕ) (l : i < length starts) (edge : get
 
   pub push-nexts : (after : List ℕ) (v : ℕ) → i < length after → v ≡ get_or heads (get_or starts i 0) 0 → HasNexts after (i + 1) starts
       → HasNexts (set after i v) i starts
-  push-nexts after v inside is rest j low high = by_test (either j i)
+  push-nexts after v inside is rest j low high = by_test (cases_eq j i)
     where
       by_test : (j ≡ i) ⊎ (j ≡ i → ⊥)
           → get_or (set after i v) j NONE ≡ get_or (slots (j + 1) (get_or starts j 0) (drop (j + 1) starts)) 0 NONE
@@ -109,7 +101,7 @@ module _ (heads starts finishes : List ℕ) (i : ℕ) (l : i < length finishes) 
     (left : HasLeft heads starts finishes i) where
   pub pop-popped : (next : List ℕ) (v : ℕ) → i < length next → v ≡ get_or heads (get_or finishes i 0) 0 → ArePopped next starts finishes i
       → ArePopped (set next i v) starts finishes (i + 1)
-  pop-popped next v inside is rest j low = by_test (either j i)
+  pop-popped next v inside is rest j low = by_test (cases_eq j i)
     where
       by_test : (j ≡ i) ⊎ (j ≡ i → ⊥) → get_or (set next i v) j NONE ≡ slot_after starts finishes j (get_or finishes j 0)
       by_test (inl s) =
@@ -122,11 +114,8 @@ module _ (heads starts finishes : List ℕ) (i : ℕ) (l : i < length finishes) 
     e_now = get_or finishes i 0
 
     behind_it : (k : ℕ) → get_or after (get_or (slots 0 e_now starts) k NONE) NONE ≡ get_or (slots 0 e_now starts) (k + 1) NONE
-    behind_it k = by_test (either_way k (length (slots 0 e_now starts)))
+    behind_it k = by_test (cases_lt k (length (slots 0 e_now starts)))
       where
-        either_way : (a b : ℕ) → (a < b) ⊎ (b ≤ a)
-        either_way a b = grind arith
-
         by_test : (k < length (slots 0 e_now starts)) ⊎ (length (slots 0 e_now starts) ≤ k)
             → get_or after (get_or (slots 0 e_now starts) k NONE) NONE ≡ get_or (slots 0 e_now starts) (k + 1) NONE
         by_test (inl m) = found (slots-at 0 e_now starts k m)
@@ -150,7 +139,7 @@ module _ (heads starts finishes : List ℕ) (i : ℕ) (l : i < length finishes) 
 
     pub pop-left : (v : ℕ) → v ≡ get_or after (get_or heads (get_or finishes i 0) 0) NONE
         → HasLeft (set heads (get_or finishes i 0) v) starts finishes (i + 1)
-    pop-left v is e = by_test (either (get_or finishes i 0) e)
+    pop-left v is e = by_test (cases_eq (get_or finishes i 0) e)
       where
         by_test : (get_or finishes i 0 ≡ e) ⊎ (get_or finishes i 0 ≡ e → ⊥)
             → get_or (set heads (get_or finishes i 0) v) e NONE ≡ slot_after starts finishes (i + 1) e

@@ -3,6 +3,7 @@ use Rattle.std.proofs.Common.{◌≡◌, ℕ, zero, suc, ◌+◌, ◌-◌, ◌<�
 use Rattle.std.specs.Prelude.{nat_le, ℤ, ◌==◌}
 use Rattle.std.specs.List.{list_all, AllByRecursion}
 use Rattle.std.specs.List.Sorted.{IsStrictlyIncreasing}
+use Rattle.std.proofs.lemmas.Bool.{cases_eq}
 use Rattle.std.proofs.lemmas.List.{length-append, map-append, take-append-le, take_all}
 use Rattle.std.proofs.lemmas.List.Folds.{list_all-append}
 use Rattle.plane_segments.specs.declared.segment.Segment.{Segment}
@@ -13,7 +14,6 @@ use Rattle.contour.specs.Linker.{AreLinks, AreTraced, IsTracedLoop, InFacetOrder
 use Rattle.contour.proofs.lemmas.Counts.{count-append}
 use Rattle.geometry.specs.Facet.{Facet}
 use Rattle.contour.proofs.lemmas.Parts.{AreOthers, ends-push, others-are, parts-all, parts-push}
-use Rattle.contour.proofs.lemmas.Slots.{either}
 
 unvisited-none : (visited : List Bool) (list : List Segment) → length visited ≡ length list → ((j : ℕ) → j < length list → is_visited visited j ≡ false) → unvisited visited list ≡ list
 unvisited-none [] list e h = refl
@@ -49,7 +49,7 @@ trace-begins list next visited links e h = record {
 
 earlier_more : (visited : List Bool) (first : ℕ) → ((j : ℕ) → j < first → is_visited visited j ≡ true) → is_visited visited first ≡ true
     → (j : ℕ) → j < first + 1 → is_visited visited j ≡ true
-earlier_more visited first h k j l = by_slot (either j first)
+earlier_more visited first h k j l = by_slot (cases_eq j first)
   where
     by_slot : (j ≡ first) ⊎ (j ≡ first → ⊥) → is_visited visited j ≡ true
     by_slot (inl e) = ap (is_visited visited) e ∙ k
@@ -83,7 +83,7 @@ at_end [] y = refl
 at_end (x ∷ xs) y = at_end xs y
 
 rising-push : (xs : List ℕ) (y : ℕ) → IsStrictlyIncreasing xs → ((k : ℕ) → k < length xs → get_or xs k 0 < y) → IsStrictlyIncreasing (xs ++ y ∷ [])
-rising-push xs y h b k l = by_slot (either (k + 1) (length xs))
+rising-push xs y h b k l = by_slot (cases_eq (k + 1) (length xs))
   where
     by_slot : (k + 1 ≡ length xs) ⊎ (k + 1 ≡ length xs → ⊥) → get_or (xs ++ y ∷ []) k 0 < get_or (xs ++ y ∷ []) (k + 1) 0
     by_slot (inl e) =
@@ -117,7 +117,7 @@ module _ (list : List Segment) (next : List ℕ) (order : InFacetOrder list) (fi
   Below hs = (k j : ℕ) → k < length hs → first + 1 ≤ j → j < length list → get_or hs k 0 < facet_number list j
 
   below_more : Below (map first_facet (parts_from 0 ends flat) ++ facet_number list first ∷ [])
-  below_more k j l m n = by_slot (either k (length (map first_facet (parts_from 0 ends flat))))
+  below_more k j l m n = by_slot (cases_eq k (length (map first_facet (parts_from 0 ends flat))))
     where
       by_slot : (k ≡ length (map first_facet (parts_from 0 ends flat))) ⊎ (k ≡ length (map first_facet (parts_from 0 ends flat)) → ⊥)
           → get_or (map first_facet (parts_from 0 ends flat) ++ facet_number list first ∷ []) k 0 < facet_number list j

@@ -3,8 +3,7 @@ use Rattle.std.proofs.Common.{◌≡◌, ℕ, zero, suc, ◌+◌, ◌<◌, ◌�
 use Rattle.std.specs.Prelude.{ℤ, filter, flat_map, nat_le, slice_get, ◌==◌}
 use Rattle.std.specs.List.{list_all, AllByRecursion}
 use Rattle.std.specs.List.Sorted.{IsStrictlyIncreasing}
-use Rattle.std.proofs.lemmas.Bool.{and_parts, eq-eqb, eqb-false, ne_eqb}
-use Rattle.std.proofs.lemmas.Bool.Decides.{nat_tests}
+use Rattle.std.proofs.lemmas.Bool.{and_parts, cases_eq, eq-eqb, eqb-false, leb-true, ne_eqb}
 use Rattle.geometry.specs.Facet.{Facet}
 use Rattle.mesh_weld.proofs.lemmas.Edges.{count_by-cons}
 use Rattle.plane_segments.specs.Node.{is_node}
@@ -14,7 +13,6 @@ use Rattle.plane_segments.proofs.lemmas.FacetOrder.{AreFrom, segments_ascend}
 use Rattle.contour.specs.Loops.{AreLoops, Closes, IsCycle, count_of, cycle, first_facet, follower, is_from_least, is_leader, loops, run_from, rank_at_end}
 use Rattle.contour.proofs.lemmas.Counts.{count-append}
 use Rattle.contour.proofs.lemmas.Cycles.{NoneOf, onward, run-is}
-use Rattle.contour.proofs.lemmas.Slots.{either}
 
 abbrev pub Has : Segment → List Segment → Type 0
 Has s [] = ⊥
@@ -43,7 +41,7 @@ has-count s (x ∷ xs) (inr h) = let c = counted s.facet x xs in let r = has-cou
 
 count-has : (n : ℕ) (xs : List Segment) → (count_of n xs ≡ 0 → ⊥) → (t : Segment) × Has t xs × (t.facet ≡ n)
 count-has n [] h = absurd (h refl)
-count-has n (x ∷ xs) h = by_facet (either x.facet n) (count-has n xs)
+count-has n (x ∷ xs) h = by_facet (cases_eq x.facet n) (count-has n xs)
   where
     by_facet : (x.facet ≡ n) ⊎ (x.facet ≡ n → ⊥) → ((count_of n xs ≡ 0 → ⊥) → (t : Segment) × Has t xs × (t.facet ≡ n))
         → (t : Segment) × Has t (x ∷ xs) × (t.facet ≡ n)
@@ -75,7 +73,7 @@ Single xs = (n : ℕ) → count_of n xs ≤ 1
 
 From-single : (a : ℕ) (list : List Segment) → From a list → Single list
 From-single a [] h n = omega arith
-From-single a (x ∷ list) h n = by_facet (either x.facet n) (From-single (x.facet + 1) list h.1 n)
+From-single a (x ∷ list) h n = by_facet (cases_eq x.facet n) (From-single (x.facet + 1) list h.1 n)
   where
     by_facet : (x.facet ≡ n) ⊎ (x.facet ≡ n → ⊥) → count_of n list ≤ 1 → count_of n (x ∷ list) ≤ 1
     by_facet (inl e) rest =
@@ -178,7 +176,7 @@ cycle-has list (s ∷ rest) t h (inr k) = closed-rest list s s rest t h k
 -- ---- none of a part is of another's facet
 none-of : (n : ℕ) (xs : List Segment) → count_of n xs ≡ 0 → NoneOf n xs
 none-of n [] e = tt
-none-of n (x ∷ xs) e = by_facet (either x.facet n) (none-of n xs)
+none-of n (x ∷ xs) e = by_facet (cases_eq x.facet n) (none-of n xs)
   where
     by_facet : (x.facet ≡ n) ⊎ (x.facet ≡ n → ⊥) → (count_of n xs ≡ 0 → NoneOf n xs) → NoneOf n (x ∷ xs)
     by_facet (inl q) rest = let c = count-own n x xs q in absurd (omega (arith, c, e))
@@ -201,7 +199,7 @@ Without n ys = (zs : List Segment) × (length ys ≡ suc (length zs)) × ((m : �
 
 removed : (n : ℕ) (ys : List Segment) → 1 ≤ count_of n ys → Without n ys
 removed n [] l = absurd (omega (arith, l))
-removed n (y ∷ ys) l = by_facet (either y.facet n) (removed n ys)
+removed n (y ∷ ys) l = by_facet (cases_eq y.facet n) (removed n ys)
   where
     moved : (a b c d e : ℕ) → b ≡ c + d → e ≡ a + d → a + b ≡ c + e
     moved a b c d e p q = omega (arith, p, q)
@@ -254,9 +252,6 @@ record IsPart (list part : List Segment) : Type 0 where
   least : is_from_least part ≡ true
   counts : (n : ℕ) → count_of n part ≤ count_of n list
 
-not_below : (a b : ℕ) → nat_le a b ≡ true → a ≤ b
-not_below a b h = grind (arith, nat_tests)
-
 turned : (a b : ℕ) → eqb a b ≡ false → eqb b a ≡ false
 turned a b h = ne_eqb b a (λ e. eqb-false a b h (sym e))
 
@@ -284,8 +279,8 @@ module _ (a : ℕ) (list : List Segment) (ascends : From a list) where
       let comes : Has w (cycle list s) =
       passes list s w w rest (length list) g.closes (single (w ∷ rest) g) (inr h) (turned s.facet w.facet other)
       (let f = fits (w ∷ rest) list g.counts in omega (arith, f)) in
-      let high = not_below s.facet w.facet (all-has (λ t. nat_le s.facet t.facet) (cycle list s) w k comes) in
-      let low = not_below w.facet s.facet (all-has (λ t. nat_le w.facet t.facet) (w ∷ rest) s g.least (inr h)) in
+      let high = leb-true s.facet w.facet (all-has (λ t. nat_le s.facet t.facet) (cycle list s) w k comes) in
+      let low = leb-true w.facet s.facet (all-has (λ t. nat_le w.facet t.facet) (w ∷ rest) s g.least (inr h)) in
       absurd (eqb-false s.facet w.facet other (omega (arith, high, low)))
 
   abbrev flat : List (List Segment) → List Segment
@@ -317,7 +312,7 @@ module _ (a : ℕ) (list : List Segment) (ascends : From a list) where
   leads-head : (parts : List (List Segment)) (s : Segment) → AllByRecursion (IsPart list) parts → Has s list → is_leader list s ≡ true
       → 1 ≤ count_of s.facet (flat parts) → Has s (map head_of parts)
   leads-head [] s g h k l = absurd (omega (arith, l))
-  leads-head (p ∷ parts) s g h k l = by_count (either (count_of s.facet p) 0) (leads-head parts s g.1 h k)
+  leads-head (p ∷ parts) s g h k l = by_count (cases_eq (count_of s.facet p) 0) (leads-head parts s g.1 h k)
     where
       by_count : (count_of s.facet p ≡ 0) ⊎ (count_of s.facet p ≡ 0 → ⊥) → (1 ≤ count_of s.facet (flat parts) → Has s (map head_of parts))
           → Has s (map head_of (p ∷ parts))

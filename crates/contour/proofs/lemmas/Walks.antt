@@ -3,7 +3,7 @@ use Rattle.std.proofs.Common.{◌≡◌, ℕ, zero, suc, ◌+◌, ◌<◌, ◌�
 use Rattle.std.specs.Prelude.{nat_le, ◌==◌}
 use Rattle.std.specs.List.{list_all}
 use Rattle.std.proofs.lemmas.List.{length-set}
-use Rattle.std.proofs.lemmas.Bool.Decides.{nat_tests}
+use Rattle.std.proofs.lemmas.Bool.{both_ways, cases_eq, cases_lt, le-leb}
 use Rattle.mesh_weld.proofs.lemmas.Edges.{count_by-cons}
 use Rattle.plane_segments.specs.declared.segment.Segment.{Segment}
 use Rattle.plane_segments.specs.Segment.{no_segment}
@@ -11,7 +11,6 @@ use Rattle.contour.specs.Loops.{Closes, IsCycle, count_of, first_facet, follower
 use Rattle.contour.specs.Linker.{AreLinks, IsTracedLoop, KeepsLoopsWhole, InFacetOrder, facet_number, is_visited, unvisited}
 use Rattle.contour.specs.declared.linker.TheConstants.{NONE}
 use Rattle.contour.proofs.lemmas.Counts.{count-append}
-use Rattle.contour.proofs.lemmas.Slots.{either}
 
 abbrev pub segment_in : List Segment → ℕ → Segment
 segment_in list j = get_or list j no_segment
@@ -70,10 +69,6 @@ pub record IsWalk (list : List Segment) (next : List ℕ) (first : ℕ) (before 
   pub fresh : (j : ℕ) → j < length list → is_visited visited j ≡ false
       → (is_visited visited (get_or next j NONE) ≡ false) ⊎ (get_or next j NONE ≡ first)
 
-not_both : (b : Bool) → b ≡ true → b ≡ false → ⊥
-not_both true h k = absurd (cc)
-not_both false h k = absurd (cc)
-
 pub walk-begins : (list : List Segment) (next : List ℕ) (first : ℕ) (visited : List Bool) → first < length list → length visited ≡ length list
     → is_visited visited first ≡ false → KeepsLoopsWhole list next visited → IsWalk list next first visited visited first []
 walk-begins list next first visited l e h whole = record {
@@ -94,7 +89,7 @@ module _ (list : List Segment) (next : List ℕ) (links : AreLinks list next) (o
     (visited : List Bool) (at : ℕ) (part : List Segment) (w : IsWalk list next first before visited at part) where
   -- a slot once visited stays visited
   stays_visited : (j : ℕ) → is_visited visited j ≡ true → is_visited (set visited at true) j ≡ true
-  stays_visited j h = by_slot (either j at)
+  stays_visited j h = by_slot (cases_eq j at)
     where
       by_slot : (j ≡ at) ⊎ (j ≡ at → ⊥) → is_visited (set visited at true) j ≡ true
       by_slot (inl e) = ap (is_visited (set visited at true)) e ∙ get_or-set_same visited at true true (let s = w.size in let i = w.inside in omega (arith, s, i))
@@ -104,10 +99,10 @@ module _ (list : List Segment) (next : List ℕ) (links : AreLinks list next) (o
   now = get_or-set_same visited at true true (let s = w.size in let i = w.inside in omega (arith, s, i))
 
   was_unvisited : (j : ℕ) → is_visited (set visited at true) j ≡ false → (is_visited visited j ≡ false) × (j ≡ at → ⊥)
-  was_unvisited j h = by_slot (either j at)
+  was_unvisited j h = by_slot (cases_eq j at)
     where
       by_slot : (j ≡ at) ⊎ (j ≡ at → ⊥) → (is_visited visited j ≡ false) × (j ≡ at → ⊥)
-      by_slot (inl e) = absurd (not_both _ (ap (is_visited (set visited at true)) e ∙ now) h)
+      by_slot (inl e) = absurd (both_ways _ h (ap (is_visited (set visited at true)) e ∙ now))
       by_slot (inr n) = (sym (get_or-set_other visited at j true true n) ∙ h, n)
 
   -- only the first slot is entered from one that is not visited
@@ -116,28 +111,22 @@ module _ (list : List Segment) (next : List ℕ) (links : AreLinks list next) (o
     where
       by_way : Way list next first visited at part → at ≡ first
       by_way (inl k) = k.0
-      by_way (inr k) = absurd (not_both _ (ap (is_visited visited) (links.one j k.0 l k.1 (e ∙ sym k.3)) ∙ k.2) h)
+      by_way (inr k) = absurd (both_ways _ h (ap (is_visited visited) (links.one j k.0 l k.1 (e ∙ sym k.3)) ∙ k.2))
 
   module _ (here : is_visited visited at ≡ false) where
     not_before : first ≤ at
-    not_before = by_order (either_way at first)
+    not_before = by_order (cases_lt at first)
       where
-        either_way : (a b : ℕ) → (a < b) ⊎ (b ≤ a)
-        either_way a b = grind arith
-
         by_order : (at < first) ⊎ (first ≤ at) → first ≤ at
-        by_order (inl l) = absurd (not_both _ (w.kept at (earlier at l)) here)
+        by_order (inl l) = absurd (both_ways _ here (w.kept at (earlier at l)))
         by_order (inr l) = l
 
     high : nat_le (facet_number list first) (segment_in list at).facet ≡ true
-    high = by_slot (either first at)
+    high = by_slot (cases_eq first at)
       where
-        at_most : (a b : ℕ) → a ≤ b → nat_le a b ≡ true
-        at_most a b l = grind (arith, nat_tests)
-
         by_slot : (first ≡ at) ⊎ (first ≡ at → ⊥) → nat_le (facet_number list first) (segment_in list at).facet ≡ true
-        by_slot (inl e) = at_most _ _ (let s = ap (facet_number list) e in omega (arith, s))
-        by_slot (inr n) = at_most _ _ (let m = not_before in let s = order first at (omega (arith, m, n)) w.inside in omega (arith, s))
+        by_slot (inl e) = le-leb _ _ (let s = ap (facet_number list) e in omega (arith, s))
+        by_slot (inr n) = le-leb _ _ (let m = not_before in let s = order first at (omega (arith, m, n)) w.inside in omega (arith, s))
 
     pub walk-goes : IsWalk list next first before (set visited at true) (get_or next at NONE) (part ++ segment_in list at ∷ [])
     walk-goes = record {
@@ -164,7 +153,7 @@ module _ (list : List Segment) (next : List ℕ) (links : AreLinks list next) (o
         onward : (is_visited visited (get_or next at NONE) ≡ false) ⊎ (get_or next at NONE ≡ first)
             → (is_visited (set visited at true) (get_or next at NONE) ≡ false) ⊎ (get_or next at NONE ≡ first)
         onward (inr e) = inr e
-        onward (inl h) = by_slot (either (get_or next at NONE) at)
+        onward (inl h) = by_slot (cases_eq (get_or next at NONE) at)
           where
             by_slot : (get_or next at NONE ≡ at) ⊎ (get_or next at NONE ≡ at → ⊥)
                 → (is_visited (set visited at true) (get_or next at NONE) ≡ false) ⊎ (get_or next at NONE ≡ first)
@@ -188,7 +177,7 @@ module _ (list : List Segment) (next : List ℕ) (links : AreLinks list next) (o
 
         still : (j : ℕ) → j < length list → (is_visited visited j ≡ false) × (j ≡ at → ⊥)
             → (is_visited (set visited at true) (get_or next j NONE) ≡ false) ⊎ (get_or next j NONE ≡ first)
-        still j l h = by_slot (either (get_or next j NONE) at) (w.fresh j l h.0)
+        still j l h = by_slot (cases_eq (get_or next j NONE) at) (w.fresh j l h.0)
           where
             by_slot : (get_or next j NONE ≡ at) ⊎ (get_or next j NONE ≡ at → ⊥)
                 → (is_visited visited (get_or next j NONE) ≡ false) ⊎ (get_or next j NONE ≡ first)
@@ -205,11 +194,11 @@ module _ (list : List Segment) (next : List ℕ) (links : AreLinks list next) (o
       closed (s ∷ p) h k = subst (λ x. Closes list x (s ∷ p)) (sym k) h
 
       by_way : Way list next first visited at part → IsTracedLoop list next first before visited part
-      by_way (inl k) = absurd (not_both _ done k.2)
+      by_way (inl k) = absurd (both_ways _ k.2 done)
       by_way (inr k) = by_end k.4
         where
           by_end : (is_visited visited at ≡ false) ⊎ (at ≡ first) → IsTracedLoop list next first before visited part
-          by_end (inl f) = absurd (not_both _ done f)
+          by_end (inl f) = absurd (both_ways _ f done)
           by_end (inr e) = record {
             cycle = closed part (subst (λ n. Closes list (segment_in list n) part) e k.5) k.7;
             head = facet-head part ∙ ap (λ (s : Segment). s.facet) k.7;
@@ -223,4 +212,4 @@ module _ (list : List Segment) (next : List ℕ) (links : AreLinks list next) (o
               out : (j : ℕ) → j < length list → is_visited visited j ≡ false
                   → (is_visited visited (get_or next j NONE) ≡ false) ⊎ (get_or next j NONE ≡ first) → is_visited visited (get_or next j NONE) ≡ false
               out j l h (inl f) = f
-              out j l h (inr f) = absurd (not_both _ (ap (is_visited visited) (links.one j k.0 l k.1 (f ∙ sym e ∙ sym k.3)) ∙ k.2) h)
+              out j l h (inr f) = absurd (both_ways _ h (ap (is_visited visited) (links.one j k.0 l k.1 (f ∙ sym e ∙ sym k.3)) ∙ k.2))
