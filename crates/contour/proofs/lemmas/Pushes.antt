@@ -27,20 +27,22 @@ filter_map_more : {X Y : Type 0} (h : X → Option Y) (xs : List X) (i : ℕ) (d
 filter_map_more h xs i d l =
     ap (filter_map h) (take_more xs i d l) ∙ filter_map-append h (take i xs) (get_or xs i d ∷ [])
 
-pub picked-some : (facets : List Facet) (z : ℤ) (xs : List ℕ) (i : ℕ) (s : Segment) → i < length xs
-    → Some s ≡ segment_of (vertices facets) z (get_or xs i 0, facet_at facets (get_or xs i 0))
-    → filter_map (numbered_segment facets z) (take (i + 1) xs) ≡ filter_map (numbered_segment facets z) (take i xs) ++ s ∷ []
-picked-some facets z xs i s l e =
-    filter_map_more (numbered_segment facets z) xs i 0 l
-    ∙ ap (λ o. filter_map (numbered_segment facets z) (take i xs) ++ cons_option o []) (sym e)
+pub picked-some : (facets : List Facet) (z : ℤ) (xs : List ℕ) (i : ℕ) (s : Segment) (old more new : List Segment) → i < length xs
+    → Some s ≡ segment_of (vertices facets) z (get_or xs i 0, facet_at facets (get_or xs i 0)) → new ≡ more → more ≡ old ++ s ∷ []
+    → old ≡ filter_map (numbered_segment facets z) (take i xs) → new ≡ filter_map (numbered_segment facets z) (take (i + 1) xs)
+picked-some facets z xs i s old more new l e is pushed before =
+    is ∙ pushed ∙ ap (λ ss. ss ++ s ∷ []) before
+    ∙ sym (filter_map_more (numbered_segment facets z) xs i 0 l
+    ∙ ap (λ o. filter_map (numbered_segment facets z) (take i xs) ++ cons_option o []) (sym e))
 
-pub picked-none : (facets : List Facet) (z : ℤ) (xs : List ℕ) (i : ℕ) → i < length xs
-    → None ≡ segment_of (vertices facets) z (get_or xs i 0, facet_at facets (get_or xs i 0))
-    → filter_map (numbered_segment facets z) (take (i + 1) xs) ≡ filter_map (numbered_segment facets z) (take i xs)
-picked-none facets z xs i l e =
-    filter_map_more (numbered_segment facets z) xs i 0 l
+pub picked-none : (facets : List Facet) (z : ℤ) (xs : List ℕ) (i : ℕ) (old new : List Segment) → i < length xs
+    → None ≡ segment_of (vertices facets) z (get_or xs i 0, facet_at facets (get_or xs i 0)) → new ≡ old
+    → old ≡ filter_map (numbered_segment facets z) (take i xs) → new ≡ filter_map (numbered_segment facets z) (take (i + 1) xs)
+picked-none facets z xs i old new l e same before =
+    same ∙ before
+    ∙ sym (filter_map_more (numbered_segment facets z) xs i 0 l
     ∙ ap (λ o. filter_map (numbered_segment facets z) (take i xs) ++ cons_option o []) (sym e)
-    ∙ append-nil (filter_map (numbered_segment facets z) (take i xs))
+    ∙ append-nil (filter_map (numbered_segment facets z) (take i xs)))
 
 -- ---- facets in order of their least heights: a loop over them, where `height` is the value of the machine word that holds z
 pub starts_by-ends : (facets : List Facet) (z height : ℤ) (xs : List ℕ) (i : ℕ) → height ≡ z → i < length xs → starts_by facets height (get_or xs i 0) ≡ false
@@ -78,10 +80,10 @@ ends_above-all facets z height xs cut i same low high h =
     both : (i n : ℕ) → i ≤ n → n ≤ i → i ≡ n
     both i n a b = omega arith
 
-pub ends_above-kept : (facets : List Facet) (z : ℤ) (xs cut new : List ℕ) (i : ℕ) → i < length xs → ends_above facets z (get_or xs i 0) ≡ true
-    → new ≡ cut ++ get_or xs i 0 ∷ [] → cut ≡ filter (ends_above facets z) (take i xs) → new ≡ filter (ends_above facets z) (take (i + 1) xs)
-ends_above-kept facets z xs cut new i l e pushed before =
-    pushed ∙ ap (λ ks. ks ++ get_or xs i 0 ∷ []) before
+pub ends_above-kept : (facets : List Facet) (z : ℤ) (xs cut more new : List ℕ) (i : ℕ) → i < length xs → ends_above facets z (get_or xs i 0) ≡ true
+    → new ≡ more → more ≡ cut ++ get_or xs i 0 ∷ [] → cut ≡ filter (ends_above facets z) (take i xs) → new ≡ filter (ends_above facets z) (take (i + 1) xs)
+ends_above-kept facets z xs cut more new i l e is pushed before =
+    is ∙ pushed ∙ ap (λ ks. ks ++ get_or xs i 0 ∷ []) before
     ∙ sym (filter_more (ends_above facets z) xs i 0 l ∙ ap (λ b. filter (ends_above facets z) (take i xs) ++ cond b (get_or xs i 0 ∷ []) []) e)
 
 pub ends_above-left : (facets : List Facet) (z : ℤ) (xs cut new : List ℕ) (i : ℕ) → i < length xs → ends_above facets z (get_or xs i 0) ≡ false

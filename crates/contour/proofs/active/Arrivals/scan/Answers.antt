@@ -1,4 +1,5 @@
-use Rattle.std.proofs.Common.{◌≡◌, ◌∙◌, Bool, false, true, ap, get_or, refl, rules, to_z, of_z, w32, w64}
+use Rattle.std.proofs.Common.{◌≡◌, Bool, false, true, ap, get_or, refl, rules, to_z, of_z, w32, w64}
+use Rattle.std.specs.List.{prefix_len}
 use Rattle.std.proofs.lemmas.Int.{to_z-of_z}
 use Rattle.contour.specs.Active.{ends_above, starts_by}
 use Rattle.contour.proofs.lemmas.Pushes.{above-read, below-read, starts_by-all, starts_by-ends, starts_by-on, ends_above-all, ends_above-kept, ends_above-left}
@@ -23,14 +24,14 @@ loop-i-preserved g c =
     (λ b. above-read c.args.s.now.facets number height height top (to_z w32 (of_z w32 top)) c.is_above.result b
     refl (to_z-of_z w32 top (search rules)) c.height_range-range.ensures.high c.is_above.ensures) in
     record {
-      reached = starts_by-on c.args.s.now.facets height c.args.order.now c.loop-i.i _ c.loop-i-test.true
+      reached = starts_by-on c.args.s.now.facets height c.args.order.now c.loop-i.i (prefix_len (starts_by c.args.s.now.facets height) c.args.order.now) c.loop-i-test.true
           (below-read c.args.s.now.facets number height height start (to_z w32 (of_z w32 start)) c.starts_by.result true
           refl (to_z-of_z w32 start (search rules)) c.height_range-range.ensures.low c.starts_by.ensures c.if-not-starts_by.false)
           c.loop-i.invariant.reached;
       active = elim c.if-is_above.branch [
         | then-is_above+in_ok-push w ↦
-            ends_above-kept c.args.s.now.facets height c.args.order.now c.loop-i.active.items c.if-is_above.active.items c.loop-i.i c.loop-i-test.true
-            (is true w.if-is_above.true) (ap (λ v. v.items) w.active-is ∙ w.in_ok-push.ensures.items) c.loop-i.invariant.active
+            ends_above-kept c.args.s.now.facets height c.args.order.now c.loop-i.active.items w.push.new.self.items c.if-is_above.active.items c.loop-i.i c.loop-i-test.true
+            (is true w.if-is_above.true) (ap (λ v. v.items) w.active-is) w.in_ok-push.ensures.items c.loop-i.invariant.active
         | else-is_above w ↦
             ends_above-left c.args.s.now.facets height c.args.order.now c.loop-i.active.items c.if-is_above.active.items c.loop-i.i c.loop-i-test.true
             (is false w.if-is_above.false) (ap (λ v. v.items) w.active-is) c.loop-i.invariant.active
