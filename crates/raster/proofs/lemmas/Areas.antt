@@ -1,7 +1,8 @@
 -- Spans of one layer hold no more pixels than the layer.
-use Rattle.std.proofs.Common.{◌≡◌, ℕ, ◌+◌, ◌-◌, ◌*◌, ◌<◌, ◌≤◌, ◌⊎◌, inl, inr, List, [], ◌∷◌, Bool, true, false, ◌&&◌, ap, arith}
+use Rattle.std.proofs.Common.{◌≡◌, ℕ, ◌+◌, ◌-◌, ◌*◌, ◌<◌, ◌≤◌, ◌⊎◌, inl, inr, List, [], ◌∷◌, true, ap, arith}
 use Rattle.std.specs.List.{list_all}
 use Rattle.std.proofs.lemmas.List.Sums.{sum_by-cons}
+use Rattle.std.proofs.lemmas.Bool.{and_parts}
 use Rattle.std.proofs.lemmas.Bool.Decides.{nat_tests}
 use Rattle.std.proofs.Math.Nat.{mul-le-mul, mul-le-mul_right}
 use Rattle.raster.specs.declared.span.Span.{Span}
@@ -19,14 +20,6 @@ within-test columns rows s h = record { row = grind (arith, nat_tests); some = g
 
 pub before-test : (s t : Span) → is_span_before s t ≡ true → (s.row < t.row) ⊎ ((s.row ≡ t.row) × (s.to < t.from))
 before-test s t h = grind (arith, nat_tests)
-
-pub and-left : (a b : Bool) → (a && b) ≡ true → a ≡ true
-and-left true b h = grind arith
-and-left false b h = grind arith
-
-pub and-right : (a b : Bool) → (a && b) ≡ true → b ≡ true
-and-right true b h = h
-and-right false b h = grind arith
 
 -- a later span begins no sooner than the earlier one ends, counted along the rows
 after : (columns rows : ℕ) (s t : Span) → IsWithin columns rows s → (s.row < t.row) ⊎ ((s.row ≡ t.row) × (s.to < t.from)) → s.row * columns + s.to ≤ t.row * columns + t.from
@@ -51,7 +44,7 @@ Begins columns at (s ∷ rest) = at ≤ s.row * columns + s.from
 begins-after : (columns rows : ℕ) (s : Span) (rest : List Span) → IsWithin columns rows s → list_all (is_span_before s) rest ≡ true → Begins columns (s.row * columns + s.to) rest
 begins-after columns rows s [] w h = tt
 begins-after columns rows s (t ∷ rest) w h =
-    after columns rows s t w (before-test s t (and-left (is_span_before s t) (list_all (is_span_before s) rest) h))
+    after columns rows s t w (before-test s t (and_parts (is_span_before s t) (list_all (is_span_before s) rest) h).0)
 
 step : (columns rows at row from to more : ℕ) → from < to → at ≤ row * columns + from → more + (row * columns + to) ≤ columns * rows → to - from + more + at ≤ columns * rows
 step columns rows at row from to more some begins h = omega arith
@@ -59,13 +52,13 @@ step columns rows at row from to more some begins h = omega arith
 span_area-le : (columns rows : ℕ) (spans : List Span) (at : ℕ) → at ≤ columns * rows → Begins columns at spans → list_all (is_span_within columns rows) spans ≡ true → are_apart spans ≡ true → span_area spans + at ≤ columns * rows
 span_area-le columns rows [] at low begins within apart = omega arith
 span_area-le columns rows (s ∷ rest) at low begins within apart =
-    let w : IsWithin columns rows s = within-test columns rows s (and-left (is_span_within columns rows s) (list_all (is_span_within columns rows) rest) within) in
+    let w : IsWithin columns rows s = within-test columns rows s (and_parts (is_span_within columns rows s) (list_all (is_span_within columns rows) rest) within).0 in
     rw (sum_by-cons (λ (t : Span). t.to - t.from) s rest)
     (step columns rows at s.row s.from s.to (span_area rest) w.some begins
     (span_area-le columns rows rest (s.row * columns + s.to) (end-le columns rows s w)
-    (begins-after columns rows s rest w (and-left (list_all (is_span_before s) rest) (are_apart rest) apart))
-    (and-right (is_span_within columns rows s) (list_all (is_span_within columns rows) rest) within)
-    (and-right (list_all (is_span_before s) rest) (are_apart rest) apart)))
+    (begins-after columns rows s rest w (and_parts (list_all (is_span_before s) rest) (are_apart rest) apart).0)
+    (and_parts (is_span_within columns rows s) (list_all (is_span_within columns rows) rest) within).1
+    (and_parts (list_all (is_span_before s) rest) (are_apart rest) apart).1))
 
 begins-at_zero : (columns : ℕ) (spans : List Span) → Begins columns 0 spans
 begins-at_zero columns [] = tt

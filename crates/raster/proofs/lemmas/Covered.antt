@@ -4,12 +4,11 @@ use Rattle.std.specs.Prelude.{nat_lt, nat_le, ◌==◌}
 use Rattle.std.specs.List.{list_all}
 use Rattle.std.proofs.lemmas.List.{take-append-drop, get_or-take, get_or-drop, length-take-le}
 use Rattle.std.proofs.lemmas.List.Folds.{list_any-append}
-use Rattle.std.proofs.lemmas.Bool.{and_from}
+use Rattle.std.proofs.lemmas.Bool.{and_from, and_parts}
 use Rattle.std.proofs.lemmas.Bool.Decides.{nat_tests}
 use Rattle.raster.specs.declared.span.Span.{Span}
 use Rattle.raster.specs.Span.{covers, is_span_within}
 use Rattle.raster.specs.Rows.{IsRowStart, are_within, crosses, span_at}
-use Rattle.raster.proofs.lemmas.Areas.{and-left, and-right}
 
 one-elsewhere : (row from to i j : ℕ) (rest : Bool) → row ≢ j → rest ≡ false → (row == j && nat_le from i && nat_lt i to || rest) ≡ false
 one-elsewhere row from to i j rest h k = grind (arith, nat_tests)
@@ -31,19 +30,19 @@ covers-here (s ∷ rest) i j h =
 pub all-drop : {X : Type 0} (p : X → Bool) (n : ℕ) (xs : List X) → list_all p xs ≡ true → list_all p (drop n xs) ≡ true
 all-drop p zero xs h = h
 all-drop p (suc n) [] h = h
-all-drop p (suc n) (x ∷ xs) h = all-drop p n xs (and-right (p x) (list_all p xs) h)
+all-drop p (suc n) (x ∷ xs) h = all-drop p n xs (and_parts (p x) (list_all p xs) h).1
 
 pub all-take : {X : Type 0} (p : X → Bool) (n : ℕ) (xs : List X) → list_all p xs ≡ true → list_all p (take n xs) ≡ true
 all-take p zero xs h = refl
 all-take p (suc n) [] h = h
 all-take p (suc n) (x ∷ xs) h =
-    and_from (p x) (list_all p (take n xs)) (and-left (p x) (list_all p xs) h) (all-take p n xs (and-right (p x) (list_all p xs) h))
+    and_from (p x) (list_all p (take n xs)) (and_parts (p x) (list_all p xs) h).0 (all-take p n xs (and_parts (p x) (list_all p xs) h).1)
 
 pub within-columns : (columns rows : ℕ) (spans : List Span) → list_all (is_span_within columns rows) spans ≡ true → are_within columns spans ≡ true
 within-columns columns rows [] h = refl
 within-columns columns rows (s ∷ rest) h =
-    step s.row s.from s.to (are_within columns rest) (and-left (is_span_within columns rows s) (list_all (is_span_within columns rows) rest) h)
-    (within-columns columns rows rest (and-right (is_span_within columns rows s) (list_all (is_span_within columns rows) rest) h))
+    step s.row s.from s.to (are_within columns rest) (and_parts (is_span_within columns rows s) (list_all (is_span_within columns rows) rest) h).0
+    (within-columns columns rows rest (and_parts (is_span_within columns rows s) (list_all (is_span_within columns rows) rest) h).1)
   where
     step : (row from to : ℕ) (b : Bool) → (nat_lt row rows && nat_lt from to && nat_le to columns) ≡ true → b ≡ true → (nat_lt from to && nat_le to columns && b) ≡ true
     step row from to b h k = grind (arith, nat_tests)

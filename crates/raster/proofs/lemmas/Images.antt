@@ -1,6 +1,6 @@
 -- Lengths of images, and images of the same pixels.
 use Rattle.std.proofs.Common.{◌≡◌, ℕ, zero, suc, ◌+◌, ◌*◌, ◌/◌, ◌<◌, ◌≤◌, Bool, List, ◌∷◌, ◌++◌, length, length-append, true, false, ap, ◌∙◌, arith, refl, sym}
-use Rattle.std.specs.Prelude.{codes, decimal, flat_map, map, nat_lt, ◌&&◌}
+use Rattle.std.specs.Prelude.{Option, codes, decimal, flat_map, map, nat_lt, ◌&&◌}
 use Rattle.std.specs.Int.{div_ceil}
 use Rattle.std.specs.List.{range_with_len}
 use Rattle.std.proofs.lemmas.List.Concat.{flat_map-cons}
@@ -14,7 +14,7 @@ use Rattle.raster.specs.Filler.{below, is_filled}
 use Rattle.raster.specs.Grid.{Grid, centre}
 use Rattle.raster.specs.Image.{header, image_limit, image_of_pixels, images, images_limit, layer_image, packed_byte, row_bytes}
 use Rattle.raster.proofs.lemmas.Decimals.{length-five}
-use Rattle.raster.proofs.lemmas.Written.{length-row, lower_rows, rows-step}
+use Rattle.raster.proofs.lemmas.Written.{IsUnderWay, all-counted, length-row, lower_rows, rows-step}
 
 pub length-rows : (width n : ℕ) (pixel : ℕ → ℕ → Bool) → length (lower_rows width pixel n) ≡ n * div_ceil width 8
 length-rows width zero pixel = omega arith
@@ -44,6 +44,16 @@ pub small-image : (width height : ℕ) (pixel : ℕ → ℕ → Bool) → width 
 small-image width height pixel narrow low =
     let row : div_ceil width 8 ≤ COLUMN_LIMIT / 8 = omega arith in
     omega (arith, length-image width height pixel, length-five width narrow, length-five height low, mul-le-mul_left height row)
+
+-- of a chunk and an image, what is out and held is at most the chunk and the largest image
+pub held-few : (old now : Option (List ℕ)) (first : List ℕ) (columns rows : ℕ) (pixel : ℕ → ℕ → Bool) (before written : ℕ) (chunk rest : List ℕ) → columns ≤ COLUMN_LIMIT → rows ≤ COLUMN_LIMIT → IsUnderWay old now (first ++ image_of_pixels columns rows pixel) before written chunk rest → written + length chunk ≤ before + length first + image_limit
+held-few old now first columns rows pixel before written chunk rest narrow low h =
+    omega (
+      arith,
+      small-image columns rows pixel narrow low,
+      length-append first (image_of_pixels columns rows pixel),
+      all-counted old now (first ++ image_of_pixels columns rows pixel) before written chunk rest h,
+    )
 
 small-parts : (f : ℕ → List ℕ) (a n : ℕ) → ((k : ℕ) → length (f k) ≤ image_limit) → length (flat_map f (range_with_len a n)) ≤ n * image_limit
 small-parts f a zero small = omega arith

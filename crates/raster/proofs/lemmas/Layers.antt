@@ -3,7 +3,7 @@ use Rattle.std.proofs.Common.{◌≡◌, ℕ, ◌+◌, ◌<◌, ◌⊎◌, inl, 
 use Rattle.std.specs.Prelude.{neg_ℤ, nat_le, nat_lt, ◌==◌}
 use Rattle.std.specs.List.{list_all}
 use Rattle.std.proofs.lemmas.List.{take-append-drop}
-use Rattle.std.proofs.lemmas.Bool.{and_from}
+use Rattle.std.proofs.lemmas.Bool.{and_from, and_parts}
 use Rattle.std.proofs.lemmas.Bool.Decides.{nat_tests}
 use Rattle.exact_int.proofs.lemmas.Lists.{all-weaker}
 use Rattle.raster.specs.declared.rule.Rule.{Rule}
@@ -14,13 +14,12 @@ use Rattle.raster.specs.Span.{are_apart, covers, is_span_before}
 use Rattle.raster.specs.RowSpans.{AreRowSpans}
 use Rattle.raster.specs.Crossings.{AreCrossingsWithin, crossings_in, row_passed}
 use Rattle.raster.specs.Filler.{AreSpansBelow}
-use Rattle.raster.proofs.lemmas.Areas.{and-left, and-right}
-use Rattle.raster.proofs.lemmas.Sweeps.{all-join, covers-append}
+use Rattle.raster.proofs.lemmas.Sweeps.{all-join, covers-append, or-false}
 
 covers-not : (p : Span → Bool) (i j : ℕ) → ((s : Span) → p s ≡ true → (s.row == j) ≡ false) → (spans : List Span) → list_all p spans ≡ true → covers spans i j ≡ false
 covers-not p i j f [] h = refl
 covers-not p i j f (s ∷ spans) h =
-    neither (s.row == j) (nat_le s.from i) (nat_lt i s.to) (covers spans i j) (f s (and-left (p s) (list_all p spans) h)) (covers-not p i j f spans (and-right (p s) (list_all p spans) h))
+    neither (s.row == j) (nat_le s.from i) (nat_lt i s.to) (covers spans i j) (f s (and_parts (p s) (list_all p spans) h).0) (covers-not p i j f spans (and_parts (p s) (list_all p spans) h).1)
   where
     neither : (a b c d : Bool) → a ≡ false → d ≡ false → (a && b && c || d) ≡ false
     neither true b c d h k = absurd (grind arith)
@@ -30,9 +29,9 @@ apart-join : (row : ℕ) (xs ys : List Span) → list_all (λ s. nat_lt s.row ro
 apart-join row [] ys low here h k = k
 apart-join row (s ∷ xs) ys low here h k =
     and_from (list_all (is_span_before s) (xs ++ ys)) (are_apart (xs ++ ys))
-    (all-join (is_span_before s) xs ys (and-left (list_all (is_span_before s) xs) (are_apart xs) h)
-    (all-weaker (λ t. t.row == row) (is_span_before s) (λ t e. before s.row s.to t.row t.from (and-left (nat_lt s.row row) (list_all (λ t. nat_lt t.row row) xs) low) e) ys here))
-    (apart-join row xs ys (and-right (nat_lt s.row row) (list_all (λ t. nat_lt t.row row) xs) low) here (and-right (list_all (is_span_before s) xs) (are_apart xs) h) k)
+    (all-join (is_span_before s) xs ys (and_parts (list_all (is_span_before s) xs) (are_apart xs) h).0
+    (all-weaker (λ t. t.row == row) (is_span_before s) (λ t e. before s.row s.to t.row t.from (and_parts (nat_lt s.row row) (list_all (λ t. nat_lt t.row row) xs) low).0 e) ys here))
+    (apart-join row xs ys (and_parts (nat_lt s.row row) (list_all (λ t. nat_lt t.row row) xs) low).1 here (and_parts (list_all (is_span_before s) xs) (are_apart xs) h).1 k)
   where
     before : (r to t from : ℕ) → nat_lt r row ≡ true → (t == row) ≡ true → (nat_lt r t || (r == t && nat_lt to from)) ≡ true
     before r to t from h' k' = grind (arith, nat_tests)
@@ -74,7 +73,3 @@ spans-more rule columns row crossings old new inside kept done h =
 
     under : (a b c : ℕ) → nat_lt a b ≡ true → c ≡ b → (a == c) ≡ false
     under a b c e l = grind (arith, nat_tests)
-
-    or-false : (b : Bool) → (b || false) ≡ b
-    or-false true = refl
-    or-false false = refl

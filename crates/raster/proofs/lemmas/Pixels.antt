@@ -2,6 +2,7 @@
 use Rattle.std.proofs.Common.{◌≡◌, ℕ, ◌+◌, ◌-◌, ◌*◌, ◌<◌, ◌≤◌, Bool, true, ◌&&◌, List, [], ◌∷◌, refl, ap, subst, sym, ◌∙◌, arith}
 use Rattle.std.specs.Prelude.{ℤ, pos, ◌+ℤ◌, ◌-ℤ◌, ◌≤ℤ◌, neg_ℤ, nat_lt, nat_le}
 use Rattle.std.specs.List.{list_all}
+use Rattle.std.proofs.lemmas.Bool.{and_parts}
 use Rattle.std.proofs.lemmas.Int.{ints}
 use Rattle.geometry.specs.Point.{Point}
 use Rattle.geometry.specs.Facet.{Facet, twice}
@@ -19,7 +20,6 @@ use Rattle.raster.specs.Filler.{AreSpansBelow, IsFillOf, is_filled}
 use Rattle.raster.specs.Rule.{is_inside}
 use Rattle.raster.specs.Span.{AreSpans, covers, is_span_within}
 use Rattle.raster.specs.Grid.{Grid, centre, middle, plane}
-use Rattle.raster.proofs.lemmas.Areas.{and-left, and-right}
 use Rattle.geometry.specs.declared.limits.TheConstants.{CENTRE_LIMIT}
 
 step-on : (o : ℤ) (p i : ℕ) → centre_x (middle o p 0) p i ≡ middle o p i
@@ -60,8 +60,8 @@ all-both : (p q r : Span → Bool) → ((s : Span) → p s ≡ true → q s ≡ 
     → list_all p spans ≡ true → list_all q spans ≡ true → list_all r spans ≡ true
 all-both p q r f [] h k = refl
 all-both p q r f (s ∷ spans) h k =
-    ap (λ b. b && list_all r spans) (f s (and-left (p s) (list_all p spans) h) (and-left (q s) (list_all q spans) k))
-    ∙ all-both p q r f spans (and-right (p s) (list_all p spans) h) (and-right (q s) (list_all q spans) k)
+    ap (λ b. b && list_all r spans) (f s (and_parts (p s) (list_all p spans) h).0 (and_parts (q s) (list_all q spans) k).0)
+    ∙ all-both p q r f spans (and_parts (p s) (list_all p spans) h).1 (and_parts (q s) (list_all q spans) k).1
 
 all-three : (a b c : Bool) → a ≡ true → (b && c) ≡ true → (a && b && c) ≡ true
 all-three a b c e f = ap (λ d. d && b && c) e ∙ f

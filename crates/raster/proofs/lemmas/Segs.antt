@@ -20,7 +20,7 @@ use Rattle.plane_segments.proofs.lemmas.FacetOrder.{segments_below}
 use Rattle.raster.specs.declared.crossings.RowCrossing.{RowCrossing}
 use Rattle.raster.specs.RowCrossing.{passed, signs}
 use Rattle.raster.specs.Crossings.{AreCrossingsWithin, crossings_in, row_passed, row_signs}
-use Rattle.raster.proofs.lemmas.Walks.{hit-none}
+use Rattle.exact_cut.proofs.lemmas.Steps.{no_hit}
 
 -- where no edge of three goes through a height one way, no corner is on the other side of it
 no-rise : (a b c z : ℤ) → rises_through a b z ≡ false → rises_through b c z ≡ false → rises_through c a z ≡ false
@@ -204,7 +204,7 @@ pushed-passed facets z l list n out e done h i j inside low =
     ∙ ap (λ (x : List Segment). total (λ s. pass_at l z i j (facet_at facets s.facet)) x) e
     ∙ total-segments (pass_at l z i j) facets z
     (λ t uncut. let none = unpassed (twice t) z uncut (row_y l j) in
-    no-difference (wind (twice t) (row_y l j) z) (hit (twice t) (pixel l z i j)) none (hit-none (twice t) (pixel l z i j) none))
+    no-difference (wind (twice t) (row_y l j) z) (hit (twice t) (pixel l z i j)) none (no_hit (twice t) (pixel l z i j) none))
 
 pub below-all : (facets : List Facet) (z : ℤ) (list : List Segment) (n : ℕ) (s : Segment) → list ≡ segments facets z → n < length list
     → s ≡ slice_index_or list n s → s.facet < length facets

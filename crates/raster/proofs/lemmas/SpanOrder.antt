@@ -1,17 +1,14 @@
 -- What the form of spans says of those at their places.
-use Rattle.std.proofs.Common.{◌≡◌, ℕ, zero, suc, ◌+◌, ◌-◌, ◌<◌, ◌≤◌, ◌⊎◌, inl, inr, List, [], ◌∷◌, Bool, true, false, ◌&&◌, length, get_or, refl, ap, sym, arith}
+use Rattle.std.proofs.Common.{◌≡◌, ℕ, zero, suc, ◌+◌, ◌-◌, ◌<◌, ◌≤◌, ◌⊎◌, inl, inr, List, [], ◌∷◌, Bool, true, false, ◌&&◌, length, refl, ap, sym, arith}
 use Rattle.std.specs.Prelude.{nat_lt}
 use Rattle.std.specs.List.{list_all}
+use Rattle.std.proofs.lemmas.Bool.{and_parts}
+use Rattle.std.proofs.lemmas.List.Sums.{AllPass-from_list_all}
 use Rattle.std.proofs.lemmas.Bool.Decides.{nat_tests}
 use Rattle.raster.specs.declared.span.Span.{Span}
 use Rattle.raster.specs.Span.{are_apart, is_span_before}
 use Rattle.raster.specs.Rows.{IsRowStart, are_within, crosses, span_at}
-use Rattle.raster.proofs.lemmas.Areas.{and-left, and-right, before-test}
-
-pub all-at : {X : Type 0} (p : X → Bool) (xs : List X) (d : X) (k : ℕ) → list_all p xs ≡ true → k < length xs → p (get_or xs k d) ≡ true
-all-at p [] d k h low = absurd (omega arith)
-all-at p (x ∷ xs) d zero h low = and-left (p x) (list_all p xs) h
-all-at p (x ∷ xs) d (suc k) h low = all-at p xs d k (and-right (p x) (list_all p xs) h) (omega arith)
+use Rattle.raster.proofs.lemmas.Areas.{before-test}
 
 row-le : (s t : Span) → (s.row < t.row) ⊎ ((s.row ≡ t.row) × (s.to < t.from)) → s.row ≤ t.row
 row-le s t (inl h) = omega arith
@@ -21,9 +18,9 @@ pub rows-ascend : (spans : List Span) (k l : ℕ) → are_apart spans ≡ true �
 rows-ascend [] k l h low room = absurd (omega arith)
 rows-ascend (s ∷ rest) k zero h low room = absurd (omega arith)
 rows-ascend (s ∷ rest) zero (suc l) h low room =
-    row-le s (span_at rest l) (before-test s (span_at rest l) (all-at (is_span_before s) rest (record { row = 0; from = 0; to = 0 }) l (and-left (list_all (is_span_before s) rest) (are_apart rest) h) (omega arith)))
+    row-le s (span_at rest l) (before-test s (span_at rest l) (AllPass-from_list_all (is_span_before s) rest (and_parts (list_all (is_span_before s) rest) (are_apart rest) h).0 l (record { row = 0; from = 0; to = 0 }) (omega arith)))
 rows-ascend (s ∷ rest) (suc k) (suc l) h low room =
-    rows-ascend rest k l (and-right (list_all (is_span_before s) rest) (are_apart rest) h) (omega arith) (omega arith)
+    rows-ascend rest k l (and_parts (list_all (is_span_before s) rest) (are_apart rest) h).1 (omega arith) (omega arith)
 
 last-or-before : (k n : ℕ) → k < n → (k ≡ n - 1) ⊎ (k < n - 1)
 last-or-before k n h = grind arith

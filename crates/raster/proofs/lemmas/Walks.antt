@@ -1,23 +1,23 @@
 -- What the crossings of one facet add to each row.
 use Rattle.std.proofs.Common.{◌≡◌, ◌≢◌, ℕ, zero, suc, ◌+◌, ◌-◌, ◌<◌, ◌≤◌, ◌⊎◌, inl, inr, List, [], ◌∷◌, ◌++◌, Bool, true, false, cond, length, refl, ap, sym, subst, ◌∙◌, append_assoc, arith}
-use Rattle.std.specs.Prelude.{All, ℤ, pos, negsuc, ◌+ℤ◌, ◌-ℤ◌, nat_le, ◌==◌, int_lt, ◌*ℤ◌, slice_index}
+use Rattle.std.specs.Prelude.{All, ℤ, pos, negsuc, ◌+ℤ◌, ◌-ℤ◌, nat_le, ◌==◌, slice_index}
 use Rattle.std.specs.Ordering.{int_eq}
 use Rattle.std.specs.List.{list_all}
 use Rattle.std.proofs.lemmas.Int.{ints}
 use Rattle.std.proofs.lemmas.List.{append-nil, get_or_default}
 use Rattle.std.proofs.lemmas.List.Folds.{list_all-append}
-use Rattle.std.proofs.lemmas.Bool.{and_from}
+use Rattle.std.proofs.lemmas.Bool.{and_from, cases_lt, cases_order, eq-eqb, le-leb, lt-leb}
 use Rattle.std.proofs.lemmas.Bool.Decides.{nat_tests}
 use mir.Syntax.{w16}
 use mir.Val.{Fits}
-use Rattle.geometry.specs.Point.{Point}
 use Rattle.geometry.specs.Facet.{Facet}
-use Rattle.geometry.specs.Winding.{hit, volume, wind}
+use Rattle.geometry.specs.Winding.{hit, wind}
 use Rattle.geometry.specs.declared.limits.TheConstants.{COLUMN_LIMIT}
 use Rattle.mesh_weld.proofs.lemmas.Sums.{total-append}
 use Rattle.exact_cut.specs.Walk.{Walk, IsWalkOf}
 use Rattle.exact_cut.specs.Lattice.{IsUncrossed, pixel, row_y}
 use Rattle.exact_cut.specs.declared.dda.lattice.Lattice.{Lattice}
+use Rattle.exact_cut.proofs.lemmas.Steps.{no_hit}
 use Rattle.raster.specs.declared.crossings.RowCrossing.{RowCrossing}
 use Rattle.raster.specs.RowCrossing.{passed, crossing_sign, signs}
 use Rattle.raster.specs.Crossings.{AreCrossingsWithin, crossings_along, crossings_in, row_passed, row_signs}
@@ -28,9 +28,6 @@ unit b = cond b (pos 1) (negsuc 0)
 other-row : (a b : ℕ) → (a < b) ⊎ (b < a) → (a == b) ≡ false
 other-row a b h = grind (arith, nat_tests)
 
-same-row : (a b : ℕ) → a ≡ b → (a == b) ≡ true
-same-row a b h = grind (arith, nat_tests)
-
 -- a crossing in another row adds nothing
 along-skip : (row : ℕ) (up : Bool) (c : ℕ) (columns : List ℕ) (j : ℕ) → (row < j) ⊎ (j < row) → crossings_along row up (c ∷ columns) j ≡ crossings_along (row + 1) up columns j
 along-skip row up c columns j h =
@@ -38,7 +35,7 @@ along-skip row up c columns j h =
 
 along-take : (row : ℕ) (up : Bool) (c : ℕ) (columns : List ℕ) (j : ℕ) → row ≡ j → crossings_along row up (c ∷ columns) j ≡ (record { column = c; is_up = up }) ∷ crossings_along (row + 1) up columns j
 along-take row up c columns j h =
-    ap (λ (b : Bool). cond b ((record { column = c; is_up = up }) ∷ crossings_along (row + 1) up columns j) (crossings_along (row + 1) up columns j)) (same-row row j h)
+    ap (λ (b : Bool). cond b ((record { column = c; is_up = up }) ∷ crossings_along (row + 1) up columns j) (crossings_along (row + 1) up columns j)) (eq-eqb row j h)
 
 along-none : (row : ℕ) (up : Bool) (columns : List ℕ) (j : ℕ) → (j < row) ⊎ (row + length columns ≤ j) → crossings_along row up columns j ≡ []
 along-none row up [] j h = refl
@@ -56,15 +53,6 @@ along-one row up (c ∷ columns) (suc n) h =
     ∙ ap (λ (j : ℕ). crossings_along (row + 1) up columns j) next
     ∙ along-one (row + 1) up columns n (omega arith)
 
-pick : (b : Bool) (w : ℤ) → w ≡ pos 0 → cond b w (pos 0) ≡ pos 0
-pick true w h = h
-pick false w h = refl
-
--- where a line does not wind round a facet, no ray along it hits the facet
-pub hit-none : (t : Facet) (p : Point) → wind t p.y p.z ≡ pos 0 → hit t p ≡ pos 0
-unfolding hit
-hit-none t p h = pick (int_lt (pos 0) (wind t p.y p.z *ℤ volume t p)) (wind t p.y p.z) h
-
 unit-sign : (sign : ℤ) → (sign ≡ pos 1) ⊎ (sign ≡ negsuc 0) → unit (int_eq sign (pos 1)) ≡ sign
 unit-sign sign (inl h) = subst (λ (z : ℤ). unit (int_eq z (pos 1)) ≡ z) (sym h) refl
 unit-sign sign (inr h) = subst (λ (z : ℤ). unit (int_eq z (pos 1)) ≡ z) (sym h) refl
@@ -76,11 +64,8 @@ data Placed (row size j : ℕ) : Type 0 where
   within : (n : ℕ) → n < size → j ≡ row + n → Placed row size j
 
 placed : (row size j : ℕ) → Placed row size j
-placed row size j = go (either-side j row) (either-side j (row + size))
+placed row size j = go (cases_lt j row) (cases_lt j (row + size))
   where
-    either-side : (a b : ℕ) → (a < b) ⊎ (b ≤ a)
-    either-side a b = grind arith
-
     go : (j < row) ⊎ (row ≤ j) → (j < row + size) ⊎ (row + size ≤ j) → Placed row size j
     go (inl h) k = before h
     go (inr h) (inr k) = behind k
@@ -117,26 +102,17 @@ same-difference s w x h k = omega (arith, ints)
 walked-passed : (t : Facet) (z : ℤ) (l : Lattice) (c : Walk) (i j : ℕ) → IsWalkOf t z l c → i < l.columns → j < l.rows → passed (crossings_along c.row (int_eq c.sign (pos 1)) c.columns j) i ≡ wind t (row_y l j) z -ℤ hit t (pixel l z i j)
 walked-passed t z l c i j h inside low = go (placed c.row (length c.columns) j)
   where
-    either-side : (a b : ℕ) → (a < b) ⊎ (b ≤ a)
-    either-side a b = grind arith
-
-    not-le : (a b : ℕ) → b < a → nat_le a b ≡ false
-    not-le a b h' = grind (arith, nat_tests)
-
-    is-le : (a b : ℕ) → a ≤ b → nat_le a b ≡ true
-    is-le a b h' = grind (arith, nat_tests)
-
     at : (n : ℕ) → n < length c.columns → cond (nat_le (slice_index c.columns n) i) (unit (int_eq c.sign (pos 1))) (pos 0) ≡ wind t (row_y l (c.row + n)) z -ℤ hit t (pixel l z i (c.row + n))
-    at n k = elim (either-side i (slice_index c.columns n)) [
-      | inl left ↦ ap (λ (b : Bool). cond b (unit (int_eq c.sign (pos 1))) (pos 0)) (not-le (slice_index c.columns n) i left)
+    at n k = elim (cases_lt i (slice_index c.columns n)) [
+      | inl left ↦ ap (λ (b : Bool). cond b (unit (int_eq c.sign (pos 1))) (pos 0)) (lt-leb (slice_index c.columns n) i left)
           ∙ same-difference c.sign (wind t (row_y l (c.row + n)) z) (hit t (pixel l z i (c.row + n))) (h.crossed n k).crosses.sign_is ((h.crossed n k).ahead i left)
-      | inr right ↦ ap (λ (b : Bool). cond b (unit (int_eq c.sign (pos 1))) (pos 0)) (is-le (slice_index c.columns n) i right)
+      | inr right ↦ ap (λ (b : Bool). cond b (unit (int_eq c.sign (pos 1))) (pos 0)) (le-leb (slice_index c.columns n) i right)
           ∙ all-difference (unit (int_eq c.sign (pos 1))) (wind t (row_y l (c.row + n)) z) (hit t (pixel l z i (c.row + n))) (unit-sign c.sign h.unit ∙ (h.crossed n k).crosses.sign_is) ((h.crossed n k).passed i right inside)
     ]
 
     go : Placed c.row (length c.columns) j → passed (crossings_along c.row (int_eq c.sign (pos 1)) c.columns j) i ≡ wind t (row_y l j) z -ℤ hit t (pixel l z i j)
-    go (before k) = ap (λ (l : List RowCrossing). passed l i) (along-none c.row (int_eq c.sign (pos 1)) c.columns j (inl k)) ∙ no-difference (wind t (row_y l j) z) (hit t (pixel l z i j)) (h.before j k) (hit-none t (pixel l z i j) (h.before j k))
-    go (behind k) = ap (λ (l : List RowCrossing). passed l i) (along-none c.row (int_eq c.sign (pos 1)) c.columns j (inr k)) ∙ no-difference (wind t (row_y l j) z) (hit t (pixel l z i j)) (h.after j k low) (hit-none t (pixel l z i j) (h.after j k low))
+    go (before k) = ap (λ (l : List RowCrossing). passed l i) (along-none c.row (int_eq c.sign (pos 1)) c.columns j (inl k)) ∙ no-difference (wind t (row_y l j) z) (hit t (pixel l z i j)) (h.before j k) (no_hit t (pixel l z i j) (h.before j k))
+    go (behind k) = ap (λ (l : List RowCrossing). passed l i) (along-none c.row (int_eq c.sign (pos 1)) c.columns j (inr k)) ∙ no-difference (wind t (row_y l j) z) (hit t (pixel l z i j)) (h.after j k low) (no_hit t (pixel l z i j) (h.after j k low))
     go (within n k e) =
         ap (λ (m : ℕ). passed (crossings_along c.row (int_eq c.sign (pos 1)) c.columns m) i) e
         ∙ ap (λ (l : List RowCrossing). passed l i) (along-one c.row (int_eq c.sign (pos 1)) c.columns n k)
@@ -147,11 +123,8 @@ walked-passed t z l c i j h inside low = go (placed c.row (length c.columns) j)
 along-within : (n row : ℕ) (up : Bool) (columns : List ℕ) (j : ℕ) → ((k : ℕ) → k < length columns → slice_index columns k ≤ n) → list_all (λ m. nat_le m.column n) (crossings_along row up columns j) ≡ true
 along-within n row up [] j h = refl
 along-within n row up (c ∷ columns) j h =
-    one (row == j) (crossings_along (row + 1) up columns j) (small c (h 0 (omega arith))) (along-within n (row + 1) up columns j (λ k low. h (suc k) (omega (arith, low))))
+    one (row == j) (crossings_along (row + 1) up columns j) (le-leb c n (h 0 (omega arith))) (along-within n (row + 1) up columns j (λ k low. h (suc k) (omega (arith, low))))
   where
-    small : (a : ℕ) → a ≤ n → nat_le a n ≡ true
-    small a h' = grind (arith, nat_tests)
-
     one : (b : Bool) (crossings : List RowCrossing) → nat_le c n ≡ true → list_all (λ m. nat_le m.column n) crossings ≡ true → list_all (λ m. nat_le m.column n) (cond b ((record { column = c; is_up = up }) ∷ crossings) crossings) ≡ true
     one true crossings e f = and_from (nat_le c n) (list_all (λ m. nat_le m.column n) crossings) e f
     one false crossings e f = f
@@ -180,7 +153,7 @@ within-more t z l c old new h e k = λ j.
     (along-within l.columns c.row (int_eq c.sign (pos 1)) c.columns j (λ n m. (h.crossed n m).least.in_row))
 
 pub passed-none : (t : Facet) (z : ℤ) (l : Lattice) (s : ℤ) → IsUncrossed t z l → (i j : ℕ) → j < l.rows → s ≡ s +ℤ (wind t (row_y l j) z -ℤ hit t (pixel l z i j))
-passed-none t z l s h i j low = none s (wind t (row_y l j) z) (hit t (pixel l z i j)) (h j low) (hit-none t (pixel l z i j) (h j low))
+passed-none t z l s h i j low = none s (wind t (row_y l j) z) (hit t (pixel l z i j)) (h j low) (no_hit t (pixel l z i j) (h j low))
   where
     none : (s w x : ℤ) → w ≡ pos 0 → x ≡ pos 0 → s ≡ s +ℤ (w -ℤ x)
     none s w x h' k = omega (arith, ints)
@@ -192,13 +165,10 @@ pub along-more : (old new : List (List RowCrossing)) (all : List RowCrossing) (a
     → (j : ℕ) → crossings_in old j ++ crossings_along row up columns j ≡ all → crossings_in new j ++ crossings_along next up rest j ≡ all
 along-more old new all at row next column up columns rest first here later pushed kept j h =
     ap (λ (n : ℕ). crossings_in new j ++ crossings_along n up rest j) later
-    ∙ by-row (same-or-not row j)
+    ∙ by-row (cases_order row j)
     ∙ ap (λ (l : List ℕ). crossings_in old j ++ crossings_along row up l j) (sym first)
     ∙ h
   where
-    same-or-not : (a b : ℕ) → (a ≡ b) ⊎ (a < b) ⊎ (b < a)
-    same-or-not a b = grind arith
-
     by-row : (row ≡ j) ⊎ (row < j) ⊎ (j < row) → crossings_in new j ++ crossings_along (row + 1) up rest j ≡ crossings_in old j ++ crossings_along row up (column ∷ rest) j
     by-row (inl e) =
         ap (λ (l : List RowCrossing). l ++ crossings_along (row + 1) up rest j)

@@ -1,9 +1,10 @@
 -- How much of a text went out, how much a chunk holds, and how much is left; and the rows of an image.
 use Rattle.std.proofs.Common.{◌≡◌, ℕ, zero, suc, ◌+◌, ◌-◌, ◌<◌, ◌≤◌, List, [], ◌∷◌, ◌++◌, Bool, length, take, drop, length-append, length-drop, append_assoc, ap, sym, subst, ◌∙◌, arith}
-use Rattle.std.specs.Prelude.{None, Option, Some, reverse, flat_map, nat_lt, ◌&&◌}
+use Rattle.std.specs.Prelude.{Option, reverse, flat_map, nat_lt, ◌&&◌}
 use Rattle.std.specs.List.{range_with_len}
 use Rattle.std.specs.Int.{div_ceil}
 use Rattle.std.proofs.lemmas.List.FromFn.{length-map-range_with_len}
+use Rattle.std.proofs.KnownBytes.{Appends-nil, Appends-trans}
 use Rattle.std.specs.Io.KnownBytes.{Appends}
 use Rattle.std.proofs.lemmas.List.{append-nil, drop-append-le, drop-drop, reverse-append, take-append-drop, take-append-le}
 use Rattle.std.proofs.lemmas.List.Concat.{flat_map-cons}
@@ -11,7 +12,6 @@ use Rattle.std.proofs.Math.Seq.{take-add}
 use Rattle.raster.specs.Devices.{AppendsFirst}
 use Rattle.raster.specs.Filler.{below}
 use Rattle.raster.specs.Image.{packed_byte, row_bytes}
-use Rattle.raster.proofs.lemmas.Sent.{appends-after}
 
 -- the rows below n, the greatest first
 abbrev pub lower_rows : ℕ → (ℕ → ℕ → Bool) → ℕ → List ℕ
@@ -35,17 +35,13 @@ pub record IsUnderWay (old now : Option (List ℕ)) (text : List ℕ) (before wr
   pub out : AppendsFirst old now (written - before) text
   pub left : drop (written - before) text ≡ chunk ++ rest
 
-nothing-out : (now : Option (List ℕ)) → Appends now now []
-nothing-out None = tt
-nothing-out (Some xs) = sym (append-nil xs)
-
 pub begun : (now : Option (List ℕ)) (before : ℕ) (chunk rest : List ℕ) → IsUnderWay now now (chunk ++ rest) before before chunk rest
 begun now before chunk rest =
     let none : before - before ≡ 0 = omega arith in
     record {
       low = omega arith;
       high = omega arith;
-      out = subst (λ (n : ℕ). Appends now now (take n (chunk ++ rest))) (sym none) (nothing-out now);
+      out = subst (λ (n : ℕ). Appends now now (take n (chunk ++ rest))) (sym none) (Appends-nil now);
       left = ap (λ (n : ℕ). drop n (chunk ++ rest)) none;
     }
 
@@ -59,7 +55,7 @@ all-counted old now text before written chunk rest h =
 pub more-out : (old now new : Option (List ℕ)) (text : List ℕ) (before written total : ℕ) (chunk rest : List ℕ) → IsUnderWay old now text before written chunk rest → written ≤ total → total ≤ written + length chunk → AppendsFirst now new (total - written) chunk → AppendsFirst old new (total - before) text
 more-out old now new text before written total chunk rest h low high sent =
     subst (λ (l : List ℕ). Appends old new l) (sym together)
-    (appends-after old now new (take (written - before) text) (take (total - written) chunk) h.out sent)
+    (Appends-trans old now new (take (written - before) text) (take (total - written) chunk) h.out sent)
   where
     together : take (total - before) text ≡ take (written - before) text ++ take (total - written) chunk
     together =
@@ -90,7 +86,7 @@ moved old now new text before written total chunk kept rest h low high sent is =
 pub whole-out : (a b c : Option (List ℕ)) (text held : List ℕ) (sent : ℕ) → AppendsFirst a b sent text → held ≡ drop sent text → Appends b c held → Appends a c text
 whole-out a b c text held sent first is rest =
     subst (λ (l : List ℕ). Appends a c l) (ap (λ (l : List ℕ). take sent text ++ l) is ∙ take-append-drop sent text)
-    (appends-after a b c (take sent text) held first rest)
+    (Appends-trans a b c (take sent text) held first rest)
 
 pub first-out : (a b c : Option (List ℕ)) (text held : List ℕ) (sent written : ℕ) → AppendsFirst a b sent text → held ≡ drop sent text → sent ≤ written → AppendsFirst b c (written - sent) held → AppendsFirst a c written text
 first-out a b c text held sent written first is low more =
@@ -98,7 +94,7 @@ first-out a b c text held sent written first is low more =
     (ap (λ (l : List ℕ). take sent text ++ take (written - sent) l) is
     ∙ sym (take-add sent (written - sent) text)
     ∙ ap (λ (n : ℕ). take n text) (omega (arith, low)))
-    (appends-after a b c (take sent text) (take (written - sent) held) first more)
+    (Appends-trans a b c (take sent text) (take (written - sent) held) first more)
 
 -- a text of which only a chunk was left to go out
 pub all-out : (old now new : Option (List ℕ)) (text : List ℕ) (before written : ℕ) (chunk : List ℕ) → IsUnderWay old now text before written chunk [] → Appends now new chunk → Appends old new text

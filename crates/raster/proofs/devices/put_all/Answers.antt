@@ -1,7 +1,7 @@
 use Rattle.std.proofs.Common.{◌-◌, take, drop, length, length-drop, ◌∙◌, arith}
 use Rattle.std.proofs.lemmas.List.{take_all}
 use Rattle.std.proofs.Math.Seq.{take-add}
-use Rattle.raster.proofs.lemmas.Sent.{appends-after}
+use Rattle.std.proofs.KnownBytes.{Appends-trans}
 use Rattle.raster.proofs.devices.put_all.Goals as goal
 
 pub loop-written-preserved : goal.loop-written-preserved
@@ -12,7 +12,7 @@ loop-written-preserved g c =
     record {
       within = omega (arith, within, length-drop c.loop-written.written c.args.chunk.now);
       out = rw (take-add c.loop-written.written c.in-Ok.taken c.args.chunk.now)
-          (appends-after (g.W.Sink.contents c.args.w.now) (g.W.Sink.contents c.loop-written.w) (g.W.Sink.contents c.put.new.self)
+          (Appends-trans (g.W.Sink.contents c.args.w.now) (g.W.Sink.contents c.loop-written.w) (g.W.Sink.contents c.put.new.self)
           (take c.loop-written.written c.args.chunk.now) (take c.in-Ok.taken (drop c.loop-written.written c.args.chunk.now))
           c.loop-written.invariant.out out);
       same = c.in-Ok.ensures.ok ∙ c.loop-written.invariant.same;

@@ -1,46 +1,30 @@
-use Rattle.std.proofs.Common.{◌-◌, ◌∙◌, ◌≤◌, List, ℕ, arith, length, length-append, subst}
+use Rattle.std.proofs.Common.{◌-◌, ◌∙◌, ◌≤◌, ℕ, arith, subst}
 use Rattle.std.proofs.lemmas.Result.{err_from_is_err_and}
 use Rattle.geometry.specs.declared.limits.TheConstants.{COLUMN_LIMIT}
-use Rattle.raster.specs.Image.{image_limit, image_of_pixels, row_bytes}
+use Rattle.raster.specs.Image.{row_bytes}
 use Rattle.raster.specs.ImageWriter.{pending}
 use Rattle.raster.specs.Span.{covers}
-use Rattle.raster.proofs.lemmas.Images.{small-image}
-use Rattle.raster.proofs.lemmas.Written.{all-counted, lower_rows, more-out, moved, next-row, taken-on, written-within}
+use Rattle.raster.proofs.lemmas.Images.{held-few}
+use Rattle.raster.proofs.lemmas.Written.{lower_rows, more-out, moved, next-row, taken-on, written-within}
 use Rattle.raster.proofs.pbm.image_writer.push_image.Goals as goal
 
 pub make_room-requires-in-loop-row-clause-count : goal.make_room-requires-in-loop-row-clause-count
 make_room-requires-in-loop-row-clause-count g c =
     let at = c.args.g.now in
-    let image : List ℕ = image_of_pixels at.columns at.rows (covers c.args.spans.now) in
-    let small : length image ≤ image_limit =
-    small-image at.columns at.rows (covers c.args.spans.now)
+    let few =
+    held-few (g.W.Sink.contents c.args.w.now) (g.W.Sink.contents c.loop-row.w) c.args.chunk.now at.columns at.rows (covers c.args.spans.now)
+    c.args.before c.loop-row.written c.loop-row.chunk (lower_rows at.columns (covers c.args.spans.now) c.loop-row.row)
     (subst (λ (n : ℕ). n ≤ COLUMN_LIMIT) c.columns.ensures.value c.columns.ensures.high)
-    (subst (λ (n : ℕ). n ≤ COLUMN_LIMIT) c.rows.ensures.value c.rows.ensures.high) in
-    omega (
-      arith,
-      c.requires.count,
-      small,
-      length-append c.args.chunk.now image,
-      all-counted (g.W.Sink.contents c.args.w.now) (g.W.Sink.contents c.loop-row.w) (pending c.args.chunk.now at c.args.spans.now)
-          c.args.before c.loop-row.written c.loop-row.chunk (lower_rows at.columns (covers c.args.spans.now) c.loop-row.row) c.loop-row.invariant.text,
-    )
+    (subst (λ (n : ℕ). n ≤ COLUMN_LIMIT) c.rows.ensures.value c.rows.ensures.high) c.loop-row.invariant.text in
+    omega (arith, c.requires.count, few)
 
 pub returns-clause-few : goal.returns-clause-few
 returns-clause-few g c =
     let at = c.args.g.now in
-    let image : List ℕ = image_of_pixels at.columns at.rows (covers c.args.spans.now) in
-    let small : length image ≤ image_limit =
-    small-image at.columns at.rows (covers c.args.spans.now)
+    held-few (g.W.Sink.contents c.args.w.now) (g.W.Sink.contents c.loop-row.w) c.args.chunk.now at.columns at.rows (covers c.args.spans.now)
+    c.args.before c.loop-row.written c.loop-row.chunk (lower_rows at.columns (covers c.args.spans.now) c.loop-row.row)
     (subst (λ (n : ℕ). n ≤ COLUMN_LIMIT) c.columns.ensures.value c.columns.ensures.high)
-    (subst (λ (n : ℕ). n ≤ COLUMN_LIMIT) c.rows.ensures.value c.rows.ensures.high) in
-    omega (
-      arith,
-      c.requires.count,
-      small,
-      length-append c.args.chunk.now image,
-      all-counted (g.W.Sink.contents c.args.w.now) (g.W.Sink.contents c.loop-row.w) (pending c.args.chunk.now at c.args.spans.now)
-          c.args.before c.loop-row.written c.loop-row.chunk (lower_rows at.columns (covers c.args.spans.now) c.loop-row.row) c.loop-row.invariant.text,
-    )
+    (subst (λ (n : ℕ). n ≤ COLUMN_LIMIT) c.rows.ensures.value c.rows.ensures.high) c.loop-row.invariant.text
 
 pub returns-in_err-written-2-clause-written : goal.returns-in_err-written-2-clause-written
 returns-in_err-written-2-clause-written g c =
