@@ -11,7 +11,7 @@ use Rattle.slicer_laws.specs.Boxes.{box, holds, is_between}
 use Rattle.slicer_laws.specs.InsideOut.{inside_out}
 use Rattle.slicer_laws.proofs.lemmas.Boxes.{ray-box}
 use Rattle.slicer_laws.proofs.lemmas.ClosedBoxes.{exchanged}
-use Rattle.slicer_laws.proofs.lemmas.Totals.{total-permutation}
+use Rattle.raster.proofs.lemmas.Sweeps.{total-permutation}
 use Rattle.slicer_laws.proofs.lemmas.Turned.{ray-turned}
 
 ray_y-swap : (facets : List Facet) (c : Point) → ray_y facets c ≡ neg_ℤ (ray (map swap_tri facets) (swap c))

@@ -5,7 +5,7 @@ use Rattle.geometry.specs.Facet.{Facet, twice}
 use Rattle.geometry.specs.Winding.{hit, hit_y, ray}
 use Rattle.raster.specs.Rule.{is_inside}
 use Rattle.slicer_laws.proofs.lemmas.Images.{same_areas, same_images}
-use Rattle.slicer_laws.proofs.lemmas.Totals.{total-permutation}
+use Rattle.raster.proofs.lemmas.Sweeps.{total-permutation}
 use Rattle.slicer_laws.proofs.laws.any_order.Goals as goal
 
 same_ray : (facets others : List Facet) → IsPermutation facets others → (c : Point) → ray others c ≡ ray facets c
