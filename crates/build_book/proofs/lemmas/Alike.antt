@@ -9,7 +9,7 @@ use Rattle.raster.specs.declared.rule.Rule.TheVariants.{EvenOdd, NonZero, Positi
 use Rattle.raster.specs.contracts.rule.Rule.{the_type}
 use denote.Enum.Bare.{sameb}
 
-abbrev pub are_alike : Grid → Grid → Bool
+abbrev are_alike : Grid → Grid → Bool
 are_alike a b =
     a.pitch == b.pitch && (a.layer_height == b.layer_height && (a.columns == b.columns && (a.rows == b.rows && (a.layers == b.layers
     && (int_eq a.origin.x b.origin.x && (int_eq a.origin.y b.origin.y && int_eq a.origin.z b.origin.z))))))

@@ -94,7 +94,7 @@ one_at_most None = omega arith
 one_at_most (Some x) = omega arith
 
 -- where the places were free, the layers stand in them
-pub filled-is : (f n : ℕ) (ys : List Layer) (ps : List (Option Layer)) → n ≡ f + length ys → n ≤ length ps
+filled-is : (f n : ℕ) (ys : List Layer) (ps : List (Option Layer)) → n ≡ f + length ys → n ≤ length ps
     → ((k : ℕ) → f ≤ k → k < n → slice_get ps k ≡ Some None)
     → filled f ys ps ≡ take f ps ++ map Some ys ++ drop n ps
 filled-is zero zero [] [] at low free = refl
@@ -145,7 +145,7 @@ lawful_filled job at (suc f) ys (p ∷ ps) old new (suc n) place e =
     (subst (λ k. AreLawfulFrom job k ys) (omega arith) new) n place e)
 
 -- a lawful book stays so
-pub lawful_book : (job : Job) (f : ℕ) (ys : List Layer) (ps : List (Option Layer)) → IsLawfulBook (record { job = job; places = ps })
+lawful_book : (job : Job) (f : ℕ) (ys : List Layer) (ps : List (Option Layer)) → IsLawfulBook (record { job = job; places = ps })
     → AreLawfulFrom job f ys → IsLawfulBook (record { job = job; places = filled f ys ps })
 unfolding AreLawfulPlaces
 lawful_book job f ys ps old new = record {
@@ -156,7 +156,7 @@ lawful_book job f ys ps old new = record {
 }
 
 -- the places of the layers are taken, and those that were stay so
-pub taken_filled : (f n : ℕ) (ys : List Layer) (ps : List (Option Layer)) → n ≡ f + length ys
+taken_filled : (f n : ℕ) (ys : List Layer) (ps : List (Option Layer)) → n ≡ f + length ys
     → (k : ℕ) → k < length ps → (k < f → IsTaken ps k) → k < n → IsTaken (filled f ys ps) k
 taken_filled f n ys [] at k low below near = absurd (omega (arith, low))
 taken_filled zero n [] (p ∷ ps) at k low below near = absurd (omega (arith, at, near))
@@ -293,7 +293,7 @@ pub few_layers : (job : Job) (ps : List (Option Layer)) → IsLawfulBook (record
 few_layers job ps lawful n is few = omega (arith, count_by-le-length is_some ps, lawful.one_each, is, few)
 
 -- free places of a stripe are those of its layers
-pub stripe_free : (job : Job) (s first end : ℕ) (ys : List Layer) (ps qs : List (Option Layer)) → IsStripe job s ys
+stripe_free : (job : Job) (s first end : ℕ) (ys : List Layer) (ps qs : List (Option Layer)) → IsStripe job s ys
     → first ≡ STRIPE_LAYERS * s → end ≡ STRIPE_LAYERS * s + stripe_length job.grid s → ps ≡ qs → AreFree ps first end
     → (k : ℕ) → STRIPE_LAYERS * s ≤ k → k < STRIPE_LAYERS * s + length ys → slice_get qs k ≡ Some None
 stripe_free job s first end ys ps qs stripe at last same free k low high =

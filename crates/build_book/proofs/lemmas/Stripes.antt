@@ -7,7 +7,7 @@ use Rattle.build_book.specs.Job.{Job}
 use Rattle.build_book.specs.Layer.{Layer, IsLawful, AreLawfulFrom}
 
 -- planes of later layers are not lower
-pub planes_rise : (g : Grid) (j k : ℕ) → j ≤ k → plane g j ≤ℤ plane g k
+planes_rise : (g : Grid) (j k : ℕ) → j ≤ k → plane g j ≤ℤ plane g k
 planes_rise g j k h = raised (pos 2 *ℤ g.origin.z) _ _ (mul-le-mul_left g.layer_height (omega (arith, h)))
   where
     raised : (z : ℤ) (a b : ℕ) → a ≤ b → (z +ℤ pos a) ≤ℤ (z +ℤ pos b)

@@ -87,7 +87,7 @@ above_is h z = grind (arith, ints)
 pub rises-is : (z : ℤ) (u v : Point) → rises_through (height u) (height v) z ≡ (low_at z u && not (low_at z v))
 rises-is z u v = ap (λ b. low_at z u && b) (above_is (height v) z)
 
-abbrev pub picks : Option Edge → Option Edge → (Edge → Bool) → ℕ
+abbrev picks : Option Edge → Option Edge → (Edge → Bool) → ℕ
 picks None u P = 0
 picks (Some d) None P = 0
 picks (Some d) (Some u) P = cond (P d) 1 0
@@ -216,7 +216,7 @@ module _ (q : Edge → Bool) (d : Edge) (one_way : q d ≡ true → q (edge d.to
       ∙ (λ i. cond (q d) (sym (count-append (runs d.from d.to) es more) i) 0 + cond (q (edge d.to d.from)) (sym (count-append (runs d.to d.from) es more) i) 0)
 
 -- ---- over the facets
-abbrev pub seg_pick : (Segment → Bool) → Option Segment → ℕ
+abbrev seg_pick : (Segment → Bool) → Option Segment → ℕ
 seg_pick test None = 0
 seg_pick test (Some s) = cond (test s) 1 0
 

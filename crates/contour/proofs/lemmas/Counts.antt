@@ -68,7 +68,7 @@ times-filter p n [] = none_either_way (p n)
 times-filter p n (x ∷ xs) = times-filter_more p n x xs (filter p xs) (times-filter p n xs) (p x) (eqb x n) refl refl
 
 -- ---- ascending lists
-abbrev pub NotBelow : ℕ → List ℕ → Type 0
+abbrev NotBelow : ℕ → List ℕ → Type 0
 NotBelow x [] = Unit {0}
 NotBelow x (y ∷ ys) = (x ≤ y) × NotBelow x ys
 
@@ -76,7 +76,7 @@ abbrev pub Ascends : List ℕ → Type 0
 Ascends [] = Unit {0}
 Ascends (x ∷ xs) = NotBelow x xs × Ascends xs
 
-pub NotBelow-lower : (m x : ℕ) (ys : List ℕ) → m ≤ x → NotBelow x ys → NotBelow m ys
+NotBelow-lower : (m x : ℕ) (ys : List ℕ) → m ≤ x → NotBelow x ys → NotBelow m ys
 NotBelow-lower m x [] h k = tt
 NotBelow-lower m x (y ∷ ys) h k = let le = k.0 in (omega arith, NotBelow-lower m x ys h k.1)
 

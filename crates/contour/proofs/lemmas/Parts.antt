@@ -9,15 +9,15 @@ pub length-parts : {X : Type 0} (at : ℕ) (ends : List ℕ) (xs : List X) → l
 length-parts at [] xs = refl
 length-parts at (e ∷ ends) xs = ap suc (length-parts e ends (drop (e - at) xs))
 
-pub ends-up : (at : ℕ) (ends : List ℕ) (n : ℕ) → AreEnds at ends n → at ≤ n
+ends-up : (at : ℕ) (ends : List ℕ) (n : ℕ) → AreEnds at ends n → at ≤ n
 ends-up at [] n h = omega arith
 ends-up at (e ∷ ends) n h = let up = ends-up e ends n h.1 in let here = h.0 in omega arith
 
-pub start_of-first : (at : ℕ) (ends : List ℕ) → start_of at ends 0 ≡ at
+start_of-first : (at : ℕ) (ends : List ℕ) → start_of at ends 0 ≡ at
 start_of-first at [] = refl
 start_of-first at (e ∷ ends) = refl
 
-pub start_of-next : (at : ℕ) (ends : List ℕ) (k : ℕ) → k < length ends → start_of at ends (suc k) ≡ get_or ends k 0
+start_of-next : (at : ℕ) (ends : List ℕ) (k : ℕ) → k < length ends → start_of at ends (suc k) ≡ get_or ends k 0
 start_of-next at [] k h = absurd (omega arith)
 start_of-next at (e ∷ ends) zero h = start_of-first e ends
 start_of-next at (e ∷ ends) (suc k) h = start_of-next e ends k (omega arith)
@@ -34,7 +34,7 @@ pub record Bounds (at : ℕ) (ends : List ℕ) (k n : ℕ) : Type 0 where
   pub up : start_of at ends k ≤ get_or ends k 0
   pub within : get_or ends k 0 ≤ n
 
-pub part-bounds : (at : ℕ) (ends : List ℕ) (k n : ℕ) → AreEnds at ends n → k < length ends → Bounds at ends k n
+part-bounds : (at : ℕ) (ends : List ℕ) (k n : ℕ) → AreEnds at ends n → k < length ends → Bounds at ends k n
 part-bounds at [] k n h l = absurd (omega arith)
 part-bounds at (e ∷ ends) zero n h l =
     record { from = omega arith; up = h.0; within = ends-up e ends n h.1 }
@@ -43,7 +43,7 @@ part-bounds at (e ∷ ends) (suc k) n h l =
     let here = h.0 in
     record { from = omega arith; up = b.up; within = b.within }
 
-pub part-is : {X : Type 0} (at : ℕ) (ends : List ℕ) (k n : ℕ) (xs : List X) → AreEnds at ends n → k < length ends
+part-is : {X : Type 0} (at : ℕ) (ends : List ℕ) (k n : ℕ) (xs : List X) → AreEnds at ends n → k < length ends
     → slice_get (parts_from at ends xs) k ≡ Some (take (get_or ends k 0 - start_of at ends k) (drop (start_of at ends k - at) xs))
 part-is at [] k n xs h l = absurd (omega arith)
 part-is at (e ∷ ends) zero n xs h l =
@@ -57,7 +57,7 @@ part-is at (e ∷ ends) (suc k) n xs h l =
     ∙ ap (λ ys. Some (take (get_or ends k 0 - start_of e ends k) ys)) (drop-drop (start_of e ends k - e) (e - at) xs)
     ∙ ap (λ m. Some (take (get_or ends k 0 - start_of e ends k) (drop m xs))) distance
 
-pub part-none : {X : Type 0} (at : ℕ) (ends : List ℕ) (k : ℕ) (xs : List X) → length ends ≤ k → slice_get (parts_from at ends xs) k ≡ None
+part-none : {X : Type 0} (at : ℕ) (ends : List ℕ) (k : ℕ) (xs : List X) → length ends ≤ k → slice_get (parts_from at ends xs) k ≡ None
 part-none at [] k xs l = refl
 part-none at (e ∷ ends) zero xs l = absurd (omega arith)
 part-none at (e ∷ ends) (suc k) xs l = part-none e ends k (drop (e - at) xs) (omega arith)
@@ -81,10 +81,10 @@ parts-push at (e ∷ ends) xs ys n m h l k =
     (λ i. take-append-le (e - at) xs ys within i ∷ parts_from e (ends ++ m ∷ []) (drop-append-le (e - at) xs ys within i))
     ∙ ap (λ ps. take (e - at) xs ∷ ps) (parts-push e ends (drop (e - at) xs) ys n m h.1 left k)
 
-pub bounds-in : (ends : List ℕ) (n number : ℕ) → AreEnds 0 ends n → number < length ends → Bounds 0 ends number n
+bounds-in : (ends : List ℕ) (n number : ℕ) → AreEnds 0 ends n → number < length ends → Bounds 0 ends number n
 bounds-in ends n number h l = part-bounds 0 ends number n h l
 
-pub part-at : {X : Type 0} (ends : List ℕ) (number start end : ℕ) (xs : List X) → AreEnds 0 ends (length xs) → number < length ends
+part-at : {X : Type 0} (ends : List ℕ) (number start end : ℕ) (xs : List X) → AreEnds 0 ends (length xs) → number < length ends
     → start ≡ start_of 0 ends number → end ≡ get_or ends number 0
     → Some (take (end - start) (drop start xs)) ≡ slice_get (parts_from 0 ends xs) number
 part-at ends number start end xs h l e f =
@@ -110,14 +110,14 @@ parts-whole ends xs h = parts-all 0 ends xs (let same : length xs ≡ length xs 
 -- ---- the last part ends with the list, so its end may be left out
 
 -- a part begins and ends where it does once the list's end is added
-pub start_of-cut : (at count : ℕ) (ends tail : List ℕ) (k : ℕ) → k < count → k ≤ length ends
+start_of-cut : (at count : ℕ) (ends tail : List ℕ) (k : ℕ) → k < count → k ≤ length ends
     → start_of at (take count (ends ++ tail)) k ≡ start_of at ends k
 start_of-cut at zero ends tail k l m = absurd (omega (arith, l))
 start_of-cut at (suc count) ends tail zero l m = start_of-first at (take (suc count) (ends ++ tail)) ∙ sym (start_of-first at ends)
 start_of-cut at (suc count) [] tail (suc k) l m = absurd (omega (arith, m))
 start_of-cut at (suc count) (e ∷ ends) tail (suc k) l m = start_of-cut e count ends tail k (omega (arith, l)) (omega (arith, m))
 
-pub end-cut : (count : ℕ) (ends : List ℕ) (n k : ℕ) → k < count → k ≤ length ends
+end-cut : (count : ℕ) (ends : List ℕ) (n k : ℕ) → k < count → k ≤ length ends
     → get_or (take count (ends ++ n ∷ [])) k 0 ≡ get_or ends k n
 end-cut zero ends n k l m = absurd (omega (arith, l))
 end-cut (suc count) [] n zero l m = refl
@@ -125,7 +125,7 @@ end-cut (suc count) [] n (suc k) l m = absurd (omega (arith, m))
 end-cut (suc count) (e ∷ ends) n zero l m = refl
 end-cut (suc count) (e ∷ ends) n (suc k) l m = end-cut count ends n k (omega (arith, l)) (omega (arith, m))
 
-pub length-cut : (count : ℕ) (ends : List ℕ) (n : ℕ) → count ≤ length ends + 1 → length (take count (ends ++ n ∷ [])) ≡ count
+length-cut : (count : ℕ) (ends : List ℕ) (n : ℕ) → count ≤ length ends + 1 → length (take count (ends ++ n ∷ [])) ≡ count
 length-cut zero ends n l = refl
 length-cut (suc zero) [] n l = refl
 length-cut (suc (suc count)) [] n l = absurd (omega (arith, l))
@@ -163,7 +163,7 @@ cut-at count ends number start end xs few h l e f =
     part-at (take count (ends ++ n ∷ [])) number start end xs h (omega (arith, long, l))
     (e ∙ sym (start_of-cut 0 count ends (n ∷ []) number l inside)) (f ∙ sym (end-cut count ends n number l inside))
 
-pub whole-cut : (ends : List ℕ) (n : ℕ) → take (length ends) (ends ++ n ∷ []) ≡ ends
+whole-cut : (ends : List ℕ) (n : ℕ) → take (length ends) (ends ++ n ∷ []) ≡ ends
 whole-cut [] n = refl
 whole-cut (e ∷ ends) n = ap (λ es. e ∷ es) (whole-cut ends n)
 

@@ -24,7 +24,7 @@ use Rattle.contour.specs.Sweep.{IsSwept}
 use Rattle.contour.proofs.lemmas.Swept.{front_passed, first_active, next_passed, next_active, active-is, Gives, Gives-get_or, starts_by-is, ends_above-is}
 use Rattle.geometry.specs.declared.limits.TheConstants.{CENTRE_LIMIT}
 
-abbrev pub AreNumbers : List Facet → List ℕ → Type 0
+abbrev AreNumbers : List Facet → List ℕ → Type 0
 AreNumbers facets numbers = All (λ n. n < length facets) numbers
 
 range_in : (facets : List Facet) → AreNumbers facets (range_with_len 0 (length facets))

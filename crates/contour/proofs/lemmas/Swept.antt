@@ -28,7 +28,7 @@ fails_on R p step x [] h e = tt
 fails_on R p step x (y ∷ ys) h e =
     (step x y (h 0 y (omega arith)) e, fails_on R p step x ys (λ k d l. h (suc k) d (omega arith)) e)
 
-pub Fades-from_pairs : {X : Type 0} (R : X → X → Type 0) (p : X → Bool) → ((x y : X) → R x y → p x ≡ false → p y ≡ false)
+Fades-from_pairs : {X : Type 0} (R : X → X → Type 0) (p : X → Bool) → ((x y : X) → R x y → p x ≡ false → p y ≡ false)
     → (xs : List X) → AllPairs R xs → Fades p xs
 Fades-from_pairs R p step [] h = tt
 Fades-from_pairs R p step (x ∷ xs) h = (
@@ -36,7 +36,7 @@ Fades-from_pairs R p step (x ∷ xs) h = (
   Fades-from_pairs R p step xs (λ i j d less l. h (suc i) (suc j) d (omega arith) (omega arith)),
 )
 
-pub Fades-drop : {X : Type 0} (p : X → Bool) (k : ℕ) (xs : List X) → Fades p xs → Fades p (drop k xs)
+Fades-drop : {X : Type 0} (p : X → Bool) (k : ℕ) (xs : List X) → Fades p xs → Fades p (drop k xs)
 Fades-drop p zero xs h = h
 Fades-drop p (suc k) [] h = tt
 Fades-drop p (suc k) (x ∷ xs) h = Fades-drop p k xs h.1
@@ -50,7 +50,7 @@ all_pass p [] h = refl
 all_pass p (x ∷ xs) h = rw h.0 (ap (λ ys. x ∷ ys) (all_pass p xs h.1))
 
 -- then the front that passes is all that passes
-pub front-is : {X : Type 0} (p : X → Bool) (xs : List X) → Fades p xs → take (prefix_len p xs) xs ≡ filter p xs
+front-is : {X : Type 0} (p : X → Bool) (xs : List X) → Fades p xs → take (prefix_len p xs) xs ≡ filter p xs
 front-is p [] h = refl
 front-is p (x ∷ xs) h = by_test (front-is p xs h.1) (p x) refl
   where
@@ -59,7 +59,7 @@ front-is p (x ∷ xs) h = by_test (front-is p xs h.1) (p x) refl
     by_test rest true e = rw one-add (ap (λ ys. x ∷ ys) rest)
     by_test rest false e = sym (none_pass p xs (h.0 e))
 
-pub rest-is : {X : Type 0} (p : X → Bool) (xs : List X) → Fades p xs → drop (prefix_len p xs) xs ≡ filter (λ y. not (p y)) xs
+rest-is : {X : Type 0} (p : X → Bool) (xs : List X) → Fades p xs → drop (prefix_len p xs) xs ≡ filter (λ y. not (p y)) xs
 rest-is p [] h = refl
 rest-is p (x ∷ xs) h = by_test (rest-is p xs h.1) (p x) refl
   where
@@ -73,7 +73,7 @@ none_counted p [] h = refl
 none_counted p (x ∷ xs) h =
     count_by-cons p x xs ∙ (λ i. cond (h.0 i) 1 0 + none_counted p xs h.1 i)
 
-pub front-counted : {X : Type 0} (p : X → Bool) (xs : List X) → Fades p xs → prefix_len p xs ≡ count_by p xs
+front-counted : {X : Type 0} (p : X → Bool) (xs : List X) → Fades p xs → prefix_len p xs ≡ count_by p xs
 front-counted p [] h = refl
 front-counted p (x ∷ xs) h = by_test (front-counted p xs h.1) (p x) refl ∙ sym (count_by-cons p x xs)
   where
@@ -83,7 +83,7 @@ front-counted p (x ∷ xs) h = by_test (front-counted p xs h.1) (p x) refl ∙ s
     by_test rest false e = ap (λ n. 0 + n) (sym (none_counted p xs (h.0 e)))
 
 -- those that pass p, and those that pass q beyond
-pub counted_beyond : {X : Type 0} (p q : X → Bool) → ((x : X) → p x ≡ true → q x ≡ true) → (xs : List X)
+counted_beyond : {X : Type 0} (p q : X → Bool) → ((x : X) → p x ≡ true → q x ≡ true) → (xs : List X)
     → count_by p xs + count_by q (filter (λ y. not (p y)) xs) ≡ count_by q xs
 counted_beyond p q wider [] = refl
 counted_beyond p q wider (x ∷ xs) = by_test (counted_beyond p q wider xs) (p x) refl
@@ -184,7 +184,7 @@ active-is facets z =
     ∙ filter_agree (λ n. is_cut z (facet_at facets n)) (λ n. starts_by facets z n && ends_above facets z n)
     (λ n i. starts_by-is (facet_at facets n) z i && ends_above-is (facet_at facets n) z i) (range_with_len 0 (length facets))
 
-pub passed-is : (facets : List Facet) (z : ℤ) → passed_count facets z ≡ count_by (starts_by facets z) (range_with_len 0 (length facets))
+passed-is : (facets : List Facet) (z : ℤ) → passed_count facets z ≡ count_by (starts_by facets z) (range_with_len 0 (length facets))
 passed-is facets z =
     counted (facet_at facets) (λ t. list_any (λ p. is_below (height p) z) (corners t)) 0 facets
     (Gives-get_or facets (facet_with origin origin origin))
@@ -205,7 +205,7 @@ order_fades facets order z ordered =
     Fades-from_pairs (λ m n. is_lower facets m n ≡ true) (starts_by facets z)
     (λ m n. lower_fades (least_z (facet_at facets m)) (least_z (facet_at facets n)) z m n) order ordered
 
-pub starts_by_fades : (facets : List Facet) (order : List ℕ) (z : ℤ) → IsByHeight facets order → Fades (starts_by facets z) order
+starts_by_fades : (facets : List Facet) (order : List ℕ) (z : ℤ) → IsByHeight facets order → Fades (starts_by facets z) order
 starts_by_fades facets order z by_height = order_fades facets order z by_height.ordered
 
 pub starts_by_wider : (a h z : ℤ) → h ≤ℤ z → is_below a h ≡ true → is_below a z ≡ true

@@ -49,7 +49,7 @@ count-has n (x ∷ xs) h = by_facet (cases_eq x.facet n) (count-has n xs)
     by_facet (inr d) rest = let r = rest (λ e. h (count-other n x xs d ∙ e)) in (r.0, inr r.1, r.2)
 
 -- ---- in order of facets, from one on
-abbrev pub From : ℕ → List Segment → Type 0
+abbrev From : ℕ → List Segment → Type 0
 From a [] = Unit {0}
 From a (s ∷ list) = (a ≤ s.facet) × From (s.facet + 1) list
 

@@ -15,7 +15,7 @@ use Rattle.contour.proofs.lemmas.Counts.{count-append}
 abbrev pub segment_in : List Segment → ℕ → Segment
 segment_in list j = get_or list j no_segment
 
-pub Closes-push : (list : List Segment) (t u : Segment) (part : List Segment) → Closes list t part → follower list t ≡ Some u → Closes list u (part ++ t ∷ [])
+Closes-push : (list : List Segment) (t u : Segment) (part : List Segment) → Closes list t part → follower list t ≡ Some u → Closes list u (part ++ t ∷ [])
 Closes-push list t u [] h k = absurd h
 Closes-push list t u (s ∷ []) h k = (h, k)
 Closes-push list t u (s ∷ r ∷ rest) h k = (h.0, Closes-push list t u (r ∷ rest) h.1 k)

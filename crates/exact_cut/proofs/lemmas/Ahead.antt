@@ -17,7 +17,7 @@ use Rattle.exact_cut.proofs.lemmas.Passing.{rises}
 use Rattle.exact_cut.proofs.lemmas.Winds.{Passes, passes, den_of, num_of}
 
 -- ---- the denominator, by the two edges' cross products
-pub den-left : (r s p q : Point) (y z : ℤ) → den_of r s p q z ≡ cut_d r s *ℤ left p q y z +ℤ cut_d p q *ℤ left s r y z
+den-left : (r s p q : Point) (y z : ℤ) → den_of r s p q z ≡ cut_d r s *ℤ left p q y z +ℤ cut_d p q *ℤ left s r y z
 den-left r s p q y z = identity (r.y ∷ r.z ∷ s.y ∷ s.z ∷ p.y ∷ p.z ∷ q.y ∷ q.z ∷ y ∷ z ∷ []) (search reads depth 40 fits 5000) refl
 
 -- the wind's three cases, by the two cross products
@@ -59,7 +59,7 @@ pub span_positive : (u v : Point) (z : ℤ) → Rises u v z → pos 0 <ℤ cut_d
 span_positive u v z h = let a = h.low in let b = h.high in omega (arith, ints)
 
 -- where the wind is not 0, its product with the denominator is above 0
-pub wind-den : (t : Facet) (r s p q : Point) (y z : ℤ) → Passes t r s p q z → (wind t y z ≡ pos 0) ⊎ (pos 0 <ℤ (wind t y z *ℤ den_of r s p q z))
+wind-den : (t : Facet) (r s p q : Point) (y z : ℤ) → Passes t r s p q z → (wind t y z ≡ pos 0) ⊎ (pos 0 <ℤ (wind t y z *ℤ den_of r s p q z))
 wind-den t r s p q y z h =
     subst (λ d. (wind t y z ≡ pos 0) ⊎ (pos 0 <ℤ (wind t y z *ℤ d))) (sym (den-left r s p q y z))
     (signed_sum (wind t y z) (left p q y z) (left s r y z) (cut_d r s) (cut_d p q) (span_positive r s z h.down) (span_positive p q z h.up) (wind_case t r s p q y z h))
@@ -68,7 +68,7 @@ turned : (w h n : ℤ) → w *ℤ (h *ℤ n) ≡ h *ℤ (w *ℤ n)
 turned w h n = identity (w ∷ h ∷ n ∷ []) (search reads depth 40) refl
 
 -- where the wind is not 0, its product with the normal's x part is above 0, and the lone corner is not at the height z
-pub wind-normal : (t : Facet) (r s p q : Point) (y z : ℤ) → (h : Passes t r s p q z) → (wind t y z ≡ pos 0) ⊎ ((pos 0 <ℤ (wind t y z *ℤ normal_x t)) × (pos 0 <ℤ h.height))
+wind-normal : (t : Facet) (r s p q : Point) (y z : ℤ) → (h : Passes t r s p q z) → (wind t y z ≡ pos 0) ⊎ ((pos 0 <ℤ (wind t y z *ℤ normal_x t)) × (pos 0 <ℤ h.height))
 wind-normal t r s p q y z h = by (wind-den t r s p q y z h)
   where
     by : (wind t y z ≡ pos 0) ⊎ (pos 0 <ℤ (wind t y z *ℤ den_of r s p q z)) → (wind t y z ≡ pos 0) ⊎ ((pos 0 <ℤ (wind t y z *ℤ normal_x t)) × (pos 0 <ℤ h.height))
@@ -110,7 +110,7 @@ case_unit w up down (winds_up e a b) = inr (inl e)
 case_unit w up down (winds_down e a b) = inr (inr e)
 case_unit w up down (winds_not e) = inl e
 
-pub wind-winding : (t : Facet) (r s p q : Point) (y z : ℤ) → Passes t r s p q z → (wind t y z ≡ pos 0) ⊎ Winding t (wind t y z)
+wind-winding : (t : Facet) (r s p q : Point) (y z : ℤ) → Passes t r s p q z → (wind t y z ≡ pos 0) ⊎ Winding t (wind t y z)
 wind-winding t r s p q y z h = by (case_unit (wind t y z) (left p q y z) (left s r y z) (wind_case t r s p q y z h)) (wind-normal t r s p q y z h)
   where
     by : (wind t y z ≡ pos 0) ⊎ (wind t y z ≡ pos 1) ⊎ (wind t y z ≡ negsuc 0) → (wind t y z ≡ pos 0) ⊎ ((pos 0 <ℤ (wind t y z *ℤ normal_x t)) × (pos 0 <ℤ h.height)) → (wind t y z ≡ pos 0) ⊎ Winding t (wind t y z)

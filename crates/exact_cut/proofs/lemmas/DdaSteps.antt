@@ -18,10 +18,10 @@ near s = record { unit = s.unit; whole = s.whole +ℤ s.increment; remainder = s
 abbrev pub far : Dda → Dda
 far s = record { unit = s.unit; whole = s.whole +ℤ s.increment -ℤ pos 1; remainder = s.remainder +ℤ s.increment_remainder -ℤ s.unit; increment = s.increment; increment_remainder = s.increment_remainder }
 
-pub next-near : (s : Dda) → int_lt (s.remainder +ℤ s.increment_remainder) s.unit ≡ true → next s ≡ near s
+next-near : (s : Dda) → int_lt (s.remainder +ℤ s.increment_remainder) s.unit ≡ true → next s ≡ near s
 next-near s e = ap (λ (b : Bool). if b then near s else far s) e
 
-pub next-far : (s : Dda) → int_lt (s.remainder +ℤ s.increment_remainder) s.unit ≡ false → next s ≡ far s
+next-far : (s : Dda) → int_lt (s.remainder +ℤ s.increment_remainder) s.unit ≡ false → next s ≡ far s
 next-far s e = ap (λ (b : Bool). if b then near s else far s) e
 
 -- one step by an excess over the unit, which is below 0 exactly in the first case
@@ -73,7 +73,7 @@ by_cases s P h k = by (int_lt (s.remainder +ℤ s.increment_remainder) s.unit) r
     by true e = h (less (s.remainder +ℤ s.increment_remainder) s.unit e)
     by false e = k (not_less (s.remainder +ℤ s.increment_remainder) s.unit e)
 
-pub IsDda-next : (s : Dda) → IsDda s → IsDda (next s)
+IsDda-next : (s : Dda) → IsDda s → IsDda (next s)
 IsDda-next s h =
     by_cases s IsDda (λ l. record {
       unit_in = h.unit_in;

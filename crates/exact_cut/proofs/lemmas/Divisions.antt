@@ -96,7 +96,7 @@ pub one_more : (g : ℤ) → FitsSigned w64 g → FitsSigned w128 (g +ℤ pos 1)
 one_more g f = omega (arith, ints, f)
 
 -- ---- the DDA of two numbers over one unit
-abbrev pub dda_of : ℤ → Division → Division → Dda
+abbrev dda_of : ℤ → Division → Division → Dda
 dda_of u p q = record { unit = u; whole = p.quotient; remainder = p.remainder; increment = q.quotient; increment_remainder = q.remainder }
 
 pub IsDda-of : (n u : ℤ) (p q : Division) → IsDivisionOf n u p → pos 0 ≤ℤ q.remainder → q.remainder <ℤ u → IsAtMost unit_limit u → IsAtMost increment_limit q.quotient → IsDda (dda_of u p q)

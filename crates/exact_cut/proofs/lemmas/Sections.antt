@@ -18,7 +18,7 @@ use Rattle.exact_int.proofs.lemmas.Identity.{reads, identity}
 use Rattle.exact_cut.proofs.lemmas.Winds.{Passes, passes}
 use Rattle.exact_cut.proofs.lemmas.Ahead.{wind-outside, crosses_by, meets-by, meets-negated, sides-same, sides-up, sides-down}
 
-pub cut_is : (l h l' h' : Point) (z x y d : ℤ) → l ≡ l' → h ≡ h' → x ≡ cut_x l h z → y ≡ cut_y l h z → d ≡ cut_d l h → CutIs l' h' z x y d
+cut_is : (l h l' h' : Point) (z x y d : ℤ) → l ≡ l' → h ≡ h' → x ≡ cut_x l h z → y ≡ cut_y l h z → d ≡ cut_d l h → CutIs l' h' z x y d
 cut_is l h l' h' z x y d e f a b c = record { x_is = a ∙ (λ i. cut_x (e i) (f i) z); y_is = b ∙ (λ i. cut_y (e i) (f i) z); d_is = c ∙ (λ i. cut_d (e i) (f i)) }
 
 -- a section, from the corners and cut points that the code computes

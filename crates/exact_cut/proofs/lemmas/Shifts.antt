@@ -12,7 +12,7 @@ use Rattle.exact_cut.proofs.lemmas.Ahead.{wind_values}
 pub use Rattle.exact_cut.proofs.lemmas.Quadrants.{ahead_only}
 use Rattle.exact_cut.proofs.lemmas.Steps.{swap, swap_tri, hit-swap}
 
-abbrev pub point_with : ℤ → ℤ → ℤ → Point
+abbrev point_with : ℤ → ℤ → ℤ → Point
 point_with x y z = record { x = x; y = y; z = z }
 
 pub point_by : {x y z x' y' z' : ℤ} → x ≡ x' → y ≡ y' → z ≡ z' → point_with x y z ≡ point_with x' y' z'
@@ -40,18 +40,18 @@ turn_x-shift u v c =
     ap (turn_of (u.z -ℤ c.z) (v.z -ℤ c.z) (pos 0)) (identity (u.x ∷ u.z ∷ v.x ∷ v.z ∷ c.x ∷ c.z ∷ []) (search reads depth 40 fits 5000) refl)
     ∙ turn_of-shift u.z v.z c.z (left_x u v c.x c.z)
 
-pub wind-shift : (t : Facet) (c : Point) → wind (relative_to t c) (pos 0) (pos 0) ≡ wind t c.y c.z
+wind-shift : (t : Facet) (c : Point) → wind (relative_to t c) (pos 0) (pos 0) ≡ wind t c.y c.z
 unfolding wind
 wind-shift t c = λ i. turn-shift t.a t.b c i +ℤ turn-shift t.b t.c c i +ℤ turn-shift t.c t.a c i
 
-pub wind_y-shift : (t : Facet) (c : Point) → wind_y (relative_to t c) (pos 0) (pos 0) ≡ wind_y t c.x c.z
+wind_y-shift : (t : Facet) (c : Point) → wind_y (relative_to t c) (pos 0) (pos 0) ≡ wind_y t c.x c.z
 unfolding wind_y
 wind_y-shift t c = λ i. neg_ℤ (turn_x-shift t.a t.b c i +ℤ turn_x-shift t.b t.c c i +ℤ turn_x-shift t.c t.a c i)
 
 less_nothing : (a : ℤ) → a -ℤ pos 0 ≡ a
 less_nothing a = omega (arith, ints)
 
-pub volume-shift : (t : Facet) (c : Point) → volume (relative_to t c) origin ≡ volume t c
+volume-shift : (t : Facet) (c : Point) → volume (relative_to t c) origin ≡ volume t c
 volume-shift t c = λ i.
     determinant (less_nothing (t.a.x -ℤ c.x) i) (less_nothing (t.a.y -ℤ c.y) i) (less_nothing (t.a.z -ℤ c.z) i)
     (less_nothing (t.b.x -ℤ c.x) i) (less_nothing (t.b.y -ℤ c.y) i) (less_nothing (t.b.z -ℤ c.z) i)

@@ -174,7 +174,7 @@ ends-swapped m n = omega arith
 flipped : (m n : ℕ) (l w a b : ℤ) → pos (m + n) *ℤ l ≡ w *ℤ (a +ℤ b) → pos (n + m) *ℤ l ≡ w *ℤ (b +ℤ a)
 flipped m n l w a b e = ap (λ i. pos i *ℤ l) (ends-swapped n m) ∙ e ∙ ap (λ i. w *ℤ i) (+ℤ_comm a b)
 
-pub between-flip : (t : Facet) (p q : Point) → Between t p q → Between t q p
+between-flip : (t : Facet) (p q : Point) → Between t p q → Between t q p
 between-flip t p q b = record {
   of_a = b.of_a;
   of_b = b.of_b;

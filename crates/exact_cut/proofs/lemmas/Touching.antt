@@ -43,12 +43,12 @@ on_c zero m n = pos 0
 on_c (suc zero) m n = n
 on_c (suc (suc e)) m n = m
 
-pub weighed : (t : Facet) (e : ℕ) (m n : ℤ) (g : Point → ℤ) → on_a e m n *ℤ g t.a +ℤ on_b e m n *ℤ g t.b +ℤ on_c e m n *ℤ g t.c ≡ m *ℤ g (start t e) +ℤ n *ℤ g (finish t e)
+weighed : (t : Facet) (e : ℕ) (m n : ℤ) (g : Point → ℤ) → on_a e m n *ℤ g t.a +ℤ on_b e m n *ℤ g t.b +ℤ on_c e m n *ℤ g t.c ≡ m *ℤ g (start t e) +ℤ n *ℤ g (finish t e)
 weighed t zero m n g = identity (m ∷ n ∷ g t.a ∷ g t.b ∷ g t.c ∷ []) (search reads depth 40) refl
 weighed t (suc zero) m n g = identity (m ∷ n ∷ g t.a ∷ g t.b ∷ g t.c ∷ []) (search reads depth 40) refl
 weighed t (suc (suc e)) m n g = identity (m ∷ n ∷ g t.a ∷ g t.b ∷ g t.c ∷ []) (search reads depth 40) refl
 
-pub summed : (e : ℕ) (m n : ℤ) → on_a e m n +ℤ on_b e m n +ℤ on_c e m n ≡ m +ℤ n
+summed : (e : ℕ) (m n : ℤ) → on_a e m n +ℤ on_b e m n +ℤ on_c e m n ≡ m +ℤ n
 summed zero m n = identity (m ∷ n ∷ []) (search reads depth 40) refl
 summed (suc zero) m n = identity (m ∷ n ∷ []) (search reads depth 40) refl
 summed (suc (suc e)) m n = identity (m ∷ n ∷ []) (search reads depth 40) refl
@@ -72,10 +72,10 @@ not_negative_c (suc zero) m n h k = k
 not_negative_c (suc (suc e)) m n h k = h
 
 -- sums over the corners
-pub regroup : (la lb lc ma mb mc a b c : ℤ) → (la +ℤ ma) *ℤ a +ℤ (lb +ℤ mb) *ℤ b +ℤ (lc +ℤ mc) *ℤ c ≡ (la *ℤ a +ℤ lb *ℤ b +ℤ lc *ℤ c) +ℤ (ma *ℤ a +ℤ mb *ℤ b +ℤ mc *ℤ c)
+regroup : (la lb lc ma mb mc a b c : ℤ) → (la +ℤ ma) *ℤ a +ℤ (lb +ℤ mb) *ℤ b +ℤ (lc +ℤ mc) *ℤ c ≡ (la *ℤ a +ℤ lb *ℤ b +ℤ lc *ℤ c) +ℤ (ma *ℤ a +ℤ mb *ℤ b +ℤ mc *ℤ c)
 regroup la lb lc ma mb mc a b c = identity (la ∷ lb ∷ lc ∷ ma ∷ mb ∷ mc ∷ a ∷ b ∷ c ∷ []) (search reads depth 40 fits 5000) refl
 
-pub regroup-sum : (la lb lc ma mb mc : ℤ) → (la +ℤ ma) +ℤ (lb +ℤ mb) +ℤ (lc +ℤ mc) ≡ (la +ℤ lb +ℤ lc) +ℤ (ma +ℤ mb +ℤ mc)
+regroup-sum : (la lb lc ma mb mc : ℤ) → (la +ℤ ma) +ℤ (lb +ℤ mb) +ℤ (lc +ℤ mc) ≡ (la +ℤ lb +ℤ lc) +ℤ (ma +ℤ mb +ℤ mc)
 regroup-sum la lb lc ma mb mc = identity (la ∷ lb ∷ lc ∷ ma ∷ mb ∷ mc ∷ []) (search reads depth 40 fits 5000) refl
 
 -- k times the cut point of the edge down, along one axis, as it lies from the coordinate g, and the same of the edge up

@@ -23,17 +23,17 @@ pub turn_of-above : (u v z l : ℤ) → IsAbove u z → IsAbove v z → turn_of 
 unfolding turn_of
 turn_of-above u v z l h k = grind (arith, ints)
 
-pub turn_of-opposite : (u v z l : ℤ) → turn_of v u z (neg_ℤ l) ≡ neg_ℤ (turn_of u v z l)
+turn_of-opposite : (u v z l : ℤ) → turn_of v u z (neg_ℤ l) ≡ neg_ℤ (turn_of u v z l)
 unfolding turn_of
 turn_of-opposite u v z l = grind (arith, ints)
 
-pub left-opposite : (u v : Point) (y z : ℤ) → left v u y z ≡ neg_ℤ (left u v y z)
+left-opposite : (u v : Point) (y z : ℤ) → left v u y z ≡ neg_ℤ (left u v y z)
 left-opposite u v y z = identity (u.y ∷ u.z ∷ v.y ∷ v.z ∷ y ∷ z ∷ []) (search reads depth 40) refl
 
 pub turn-opposite : (u v : Point) (y z : ℤ) → turn v u y z ≡ neg_ℤ (turn u v y z)
 turn-opposite u v y z = ap (turn_of v.z u.z z) (left-opposite u v y z) ∙ turn_of-opposite u.z v.z z (left u v y z)
 
-pub left_x-opposite : (u v : Point) (x z : ℤ) → left_x v u x z ≡ neg_ℤ (left_x u v x z)
+left_x-opposite : (u v : Point) (x z : ℤ) → left_x v u x z ≡ neg_ℤ (left_x u v x z)
 left_x-opposite u v x z = identity (u.x ∷ u.z ∷ v.x ∷ v.z ∷ x ∷ z ∷ []) (search reads depth 40) refl
 
 pub turn_x-opposite : (u v : Point) (x z : ℤ) → turn_x v u x z ≡ neg_ℤ (turn_x u v x z)

@@ -56,7 +56,7 @@ splits t y z sign num den first step columns column c k = (
       (at_most_from_not_above (pos 0) (wind t y z *ℤ volume t (record { x = centre_x first step i; y = y; z = z })) (λ a. not_both (centre_x first step i *ℤ den) num ((c.ahead_of (centre_x first step i)).1 a) (not_before num den first step columns column i c.den_positive k b e))),
 )
 
-pub crossed_at : (t : Facet) (z : ℤ) (l : Lattice) (sign : ℤ) (j column : ℕ) (num den : ℤ) → Crosses t (row_y l j) z sign num den → IsLeastColumn num den l.x2 l.step l.columns column → IsCrossedAt t z l sign j column
+crossed_at : (t : Facet) (z : ℤ) (l : Lattice) (sign : ℤ) (j column : ℕ) (num den : ℤ) → Crosses t (row_y l j) z sign num den → IsLeastColumn num den l.x2 l.step l.columns column → IsCrossedAt t z l sign j column
 crossed_at t z l sign j column num den c k =
     let h = splits t (row_y l j) z sign num den l.x2 l.step l.columns column c k in
     record { num = num; den = den; crosses = c; least = k; ahead = h.0; passed = h.1 }

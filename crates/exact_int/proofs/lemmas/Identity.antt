@@ -30,19 +30,19 @@ both-right : (a b : Bool) → both a b ≡ true → b ≡ true
 both-right true b e = e
 both-right false b e = cc
 
-abbrev pub here : {ρ : List ℤ} {z : ℤ} → Place (z ∷ ρ) z
+abbrev here : {ρ : List ℤ} {z : ℤ} → Place (z ∷ ρ) z
 here = record { number = 0; is = refl }
 
 abbrev pub there : {ρ : List ℤ} {y z : ℤ} → Place ρ z → Place (y ∷ ρ) z
 there p = record { number = suc p.number; is = p.is }
 
-abbrev pub read_var : {ρ : List ℤ} {z : ℤ} → Place ρ z → Read ρ z
+abbrev read_var : {ρ : List ℤ} {z : ℤ} → Place ρ z → Read ρ z
 read_var p = record { ex = var p.number; all_fit = true; is = λ _. p.is }
 
-abbrev pub read_pos : {ρ : List ℤ} (n : ℕ) → Read ρ (pos n)
+abbrev read_pos : {ρ : List ℤ} (n : ℕ) → Read ρ (pos n)
 read_pos n = record { ex = con (pos n); all_fit = true; is = λ _. refl }
 
-abbrev pub read_negsuc : {ρ : List ℤ} (n : ℕ) → Read ρ (negsuc n)
+abbrev read_negsuc : {ρ : List ℤ} (n : ℕ) → Read ρ (negsuc n)
 read_negsuc n = record { ex = con (negsuc n); all_fit = true; is = λ _. refl }
 
 module _ {ρ : List ℤ} {a b : ℤ} (p : Read ρ a) (q : Read ρ b) where
@@ -58,7 +58,7 @@ module _ {ρ : List ℤ} {a b : ℤ} (p : Read ρ a) (q : Read ρ b) where
   abbrev pub read_mul : Read ρ (a *ℤ b)
   read_mul = record { ex = p.ex ⊗ q.ex; all_fit = both p.all_fit q.all_fit; is = mul-is }
 
-abbrev pub read_neg : {ρ : List ℤ} {a : ℤ} → Read ρ a → Read ρ (neg_ℤ a)
+abbrev read_neg : {ρ : List ℤ} {a : ℤ} → Read ρ a → Read ρ (neg_ℤ a)
 read_neg {ρ} {a} p = record { ex = opp p.ex; all_fit = p.all_fit; is = λ e. ap neg_ℤ (p.is e) }
 
 module _ {ρ : List ℤ} (w : Width) (z : ℤ) (p : Read ρ z) (s : Size z) where
@@ -73,7 +73,7 @@ pub record Sides (ρ : List ℤ) (a b : ℤ) : Type 0 where
   pub left : Read ρ a
   pub right : Read ρ b
 
-abbrev pub read_sides : {ρ : List ℤ} {a b : ℤ} → Read ρ a → Read ρ b → Sides ρ a b
+abbrev read_sides : {ρ : List ℤ} {a b : ℤ} → Read ρ a → Read ρ b → Sides ρ a b
 read_sides p q = record { left = p; right = q }
 
 pub ruleset reads = (read_sides, read_add, read_mul, read_neg, read_back, read_pos, read_negsuc, read_var, here, there)
@@ -84,15 +84,15 @@ pub data Verdict : Type 0 where
   differs : Poly → Verdict
   may_not_fit : Verdict
 
-abbrev pub by_terms : Poly → Verdict
+abbrev by_terms : Poly → Verdict
 by_terms none = holds
 by_terms (term c m p) = differs (term c m p)
 
-abbrev pub verdict_of : Bool → Poly → Verdict
+abbrev verdict_of : Bool → Poly → Verdict
 verdict_of true p = by_terms p
 verdict_of false p = may_not_fit
 
-abbrev pub verdict : {ρ : List ℤ} {a b : ℤ} → Sides ρ a b → Verdict
+abbrev verdict : {ρ : List ℤ} {a b : ℤ} → Sides ρ a b → Verdict
 verdict s = verdict_of (both s.left.all_fit s.right.all_fit) (left_over (norm (s.left.ex ⊖ s.right.ex)))
 
 no_terms : (p : Poly) → by_terms p ≡ holds → p ≡ none

@@ -31,7 +31,7 @@ value ρ (a ⊗ b) = value ρ a *ℤ value ρ b
 value ρ (opp a) = neg_ℤ (value ρ a)
 
 -- ---- words: products of variables, by number, the greatest first
-abbrev pub word : List ℤ → List ℕ → ℤ
+abbrev word : List ℤ → List ℕ → ℤ
 word ρ [] = pos 1
 word ρ (x ∷ xs) = at ρ x *ℤ word ρ xs
 
@@ -54,7 +54,7 @@ pub data Poly : Type 0 where
   none : Poly
   term : ℤ → List ℕ → Poly → Poly
 
-abbrev pub poly : List ℤ → Poly → ℤ
+abbrev poly : List ℤ → Poly → ℤ
 poly ρ none = pos 0
 poly ρ (term c m p) = c *ℤ word ρ m +ℤ poly ρ p
 
@@ -175,7 +175,7 @@ negate-poly ρ (term c m p) =
     ∙ ap (λ z. neg_ℤ (c *ℤ word ρ m) +ℤ z) (negate-poly ρ p)
     ∙ sym (neg_add (c *ℤ word ρ m) (poly ρ p))
 
-pub norm-value : (ρ : List ℤ) (e : Ex) → poly ρ (norm e) ≡ value ρ e
+norm-value : (ρ : List ℤ) (e : Ex) → poly ρ (norm e) ≡ value ρ e
 norm-value ρ (var n) = +ℤ_idr (pos 1 *ℤ (at ρ n *ℤ pos 1)) ∙ one_mul (at ρ n *ℤ pos 1) ∙ mul_one (at ρ n)
 norm-value ρ (con c) = +ℤ_idr (c *ℤ pos 1) ∙ mul_one c
 norm-value ρ (a ⊕ b) = add-poly ρ (norm a) (norm b) ∙ ap (λ z. z +ℤ poly ρ (norm b)) (norm-value ρ a) ∙ ap (λ z. value ρ a +ℤ z) (norm-value ρ b)

@@ -102,7 +102,7 @@ right_of_positive a b h k = by (sign_cases b)
     by (inr (inr p)) = p
 
 -- the left factor is not 0
-pub left_not_zero : (a b : ℤ) → pos 0 <ℤ (a *ℤ b) → a ≡ pos 0 → ⊥
+left_not_zero : (a b : ℤ) → pos 0 <ℤ (a *ℤ b) → a ≡ pos 0 → ⊥
 left_not_zero a b k e = clash_zero (a *ℤ b) k (zero_left a b e)
 
 pub left_positive : (a b : ℤ) → pos 0 ≤ℤ a → pos 0 <ℤ (a *ℤ b) → pos 0 <ℤ a

@@ -24,7 +24,7 @@ sum_of a b m n h k = omega (arith, ints)
 pub neg_of : (a : ℤ) (m : ℕ) → unsigned_abs a ≤ m → unsigned_abs (neg_ℤ a) ≤ m
 neg_of a m h = omega (arith, ints)
 
-pub mul_of : (a b : ℤ) (m n : ℕ) → unsigned_abs a ≤ m → unsigned_abs b ≤ n → unsigned_abs (a *ℤ b) ≤ m * n
+mul_of : (a b : ℤ) (m n : ℕ) → unsigned_abs a ≤ m → unsigned_abs b ≤ n → unsigned_abs (a *ℤ b) ≤ m * n
 mul_of a b m n h k = omega (arith, unsigned_abs-mul a b, mul-le-mul h k)
 
 abbrev pub size_add : {a b : ℤ} → Size a → Size b → Size (a +ℤ b)
@@ -70,7 +70,7 @@ abbrev pub size_back : (w : Width) (z : ℤ) → Size z → Size (to_z w (of_z w
 size_back w z s = record { bound = s.bound; ok = within (unsigned_abs (to_z w (of_z w z))) (unsigned_abs z) s.bound (back_of w z) s.ok }
 
 -- a cast of an unsigned number
-pub cast_of : (w : Width) (n : ℕ) → unsigned_abs (to_z w n) ≤ n
+cast_of : (w : Width) (n : ℕ) → unsigned_abs (to_z w n) ≤ n
 cast_of w n = back_pos (2 ^ hbits w) (2 ^ bits w) n (halves w).0 (halves w).1 (ltb n (2 ^ hbits w)) refl
 
 pub cast_in : (w : Width) (n m : ℕ) → n ≤ m → IsAtMost m (to_z w n)

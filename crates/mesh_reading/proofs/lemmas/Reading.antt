@@ -52,7 +52,7 @@ read_as r is_made is_own source input is end sound none ok err = record {
     known f (inr h) = inr (inr (input, is, h))
 
 -- at the end of the source, what the reader was fed with is the input
-pub read_whole : {T : Type 0} (r : Result T ReadFault) (is_made : List ℕ → T → Type 0) (is_own : List ℕ → ReadFault → Type 0) (source : Transcript)
+read_whole : {T : Type 0} (r : Result T ReadFault) (is_made : List ℕ → T → Type 0) (is_own : List ℕ → ReadFault → Type 0) (source : Transcript)
     (unit : LengthUnit) (taken : List Facet) (reader : TextReader) → IsFedBySource unit taken reader source.old source.new → IsAtEnd source.new
     → source.failed ≡ source.failed_before → ((input : List ℕ) → is_own input fault.Read → ⊥)
     → ((input : List ℕ) → IsAfter FACET_LIMIT unit taken reader input

@@ -7,7 +7,7 @@ use Rattle.mesh_reading.specs.declared.read_fault.ReadFault.{ReadFault}
 use Rattle.mesh_reading.specs.declared.read_fault.ReadFault.TheVariants as fault
 
 -- what is answered where both were done: the fault of filling, if there is one, else that of welding
-abbrev pub IsFirstFault : Result Bool ReadFault → Result (Unit {0}) ReadFault → Result Bool ReadFault → Type 0
+abbrev IsFirstFault : Result Bool ReadFault → Result (Unit {0}) ReadFault → Result Bool ReadFault → Type 0
 IsFirstFault filled welded r = IfOk r (λ is_more. (filled ≡ Ok is_more) × (welded ≡ Ok tt))
     × IfErr r (λ f. (filled ≡ Err f) ⊎ (IsOk filled × (welded ≡ Err f)))
 

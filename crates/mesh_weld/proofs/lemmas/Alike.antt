@@ -5,7 +5,7 @@ use Rattle.std.proofs.lemmas.Bool.{and_parts}
 use Rattle.std.proofs.lemmas.Bool.Decides.{Decides-int_eq}
 use Rattle.geometry.specs.Point.{Point}
 
-abbrev pub alike : Point → Point → Bool
+abbrev alike : Point → Point → Bool
 alike p q = int_eq p.x q.x && (int_eq p.y q.y && int_eq p.z q.z)
 
 all_three : (a b c : Bool) → a ≡ true → b ≡ true → c ≡ true → (a && (b && c)) ≡ true

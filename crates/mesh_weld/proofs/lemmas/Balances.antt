@@ -13,7 +13,7 @@ use Rattle.mesh_weld.proofs.lemmas.Edges.{count_by-cons}
 use Rattle.mesh_weld.proofs.lemmas.HalfEdges.{half_edges_from-length}
 
 -- in slot 3 * f + c stands half-edge c of facet f
-pub ends_from : (n : ℕ) (ts : List (List ℕ)) (f c : ℕ) (d : HalfEdge) (t : List ℕ) → f < length ts → c < 3
+ends_from : (n : ℕ) (ts : List (List ℕ)) (f c : ℕ) (d : HalfEdge) (t : List ℕ) → f < length ts → c < 3
     → ((get_or (half_edges_from n ts) (3 * f + c) d).from ≡ get_or (get_or ts f t) c 0) × ((get_or (half_edges_from n ts) (3 * f + c) d).to ≡ get_or (get_or ts f t) ((c + 1) % 3) 0)
 ends_from n [] f c d t l m = absurd (omega (arith, l))
 ends_from n (t ∷ ts) zero zero d u l m = (refl, refl)

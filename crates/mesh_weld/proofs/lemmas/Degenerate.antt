@@ -21,7 +21,7 @@ either_of_three false true c h = inr (inl refl)
 either_of_three false false true h = inr (inr refl)
 either_of_three false false false h = cc
 
-abbrev pub HasEqualCorners : Facet → Type 0
+abbrev HasEqualCorners : Facet → Type 0
 HasEqualCorners t = (t.a ≡ t.b) ⊎ (t.b ≡ t.c) ⊎ (t.c ≡ t.a)
 
 pub dropped-is : (t : Facet) → is_kept t ≡ false → HasEqualCorners t
@@ -60,7 +60,7 @@ cancels-second s l k h e = omega (arith, ints)
 cancels-third : (s l k : ℤ) → s ≡ pos 0 → k ≡ neg_ℤ l → l +ℤ k +ℤ s ≡ pos 0
 cancels-third s l k h e = omega (arith, ints)
 
-pub degenerate_amount : (q : Point → Point → ℤ) → ((u v : Point) → q v u ≡ neg_ℤ (q u v)) → (t : Facet)
+degenerate_amount : (q : Point → Point → ℤ) → ((u v : Point) → q v u ≡ neg_ℤ (q u v)) → (t : Facet)
     → HasEqualCorners t → q t.a t.b +ℤ q t.b t.c +ℤ q t.c t.a ≡ pos 0
 degenerate_amount q opposite t (inl e) =
     cancels-first _ _ _ (ap (q t.a) (sym e) ∙ own_opposite (q t.a t.a) (opposite t.a t.a))
@@ -73,12 +73,12 @@ degenerate_amount q opposite t (inr (inr e)) =
     (ap (q t.b) e ∙ opposite t.a t.b)
 
 -- ---- no ray crosses them
-pub degenerate_wind : (t : Facet) → HasEqualCorners t → (y z : ℤ) → wind (twice t) y z ≡ pos 0
+degenerate_wind : (t : Facet) → HasEqualCorners t → (y z : ℤ) → wind (twice t) y z ≡ pos 0
 unfolding wind
 degenerate_wind t h y z =
     degenerate_amount (λ u v. turn (half_micrometres_of u) (half_micrometres_of v) y z) (λ u v. turn-opposite (half_micrometres_of u) (half_micrometres_of v) y z) t h
 
-pub degenerate_wind_y : (t : Facet) → HasEqualCorners t → (x z : ℤ) → wind_y (twice t) x z ≡ pos 0
+degenerate_wind_y : (t : Facet) → HasEqualCorners t → (x z : ℤ) → wind_y (twice t) x z ≡ pos 0
 unfolding wind_y
 degenerate_wind_y t h x z =
     ap neg_ℤ (degenerate_amount (λ u v. turn_x (half_micrometres_of u) (half_micrometres_of v) x z) (λ u v. turn_x-opposite (half_micrometres_of u) (half_micrometres_of v) x z) t h)
@@ -123,7 +123,7 @@ own_count-back : (t : Facet) (u v : Point) → own_count t v u ≡ one_if u v t.
 own_count-back t u v =
     own_count-is t v u ∙ (λ i. one_if-back u v t.a t.b i + one_if-back u v t.b t.c i + one_if-back u v t.c t.a i)
 
-pub degenerate_balance : (t : Facet) → HasEqualCorners t → (u v : Point) → own_count t u v ≡ own_count t v u
+degenerate_balance : (t : Facet) → HasEqualCorners t → (u v : Point) → own_count t u v ≡ own_count t v u
 degenerate_balance t h u v = own_count-is t u v ∙ by_corners h ∙ sym (own_count-back t u v)
   where
     n : Point → Point → ℕ
@@ -201,7 +201,7 @@ balanced_by_kept facets h u v =
     let d : Dropped facets u v = dropped facets u v in same_with _ _ _ _ d.many d.there d.back (h u v)
 
 -- a sum over the mesh of what no dropped facet adds to
-pub kept_total : (f : Facet → ℤ) → ((t : Facet) → HasEqualCorners t → f t ≡ pos 0) → (facets : List Facet)
+kept_total : (f : Facet → ℤ) → ((t : Facet) → HasEqualCorners t → f t ≡ pos 0) → (facets : List Facet)
     → total f (kept_facets facets) ≡ total f facets
 kept_total f none [] = refl
 kept_total f none (t ∷ ts) = by_test (kept_total f none ts) (is_kept t) refl

@@ -25,7 +25,7 @@ same-is p q h =
     }
 
 -- where all elements of a list pass q, none passes p, or some element passes both
-pub none-or_some : {X : Type 0} (p q : X → Bool) (xs : List X) → list_all q xs ≡ true
+none-or_some : {X : Type 0} (p q : X → Bool) (xs : List X) → list_all q xs ≡ true
     → (count_by p xs ≡ 0) ⊎ ((x : X) × (p x ≡ true) × (q x ≡ true))
 none-or_some p q [] h = inl refl
 none-or_some {X} p q (x ∷ xs) h = at_head (none-or_some p q xs parts.1) (p x) refl

@@ -53,7 +53,7 @@ corners_there fs k d l =
 pub facets_again : (fs : List Facet) → facets_by (vertices fs) (triples fs) ≡ fs
 facets_again fs = facets_back (vertices fs) fs (corners_there fs)
 
-pub triples_below : (fs : List Facet) → AreBelow (vertices fs) (triples fs)
+triples_below : (fs : List Facet) → AreBelow (vertices fs) (triples fs)
 triples_below fs = numbers_below (vertices fs) fs (corners_there fs)
 
 -- what is numbered leads to its points

@@ -196,7 +196,7 @@ pub closed_not_open : (facets : List Facet) (from to : Point) (there back : ℕ)
 closed_not_open facets from to there back balanced h = h.differ (h.there_is ∙ balanced from to ∙ sym h.back_is)
 
 -- the ends of the least open edge are the same two points
-pub one_from : (facets : List Facet) (a b c d : Point) (k l m n : ℕ) → IsLeastOpen facets a b k l → IsLeastOpen facets c d m n → a ≡ c
+one_from : (facets : List Facet) (a b c d : Point) (k l m n : ℕ) → IsLeastOpen facets a b k l → IsLeastOpen facets c d m n → a ≡ c
 one_from facets a b c d k l m n h j = by_cases (ranked a c)
   where
     first : is_edge_before (edge a b) (edge c d) ≡ false

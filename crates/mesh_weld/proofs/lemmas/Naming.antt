@@ -15,7 +15,7 @@ use Rattle.mesh_weld.proofs.lemmas.InOrder.{in_order-alike}
 use Rattle.mesh_weld.proofs.lemmas.Ranks.{number_distinct, three_items}
 
 -- ---- one more point
-pub named_within : (cs old new : List Point) (p : Point) (id : ℕ) → IsNamed old p new id → Contains cs p
+named_within : (cs old new : List Point) (p : Point) (id : ℕ) → IsNamed old p new id → Contains cs p
     → (more : List Point) × (new ≡ old ++ more) × (length more ≤ 1) × All (Contains cs) more
 named_within cs old new p id h own = by_cases h.0
   where

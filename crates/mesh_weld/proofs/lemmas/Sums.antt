@@ -90,7 +90,7 @@ take_out x (y ∷ ys) = by_test (take_out x ys) (runs x.from x.to y) refl
     by_test found true passes = inr (taken_first x y ys (runs-is x.from x.to y passes))
     by_test found false fails = later found fails
 
-abbrev pub HaveSameEdges : List Edge → List Edge → Type 0
+abbrev HaveSameEdges : List Edge → List Edge → Type 0
 HaveSameEdges xs ys = (u v : Point) → count_by (runs u v) xs ≡ count_by (runs u v) ys
 
 own_one : (x : Edge) (xs : List Edge) → count_by (runs x.from x.to) (x ∷ xs) ≡ 1 + count_by (runs x.from x.to) xs
@@ -99,7 +99,7 @@ own_one x xs = count_by-cons (runs x.from x.to) x xs ∙ ap (λ b. cond b 1 0 + 
 not_none : (n m : ℕ) → m ≡ 1 + n → m ≡ 0 → ⊥
 not_none n m e h = omega arith
 
-pub same_edges-sum : (xs ys : List Edge) → HaveSameEdges xs ys → (f : Edge → ℤ) → total f xs ≡ total f ys
+same_edges-sum : (xs ys : List Edge) → HaveSameEdges xs ys → (f : Edge → ℤ) → total f xs ≡ total f ys
 same_edges-sum [] [] h f = refl
 same_edges-sum [] (y ∷ ys) h f = absurd (not_none _ _ (own_one y ys) (sym (h y.from y.to)))
 same_edges-sum (x ∷ xs) ys h f = by_place (λ zs g. same_edges-sum xs zs g f) (take_out x ys)

@@ -137,7 +137,7 @@ three_more p a b c xs =
     sum_by-cons (λ y. cond (p y) 1 0) a (b ∷ c ∷ xs)
     ∙ ap (λ n. cond (p a) 1 0 + n) (sum_by-cons (λ y. cond (p y) 1 0) b (c ∷ xs) ∙ ap (λ n. cond (p b) 1 0 + n) (sum_by-cons (λ y. cond (p y) 1 0) c xs))
 
-pub between_numbers : (f : Point → ℕ) (i j n : ℕ) (fs : List Facet)
+between_numbers : (f : Point → ℕ) (i j n : ℕ) (fs : List Facet)
     → count_between i j (half_edges_from n (map (numbered f) fs)) ≡ count_by (λ (e : Edge). f e.from == i && f e.to == j) (edges fs)
 between_numbers f i j n [] = refl
 between_numbers f i j n (t ∷ ts) =

@@ -25,7 +25,7 @@ pub few_half_edges : (fs : List Facet) → length (half_edges_from 0 (triples fs
 few_half_edges fs = half_edges_from-length 0 (triples fs) ∙ ap (λ n. 3 * n) (length-map fs (λ t. map (number_of (vertices fs)) (corners t)))
 
 -- the half-edges of kept facets and those of dropped ones are all half-edges
-pub split_count : (fs : List Facet) (u v : Point) → half_edge_count fs u v ≡ half_edge_count (kept_facets fs) u v + half_edge_count (degenerate_facets fs) u v
+split_count : (fs : List Facet) (u v : Point) → half_edge_count fs u v ≡ half_edge_count (kept_facets fs) u v + half_edge_count (degenerate_facets fs) u v
 split_count [] u v = refl
 split_count (t ∷ ts) u v = by_test (is_kept t) refl (split_count ts u v)
   where
@@ -52,7 +52,7 @@ pub degenerate_count : (fs : List Facet) → length (degenerate_facets fs) ≡ c
 degenerate_count fs = length-filter (λ t. not (is_kept t)) fs
 
 -- the least open edge of kept facets is that of all, with the edges of dropped facets counted
-pub open_of_all : (fs : List Facet) (from to : Point) (there back : ℕ)
+open_of_all : (fs : List Facet) (from to : Point) (there back : ℕ)
     → IsLeastOpen (kept_facets fs) from to (half_edge_count (kept_facets fs) from to) (half_edge_count (kept_facets fs) to from)
     → there ≡ half_edge_count (kept_facets fs) from to + half_edge_count (degenerate_facets fs) from to
     → back ≡ half_edge_count (kept_facets fs) to from + half_edge_count (degenerate_facets fs) to from
@@ -87,7 +87,7 @@ kept_fault kept degenerate a b result p q at_a at_b h is =
     let both : IsLeastOpen kept a b (half_edge_count kept a b) (half_edge_count kept b a) = subst (λ r. IsLeastOpen kept a r (half_edge_count kept a r) (half_edge_count kept r a)) (sym at_b) first in
     subst (IsKeptFault kept degenerate) (sym is) (both, refl, refl)
 
-pub weld_fault : (fs kept degenerate : List Facet) (f : WeldFault) → kept ≡ kept_facets fs → degenerate ≡ degenerate_facets fs → IsKeptFault kept degenerate f → IsWeldFault fs f
+weld_fault : (fs kept degenerate : List Facet) (f : WeldFault) → kept ≡ kept_facets fs → degenerate ≡ degenerate_facets fs → IsKeptFault kept degenerate f → IsWeldFault fs f
 weld_fault fs kept degenerate (fault.Open from to there back) k l h =
     let at_kept : IsKeptFault (kept_facets fs) degenerate (fault.Open from to there back) = subst (λ l. IsKeptFault l degenerate (fault.Open from to there back)) k h in
     let at_both : IsKeptFault (kept_facets fs) (degenerate_facets fs) (fault.Open from to there back) = subst (λ l. IsKeptFault (kept_facets fs) l (fault.Open from to there back)) l at_kept in
@@ -95,7 +95,7 @@ weld_fault fs kept degenerate (fault.Open from to there back) k l h =
 weld_fault fs kept degenerate fault.Memory k l h = tt
 
 -- where the edges balance, the one fault is a failed allocation
-pub only_memory : (fs : List Facet) (f : WeldFault) → IsWeldFault fs f → IsBalanced fs → f ≡ fault.Memory
+only_memory : (fs : List Facet) (f : WeldFault) → IsWeldFault fs f → IsBalanced fs → f ≡ fault.Memory
 only_memory fs (fault.Open from to there back) h balanced = absurd (h.differ (h.there_is ∙ balanced from to ∙ sym h.back_is))
 only_memory fs fault.Memory h balanced = refl
 

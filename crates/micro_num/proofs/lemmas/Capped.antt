@@ -11,7 +11,7 @@ use Rattle.micro_num.proofs.lemmas.Magnitude.{rounded_quotient-small}
 use Rattle.geometry.specs.declared.limits.TheConstants.{COORDINATE_LIMIT}
 use Rattle.micro_num.specs.declared.limits.TheConstants.{COORDINATE_POWER, LEADING_ROOM}
 
-pub IsCapped-same : (a b : ℕ) → a ≡ b → IsCapped a b
+IsCapped-same : (a b : ℕ) → a ≡ b → IsCapped a b
 IsCapped-same a b e = record { within = λ h. sym e; beyond = λ h. omega arith }
 
 pub IsCapped_beyond : (a b : ℕ) → COORDINATE_LIMIT < a → COORDINATE_LIMIT < b → IsCapped a b

@@ -107,7 +107,7 @@ unread unit text none = by_test (is_numeral n) refl
     by_test true is = absurd (none n (and_parts _ _ is) refl (sym (append-nil (numeral_text n) ∙ scanned-text unsigned text)))
     by_test false other = sym (ap (λ b. if b then magnitude_or_fault (magnitude_of unit n) else Err NotNumber) other)
 
-abbrev pub turned : Sign → ℤ → ℤ
+abbrev turned : Sign → ℤ → ℤ
 turned unsigned z = z
 turned plus z = z
 turned minus z = neg_ℤ z

@@ -25,7 +25,7 @@ digits_after-more n (d ∷ ds) =
 pub digits_after-append : (xs ys : List ℕ) → digits_after 0 (xs ++ ys) ≡ digits_after 0 xs * 10 ^ length ys + digits_after 0 ys
 digits_after-append xs ys = fold-append (λ n d. 10 * n + (d - 48)) 0 xs ys ∙ digits_after-more (digits_after 0 xs) ys
 
-pub digits_after-cons : (d : ℕ) (ds : List ℕ) → digits_after 0 (d ∷ ds) ≡ (d - 48) * 10 ^ length ds + digits_after 0 ds
+digits_after-cons : (d : ℕ) (ds : List ℕ) → digits_after 0 (d ∷ ds) ≡ (d - 48) * 10 ^ length ds + digits_after 0 ds
 digits_after-cons d ds = digits_after-more (10 * 0 + (d - 48)) ds ∙ omega arith
 
 -- a row of n digits is less than ten to the power n
@@ -38,7 +38,7 @@ digits_below (d ∷ ds) h =
     omega (arith, digits_after-cons d ds, digits_below ds parts.1, pow-succ' 10 (length ds), mul-le-mul_right (10 ^ length ds) nine)
 
 -- One more digit before those whose carry is known.
-pub IsCarry_more : (c t n e : ℕ) → IsCarry c t n → IsCarry ((INCH_FACTOR * e + c) / 10) (suc t) (e * 10 ^ t + n)
+IsCarry_more : (c t n e : ℕ) → IsCarry c t n → IsCarry ((INCH_FACTOR * e + c) / 10) (suc t) (e * 10 ^ t + n)
 IsCarry_more c t n e h =
     let p : ℕ = 10 ^ t in
     let q : ℕ = (INCH_FACTOR * e + c) / 10 in

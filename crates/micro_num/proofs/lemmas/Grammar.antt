@@ -81,7 +81,7 @@ cut-text rest =
     ∙ ap (λ m. m ++ mark) (take-append-drop (position_or_len is_point mantissa) mantissa)
     ∙ take-append-drop (position_or_len is_exponent_mark rest) rest
 
-pub numeral_text-parts : (word : List ℕ) → numeral_text (parts_of word) ≡ word
+numeral_text-parts : (word : List ℕ) → numeral_text (parts_of word) ≡ word
 numeral_text-parts word =
     let n : Numeral = parts_of word in
     regrouped (sign_text n.sign) n.whole (fraction_text n.fraction) (exponent_text n.exponent)
@@ -154,7 +154,7 @@ exponent-is (Some e) h =
     let clear : IsUnsigned e.digits = digits_unsigned e.digits digits.1 in
     λ i. Some (record { mark = e.mark; sign = sign-is e.sign e.digits clear i; digits = after_sign-is e.sign e.digits clear i })
 
-pub exponent_starts : (exponent : Option Exponent) → is_exponent exponent ≡ true → Starts is_exponent_mark (exponent_text exponent)
+exponent_starts : (exponent : Option Exponent) → is_exponent exponent ≡ true → Starts is_exponent_mark (exponent_text exponent)
 exponent_starts None h = tt
 exponent_starts (Some e) h = (and_parts _ _ h).0
 
@@ -187,7 +187,7 @@ pub numeral_unsigned : (n : Numeral) (rest : List ℕ) → IsNumeral n → IsUns
 numeral_unsigned n rest is = mantissa_unsigned n.whole n.fraction rest (numeral_digits n is).0 (and_parts _ _ is.0).0
 
 -- the parts that the text of a number is cut into are those of the number
-pub parts_of-text : (n : Numeral) → IsNumeral n → parts_of (numeral_text n) ≡ n
+parts_of-text : (n : Numeral) → IsNumeral n → parts_of (numeral_text n) ≡ n
 parts_of-text n (mantissa, exponent) =
     ap parts_of (regrouped (sign_text n.sign) n.whole f e)
     ∙ (λ i. record {

@@ -23,7 +23,7 @@ pub power_above : (k : ℕ) → 0 < 10 ^ k
 power_above k = one-le-pow k 10 (lit≤ tt)
 
 -- half of a power of ten is a whole number
-pub half : (k : ℕ) → 0 < k → 10 ^ k ≡ 2 * (5 * 10 ^ (k - 1))
+half : (k : ℕ) → 0 < k → 10 ^ k ≡ 2 * (5 * 10 ^ (k - 1))
 half k some = ap (λ j. 10 ^ j) (omega arith) ∙ pow-succ' 10 (k - 1) ∙ omega arith
 
 halved : (m e : ℕ) → 0 < e → (m + e) / (2 * e) ≡ (2 * m + 2 * e) / (2 * (2 * e))

@@ -24,7 +24,7 @@ front_digits (x ∷ xs) = by_test (front_digits xs) (is_ascii_digit x) refl
     by_test rest true e = rw e (rw one-add (rw e rest))
     by_test rest false e = rw e refl
 
-pub point_digits : (bytes : List ℕ) → list_all is_ascii_digit (fraction_digits (digits_after_point bytes)) ≡ true
+point_digits : (bytes : List ℕ) → list_all is_ascii_digit (fraction_digits (digits_after_point bytes)) ≡ true
 point_digits [] = refl
 point_digits (byte ∷ bytes) = by_test (byte == 46)
   where

@@ -13,17 +13,17 @@ use Rattle.mesh_weld.specs.Solid.{number_of, facet_at, triples, vertices}
 use Rattle.plane_segments.specs.Segment.{height, is_upward, is_downward, node_of, edge_node, segment_of}
 use Rattle.geometry.specs.TieRule.{rises_through}
 
-pub rises-true : (a b z : ℤ) → a ≤ℤ z → z <ℤ b → rises_through a b z ≡ true
+rises-true : (a b z : ℤ) → a ≤ℤ z → z <ℤ b → rises_through a b z ≡ true
 rises-true a b z h k = grind (arith, ints)
 
-pub rises-low : (a b z : ℤ) → rises_through a b z ≡ true → a ≤ℤ z
+rises-low : (a b z : ℤ) → rises_through a b z ≡ true → a ≤ℤ z
 rises-low a b z h = grind (arith, ints)
 
-pub rises-high : (a b z : ℤ) → rises_through a b z ≡ true → z <ℤ b
+rises-high : (a b z : ℤ) → rises_through a b z ≡ true → z <ℤ b
 rises-high a b z h = grind (arith, ints)
 
 -- edge 0, 1 or 2
-abbrev pub edge_at : Facet → ℕ → Edge
+abbrev edge_at : Facet → ℕ → Edge
 edge_at t e = edge (start t e) (finish t e)
 
 differ : (m n : ℕ) → m < n → m ≡ n → ⊥
@@ -74,7 +74,7 @@ found_down t z c cut =
     (rises_to (finish t c.down) (start t c.down) z (rw (← twice_start t c.down, ← twice_finish t c.down) cut.falls))
     (λ d h p. cut.one_down d h (rw (twice_start t d, twice_finish t d) (to_rises (finish t d) (start t d) z p)))
 
-pub found_up : (t : Facet) (z : ℤ) (c : Cut) → IsCut (twice t) z c → find (is_upward z) (half_edges t) ≡ Some (edge_at t c.up)
+found_up : (t : Facet) (z : ℤ) (c : Cut) → IsCut (twice t) z c → find (is_upward z) (half_edges t) ≡ Some (edge_at t c.up)
 found_up t z c cut =
     only_found (is_upward z) t c.up cut.up_in
     (rises_to (start t c.up) (finish t c.up) z (rw (← twice_start t c.up, ← twice_finish t c.up) cut.rises))
@@ -115,7 +115,7 @@ edge_node-is points t (suc (suc zero)) h = refl
 edge_node-is points t (suc (suc (suc e))) h = absurd (omega arith)
 
 -- the segment of a facet that is cut, and of one that is not
-pub segment-some : (points : List Point) (z : ℤ) (n : ℕ) (t : Facet) (c : Cut) → IsCut (twice t) z c
+segment-some : (points : List Point) (z : ℤ) (n : ℕ) (t : Facet) (c : Cut) → IsCut (twice t) z c
     → segment_of points z (n, t) ≡ Some (record { facet = n; from = node_of points (edge_at t c.down); to = node_of points (edge_at t c.up) })
 segment-some points z n t c cut = rw (found_down t z c cut, found_up t z c cut)
 

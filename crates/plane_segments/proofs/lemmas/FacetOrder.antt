@@ -26,7 +26,7 @@ abbrev pub AreFrom : ℕ → ℕ → List Segment → Type 0
 AreFrom a b [] = Unit {0}
 AreFrom a b (s ∷ list) = (a ≤ s.facet) × (s.facet < b) × AreFrom (s.facet + 1) b list
 
-pub AreFrom-lower : (a c b : ℕ) (list : List Segment) → a ≤ c → AreFrom c b list → AreFrom a b list
+AreFrom-lower : (a c b : ℕ) (list : List Segment) → a ≤ c → AreFrom c b list → AreFrom a b list
 AreFrom-lower a c b [] h k = tt
 AreFrom-lower a c b (s ∷ list) h k = let low : c ≤ s.facet = k.0 in (omega arith, k.1, k.2)
 
@@ -50,7 +50,7 @@ from_below a b [] h k d l = absurd (omega (arith, l))
 from_below a b (s ∷ list) h zero d l = h.1
 from_below a b (s ∷ list) h (suc k) d l = from_below (s.facet + 1) b list h.2 k d (omega (arith, l))
 
-pub AreFrom-few : (a b : ℕ) (list : List Segment) → a ≤ b → AreFrom a b list → a + length list ≤ b
+AreFrom-few : (a b : ℕ) (list : List Segment) → a ≤ b → AreFrom a b list → a + length list ≤ b
 AreFrom-few a b [] l h = omega (arith, l)
 AreFrom-few a b (s ∷ list) l h =
     let low : a ≤ s.facet = h.0 in let high : s.facet < b = h.1 in

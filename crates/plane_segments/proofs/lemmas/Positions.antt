@@ -17,7 +17,7 @@ enumerate_from-append n (x ∷ xs) ys =
     let e : (n + 1) + length xs ≡ n + suc (length xs) = omega arith in
     ap (λ rest. (n, x) ∷ rest) (enumerate_from-append (n + 1) xs ys ∙ ap (λ m. enumerate_from (n + 1) xs ++ enumerate_from m ys) e)
 
-pub enumerate_more : {X : Type 0} (xs : List X) (n : ℕ) (d : X) → n < length xs
+enumerate_more : {X : Type 0} (xs : List X) (n : ℕ) (d : X) → n < length xs
     → enumerate_from 0 (take (n + 1) xs) ≡ enumerate_from 0 (take n xs) ++ (n, get_or xs n d) ∷ []
 enumerate_more xs n d h =
     let e : 0 + length (take n xs) ≡ n = omega (arith, length-take n xs) in
@@ -28,7 +28,7 @@ enumerate_more xs n d h =
 abbrev pub segments_to : List Facet → ℤ → ℕ → List Segment
 segments_to facets z n = filter_map (segment_of (vertices facets) z) (enumerate_from 0 (take n facets))
 
-pub segments_to-more : (facets : List Facet) (z : ℤ) (n : ℕ) → n < length facets
+segments_to-more : (facets : List Facet) (z : ℤ) (n : ℕ) → n < length facets
     → segments_to facets z (n + 1) ≡ segments_to facets z n ++ cons_option (segment_of (vertices facets) z (n, facet_at facets n)) []
 segments_to-more facets z n h =
     ap (filter_map (segment_of (vertices facets) z)) (enumerate_more facets n (facet_with origin origin origin) h)

@@ -15,7 +15,7 @@ pub record IsWithin (columns rows : ℕ) (s : Span) : Type 0 where
   pub some : s.from < s.to
   pub to : s.to ≤ columns
 
-pub within-test : (columns rows : ℕ) (s : Span) → is_span_within columns rows s ≡ true → IsWithin columns rows s
+within-test : (columns rows : ℕ) (s : Span) → is_span_within columns rows s ≡ true → IsWithin columns rows s
 within-test columns rows s h = record { row = grind (arith, nat_tests); some = grind (arith, nat_tests); to = grind (arith, nat_tests) }
 
 pub before-test : (s t : Span) → is_span_before s t ≡ true → (s.row < t.row) ⊎ ((s.row ≡ t.row) × (s.to < t.from))

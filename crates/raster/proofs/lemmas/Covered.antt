@@ -16,29 +16,29 @@ one-elsewhere row from to i j rest h k = grind (arith, nat_tests)
 one-here : (row from to i j : ℕ) → row ≡ j → (row == j && nat_le from i && nat_lt i to) ≡ (nat_le from i && nat_lt i to)
 one-here row from to i j h = grind (arith, nat_tests)
 
-pub covers-elsewhere : (spans : List Span) (i j : ℕ) → ((k : ℕ) → k < length spans → (span_at spans k).row ≢ j) → covers spans i j ≡ false
+covers-elsewhere : (spans : List Span) (i j : ℕ) → ((k : ℕ) → k < length spans → (span_at spans k).row ≢ j) → covers spans i j ≡ false
 covers-elsewhere [] i j h = refl
 covers-elsewhere (s ∷ rest) i j h =
     one-elsewhere s.row s.from s.to i j (covers rest i j) (h 0 (omega arith)) (covers-elsewhere rest i j (λ k low. h (suc k) (omega arith)))
 
-pub covers-here : (spans : List Span) (i j : ℕ) → ((k : ℕ) → k < length spans → (span_at spans k).row ≡ j) → covers spans i j ≡ crosses spans i
+covers-here : (spans : List Span) (i j : ℕ) → ((k : ℕ) → k < length spans → (span_at spans k).row ≡ j) → covers spans i j ≡ crosses spans i
 covers-here [] i j h = refl
 covers-here (s ∷ rest) i j h =
     ap (λ (b : Bool). b || covers rest i j) (one-here s.row s.from s.to i j (h 0 (omega arith)))
     ∙ ap (λ (b : Bool). nat_le s.from i && nat_lt i s.to || b) (covers-here rest i j (λ k low. h (suc k) (omega arith)))
 
-pub all-drop : {X : Type 0} (p : X → Bool) (n : ℕ) (xs : List X) → list_all p xs ≡ true → list_all p (drop n xs) ≡ true
+all-drop : {X : Type 0} (p : X → Bool) (n : ℕ) (xs : List X) → list_all p xs ≡ true → list_all p (drop n xs) ≡ true
 all-drop p zero xs h = h
 all-drop p (suc n) [] h = h
 all-drop p (suc n) (x ∷ xs) h = all-drop p n xs (and_parts (p x) (list_all p xs) h).1
 
-pub all-take : {X : Type 0} (p : X → Bool) (n : ℕ) (xs : List X) → list_all p xs ≡ true → list_all p (take n xs) ≡ true
+all-take : {X : Type 0} (p : X → Bool) (n : ℕ) (xs : List X) → list_all p xs ≡ true → list_all p (take n xs) ≡ true
 all-take p zero xs h = refl
 all-take p (suc n) [] h = h
 all-take p (suc n) (x ∷ xs) h =
     and_from (p x) (list_all p (take n xs)) (and_parts (p x) (list_all p xs) h).0 (all-take p n xs (and_parts (p x) (list_all p xs) h).1)
 
-pub within-columns : (columns rows : ℕ) (spans : List Span) → list_all (is_span_within columns rows) spans ≡ true → are_within columns spans ≡ true
+within-columns : (columns rows : ℕ) (spans : List Span) → list_all (is_span_within columns rows) spans ≡ true → are_within columns spans ≡ true
 within-columns columns rows [] h = refl
 within-columns columns rows (s ∷ rest) h =
     step s.row s.from s.to (are_within columns rest) (and_parts (is_span_within columns rows s) (list_all (is_span_within columns rows) rest) h).0

@@ -16,7 +16,7 @@ use Rattle.raster.specs.Image.{header, image_limit, image_of_pixels, images, ima
 use Rattle.raster.proofs.lemmas.Decimals.{length-five}
 use Rattle.raster.proofs.lemmas.Written.{IsUnderWay, all-counted, length-row, lower_rows, rows-step}
 
-pub length-rows : (width n : ℕ) (pixel : ℕ → ℕ → Bool) → length (lower_rows width pixel n) ≡ n * div_ceil width 8
+length-rows : (width n : ℕ) (pixel : ℕ → ℕ → Bool) → length (lower_rows width pixel n) ≡ n * div_ceil width 8
 length-rows width zero pixel = omega arith
 length-rows width (suc n) pixel =
     let one : length (row_bytes width (λ i. pixel i n)) ≡ div_ceil width 8 = length-row width (λ i. pixel i n) in
@@ -39,7 +39,7 @@ length-image width height pixel =
     length-append (header width height) (lower_rows width pixel height)
     ∙ omega (arith, length-header width height, length-rows width height pixel)
 
-pub small-image : (width height : ℕ) (pixel : ℕ → ℕ → Bool) → width ≤ COLUMN_LIMIT → height ≤ COLUMN_LIMIT
+small-image : (width height : ℕ) (pixel : ℕ → ℕ → Bool) → width ≤ COLUMN_LIMIT → height ≤ COLUMN_LIMIT
     → length (image_of_pixels width height pixel) ≤ image_limit
 small-image width height pixel narrow low =
     let row : div_ceil width 8 ≤ COLUMN_LIMIT / 8 = omega arith in

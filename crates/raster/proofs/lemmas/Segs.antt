@@ -103,7 +103,7 @@ total-from f h points z nothing a (t ∷ ts) r =
     by_segment None e rest = none-more (f t) _ (total f ts) (nothing t e) rest
     by_segment (Some s) e rest = (λ i. f (h (e i)) +ℤ rest i) ∙ ap (λ u. f u +ℤ total f ts) r.0
 
-pub total-segments : (f : Facet → ℤ) (facets : List Facet) (z : ℤ) → ((t : Facet) → (IsBetween (twice t) z → ⊥) → f t ≡ pos 0)
+total-segments : (f : Facet → ℤ) (facets : List Facet) (z : ℤ) → ((t : Facet) → (IsBetween (twice t) z → ⊥) → f t ≡ pos 0)
     → total (λ s. f (facet_at facets s.facet)) (segments facets z) ≡ total f facets
 total-segments f facets z nothing =
     total-from f (facet_at facets) (vertices facets) z nothing 0 facets (reads (facet_at facets) 0 facets (λ k l. let same : 0 + k ≡ k = omega arith in ap (facet_at facets) same))

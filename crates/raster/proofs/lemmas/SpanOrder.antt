@@ -14,7 +14,7 @@ row-le : (s t : Span) → (s.row < t.row) ⊎ ((s.row ≡ t.row) × (s.to < t.fr
 row-le s t (inl h) = omega arith
 row-le s t (inr h) = omega (arith, h.0)
 
-pub rows-ascend : (spans : List Span) (k l : ℕ) → are_apart spans ≡ true → k < l → l < length spans → (span_at spans k).row ≤ (span_at spans l).row
+rows-ascend : (spans : List Span) (k l : ℕ) → are_apart spans ≡ true → k < l → l < length spans → (span_at spans k).row ≤ (span_at spans l).row
 rows-ascend [] k l h low room = absurd (omega arith)
 rows-ascend (s ∷ rest) k zero h low room = absurd (omega arith)
 rows-ascend (s ∷ rest) zero (suc l) h low room =

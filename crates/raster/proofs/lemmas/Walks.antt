@@ -130,7 +130,7 @@ along-within n row up (c ∷ columns) j h =
     one false crossings e f = f
 
 -- each row has the crossings that it had, and those of a walk
-abbrev pub AreAlong : Walk → List (List RowCrossing) → List (List RowCrossing) → Type 0
+abbrev AreAlong : Walk → List (List RowCrossing) → List (List RowCrossing) → Type 0
 AreAlong c old new = (j : ℕ) → crossings_in new j ≡ crossings_in old j ++ crossings_along c.row (int_eq c.sign (pos 1)) c.columns j
 
 pub signs-more : (t : Facet) (z : ℤ) (l : Lattice) (c : Walk) (old new : List (List RowCrossing)) → IsWalkOf t z l c → AreAlong c old new → (j : ℕ) → j < l.rows → row_signs new j ≡ row_signs old j +ℤ wind t (row_y l j) z

@@ -27,7 +27,7 @@ middle-raised start step m k =
 stays : (n : ℤ) → n +ℤ pos 0 ≡ n
 stays n = omega (arith, ints)
 
-pub centre-from : (m : ℕ) (g : Grid) (i j k : ℕ) → centre (layers_from m g) i j k ≡ centre g i j (m + k)
+centre-from : (m : ℕ) (g : Grid) (i j k : ℕ) → centre (layers_from m g) i j k ≡ centre g i j (m + k)
 centre-from m g i j k =
     λ n. record {
       x = middle (stays g.origin.x n) g.pitch i;
@@ -35,7 +35,7 @@ centre-from m g i j k =
       z = middle-raised g.origin.z g.layer_height m k n;
     }
 
-pub layer-from : (m : ℕ) (g : Grid) (rule : Rule) (facets : List Facet) (k : ℕ)
+layer-from : (m : ℕ) (g : Grid) (rule : Rule) (facets : List Facet) (k : ℕ)
     → layer_image (layers_from m g) rule facets k ≡ layer_image g rule facets (m + k)
 layer-from m g rule facets k = λ n. image_of_pixels g.columns g.rows (λ i j. is_filled rule facets (centre-from m g i j k n))
 

@@ -67,7 +67,7 @@ matches any_line normal_word = false
 matches any_line (coordinate z) = false
 matches any_line rest_of_line = true
 
-abbrev pub IsShape : Slot → Token → Type 0
+abbrev IsShape : Slot → Token → Type 0
 IsShape (fixed w text) p = p ≡ keyword w text
 IsShape any_word p = p ≡ normal_word
 IsShape any_coordinate p = (z : ℤ) × (p ≡ coordinate z)
@@ -132,7 +132,7 @@ facet_slot = fixed FacetOrEnd facet_keyword
 abbrev pub end_slot : Slot
 end_slot = fixed FacetOrEnd end_keyword
 
-abbrev pub vertex_slots : List Slot
+abbrev vertex_slots : List Slot
 vertex_slots = fixed Vertex (keyword_text Vertex) ∷ any_coordinate ∷ any_coordinate ∷ any_coordinate ∷ []
 
 abbrev pub facet_slots : List Slot
@@ -148,7 +148,7 @@ pub record State : Type 0 where
 abbrev pub outside : State
 outside = record { slots = []; is_open = false }
 
-abbrev pub inside : State
+abbrev inside : State
 inside = record { slots = []; is_open = true }
 
 abbrev pub next_in : List Slot → Bool → Token → Option State
@@ -213,7 +213,7 @@ only false x t h = cc
 keyword_once : (text text' word : List ℕ) → is_keyword text word ≡ true → is_keyword text' word ≡ true → text ≡ text'
 keyword_once text text' word h k = sym ((bytes_eq-Decides _ text).0 h) ∙ (bytes_eq-Decides _ text').0 k
 
-pub facet-or-end : (word : List ℕ) → is_keyword facet_keyword word ≡ true → is_keyword end_keyword word ≡ true → ⊥
+facet-or-end : (word : List ℕ) → is_keyword facet_keyword word ≡ true → is_keyword end_keyword word ≡ true → ⊥
 facet-or-end word h k =
     let same_length : 5 ≡ 8 = ap {A = List ℕ} length (keyword_once facet_keyword end_keyword word h k) in
     omega (arith, same_length)

@@ -12,7 +12,7 @@ use Rattle.stl_text.proofs.lemmas.Fronts.{above_clear}
 abbrev is_low : ℕ → Bool
 is_low byte = leb byte 32
 
-abbrev pub high_len : List ℕ → ℕ
+abbrev high_len : List ℕ → ℕ
 high_len bytes = prefix_len (λ byte. not (is_low byte)) (take 16 bytes)
 
 high_clear : (k : ℕ) (bytes : List ℕ) → list_all (λ byte. not (is_white byte)) (take (prefix_len (λ byte. not (is_low byte)) (take k bytes)) bytes) ≡ true

@@ -19,7 +19,7 @@ use Rattle.stl_text.proofs.lemmas.Either.{after_word-lt, rest-le}
 use Rattle.stl_text.proofs.lemmas.Steps.{spelled-append, spells_then}
 
 -- whether a token is a word, and no rest of a line
-abbrev pub is_word_token : Token → Bool
+abbrev is_word_token : Token → Bool
 is_word_token (keyword kind text) = true
 is_word_token normal_word = true
 is_word_token (coordinate z) = true
@@ -37,7 +37,7 @@ word-space unit (coordinate z) tokens xs ys is same =
 word-space unit rest_of_line tokens xs ys is same = cc
 
 -- what follows a separator stands for words as if nothing but the keywords were before it
-pub skips_then : (ps : List Token) (t : Token) (tokens : List Token) {old mid new : Reader} → is_word_token t ≡ true → Skips ps old mid → Spells (t ∷ tokens) mid new
+skips_then : (ps : List Token) (t : Token) (tokens : List Token) {old mid new : Reader} → is_word_token t ≡ true → Skips ps old mid → Spells (t ∷ tokens) mid new
     → Spells (ps ++ t ∷ tokens) old new
 skips_then ps t tokens {old} {mid} {new} is first last =
     let on : rest_after old.unit (t ∷ tokens) first.after ≡ Some new.rest =
@@ -72,7 +72,7 @@ closed n bytes rest old new is at after unit =
     }
 
 -- no separator has a number, so the unit does not matter
-pub any_unit : (p : Separator) (u v : LengthUnit) (bytes : List ℕ) → rest_after u (separator_tokens p) bytes ≡ rest_after v (separator_tokens p) bytes
+any_unit : (p : Separator) (u v : LengthUnit) (bytes : List ℕ) → rest_after u (separator_tokens p) bytes ≡ rest_after v (separator_tokens p) bytes
 any_unit separator.Opening u v bytes = refl
 any_unit separator.First u v bytes = refl
 any_unit separator.Next u v bytes = refl

@@ -63,11 +63,11 @@ space-some xs some =
     length-drop (position_or_len is_white (after_space xs)) (after_space xs) in
     omega (arith, left, some)
 
-pub word-on : (xs ys : List ℕ) → 0 < length (after_word xs) → first_word (xs ++ ys) ≡ first_word xs
+word-on : (xs ys : List ℕ) → 0 < length (after_word xs) → first_word (xs ++ ys) ≡ first_word xs
 word-on xs ys some =
     ap (before_first is_white) (space-on xs ys (space-some xs some)) ∙ take-on (λ x. not (is_white x)) (after_space xs) ys some
 
-pub past_word-on : (xs ys : List ℕ) → 0 < length (after_word xs) → after_word (xs ++ ys) ≡ after_word xs ++ ys
+past_word-on : (xs ys : List ℕ) → 0 < length (after_word xs) → after_word (xs ++ ys) ≡ after_word xs ++ ys
 past_word-on xs ys some =
     ap (from_first is_white) (space-on xs ys (space-some xs some)) ∙ drop-on (λ x. not (is_white x)) (after_space xs) ys some
 

@@ -109,7 +109,7 @@ nine-injective (t ∷ facets) (u ∷ others) h =
       c = record { x = cx i; y = cy i; z = cz i };
     } ∷ nine-injective facets others rest i
 
-pub same_tokens : (solids others : List (List Facet)) → flat_map solid_tokens solids ≡ flat_map solid_tokens others
+same_tokens : (solids others : List (List Facet)) → flat_map solid_tokens solids ≡ flat_map solid_tokens others
     → facets_of solids ≡ facets_of others
 same_tokens solids others same =
     nine-injective _ _ (sym (numbers_in-solids solids) ∙ ap numbers_in same ∙ numbers_in-solids others)

@@ -33,7 +33,7 @@ facets-more solids added =
     ap (λ xs. facets_of solids ++ xs) (sym (append-nil added)) ∙ sym (flat_map-append (λ xs. xs) solids (added ∷ []))
 
 -- a fault is `Memory` or another one
-pub memory_or_not : (f : StlFault) → (f ≡ fault.Memory) ⊎ (f ≢ fault.Memory)
+memory_or_not : (f : StlFault) → (f ≡ fault.Memory) ⊎ (f ≢ fault.Memory)
 memory_or_not (fault.Expected kind at) = inr (λ e. cc)
 memory_or_not (fault.Ended kind) = inr (λ e. cc)
 memory_or_not (fault.Number cause at) = inr (λ e. cc)

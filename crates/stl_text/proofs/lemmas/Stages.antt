@@ -31,7 +31,7 @@ abbrev zero_facet : Facet
 zero_facet = facet_with origin origin origin
 
 -- one token after others
-pub one_token : (unit : LengthUnit) (tokens : List Token) (p : Token) (text after rest : List ℕ) → rest_after unit tokens text ≡ Some after
+one_token : (unit : LengthUnit) (tokens : List Token) (p : Token) (text after rest : List ℕ) → rest_after unit tokens text ≡ Some after
     → begins_with unit p after ≡ true → after_token p after ≡ rest → rest_after unit (tokens ++ p ∷ []) text ≡ Some rest
 one_token unit tokens p text after rest spelled begins ends =
     spelled-append unit tokens (p ∷ []) text after rest spelled

@@ -60,7 +60,7 @@ names_keyword EndLoop one = record { no_number = λ h. cc; only = λ word. refl 
 names_keyword EndFacet one = record { no_number = λ h. cc; only = λ word. refl }
 
 -- a coordinate is in range
-pub coordinate-within : (unit : LengthUnit) (word : List ℕ) (z : ℤ) → coordinate_of unit word ≡ Ok z → IsAtMost COORDINATE_LIMIT z
+coordinate-within : (unit : LengthUnit) (word : List ℕ) (z : ℤ) → coordinate_of unit word ≡ Ok z → IsAtMost COORDINATE_LIMIT z
 coordinate-within unit word z e = by_length (nat_lt WORD_LIMIT (length word)) e
   where
     by_range : (x : ℤ) (b : Bool) → is_coordinate x ≡ b → ◌≡◌ {A = Result ℤ NumFault} (if b then Ok x else Err OutOfRange) (Ok z) → IsAtMost COORDINATE_LIMIT z

@@ -75,7 +75,7 @@ pub record Next (limit : ℕ) (unit : LengthUnit) (s : Stage) (facets : List Fac
   pub at_word : (more : List ℕ) → AtWord limit unit s facets (text ++ more) (after more) word at
   pub left : (more : List ℕ) → after_word (after more) ≡ rest ++ more
 
-pub next_word : (limit : ℕ) (unit : LengthUnit) (p : TextReader) (s : Stage) (text ahead word rest : List ℕ) (at : ℕ)
+next_word : (limit : ℕ) (unit : LengthUnit) (p : TextReader) (s : Stage) (text ahead word rest : List ℕ) (at : ℕ)
     → Waits limit unit p s false text ahead → list_all is_clear word ≡ true → 0 < length word → Starts is_white rest → 0 < length rest
     → ((more : List ℕ) → after_space (p.held ++ (ahead ++ more)) ≡ word ++ (rest ++ more)) → at + (length word + length rest) ≡ length text
     → Next limit unit s p.facets text word rest at
@@ -100,7 +100,7 @@ next_word limit unit p s text ahead word rest at w clear some starts left_some s
     length_is more = ap length (seen more) ∙ length-append word (rest ++ more) ∙ ap (λ n. length word + n) (length-append rest more)
 
 -- after the word
-pub moved : (limit : ℕ) (unit : LengthUnit) (q : TextReader) (s : Stage) (pl : ReaderState) (facets : List Facet) (text word rest : List ℕ) (at : ℕ)
+moved : (limit : ℕ) (unit : LengthUnit) (q : TextReader) (s : Stage) (pl : ReaderState) (facets : List Facet) (text word rest : List ℕ) (at : ℕ)
     → Next limit unit s facets text word rest at
     → ((t after : List ℕ) → AtWord limit unit s facets t after word at → StandsAt limit unit pl q.facets t after)
     → q.limit ≡ limit → q.unit ≡ unit → q.count ≡ length text → q.held ≡ [] → IsRestOf text rest
@@ -135,7 +135,7 @@ moved limit unit q s (state.Stopped f) facets text word rest at n read limit_is 
 
 -- The front of some bytes, up to white space.
 
-pub front-clear : (p : ℕ → Bool) (xs : List ℕ) → list_all (λ x. not (p x)) (take (position_or_len p xs) xs) ≡ true
+front-clear : (p : ℕ → Bool) (xs : List ℕ) → list_all (λ x. not (p x)) (take (position_or_len p xs) xs) ≡ true
 front-clear p [] = refl
 front-clear p (x ∷ xs) = at_head (front-clear p xs) (p x) refl
   where
@@ -207,13 +207,13 @@ space_passed limit unit p s text ahead rest w none rest_is empty =
     })
 
 -- what is seen of the bytes ahead after their white space
-pub front_seen : (p : TextReader) (ahead front more : List ℕ) → p.held ≡ [] → front ≡ after_space ahead → 0 < length front
+front_seen : (p : TextReader) (ahead front more : List ℕ) → p.held ≡ [] → front ≡ after_space ahead → 0 < length front
     → after_space (p.held ++ (ahead ++ more)) ≡ front ++ more
 front_seen p ahead front more none front_is some =
     ap (λ h. after_space (h ++ (ahead ++ more))) none ∙ space-on ahead more (subst (λ f. 0 < length f) front_is some) ∙ ap (λ f. f ++ more) (sym front_is)
 
 -- the front of a word is kept
-pub word_held : (limit : ℕ) (unit : LengthUnit) (p q : TextReader) (s : Stage) (text ahead word : List ℕ) → Waits limit unit p s false text ahead
+word_held : (limit : ℕ) (unit : LengthUnit) (p q : TextReader) (s : Stage) (text ahead word : List ℕ) → Waits limit unit p s false text ahead
     → q.limit ≡ p.limit → q.unit ≡ p.unit → q.count ≡ p.count → q.facets ≡ p.facets → q.held ≡ word
     → list_all is_clear word ≡ true → 0 < length word → length word ≤ length text
     → ((more : List ℕ) → after_space (p.held ++ (ahead ++ more)) ≡ word ++ more) → Waits limit unit q s false text []
@@ -305,7 +305,7 @@ run_passed limit unit p q facets fed chunk ahead from to w none run long room li
 
 -- The end of a text.
 
-pub ended_at : (limit : ℕ) (unit : LengthUnit) (p : TextReader) (s : Stage) (pl : ReaderState) (facets : List Facet) (fed word : List ℕ) (at : ℕ)
+ended_at : (limit : ℕ) (unit : LengthUnit) (p : TextReader) (s : Stage) (pl : ReaderState) (facets : List Facet) (fed word : List ℕ) (at : ℕ)
     → Waits limit unit p s false fed [] → p.held ≡ word → 0 < length word → at + length word ≡ length fed
     → ((t after : List ℕ) → AtWord limit unit s p.facets t after word at → StandsAt limit unit pl facets t after)
     → EndsAt limit unit pl facets fed
@@ -334,7 +334,7 @@ ended_at limit unit p s pl facets fed word at w held_is some at_is read = by_sta
     by_state (state.Stopped f) h = h
 
 -- no word is kept
-pub ended_free : (limit : ℕ) (unit : LengthUnit) (p : TextReader) (s : Stage) (fed : List ℕ) → Waits limit unit p s false fed [] → p.held ≡ []
+ended_free : (limit : ℕ) (unit : LengthUnit) (p : TextReader) (s : Stage) (fed : List ℕ) → Waits limit unit p s false fed [] → p.held ≡ []
     → EndsAt limit unit (state.Word s) p.facets fed
 ended_free limit unit p s fed w none = (
   w.after [],
@@ -343,7 +343,7 @@ ended_free limit unit p s fed w none = (
 )
 
 -- the text ends in a line, or after a fault
-pub ended_other : (limit : ℕ) (unit : LengthUnit) (p : TextReader) (s : Stage) (fed : List ℕ) → IsReadingAt limit unit p (state.Line s) fed []
+ended_other : (limit : ℕ) (unit : LengthUnit) (p : TextReader) (s : Stage) (fed : List ℕ) → IsReadingAt limit unit p (state.Line s) fed []
     → EndsAt limit unit (state.Line s) p.facets fed
 ended_other limit unit p s fed is = (
   is.0.after [],
@@ -351,7 +351,7 @@ ended_other limit unit p s fed is = (
   ap after_space (is.0.sees [] ∙ ap (λ h. after_line (h ++ [])) is.1),
 )
 
-pub ended_stopped : (limit : ℕ) (unit : LengthUnit) (p : TextReader) (f : StlFault) (fed : List ℕ) → IsReadingAt limit unit p (state.Stopped f) fed []
+ended_stopped : (limit : ℕ) (unit : LengthUnit) (p : TextReader) (f : StlFault) (fed : List ℕ) → IsReadingAt limit unit p (state.Stopped f) fed []
     → EndsAt limit unit (state.Stopped f) p.facets fed
 ended_stopped limit unit p f fed is = λ no. subst (λ t. IsFaultOf limit unit t f) (append-nil fed) (is no [])
 
@@ -362,7 +362,7 @@ pub record Cut (front word rest : List ℕ) : Type 0 where
   pub whole : front ≡ word ++ rest
   pub starts : Starts is_white rest
 
-pub cut_at : (front word rest : List ℕ) (n : ℕ) → n ≡ position_or_len is_white front → word ≡ take n front → rest ≡ drop n front → Cut front word rest
+cut_at : (front word rest : List ℕ) (n : ℕ) → n ≡ position_or_len is_white front → word ≡ take n front → rest ≡ drop n front → Cut front word rest
 cut_at front word rest n n_is word_is rest_is = record {
   clear = ap (list_all is_clear) (word_is ∙ ap (λ k. take k front) n_is) ∙ front-clear is_white front;
   whole = sym (take-append-drop n front) ∙ ap (λ w. w ++ drop n front) (sym word_is) ∙ ap (λ r. word ++ r) (sym rest_is);

@@ -28,7 +28,7 @@ use Rattle.stlslice.proofs.lemmas.Bytes.{each, of_input}
 use Rattle.stlslice.proofs.lemmas.OneAnswer.{one_outcome}
 
 -- nothing was written, or a part of the outcome was
-abbrev pub IsRunEnd : Task → List ℕ → Transcript → RunFault → Type 0
+abbrev IsRunEnd : Task → List ℕ → Transcript → RunFault → Type 0
 IsRunEnd t input transcript f =
     (IsWorkFault t input f × IsUntouched transcript) ⊎ ((text : List ℕ) × IsOutcome t input (Ok text) × IsUnwritten transcript text f)
 
@@ -40,7 +40,7 @@ pub no_memory : (t : Task) (input : List ℕ) (f : RunFault) → f ≡ fault.Mem
 no_memory t input f is = rw is (tt, (λ e. cc), (λ w e. cc))
 
 -- where a fault is passed on before the first byte is written, the run ends with it
-pub stopped : {T : Type 0} (r : Result T RunFault) (t : Task) (input : List ℕ) (transcript : Transcript) (f : RunFault) → IsUntouched transcript
+stopped : {T : Type 0} (r : Result T RunFault) (t : Task) (input : List ℕ) (transcript : Transcript) (f : RunFault) → IsUntouched transcript
     → IsWorkFault t input f → IsErrAnd r (λ x. x ≡ f) → IfErr r (IsRunEnd t input transcript)
 stopped (Ok x) t input transcript f kept known is = tt
 stopped (Err x) t input transcript f kept known is = inl (rw is known, kept)
@@ -68,7 +68,7 @@ written_first transcript text written h =
     let same : h.0 ≡ written = cc in
     subst (λ (w : ℕ). (w ≤ length text) × AppendsFirst transcript.old transcript.new w text) same (h.2, h.3)
 
-pub first_end : (t : Task) (input : List ℕ) (transcript : Transcript) (written : ℕ) → IsRunEnd t input transcript (fault.Write written)
+first_end : (t : Task) (input : List ℕ) (transcript : Transcript) (written : ℕ) → IsRunEnd t input transcript (fault.Write written)
     → (text : List ℕ) × IsOutcome t input (Ok text) × (written ≤ length text) × AppendsFirst transcript.old transcript.new written text
 first_end t input transcript written (inl h) = absurd (h.0.2 written refl)
 first_end t input transcript written (inr h) =
@@ -77,7 +77,7 @@ first_end t input transcript written (inr h) =
 
 -- Where the outcome is a fault.
 
-abbrev pub IsRefusal : {T : Type 0} → Result T RunFault → RunFault → Type 0
+abbrev IsRefusal : {T : Type 0} → Result T RunFault → RunFault → Type 0
 IsRefusal r own = MatchResult r (λ _. ⊥) (λ f. (f ≡ own) ⊎ (f ≡ fault.Read) ⊎ (f ≡ fault.Memory))
 
 no_text : (t : Task) (input text : List ℕ) (own : RunFault) → IsOutcome t input (Err own) → IsOutcome t input (Ok text) → ⊥
@@ -103,14 +103,14 @@ refused_end t input transcript f own is (inl h) = own_fault t input f own is h.0
 refused_end t input transcript f own is (inr h) = absurd (no_text t input h.0 own is h.1)
 
 -- a run that has read its input ends with this fault, or for want of memory
-pub refused : {T : Type 0} (r : Result T RunFault) (t : Task) (input : List ℕ) (old new : Option (List ℕ)) (transcript : Transcript)
+refused : {T : Type 0} (r : Result T RunFault) (t : Task) (input : List ℕ) (old new : Option (List ℕ)) (transcript : Transcript)
     → OnOk r ((text : List ℕ) × IsOutcome t input (Ok text) × Appends old new text) → IfErr r (IsRunEnd t input transcript)
     → (own : RunFault) → IsOutcome t input (Err own) → IsRefusal r own
 refused (Ok x) t input old new transcript ok err own is = no_text t input ok.0 own is ok.1
 refused (Err f) t input old new transcript ok err own is = refused_end t input transcript f own is err
 
 -- the count of a sink's failed calls stays, unless the run ends with the sink's fault
-pub sound_end : {T : Type 0} (r : Result T RunFault) (t : Task) (input : List ℕ) (transcript : Transcript)
+sound_end : {T : Type 0} (r : Result T RunFault) (t : Task) (input : List ℕ) (transcript : Transcript)
     → OnOk r (transcript.failed ≡ transcript.failed_before) → IfErr r (IsRunEnd t input transcript)
     → ((written : ℕ) → r ≢ Err (fault.Write written)) → transcript.failed ≡ transcript.failed_before
 sound_end (Ok x) t input transcript same err differ = same

@@ -38,7 +38,7 @@ range-parts f a (suc m) n =
     ∙ ap (λ (l : List ℕ). l ++ flat_map f (range_with_len (a + suc m) n)) (sym (flat_map-cons f a (range_with_len (a + 1) m)))
 
 -- images up to a layer, and those from it on
-pub images-parts : (job : Job) (a b c : ℕ) → a ≤ b → b ≤ c → images_between job a c ≡ images_between job a b ++ images_between job b c
+images-parts : (job : Job) (a b c : ℕ) → a ≤ b → b ≤ c → images_between job a c ≡ images_between job a b ++ images_between job b c
 images-parts job a b c low high =
     let f : ℕ → List ℕ = layer_image job.grid job.rule job.solid.facets in
     let size : c - a ≡ (b - a) + (c - b) = omega (arith, low, high) in
@@ -48,7 +48,7 @@ images-parts job a b c low high =
     ∙ ap (λ (n : ℕ). flat_map f (range_with_len a (b - a)) ++ flat_map f (range_with_len n (c - b))) next
 
 -- the first of some images
-pub images-first : (job : Job) (a b : ℕ) → a < b
+images-first : (job : Job) (a b : ℕ) → a < b
     → images_between job a b ≡ layer_image job.grid job.rule job.solid.facets a ++ images_between job (a + 1) b
 images-first job a b h =
     let f : ℕ → List ℕ = layer_image job.grid job.rule job.solid.facets in
@@ -56,7 +56,7 @@ images-first job a b h =
     ap (λ (n : ℕ). flat_map f (range_with_len a n)) more
     ∙ flat_map-cons f a (range_with_len (a + 1) (b - (a + 1)))
 
-pub no-images : (job : Job) (a b : ℕ) → b ≤ a → images_between job a b ≡ []
+no-images : (job : Job) (a b : ℕ) → b ≤ a → images_between job a b ≡ []
 no-images job a b h =
     let none : b - a ≡ 0 = omega (arith, h) in
     ap (λ (n : ℕ). flat_map (layer_image job.grid job.rule job.solid.facets) (range_with_len a n)) none
@@ -74,7 +74,7 @@ length-parts f size a (suc n) each =
     ∙ length-append (f a) (flat_map f (range_with_len (a + 1) n)) in
     omega (arith, both, each a, length-parts f size (a + 1) n each)
 
-pub length-between : (job : Job) (a b : ℕ) → length (images_between job a b) ≡ (b - a) * image_size job.grid
+length-between : (job : Job) (a b : ℕ) → length (images_between job a b) ≡ (b - a) * image_size job.grid
 length-between job a b =
     length-parts (layer_image job.grid job.rule job.solid.facets) (image_size job.grid) a (b - a)
     (λ k. length-is job.grid (λ i j. is_filled job.rule job.solid.facets (centre job.grid i j k)))

@@ -54,7 +54,7 @@ areas_of job xs complete =
     areas_from job 0 xs complete.lawful ∙ ap (λ (n : ℕ). sum_by (area_of job.grid job.rule job.solid.facets) (below n)) complete.whole
 
 -- the part of a number, which follows the parts of all before it
-pub one_more : (f : ℕ → List ℕ) (n : ℕ) → flat_map f (below (n + 1)) ≡ flat_map f (below n) ++ f n
+one_more : (f : ℕ → List ℕ) (n : ℕ) → flat_map f (below (n + 1)) ≡ flat_map f (below n) ++ f n
 one_more f n = part_more f 0 n n (omega arith)
 
 pub line_more : (f : ℕ → List ℕ) (n : ℕ) (old new line : List ℕ) → old ≡ flat_map f (below n) → new ≡ old ++ line → line ≡ f n
@@ -73,7 +73,7 @@ abbrev pub images_from : Job → ℕ → List ℕ
 images_from job k = flat_map (layer_image job.grid job.rule job.solid.facets) (range_with_len k (job.grid.layers - k))
 
 -- the first of them
-pub image_next : (job : Job) (k : ℕ) → k < job.grid.layers
+image_next : (job : Job) (k : ℕ) → k < job.grid.layers
     → images_from job k ≡ layer_image job.grid job.rule job.solid.facets k ++ images_from job (k + 1)
 image_next job k h =
     let image : ℕ → List ℕ = layer_image job.grid job.rule job.solid.facets in

@@ -42,7 +42,7 @@ pub length-all : (hands : List Hand) → length (all_found hands) ≡ sum_by (λ
 length-all hands = length-flat (λ (h : Hand). h.found) hands
 
 -- what stands at a place of the list is counted
-pub times-at : (xs : List ℕ) (k d : ℕ) → k < length xs → 0 < times (get_or xs k d) xs
+times-at : (xs : List ℕ) (k d : ℕ) → k < length xs → 0 < times (get_or xs k d) xs
 times-at [] k d h = absurd (omega arith)
 times-at (x ∷ xs) zero d h =
     let c = sum_by-cons (λ y. one_if (y == x)) x xs in
@@ -104,7 +104,7 @@ beyond_below n w (x ∷ xs) h some_beyond = go (cases_Bool (nat_le n x)) (beyond
         later (omega arith)
 
 -- the numbers given out are those that were found and are below n
-pub times-given : (n x : ℕ) (xs : List ℕ) → x < n → times x (given n xs) ≡ times x xs
+times-given : (n x : ℕ) (xs : List ℕ) → x < n → times x (given n xs) ≡ times x xs
 times-given n x [] lt = refl
 times-given n x (y ∷ ys) lt = go (nat_lt y n) refl (times-given n x ys lt)
   where
@@ -114,7 +114,7 @@ times-given n x (y ∷ ys) lt = go (nat_lt y n) refl (times-given n x ys lt)
         let far : one_if (y == x) ≡ 0 = grind (arith, nat_tests) in
         omega (arith, sum_by-cons (λ z. one_if (z == x)) y ys, rest, far)
 
-pub times-not_given : (n x : ℕ) (xs : List ℕ) → n ≤ x → times x (given n xs) ≡ 0
+times-not_given : (n x : ℕ) (xs : List ℕ) → n ≤ x → times x (given n xs) ≡ 0
 times-not_given n x [] le = refl
 times-not_given n x (y ∷ ys) le = go (nat_lt y n) refl (times-not_given n x ys le)
   where

@@ -118,7 +118,7 @@ fair_split plan m after id left moved h fair d =
     })
 
 -- the other hand still stands there after the first one took it in
-pub other_still : (hands : List Hand) (id other : ℕ) (both w : Hand) → other ≢ id → get_elem? hands other ≡ some w → get_elem? (set hands id both) other ≡ some w
+other_still : (hands : List Hand) (id other : ℕ) (both w : Hand) → other ≢ id → get_elem? hands other ≡ some w → get_elem? (set hands id both) other ≡ some w
 other_still [] id other both w apart at = at
 other_still (x ∷ xs) zero zero both w apart at = absurd (apart refl)
 other_still (x ∷ xs) zero (suc j) both w apart at = at
