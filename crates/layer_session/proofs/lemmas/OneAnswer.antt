@@ -108,7 +108,7 @@ one_answer setup bytes answer other is js =
 in_range : (setup : Setup) → HasSteps setup ⊎ (HasSteps setup → ⊥)
 in_range setup = by setup.pitch setup.layer STEP_LIMIT
   where
-    by : (p l n : ℕ) → (((1 ≤ p) × (p ≤ n)) × (1 ≤ l) × (l ≤ n)) ⊎ (((1 ≤ p) × (p ≤ n)) × (1 ≤ l) × (l ≤ n) → ⊥)
+    by : (p l n : ℕ) → (((1 ≤ p) × (p ≤ n)) × ((1 ≤ l) × (l ≤ n))) ⊎ (((1 ≤ p) × (p ≤ n)) × ((1 ≤ l) × (l ≤ n)) → ⊥)
     by p l n = grind arith
 
 pub an_answer : (setup : Setup) (bytes : List ℕ) → (answer : Answer) × IsAnswer setup bytes answer
