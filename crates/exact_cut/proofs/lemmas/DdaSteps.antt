@@ -6,6 +6,7 @@ use lib.IntN.{+ℤ_idr, -ℤ-+ℤ_cancel, *ℤ_comm}
 use Rattle.exact_int.specs.Bounds.{IsAtMost}
 use Rattle.exact_int.proofs.lemmas.Identity.{reads, identity}
 use Rattle.exact_int.proofs.lemmas.Signs.{at_most_or_above, next_at_most, add_not_negative, mul_le_left, difference_from_le}
+use Rattle.exact_int.proofs.lemmas.Tests.{plain_less}
 use Rattle.exact_cut.specs.Bounds.{step_limit, whole_limit}
 use Rattle.exact_cut.specs.Column.{clamp}
 use Rattle.exact_cut.specs.Dda.{IsDda, IsOnRows, next, columns_along, position_of, increment_of}
@@ -63,14 +64,11 @@ kept_in false n e h = subst (IsAtMost _) (sym e) (record { at_most = omega arith
 by_cases : (s : Dda) (P : Dda → Type 0) → ((s.remainder +ℤ s.increment_remainder) <ℤ s.unit → P (near s)) → (s.unit ≤ℤ (s.remainder +ℤ s.increment_remainder) → P (far s)) → P (next s)
 by_cases s P h k = by (int_lt (s.remainder +ℤ s.increment_remainder) s.unit) refl
   where
-    less : (a b : ℤ) → int_lt a b ≡ true → a <ℤ b
-    less a b e = omega (arith, ints)
-
     not_less : (a b : ℤ) → int_lt a b ≡ false → b ≤ℤ a
     not_less a b e = omega (arith, ints)
 
     by : (b : Bool) → int_lt (s.remainder +ℤ s.increment_remainder) s.unit ≡ b → P (if b then near s else far s)
-    by true e = h (less (s.remainder +ℤ s.increment_remainder) s.unit e)
+    by true e = h ((plain_less (s.remainder +ℤ s.increment_remainder) s.unit).0 e)
     by false e = k (not_less (s.remainder +ℤ s.increment_remainder) s.unit e)
 
 IsDda-next : (s : Dda) → IsDda s → IsDda (next s)

@@ -1,5 +1,5 @@
 -- A facet's hit, by the sign of its winding times its volume.
-use Rattle.std.proofs.Common.{◌≡◌, ℤ, pos, ◌+ℤ◌, ◌*ℤ◌, ◌≤ℤ◌, ◌<ℤ◌, int_lt, true, false, if◌then◌else◌, ◌∙◌, arith}
+use Rattle.std.proofs.Common.{◌≡◌, ℤ, pos, ◌+ℤ◌, ◌*ℤ◌, ◌≤ℤ◌, ◌<ℤ◌, int_lt, false, if◌then◌else◌, ◌∙◌, arith}
 use Rattle.std.proofs.lemmas.Int.{ints}
 use Rattle.geometry.specs.Point.{Point}
 use Rattle.geometry.specs.Facet.{Facet}
@@ -18,9 +18,6 @@ hit-wind t p h = chosen (wind t p.y p.z *ℤ volume t p) (wind t p.y p.z) h
 pub hit-zero : (t : Facet) (p : Point) → (wind t p.y p.z *ℤ volume t p) ≤ℤ pos 0 → hit t p ≡ pos 0
 unfolding hit
 hit-zero t p h = not_chosen (wind t p.y p.z *ℤ volume t p) (wind t p.y p.z) h
-
-pub above_zero : (x : ℤ) → int_lt (pos 0) x ≡ true → pos 0 <ℤ x
-above_zero x e = omega (arith, ints)
 
 pub not_above_zero : (x : ℤ) → int_lt (pos 0) x ≡ false → x ≤ℤ pos 0
 not_above_zero x e = omega (arith, ints)

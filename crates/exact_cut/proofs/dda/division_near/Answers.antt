@@ -2,6 +2,7 @@ use Rattle.std.proofs.Common.{◌≡◌, true, false, ℤ, pos, ◌+ℤ◌, ◌-
 use Rattle.std.proofs.Math.Facts.{sfits_widen}
 use Rattle.std.proofs.lemmas.Int.{ints, to_z-of_z}
 use mir.Syntax.{w64, w128}
+use Rattle.exact_int.proofs.lemmas.Tests.{plain_less}
 use Rattle.exact_cut.specs.Dda.{IsDivisionOf}
 use Rattle.exact_cut.specs.declared.dda.Division.{Division}
 use Rattle.exact_cut.proofs.lemmas.Divisions.{division_at, division_above, opposite_fits, next_remainder_fits, one_more}
@@ -51,14 +52,11 @@ module _ (n u g p e : ℤ) (u_positive : pos 0 <ℤ u) (n_in : FitsSigned w64 n)
       by : (x : ℤ) → int_le (pos 0) x ≡ false → x <ℤ pos 0
       by x h = omega (arith, ints)
 
-  less : (x y : ℤ) → int_lt x y ≡ true → x <ℤ y
-  less x y h = omega (arith, ints)
-
   below : int_lt (stored e) (stored u) ≡ true → e <ℤ u
-  below h = less e u (sym (λ i. int_lt (to_z-of_z w64 e e_in i) (to_z-of_z w64 u u_in i)) ∙ h)
+  below h = (plain_less e u).0 (sym (λ i. int_lt (to_z-of_z w64 e e_in i) (to_z-of_z w64 u u_in i)) ∙ h)
 
   above : int_lt (stored (pos 0 -ℤ stored u)) (stored e) ≡ true → (pos 0 -ℤ u) <ℤ e
-  above h = less (pos 0 -ℤ u) e (sym (λ i. int_lt (opposite-is u u_positive u_in i) (to_z-of_z w64 e e_in i)) ∙ h)
+  above h = (plain_less (pos 0 -ℤ u) e).0 (sym (λ i. int_lt (opposite-is u u_positive u_in i) (to_z-of_z w64 e e_in i)) ∙ h)
 
   at_guess : int_le (pos 0) (stored e) ≡ true → int_lt (stored e) (stored u) ≡ true → IsDivisionOf n u (record { quotient = widened g; remainder = widened e })
   at_guess h k =
