@@ -1,3 +1,4 @@
+pub mod Options
 pub mod Fronts
 pub mod Lanes
 pub mod Determined

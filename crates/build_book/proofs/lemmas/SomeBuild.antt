@@ -1,6 +1,6 @@
 -- There is a build of each closed mesh: its edges can be numbered, so the loops of each plane close, and its filled pixels
 -- are those of some spans.
-use Rattle.std.proofs.Common.{◌≡◌, ◌≢◌, ℕ, zero, suc, ◌+◌, ◌*◌, ◌^◌, ◌<◌, ◌≤◌, ◌⊎◌, inl, inr, ◌↔◌, true, false, List, [], ◌∷◌, length, get_or, flat_map, refl, sym, ◌∙◌, ap, arith}
+use Rattle.std.proofs.Common.{◌≡◌, ◌≢◌, ℕ, zero, suc, ◌+◌, ◌^◌, ◌<◌, ◌≤◌, ◌⊎◌, inl, inr, ◌↔◌, true, false, List, [], ◌∷◌, length, get_or, flat_map, refl, sym, ◌∙◌, ap, arith}
 use Rattle.std.specs.Prelude.{ℤ, nat_le, ◌==◌}
 use Rattle.std.proofs.lemmas.Bool.Decides.{eqb_tells, leb_tells}
 use Rattle.std.proofs.lemmas.List.Sums.{length-filter, count_by-le-length}
@@ -13,6 +13,7 @@ use Rattle.mesh_weld.specs.Solid.{is_kept, kept_facets, triples, vertices}
 use Rattle.mesh_weld.proofs.lemmas.Degenerate.{kept_balanced}
 use Rattle.mesh_weld.proofs.lemmas.EdgeNumbering.{edge_numbers}
 use Rattle.mesh_weld.proofs.lemmas.InOrder.{length-in_order}
+use Rattle.mesh_weld.proofs.lemmas.Points.{length-corners}
 use Rattle.plane_segments.specs.Segment.{segments}
 use Rattle.contour.specs.Loops.{AreLoops, loops}
 use Rattle.contour.proofs.lemmas.LoopsClose.{loops_close}
@@ -137,12 +138,8 @@ module _ {X : Type 0} (key : X → ℕ) where
 
 -- ---- so loops close
 
-corner_count : (facets : List Facet) → length (flat_map corners facets) ≡ 3 * length facets
-corner_count [] = refl
-corner_count (t ∷ ts) = omega (arith, corner_count ts)
-
 few_vertices : (facets : List Facet) → length facets ≤ FACET_LIMIT → length (vertices facets) ≤ 2 ^ 32
-few_vertices facets few = omega (arith, length-in_order (flat_map corners facets), corner_count facets, few)
+few_vertices facets few = omega (arith, length-in_order (flat_map corners facets), length-corners facets, few)
 
 loops_closed : (facets : List Facet) → length facets ≤ FACET_LIMIT → IsBalanced facets → (z : ℤ) → AreLoops (segments facets z) (loops (segments facets z))
 loops_closed facets few balanced z =

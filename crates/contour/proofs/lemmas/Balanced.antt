@@ -12,6 +12,7 @@ use Rattle.mesh_weld.specs.EdgeNumbers.{AreEdgeNumbers, HaveSameEnds, edge_of, e
 use Rattle.mesh_weld.proofs.lemmas.InOrder.{both_ways, is_in}
 use Rattle.mesh_weld.proofs.lemmas.Order.{same-self}
 use Rattle.mesh_weld.proofs.lemmas.Edges.{count_by-cons, runs, runs-is}
+use Rattle.mesh_weld.proofs.lemmas.HalfEdges.{either_order}
 use Rattle.plane_segments.specs.Node.{Node, between, is_node}
 use Rattle.plane_segments.specs.declared.segment.Segment.{Segment}
 use Rattle.plane_segments.specs.Segment.{both_of, height, is_downward, is_upward, node_of, segment_of, segments}
@@ -38,15 +39,12 @@ module _ (facets : List Facet) where
       let same = node-is (node_at n k) (node_at m j) h in
       by_ends (at n k) (at m j) (ends_in facets n k l l') (ends_in facets m j r r') (ap (λ n. n.low) same, ap (λ n. n.high) same)
     where
-      by_parts : (a b c d : ℕ) → (min a b ≡ min c d) × (max a b ≡ max c d) → ((a ≡ c) × (b ≡ d)) ⊎ ((a ≡ d) × (b ≡ c))
-      by_parts a b c d h = grind arith
-
       by_ends : (d e : Edge) → (is_in d.from (vertices facets) ≡ true) × (is_in d.to (vertices facets) ≡ true)
           → (is_in e.from (vertices facets) ≡ true) × (is_in e.to (vertices facets) ≡ true)
           → ((node_of (vertices facets) d).low ≡ (node_of (vertices facets) e).low) × ((node_of (vertices facets) d).high ≡ (node_of (vertices facets) e).high)
           → HaveSameEnds d e
       by_ends d e a b h =
-          by_numbers (by_parts (number_of (vertices facets) d.from) (number_of (vertices facets) d.to) (number_of (vertices facets) e.from) (number_of (vertices facets) e.to) h)
+          by_numbers (either_order (number_of (vertices facets) d.from) (number_of (vertices facets) d.to) (number_of (vertices facets) e.from) (number_of (vertices facets) e.to) h)
         where
           by_numbers : ((number_of (vertices facets) d.from ≡ number_of (vertices facets) e.from) × (number_of (vertices facets) d.to ≡ number_of (vertices facets) e.to))
               ⊎ ((number_of (vertices facets) d.from ≡ number_of (vertices facets) e.to) × (number_of (vertices facets) d.to ≡ number_of (vertices facets) e.from))

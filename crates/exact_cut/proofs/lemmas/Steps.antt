@@ -273,7 +273,7 @@ chosen-neg k w = by (int_lt (pos 0) k)
     by true = refl
     by false = refl
 
-taken-neg : (w v : ℤ) → ahead_only (neg_ℤ w) (neg_ℤ v) ≡ neg_ℤ (ahead_only w v)
+pub taken-neg : (w v : ℤ) → ahead_only (neg_ℤ w) (neg_ℤ v) ≡ neg_ℤ (ahead_only w v)
 taken-neg w v = chosen-neg (neg_ℤ w *ℤ neg_ℤ v) w ∙ ap (λ k. neg_ℤ (if int_lt (pos 0) k then w else pos 0)) (two_negs w v)
 
 pub hit-swap : (t : Facet) (c : Point) → hit_y t c ≡ neg_ℤ (hit (swap_tri t) (swap c))

@@ -10,7 +10,7 @@ use Rattle.mesh_weld.specs.declared.by_hash.edges.TheConstants.{EVEN}
 use Rattle.mesh_weld.specs.EdgeChains.{AreInHalfWords, IsWeighed}
 use Rattle.mesh_weld.specs.HalfEdge.{half_edges_from, count_between, IsEven, ArePairNumbers}
 use Rattle.mesh_weld.proofs.lemmas.Edges.{count_by-cons}
-use Rattle.mesh_weld.proofs.lemmas.HalfEdges.{half_edges_from-length}
+use Rattle.mesh_weld.proofs.lemmas.HalfEdges.{half_edges_from-length, halves}
 
 -- in slot 3 * f + c stands half-edge c of facet f
 ends_from : (n : ℕ) (ts : List (List ℕ)) (f c : ℕ) (d : HalfEdge) (t : List ℕ) → f < length ts → c < 3
@@ -63,10 +63,7 @@ counted_elsewhere from to low high l other = (first, second)
 
 -- keys tell the ends
 pub key_ends : (a b p q : ℕ) → a < 2 ^ 32 → b < 2 ^ 32 → p < 2 ^ 32 → q < 2 ^ 32 → min a b * 2 ^ 32 + max a b ≡ min p q * 2 ^ 32 + max p q → (min a b ≡ min p q) × (max a b ≡ max p q)
-key_ends a b p q k l m n e = parts (min a b) (max a b) (min p q) (max p q) (omega (arith, k, l)) (omega (arith, m, n)) e
-  where
-    parts : (a b p q : ℕ) → b < 2 ^ 32 → q < 2 ^ 32 → a * 2 ^ 32 + b ≡ p * 2 ^ 32 + q → (a ≡ p) × (b ≡ q)
-    parts a b p q l m e = (omega arith, omega arith)
+key_ends a b p q k l m n e = halves (min a b) (max a b) (min p q) (max p q) (omega (arith, k, l)) (omega (arith, m, n)) e
 
 module _ (half_edges : List HalfEdge) (numbers : List ℕ) (count : ℕ) (pairs : ArePairNumbers half_edges numbers count) (small : AreInHalfWords half_edges) where
   -- what has one number has the same ends

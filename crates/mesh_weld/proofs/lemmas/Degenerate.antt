@@ -186,10 +186,10 @@ dropped (t ∷ ts) u v = by_test (dropped ts u v) (is_kept t) refl
               ∙ ap (λ list. half_edge_count list v u + (own_count t u v + rest.many)) (sym same_list);
         }
 
-same_without : (k l m n o : ℕ) → k ≡ m + o → l ≡ n + o → k ≡ l → m ≡ n
+pub same_without : (k l m n o : ℕ) → k ≡ m + o → l ≡ n + o → k ≡ l → m ≡ n
 same_without k l m n o e f h = omega arith
 
-same_with : (k l m n o : ℕ) → k ≡ m + o → l ≡ n + o → m ≡ n → k ≡ l
+pub same_with : (k l m n o : ℕ) → k ≡ m + o → l ≡ n + o → m ≡ n → k ≡ l
 same_with k l m n o e f h = omega arith
 
 pub kept_balanced : (facets : List Facet) → IsBalanced facets → IsBalanced (kept_facets facets)

@@ -13,7 +13,7 @@ use Rattle.mesh_weld.specs.Balance.{IsBalanced}
 use Rattle.mesh_weld.specs.EdgeNumbers.{AreEdgeNumbers, HaveSameEnds, edge_of, edge_number}
 use Rattle.mesh_weld.specs.Solid.{vertices, number_of, triples}
 use Rattle.mesh_weld.proofs.lemmas.InOrder.{is_in, in_order-members, is_in-from_contains, contains_from_is_in}
-use Rattle.mesh_weld.proofs.lemmas.HalfEdges.{half_edges_from-length, nowhere}
+use Rattle.mesh_weld.proofs.lemmas.HalfEdges.{half_edges_from-length, nowhere, halves, either_order}
 use Rattle.mesh_weld.proofs.lemmas.Transfer.{number_found, ends_are_vertices, numbered, balanced_by_ids}
 
 pub triples-by_number : (f : Point → ℕ) (fs : List Facet) → threes (map f (flat_map corners fs)) ≡ map (λ t. map f (corners t)) fs
@@ -71,13 +71,7 @@ edge-at (t ∷ ts) (suc k) s l m =
 -- what has the same lesser and greater end
 key_tells : (a b c d : ℕ) → a < 2 ^ 32 → b < 2 ^ 32 → c < 2 ^ 32 → d < 2 ^ 32 → min a b * 2 ^ 32 + max a b ≡ min c d * 2 ^ 32 + max c d
     → ((a ≡ c) × (b ≡ d)) ⊎ ((a ≡ d) × (b ≡ c))
-key_tells a b c d k l m n e = by_parts a b c d (parts (min a b) (max a b) (min c d) (max c d) (omega (arith, k, l)) (omega (arith, m, n)) e)
-  where
-    parts : (a b p q : ℕ) → b < 2 ^ 32 → q < 2 ^ 32 → a * 2 ^ 32 + b ≡ p * 2 ^ 32 + q → (a ≡ p) × (b ≡ q)
-    parts a b p q l m e = (omega arith, omega arith)
-
-    by_parts : (a b c d : ℕ) → (min a b ≡ min c d) × (max a b ≡ max c d) → ((a ≡ c) × (b ≡ d)) ⊎ ((a ≡ d) × (b ≡ c))
-    by_parts a b c d h = grind arith
+key_tells a b c d k l m n e = either_order a b c d (halves (min a b) (max a b) (min c d) (max c d) (omega (arith, k, l)) (omega (arith, m, n)) e)
 
 -- by any ids that differ for different vertices
 module _ (fs : List Facet) (id : Point → ℕ) (small : (p : Point) → is_in p (vertices fs) ≡ true → id p < 2 ^ 32)

@@ -3,6 +3,8 @@
 use Rattle.std.proofs.Common.{◌≡◌, ℕ, ◌+◌, Bool, true, false, cond, ◌&&◌, List, [], ◌∷◌, ◌++◌, map, ◌⊎◌, ℤ, pos, ◌+ℤ◌, ◌-ℤ◌, neg_ℤ, refl, sym, ◌∙◌, ap, inl, inr, arith}
 use Rattle.std.specs.Prelude.{count_by}
 use Rattle.std.proofs.lemmas.Int.{ints}
+use lib.IntN.{+ℤ_assoc}
+use Rattle.exact_int.proofs.lemmas.Laws.{move_left}
 use Rattle.geometry.specs.Point.{Point, same, half_micrometres_of}
 use Rattle.geometry.specs.Facet.{Facet, Edge, edges, half_edges, twice}
 use Rattle.geometry.specs.Winding.{total, turn, turn_x, wind, wind_y, hit, ray, neg_ray_back}
@@ -16,10 +18,7 @@ use Rattle.exact_cut.proofs.lemmas.Turns.{turn-opposite, turn_x-opposite}
 -- ---- sums over lists
 pub total-append : {X : Type 0} (f : X → ℤ) (xs ys : List X) → total f (xs ++ ys) ≡ total f xs +ℤ total f ys
 total-append f [] ys = omega (arith, ints)
-total-append f (x ∷ xs) ys = ap (λ z. f x +ℤ z) (total-append f xs ys) ∙ grouped (f x) (total f xs) (total f ys)
-  where
-    grouped : (a b c : ℤ) → a +ℤ (b +ℤ c) ≡ (a +ℤ b) +ℤ c
-    grouped a b c = omega (arith, ints)
+total-append f (x ∷ xs) ys = ap (λ z. f x +ℤ z) (total-append f xs ys) ∙ sym (+ℤ_assoc (f x) (total f xs) (total f ys))
 
 pub total-difference : {X : Type 0} (f g : X → ℤ) (xs : List X) → total (λ x. f x -ℤ g x) xs ≡ total f xs -ℤ total g xs
 total-difference f g [] = refl
@@ -61,16 +60,13 @@ taken_later : (x y : Edge) (ys : List Edge) → Taken x ys → Taken x (y ∷ ys
 taken_later x y ys taken =
     record {
       rest = y ∷ taken.rest;
-      sums = λ f. ap (λ z. f y +ℤ z) (taken.sums f) ∙ moved (f y) (f x) (total f taken.rest);
+      sums = λ f. ap (λ z. f y +ℤ z) (taken.sums f) ∙ move_left (f y) (f x) (total f taken.rest);
       counts = λ p.
           count_by-cons p y ys ∙ ap (λ n. cond (p y) 1 0 + n) (taken.counts p)
           ∙ moved_count (cond (p y) 1 0) (cond (p x) 1 0) (count_by p taken.rest)
           ∙ ap (λ n. cond (p x) 1 0 + n) (sym (count_by-cons p y taken.rest));
     }
   where
-    moved : (a b c : ℤ) → a +ℤ (b +ℤ c) ≡ b +ℤ (a +ℤ c)
-    moved a b c = omega (arith, ints)
-
     moved_count : (a b c : ℕ) → a + (b + c) ≡ b + (a + c)
     moved_count a b c = omega arith
 

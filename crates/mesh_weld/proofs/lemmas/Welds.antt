@@ -13,7 +13,7 @@ use Rattle.mesh_weld.specs.HalfEdge.{half_edges_from}
 use Rattle.mesh_weld.specs.Welding.{IsKeptFault, IsWeldFault, IsWeldOf}
 use Rattle.mesh_weld.specs.declared.weld_fault.WeldFault.{WeldFault}
 use Rattle.mesh_weld.specs.declared.weld_fault.WeldFault.TheVariants as fault
-use Rattle.mesh_weld.proofs.lemmas.Degenerate.{half_edge_count-cons, dropped, own_count}
+use Rattle.mesh_weld.proofs.lemmas.Degenerate.{half_edge_count-cons, dropped, own_count, same_with, same_without}
 use Rattle.mesh_weld.proofs.lemmas.InOrder.{length-in_order}
 use Rattle.mesh_weld.proofs.lemmas.Points.{length-corners}
 use Rattle.mesh_weld.proofs.lemmas.HalfEdges.{half_edges_from-length}
@@ -71,12 +71,6 @@ open_of_all fs from to there back h t b =
 
     at_back : back ≡ half_edge_count fs to from
     at_back = b ∙ sym (split_count fs to from)
-
-    same_without : (k l m n o : ℕ) → k ≡ m + o → l ≡ n + o → k ≡ l → m ≡ n
-    same_without k l m n o e f h = omega arith
-
-    same_with : (k l m n o : ℕ) → k ≡ m + o → l ≡ n + o → m ≡ n → k ≡ l
-    same_with k l m n o e f h = omega arith
 
 pub kept_fault : (kept degenerate : List Facet) (a b : Point) (result : WeldFault) (p q : Point) → a ≡ p → b ≡ q
     → IsLeastOpen kept p q (half_edge_count kept p q) (half_edge_count kept q p)

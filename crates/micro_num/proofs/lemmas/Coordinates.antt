@@ -1,11 +1,12 @@
 -- The coordinate that a word stands for, from the magnitude of the text after its sign.
-use Rattle.std.proofs.Common.{◌≡◌, ◌≢◌, ◌↔◌, ◌⊎◌, inl, inr, ℕ, zero, suc, ◌+◌, ◌*◌, ◌-◌, ◌<◌, ◌≤◌, Bool, true, false, List, [], ◌∷◌, ◌++◌, take, length, length-append, append_assoc, append-nil, ℤ, pos, negsuc, neg_ℤ, ◌+ℤ◌, ◌-ℤ◌, arith, ap, subst, sym, ◌∙◌, refl}
+use Rattle.std.proofs.Common.{◌≡◌, ◌≢◌, ◌↔◌, ◌⊎◌, inl, inr, ℕ, zero, suc, ◌+◌, ◌*◌, ◌-◌, ◌<◌, ◌≤◌, Bool, true, false, List, [], ◌++◌, take, length, length-append, append_assoc, append-nil, ℤ, pos, negsuc, neg_ℤ, ◌+ℤ◌, ◌-ℤ◌, arith, ap, subst, sym, ◌∙◌, refl}
 use Rattle.std.specs.Prelude.{Option, Some, None, Result, Ok, Err, unsigned_abs, ◌&&◌, nat_lt, nat_le, if◌then◌else◌}
 use Rattle.std.specs.Char.{is_ascii_digit}
 use Rattle.std.specs.List.{list_all, before_first, position_or_len}
 use Rattle.std.proofs.lemmas.List.{take-append-drop, take_at}
 use Rattle.std.proofs.Math.Seq.{take-append-add}
 use Rattle.std.proofs.lemmas.Bool.{and_parts, cases_lt, lt-ltb, le-ltb, lt-leb, le-leb}
+use Rattle.exact_int.proofs.lemmas.Lists.{nil-of-length}
 use Rattle.micro_num.specs.declared.unit.Unit.{Unit as LengthUnit}
 use Rattle.micro_num.specs.declared.num_fault.NumFault.{NumFault}
 use Rattle.micro_num.specs.declared.num_fault.NumFault.TheVariants.{NotNumber, TooLong, OutOfRange}
@@ -87,13 +88,9 @@ pub whole_front : (unit : LengthUnit) (text rest : List ℕ) (r : ℕ) → IsNum
 whole_front unit text rest r front none =
     let n : Numeral = front.number in
     let spelled : text ≡ n.whole ++ (fraction_text n.fraction ++ exponent_text n.exponent) =
-    front.spelled ∙ ap (λ t. numeral_text n ++ t) (nothing rest none) ∙ append-nil (numeral_text n) ∙ unsigned_text n front.no_sign in
+    front.spelled ∙ ap (λ t. numeral_text n ++ t) (nil-of-length rest none) ∙ append-nil (numeral_text n) ∙ unsigned_text n front.no_sign in
     let met : scanned unsigned text ≡ n = (λ i. scanned (sym front.no_sign i) (spelled i)) ∙ scanned-is n front.is in
     subst (λ n. (is_numeral n ≡ true) × IsCapped (magnitude_of unit n) r) (sym met) (rw (front.is.0, front.is.1) refl, front.capped)
-  where
-    nothing : (xs : List ℕ) → length xs ≡ 0 → xs ≡ []
-    nothing [] h = refl
-    nothing (x ∷ xs) h = absurd (omega (arith, h))
 
 -- a text is no number if no number at its front ends with it
 pub unread : (unit : LengthUnit) (text : List ℕ) → ((n : Numeral) → IsNumeral n → n.sign ≡ unsigned → text ≡ numeral_text n ++ [] → ⊥)

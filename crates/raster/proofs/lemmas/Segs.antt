@@ -4,6 +4,7 @@ use Rattle.std.specs.Prelude.{Option, ℤ, pos, ◌+ℤ◌, ◌-ℤ◌, nat_le, 
 use Rattle.std.specs.List.{enumerate_from, cons_option, list_all}
 use Rattle.std.proofs.lemmas.Int.{ints}
 use Rattle.std.proofs.lemmas.List.{get_or_default}
+use lib.IntN.{+ℤ_idl}
 use Rattle.geometry.specs.Point.{Point}
 use Rattle.geometry.specs.Facet.{Facet, Edge, edge, half_edges, twice}
 use Rattle.geometry.specs.Winding.{hit, total, wind}
@@ -142,15 +143,12 @@ pub record ArePushed (facets : List Facet) (z : ℤ) (l : Lattice) (list : List 
       ≡ total (λ s. pass_at l z i j (facet_at facets s.facet)) list
   pub within : AreCrossingsWithin l.columns out
 
-nothing-yet : (a : ℤ) → pos 0 +ℤ a ≡ a
-nothing-yet a = omega (arith, ints)
-
 pub pushed-none : (facets : List Facet) (z : ℤ) (l : Lattice) (list : List Segment) (out : List (List RowCrossing)) → ((j : ℕ) → crossings_in out j ≡ []) → ArePushed facets z l list 0 out
 pushed-none facets z l list out e = record {
   signs = λ j low. ap (λ (crossings : List RowCrossing). signs crossings +ℤ total (λ s. sign_in l z j (facet_at facets s.facet)) list) (e j)
-      ∙ nothing-yet (total (λ s. sign_in l z j (facet_at facets s.facet)) list);
+      ∙ +ℤ_idl (total (λ s. sign_in l z j (facet_at facets s.facet)) list);
   passed = λ i j inside low. ap (λ (crossings : List RowCrossing). passed crossings i +ℤ total (λ s. pass_at l z i j (facet_at facets s.facet)) list) (e j)
-      ∙ nothing-yet (total (λ s. pass_at l z i j (facet_at facets s.facet)) list);
+      ∙ +ℤ_idl (total (λ s. pass_at l z i j (facet_at facets s.facet)) list);
   within = λ j. ap (list_all (λ m. nat_le m.column l.columns)) (e j);
 }
 

@@ -10,6 +10,7 @@ use Rattle.std.proofs.lemmas.Bool.{and_from, cases_lt, cases_order, eq-eqb, le-l
 use Rattle.std.proofs.lemmas.Bool.Decides.{nat_tests}
 use mir.Syntax.{w16}
 use mir.Val.{Fits}
+use lib.IntN.{+ℤ_idr}
 use Rattle.geometry.specs.Facet.{Facet}
 use Rattle.geometry.specs.Winding.{hit, wind}
 use Rattle.geometry.specs.declared.limits.TheConstants.{COLUMN_LIMIT}
@@ -71,9 +72,6 @@ placed row size j = go (cases_lt j row) (cases_lt j (row + size))
     go (inr h) (inr k) = behind k
     go (inr h) (inl k) = within (j - row) (omega arith) (omega arith)
 
-alone : (s : ℤ) → s +ℤ pos 0 ≡ s
-alone s = omega (arith, ints)
-
 -- the signs that a facet adds to a row are its wind there
 walked-signs : (t : Facet) (z : ℤ) (l : Lattice) (c : Walk) (j : ℕ) → IsWalkOf t z l c → j < l.rows → signs (crossings_along c.row (int_eq c.sign (pos 1)) c.columns j) ≡ wind t (row_y l j) z
 walked-signs t z l c j h low = go (placed c.row (length c.columns) j)
@@ -84,7 +82,7 @@ walked-signs t z l c j h low = go (placed c.row (length c.columns) j)
     go (within n k e) =
         ap (λ (m : ℕ). signs (crossings_along c.row (int_eq c.sign (pos 1)) c.columns m)) e
         ∙ ap signs (along-one c.row (int_eq c.sign (pos 1)) c.columns n k)
-        ∙ alone (unit (int_eq c.sign (pos 1)))
+        ∙ +ℤ_idr (unit (int_eq c.sign (pos 1)))
         ∙ unit-sign c.sign h.unit
         ∙ (h.crossed n k).crosses.sign_is
         ∙ ap (λ (m : ℕ). wind t (row_y l m) z) (sym e)
@@ -116,7 +114,7 @@ walked-passed t z l c i j h inside low = go (placed c.row (length c.columns) j)
     go (within n k e) =
         ap (λ (m : ℕ). passed (crossings_along c.row (int_eq c.sign (pos 1)) c.columns m) i) e
         ∙ ap (λ (l : List RowCrossing). passed l i) (along-one c.row (int_eq c.sign (pos 1)) c.columns n k)
-        ∙ alone (cond (nat_le (slice_index c.columns n) i) (unit (int_eq c.sign (pos 1))) (pos 0))
+        ∙ +ℤ_idr (cond (nat_le (slice_index c.columns n) i) (unit (int_eq c.sign (pos 1))) (pos 0))
         ∙ at n k
         ∙ ap (λ (m : ℕ). wind t (row_y l m) z -ℤ hit t (pixel l z i m)) (sym e)
 

@@ -1,6 +1,7 @@
 -- The ray of a box. Only the sides at the ends of x are crossed: each by the lines in its rectangle, which is half-open.
 use Rattle.std.proofs.Common.{◌≡◌, ℕ, ◌↔◌, ◌⊎◌, inl, inr, Bool, true, false, cond, not, ◌&&◌, List, [], ◌∷◌, ◌++◌, ℤ, pos, ◌+ℤ◌, ◌-ℤ◌, ◌*ℤ◌, neg_ℤ, ◌≤ℤ◌, ◌<ℤ◌, int_le, int_lt, refl, sym, ◌∙◌, ap, subst, arith}
 use Rattle.std.proofs.lemmas.Int.{ints}
+use lib.IntN.{+ℤ_idl, +ℤ_idr}
 use Rattle.exact_int.proofs.lemmas.Identity.{reads, identity}
 use Rattle.exact_int.proofs.lemmas.Signs.{at_most_or_above, clash, mul_positive, mul_not_positive_right}
 use Rattle.geometry.specs.BoundingBox.{IsBox}
@@ -275,10 +276,7 @@ depth-is true true w h = cancelled w
     cancelled : (w : ℤ) → neg_ℤ w +ℤ w ≡ pos 0
     cancelled w = omega (arith, ints)
 depth-is true false w h = absurd (let e : false ≡ true = h refl in cc)
-depth-is false true w h = alone w
-  where
-    alone : (w : ℤ) → pos 0 +ℤ w ≡ w
-    alone w = omega (arith, ints)
+depth-is false true w h = +ℤ_idl w
 depth-is false false w h = refl
 
 all_three : (x y z : Bool) → cond x (one_if (y && z)) (pos 0) ≡ one_if (x && y && z)
@@ -337,11 +335,8 @@ pub ray-box : (low high c : Point) → IsBox low high → ray (box low high) c �
 ray-box low high c order =
     ray-append (sides_x low high) (sides_y low high ++ sides_z low high) c
     ∙ ap (λ z. ray (sides_x low high) c +ℤ z) (none_of_two (sides_y low high) (sides_z low high) c (ray-sides_y low high c) (ray-sides_z low high c))
-    ∙ nothing_more (ray (sides_x low high) c)
+    ∙ +ℤ_idr (ray (sides_x low high) c)
     ∙ ray-sides_x low high c order
-  where
-    nothing_more : (z : ℤ) → z +ℤ pos 0 ≡ z
-    nothing_more z = omega (arith, ints)
 
 inside_one : (rule : Rule) (b : Bool) → is_inside rule (one_if b) ≡ b
 inside_one EvenOdd true = refl

@@ -5,6 +5,7 @@ use Rattle.std.specs.List.{range_with_len}
 use Rattle.std.proofs.lemmas.Int.{ints}
 use Rattle.std.proofs.lemmas.Grind.{flat_map-append}
 use Rattle.std.proofs.Math.Nat.{mul-le-mul}
+use lib.IntN.{+ℤ_idr}
 use Rattle.exact_int.specs.Bounds.{IsAtMost}
 use Rattle.geometry.specs.Facet.{Facet}
 use Rattle.geometry.specs.declared.limits.TheConstants.{CENTRE_LIMIT, COORDINATE_LIMIT}
@@ -23,15 +24,11 @@ middle-raised start step m k =
     products : (s m k : ℕ) → s * (2 * (m + k) + 1) ≡ 2 * (m * s) + s * (2 * k + 1)
     products s m k = omega arith
 
--- along x and y the origin stays
-stays : (n : ℤ) → n +ℤ pos 0 ≡ n
-stays n = omega (arith, ints)
-
 centre-from : (m : ℕ) (g : Grid) (i j k : ℕ) → centre (layers_from m g) i j k ≡ centre g i j (m + k)
 centre-from m g i j k =
     λ n. record {
-      x = middle (stays g.origin.x n) g.pitch i;
-      y = middle (stays g.origin.y n) g.pitch j;
+      x = middle (+ℤ_idr g.origin.x n) g.pitch i;
+      y = middle (+ℤ_idr g.origin.y n) g.pitch j;
       z = middle-raised g.origin.z g.layer_height m k n;
     }
 
@@ -138,8 +135,8 @@ upper_part g m h low high = (λ k. in_limit (layers_from m g).origin.z k.origin.
     from_limit k =
         record {
           origin = (
-            subst (IsAtMost COORDINATE_LIMIT) (sym (stays g.origin.x)) h.origin.0,
-            subst (IsAtMost COORDINATE_LIMIT) (sym (stays g.origin.y)) h.origin.1,
+            subst (IsAtMost COORDINATE_LIMIT) (sym (+ℤ_idr g.origin.x)) h.origin.0,
+            subst (IsAtMost COORDINATE_LIMIT) (sym (+ℤ_idr g.origin.y)) h.origin.1,
             raised_in g.origin.z (m * g.layer_height) h.origin.2 k,
           );
           pitch = h.pitch;
@@ -150,8 +147,8 @@ upper_part g m h low high = (λ k. in_limit (layers_from m g).origin.z k.origin.
           rows_high = h.rows_high;
           layers_low = omega arith;
           layers_high = omega (arith, h.layers_high);
-          last_x = subst (λ x. middle x g.pitch (g.columns - 1) ≤ℤ pos CENTRE_LIMIT) (sym (stays g.origin.x)) h.last_x;
-          last_y = subst (λ y. middle y g.pitch (g.rows - 1) ≤ℤ pos CENTRE_LIMIT) (sym (stays g.origin.y)) h.last_y;
+          last_x = subst (λ x. middle x g.pitch (g.columns - 1) ≤ℤ pos CENTRE_LIMIT) (sym (+ℤ_idr g.origin.x)) h.last_x;
+          last_y = subst (λ y. middle y g.pitch (g.rows - 1) ≤ℤ pos CENTRE_LIMIT) (sym (+ℤ_idr g.origin.y)) h.last_y;
           last_z =
               subst (λ (z : ℤ). z ≤ℤ pos CENTRE_LIMIT)
               (sym (middle-raised g.origin.z g.layer_height m (g.layers - m - 1) ∙ ap (middle g.origin.z g.layer_height) (last m g.layers high)))

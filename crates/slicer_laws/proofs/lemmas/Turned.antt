@@ -1,13 +1,13 @@
 -- A facet with two corners exchanged is passed the other way, and lies where it lay.
-use Rattle.std.proofs.Common.{◌≡◌, Bool, true, false, cond, List, [], ◌∷◌, ℤ, pos, negsuc, zero, suc, ◌+ℤ◌, ◌*ℤ◌, neg_ℤ, int_lt, refl, ◌∙◌, ap, arith}
+use Rattle.std.proofs.Common.{◌≡◌, List, [], ◌∷◌, ℤ, pos, negsuc, zero, suc, ◌+ℤ◌, neg_ℤ, refl, ◌∙◌, ap, arith}
 use Rattle.std.proofs.lemmas.Int.{ints}
 use Rattle.exact_int.proofs.lemmas.Identity.{reads, identity}
-use Rattle.exact_int.proofs.lemmas.Signs.{two_negs}
 use Rattle.geometry.specs.Point.{Point}
 use Rattle.geometry.specs.Facet.{Facet, twice}
 use Rattle.geometry.specs.Winding.{turn, turn_x, wind, wind_y, volume, hit, hit_y, ray, ray_y}
 use Rattle.exact_cut.proofs.lemmas.Turns.{turn-opposite, turn_x-opposite}
 use Rattle.exact_cut.proofs.lemmas.Shifts.{ahead_only}
+use Rattle.exact_cut.proofs.lemmas.Steps.{taken-neg}
 use Rattle.mesh_weld.proofs.lemmas.Sums.{total-map, total-neg}
 use Rattle.raster.specs.declared.rule.Rule.TheVariants.{EvenOdd, NonZero}
 use Rattle.raster.specs.Rule.{is_inside}
@@ -35,23 +35,15 @@ volume-turned t p =
     identity (t.a.x ∷ t.a.y ∷ t.a.z ∷ t.b.x ∷ t.b.y ∷ t.b.z ∷ t.c.x ∷ t.c.y ∷ t.c.z ∷ p.x ∷ p.y ∷ p.z ∷ [])
     (search reads depth 40 fits 20000) refl
 
-cond-neg : (b : Bool) (w : ℤ) → cond b (neg_ℤ w) (pos 0) ≡ neg_ℤ (cond b w (pos 0))
-cond-neg true w = refl
-cond-neg false w = refl
-
-ahead_only-neg : (w v : ℤ) → ahead_only (neg_ℤ w) (neg_ℤ v) ≡ neg_ℤ (ahead_only w v)
-ahead_only-neg w v =
-    ap (λ m. cond (int_lt (pos 0) m) (neg_ℤ w) (pos 0)) (two_negs w v) ∙ cond-neg (int_lt (pos 0) (w *ℤ v)) w
-
 hit-turned : (t : Facet) (c : Point) → hit (turned t) c ≡ neg_ℤ (hit t c)
 unfolding hit
 hit-turned t c =
-    (λ i. ahead_only (wind-turned t c.y c.z i) (volume-turned t c i)) ∙ ahead_only-neg (wind t c.y c.z) (volume t c)
+    (λ i. ahead_only (wind-turned t c.y c.z i) (volume-turned t c i)) ∙ taken-neg (wind t c.y c.z) (volume t c)
 
 hit_y-turned : (t : Facet) (c : Point) → hit_y (turned t) c ≡ neg_ℤ (hit_y t c)
 unfolding hit_y
 hit_y-turned t c =
-    (λ i. ahead_only (wind_y-turned t c.x c.z i) (volume-turned t c i)) ∙ ahead_only-neg (wind_y t c.x c.z) (volume t c)
+    (λ i. ahead_only (wind_y-turned t c.x c.z i) (volume-turned t c i)) ∙ taken-neg (wind_y t c.x c.z) (volume t c)
 
 -- ---- rays
 pub ray-turned : (facets : List Facet) (c : Point) → ray (inside_out facets) c ≡ neg_ℤ (ray facets c)

@@ -13,6 +13,7 @@ use Rattle.stl_text.specs.declared.word.Word.{Word}
 use Rattle.stl_text.specs.declared.word.Word.TheVariants.{Solid, FacetOrEnd, Normal, Outer, Loop, Vertex, Number, EndLoop, EndFacet}
 use Rattle.geometry.specs.Facet.{Facet}
 use Rattle.stl_text.specs.Text.{Token, keyword, normal_word, coordinate, rest_of_line, end_word, facet_tokens, solid_tokens, is_keyword, is_read_as, begins_with, after_token, rest_after, first_word, keyword_text, facet_keyword, end_keyword}
+use Rattle.stl_text.proofs.lemmas.Options.{some-is}
 
 -- Slots are tokens without their values: a keyword, a word of a normal, a coordinate, a rest of a line.
 pub data Slot : Type 0 where
@@ -287,6 +288,3 @@ agree unit state bytes (p ∷ ps) (q ∷ qs) s t rest rest' h k spelled spelled'
     first_begins : (b : Bool) (o : Option (List ℕ)) (r : List ℕ) → (if b then o else None) ≡ Some r → (b ≡ true) × (o ≡ Some r)
     first_begins true o r e = (refl, e)
     first_begins false o r e = cc
-
-    some-is : {x y : State} → ◌≡◌ {A = Option State} (Some x) (Some y) → x ≡ y
-    some-is e = cc

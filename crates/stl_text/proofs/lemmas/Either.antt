@@ -24,6 +24,7 @@ use Rattle.geometry.specs.Facet.{Facet, facet_with}
 use Rattle.stl_text.specs.Text.{Token, keyword, normal_word, coordinate, rest_of_line, facet_word, end_word, facet_tokens, solid_tokens, is_keyword, is_text_of, is_wanted, is_read_as, is_facet_word, wanted, begins_with, after_token, rest_after, first_word, after_word, after_line, after_space, is_white, is_line_end, facets_of, Reads, Wants, IsFaultOf, keyword_of, keyword_text, facet_keyword, end_keyword, facet_count}
 use Rattle.stl_text.proofs.lemmas.Determined.{Slot, fixed, any_word, any_coordinate, any_line, facet_slots}
 use Rattle.stl_text.proofs.lemmas.OneReading.{then_on, rest-append}
+use Rattle.stl_text.proofs.lemmas.Options.{some-is}
 
 -- The tokens that fill slots: coordinates are taken from a list in order, and are 0 when it is used up.
 
@@ -442,9 +443,6 @@ module _ (limit : ℕ) (unit : LengthUnit) (bytes : List ℕ) where
       let whole : bytes ≡ rest = some-is spelled in
       ended ([] ∷ []) [] (keyword_of Solid) (rest_of_line ∷ end_tokens) rest Solid refl (omega arith) spelled none refl
       (λ _. no_word-space bytes (ap first_word whole ∙ none))
-    where
-      some-is : {x y : List ℕ} → ◌≡◌ {A = Option (List ℕ)} (Some x) (Some y) → x ≡ y
-      some-is e = cc
   at_end (facets ∷ solids) rest spelled few none =
       inl (
         facets_of (facets ∷ solids),

@@ -2,7 +2,7 @@
 use Rattle.std.proofs.Common.{◌≡◌, ◌≢◌, ℕ, ◌+◌, ◌<◌, ◌≤◌, Bool, true, false, cond, ◌&&◌, List, [], ◌∷◌, ◌++◌, length, refl, sym, ◌∙◌, ap, subst, inl, inr, arith, ◌⊎◌, append-nil, lit≤, length-append}
 use Rattle.std.specs.Prelude.{Option, Some, None, Ok, Err, Result, ℤ, if◌then◌else◌, flat_map, nat_lt}
 use Rattle.std.specs.Str.{bytes_eq, str_to_ascii_lowercase}
-use Rattle.std.specs.List.{list_all, before_first}
+use Rattle.std.specs.List.{list_all}
 use Rattle.std.proofs.lemmas.List.Folds.{list_all-append}
 use Rattle.std.proofs.lemmas.List.Sums.{sum_by-append, sum_by-cons}
 use Rattle.std.proofs.lemmas.Slice.Eq.{bytes_eq-Decides}
@@ -15,9 +15,10 @@ use Rattle.stl_text.specs.declared.word.Word.TheVariants.{Solid, FacetOrEnd, Nor
 use Rattle.stl_text.specs.declared.stl_fault.StlFault.{StlFault}
 use Rattle.stl_text.specs.declared.stl_fault.StlFault.TheVariants as fault
 use Rattle.geometry.specs.Facet.{Facet}
-use Rattle.stl_text.specs.Text.{Token, keyword, normal_word, coordinate, rest_of_line, facet_word, end_word, facet_tokens, solid_tokens, is_keyword, is_text_of, is_wanted, is_facet_word, wanted, begins_with, rest_after, first_word, after_space, is_white, facets_of, Reads, Wants, IsFaultOf, keyword_of, facet_keyword, facet_count}
-use Rattle.stl_text.proofs.lemmas.Determined.{Slot, fixed, any_word, any_coordinate, any_line, facet_slots, State, Prefixes, Prefixes.longer, Prefixes.shorter, word_code, word_at, word_at-code, matches, outside, next, next_in, run, run-append, then-some, then_at, only, passed, shape-is, read-is, solid_slot, facet_slot, end_slot, solids-run, agree}
-use Rattle.stl_text.proofs.lemmas.OneReading.{GoesOn, goes_on, nothing_more}
+use Rattle.stl_text.specs.Text.{Token, keyword, normal_word, coordinate, rest_of_line, facet_word, end_word, facet_tokens, solid_tokens, is_keyword, is_text_of, is_wanted, is_facet_word, wanted, begins_with, rest_after, first_word, after_space, facets_of, Reads, Wants, IsFaultOf, keyword_of, facet_keyword, facet_count}
+use Rattle.stl_text.proofs.lemmas.Determined.{Slot, fixed, any_word, any_coordinate, any_line, facet_slots, State, Prefixes, word_code, word_at, word_at-code, matches, outside, next, next_in, run, run-append, then-some, then_at, only, passed, shape-is, read-is, solid_slot, facet_slot, end_slot, solids-run, agree}
+use Rattle.stl_text.proofs.lemmas.OneReading.{GoesOn, goes_on, nothing_more, ended_word}
+use Rattle.stl_text.proofs.lemmas.Options.{some-is}
 
 -- Tokens of one kind.
 
@@ -338,19 +339,13 @@ module _ (limit : ℕ) (unit : LengthUnit) (bytes : List ℕ) where
       let rest : h.wants.rest ≡ k.wants.rest = some-is (sym h.wants.spelled ∙ ap (λ ps. rest_after unit ps bytes) front ∙ k.wants.spelled) in
       let state : (state : State) × (run outside h.wants.front ≡ Some state) × (after : State) × (next state h.token ≡ Some after) = state_of h in
       let state' : (state : State) × (run outside k.wants.front ≡ Some state) × (after : State) × (next state k.token ≡ Some after) = state_of k in
-      let state_is : state.0 ≡ state'.0 = state-is (sym state.1 ∙ ap (run outside) front ∙ state'.1) in
+      let state_is : state.0 ≡ state'.0 = some-is (sym state.1 ∙ ap (run outside) front ∙ state'.1) in
       let left : length (after_space h.wants.rest) ≡ length (after_space k.wants.rest) = ap (λ r. length (after_space r)) rest in
       record {
         at = omega (arith, h.wants.offset, k.wants.offset, left);
         word = h.wants.stands ∙ ap first_word rest ∙ sym k.wants.stands;
         kind = next_kind state.0 h.token k.token state.2 state'.2 state.3 (ap (λ x. next x k.token) state_is ∙ state'.3);
       }
-    where
-      some-is : {x y : List ℕ} → ◌≡◌ {A = Option (List ℕ)} (Some x) (Some y) → x ≡ y
-      some-is e = cc
-
-      state-is : {x y : State} → ◌≡◌ {A = Option State} (Some x) (Some y) → x ≡ y
-      state-is e = cc
 
   wanted_same : (p q : Token) (v w : Word) → wanted p ≡ Some v → wanted q ≡ Some w → kind_of p ≡ kind_of q → v ≡ w
   wanted_same p q v w h k same =
@@ -415,10 +410,6 @@ module _ (limit : ℕ) (unit : LengthUnit) (bytes : List ℕ) where
   one_fault f g x y =
       equal_faults f g x y (same_halt (halt_of f x) (halt_of g y) (same_front (halt_of f x) (halt_of g y) (refuses f x) (refuses g y)))
 
-  -- there is no word after the last solid
-  no_word_left : (rest : List ℕ) → after_space rest ≡ [] → first_word rest ≡ []
-  no_word_left rest e = ap (before_first is_white) e
-
   -- a text that ends after solids has no fault there
   no_fault_at_end : (f : StlFault) (x : IsFaultOf limit unit bytes f) → (halt_of f x).word ≡ []
       → ((kind : Word) → wanted (halt_of f x).token ≡ Some kind → kind ≡ Solid) → (after_space bytes ≡ [] → ⊥) → ⊥
@@ -461,18 +452,12 @@ module _ (limit : ℕ) (unit : LengthUnit) (bytes : List ℕ) where
       state : (state : State) × (run outside h.wants.front ≡ Some state) × (after : State) × (next state h.token ≡ Some after)
       state = state_of h
 
-      some-is : {x y : List ℕ} → ◌≡◌ {A = Option (List ℕ)} (Some x) (Some y) → x ≡ y
-      some-is e = cc
-
-      state-is : {x y : State} → ◌≡◌ {A = Option State} (Some x) (Some y) → x ≡ y
-      state-is e = cc
-
       at_end : h.wants.front ≡ whole → ⊥
       at_end e =
           let rest : h.wants.rest ≡ r.rest = some-is (sym h.wants.spelled ∙ ap (λ ps. rest_after unit ps bytes) e ∙ r.spelled) in
-          let there : state.0 ≡ outside = state-is (sym state.1 ∙ ap (run outside) e ∙ solids-run r.solids) in
+          let there : state.0 ≡ outside = some-is (sym state.1 ∙ ap (run outside) e ∙ solids-run r.solids) in
           no_fault_at_end f x
-          (h.wants.stands ∙ ap first_word rest ∙ no_word_left r.rest r.whole)
+          (h.wants.stands ∙ ap first_word rest ∙ ended_word r.rest r.whole)
           (solid_wanted h.token state.2 (ap (λ p. next p h.token) (sym there) ∙ state.3))
           (has_word r.solids r.rest r.some r.spelled)
 

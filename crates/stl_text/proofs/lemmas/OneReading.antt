@@ -8,7 +8,7 @@ use Rattle.geometry.specs.Point.{Point}
 use Rattle.geometry.specs.Facet.{Facet}
 use Rattle.stl_text.specs.declared.word.Word.TheVariants.{Solid}
 use Rattle.stl_text.specs.Text.{Token, keyword, keyword_of, normal_word, coordinate, rest_of_line, facet_tokens, solid_tokens, is_keyword, begins_with, after_token, rest_after, first_word, after_space, is_white, end_word, facets_of, Reads, keyword_text}
-use Rattle.stl_text.proofs.lemmas.Determined.{State, Prefixes, Prefixes.longer, Prefixes.shorter, outside, next, run, run-append, then-some, then_at, only, shape-is, solid_slot, solids-run, agree}
+use Rattle.stl_text.proofs.lemmas.Determined.{State, Prefixes, outside, next, run, run-append, then-some, then_at, only, shape-is, solid_slot, solids-run, agree}
 
 -- The rest of a text after tokens, and after further tokens.
 
@@ -47,6 +47,10 @@ goes_on unit bytes front p more state end rest last ran spelled ran_on spelled_o
     tested : (b : Bool) (o : Option (List ℕ)) → (if b then o else None) ≡ Some last → b ≡ true
     tested true o e = refl
     tested false o e = cc
+
+-- where only white space is left, there is no word
+pub ended_word : (after : List ℕ) → after_space after ≡ [] → first_word after ≡ []
+ended_word after e = ap (before_first is_white) e
 
 -- after the last word no solid begins
 pub nothing_more : (unit : LengthUnit) (p : Token) (rest : List ℕ) → after_space rest ≡ [] → GoesOn unit outside p rest → ⊥

@@ -21,6 +21,7 @@ use Rattle.stl_text.proofs.lemmas.OneReading.{then_on, rest-append}
 use Rattle.stl_text.proofs.lemmas.Solids.{end_tokens}
 use Rattle.stl_text.proofs.lemmas.Fronts.{line_end_white}
 use Rattle.stl_text.proofs.lemmas.Written.{EndsLine, some-lower}
+use Rattle.stl_text.proofs.lemmas.Options.{some-is}
 
 -- A text is its white space, its first word and what is after the word.
 
@@ -216,9 +217,6 @@ line_written unit kind text bytes rest some e =
       some = word_some bytes first.some;
       ends = subst EndsLine last (from_starts is_line_end after);
     }
-  where
-    some-is : {x y : List ℕ} → ◌≡◌ {A = Option (List ℕ)} (Some x) (Some y) → x ≡ y
-    some-is h = cc
 
 abbrev open_line : List Token
 open_line = keyword_of Solid ∷ rest_of_line ∷ []

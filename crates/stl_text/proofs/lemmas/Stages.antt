@@ -1,7 +1,6 @@
 -- The stages of a reading: how a token leads from one to the next, and the fault where a word does not fit.
 use Rattle.std.proofs.Common.{◌≡◌, ℕ, ◌+◌, ◌<◌, ◌≤◌, Bool, true, false, cond, List, [], ◌∷◌, ◌++◌, length, take, drop, refl, sym, ◌∙◌, ap, subst, arith, append_assoc, append-nil, length-append, lit≤}
 use Rattle.std.specs.Prelude.{Option, Some, Ok, Err, ℤ, nat_lt, flat_map}
-use Rattle.std.specs.List.{before_first}
 use Rattle.std.specs.Ordering.{int_eq}
 use Rattle.std.proofs.lemmas.Bool.{lt-ltb}
 use Rattle.std.proofs.lemmas.Bool.Decides.{Decides-int_eq}
@@ -15,17 +14,16 @@ use Rattle.stl_text.specs.declared.stl_fault.StlFault.{StlFault}
 use Rattle.stl_text.specs.declared.stl_fault.StlFault.TheVariants as fault
 use Rattle.stl_text.specs.declared.stage.Stage.TheVariants as stage
 use Rattle.stl_text.specs.declared.stage.TheConstants.{LAST_WORD}
-use Rattle.stl_text.specs.Text.{Token, keyword_of, keyword_text, rest_of_line, facet_word, end_word, facet_keyword, end_keyword, facet_tokens, solid_tokens, is_keyword, is_facet_word, is_read_as, begins_with, after_token, rest_after, first_word, after_space, after_word, after_line, facets_of, facet_count, is_white, IsFaultOf, Wants}
+use Rattle.stl_text.specs.Text.{Token, keyword_of, keyword_text, rest_of_line, facet_word, end_word, facet_keyword, end_keyword, facet_tokens, solid_tokens, is_keyword, is_facet_word, is_read_as, begins_with, after_token, rest_after, first_word, after_space, after_word, after_line, facets_of, facet_count, IsFaultOf, Wants}
 use Rattle.stl_text.specs.Reader.{facet_tail}
 use Rattle.stl_text.specs.Stage.{Goes, IsForm, IsStop, Stands, ReadInside, front, open_solid}
 use Rattle.stl_text.specs.FacetRun.{next_solid}
 use Rattle.stl_text.proofs.lemmas.OneFault.{facet_count-solids}
 use Rattle.stl_text.proofs.lemmas.Either.{cut_facet, facet_count-open, no_word-space}
-use Rattle.stl_text.proofs.lemmas.Solids.{facets-more, open-more, tokens-more}
+use Rattle.stl_text.proofs.lemmas.Solids.{end_tokens, facets-more, open-more, tokens-more}
 use Rattle.stl_text.proofs.lemmas.Steps.{spelled-append}
-
-abbrev end_tokens : List Token
-end_tokens = end_word ∷ rest_of_line ∷ []
+use Rattle.stl_text.proofs.lemmas.Options.{some-is}
+use Rattle.stl_text.proofs.lemmas.OneReading.{ended_word}
 
 abbrev zero_facet : Facet
 zero_facet = facet_with origin origin origin
@@ -289,18 +287,12 @@ stuck_inside limit unit words facets t u p text after f s goes stop no_solid =
     (stop (facet_count (Q ++ begun))) no_solid
 
 -- the end of a text
-pub ended_word : (after : List ℕ) → after_space after ≡ [] → first_word after ≡ []
-ended_word after e = ap (before_first is_white) e
-
 pub ended_first : (limit : ℕ) (unit : LengthUnit) (facets : List Facet) (text after : List ℕ)
     → Stands limit unit (stage.Between false) facets text after → after_space after ≡ [] → IsFaultOf limit unit text (fault.Ended Solid)
 ended_first limit unit facets text after s e =
     stuck_between limit unit false facets text after (fault.Ended Solid) s (λ before. (refl, ended_word after e))
     (λ _. ap after_space whole ∙ e)
   where
-    some-is : {x y : List ℕ} → ◌≡◌ {A = Option (List ℕ)} (Some x) (Some y) → x ≡ y
-    some-is h = cc
-
     whole : text ≡ after
     whole = some-is (sym (ap (λ solids. rest_after unit (flat_map solid_tokens solids) text) s.form.1) ∙ s.spelled)
 

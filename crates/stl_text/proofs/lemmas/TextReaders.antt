@@ -460,10 +460,6 @@ kept_on limit unit p q s text ahead word rest last n w some n_is word_is rest_is
     (omega (arith, size, w.within, ap length same))
     (λ more. ap after_space (ap (λ v. p.held ++ (v ++ more)) same ∙ sym (append_assoc p.held word more)) ∙ word-first kept more kept_some clear))
 
-pub nil-of-length : (xs : List ℕ) → length xs ≡ 0 → xs ≡ []
-nil-of-length [] h = refl
-nil-of-length (x ∷ xs) h = absurd (omega (arith, h))
-
 -- A line break is white space.
 
 break_seen : (rest more : List ℕ) → Starts is_line_end rest → 0 < length rest → after_space (rest ++ more) ≡ after_space (drop 1 rest ++ more)

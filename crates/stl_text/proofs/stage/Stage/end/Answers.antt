@@ -4,8 +4,9 @@ use Rattle.stl_text.specs.declared.word.Word.TheVariants.{FacetOrEnd, Number, So
 use Rattle.stl_text.specs.declared.stage.Stage.TheVariants.{Between}
 use Rattle.stl_text.specs.Text.{coordinate, keyword_of, normal_word}
 use Rattle.stl_text.specs.Stage.{Stands, inside, with_number}
-use Rattle.stl_text.proofs.lemmas.Stages.{ended_first, ended_word, stuck_facets, stuck_inside}
+use Rattle.stl_text.proofs.lemmas.Stages.{ended_first, stuck_facets, stuck_inside}
 use Rattle.stl_text.proofs.stage.Stage.end.Goals as goal
+use Rattle.stl_text.proofs.lemmas.OneReading.{ended_word}
 
 pub returns-in-Between-false-clause-fault : goal.returns-in-Between-false-clause-fault
 returns-in-Between-false-clause-fault c = λ limit unit facets text after s e.

@@ -1,7 +1,8 @@
 use Rattle.std.proofs.Common.{◌≡◌, false, ◌+◌, ◌-◌, ◌<◌, [], ◌++◌, refl, length, sym, ◌∙◌, ap, subst, arith}
 use Rattle.std.proofs.lemmas.Bool.{eqb-false, eqb-true}
+use Rattle.exact_int.proofs.lemmas.Lists.{nil-of-length}
 use Rattle.stl_text.specs.TextReader.{EndsAt, IsAfter, IsReadingAt, TextReader, Waits, whole}
-use Rattle.stl_text.proofs.lemmas.TextReaders.{ended_by, ends_between, ends_free, nil-of-length}
+use Rattle.stl_text.proofs.lemmas.TextReaders.{ended_by, ends_between, ends_free}
 use Rattle.stl_text.proofs.text_reader.TextReader.close.Goals as goal
 
 pub returns-in_default : goal.returns-in_default
