@@ -8,7 +8,7 @@ use Rattle.geometry.specs.Point.{Point}
 use Rattle.geometry.specs.Facet.{Facet}
 use Rattle.stl_text.specs.declared.word.Word.TheVariants.{Solid}
 use Rattle.stl_text.specs.Text.{Token, keyword, keyword_of, normal_word, coordinate, rest_of_line, facet_tokens, solid_tokens, is_keyword, begins_with, after_token, rest_after, first_word, after_space, is_white, end_word, facets_of, Reads, keyword_text}
-use Rattle.stl_text.proofs.lemmas.Determined.{State, Prefixes, outside, next, run, run-append, then-some, then_at, only, shape-is, solid_slot, solids-run, agree}
+use Rattle.stl_text.proofs.lemmas.Determined.{State, Prefixes, Prefixes.longer, Prefixes.shorter, outside, next, run, run-append, then-some, then_at, only, shape-is, solid_slot, solids-run, agree}
 
 -- The rest of a text after tokens, and after further tokens.
 
