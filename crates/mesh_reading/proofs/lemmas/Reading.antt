@@ -1,5 +1,5 @@
 -- A source that was read to its end.
-use Rattle.std.proofs.Common.{◌≡◌, ◌≢◌, ◌⊎◌, ◌∙◌, ℕ, List, Option, [], ap, inl, inr, refl, sym}
+use Rattle.std.proofs.Common.{◌≡◌, ◌≢◌, ◌⊎◌, ◌∙◌, ◌++◌, ℕ, List, Option, [], ap, inl, inr, refl, subst, sym}
 use Rattle.std.specs.Prelude.{Err, IfErr, IfOk, IsErrAnd, Ok, OnOk, Result}
 use Rattle.std.specs.Io.KnownBytes.{IsAtEnd}
 use Rattle.std.proofs.KnownBytes.{Consumes-nil, Consumes-whole}
@@ -8,13 +8,19 @@ use Rattle.geometry.specs.Facet.{Facet}
 use Rattle.geometry.specs.declared.limits.TheConstants.{FACET_LIMIT}
 use Rattle.micro_num.specs.declared.unit.Unit.{Unit as LengthUnit}
 use Rattle.raster.specs.Devices.{Fails}
+use Rattle.stl_text.specs.Text.{Reads}
 use Rattle.stl_text.specs.TextReader.{IsAfter, TextReader}
+use Rattle.stl_text.proofs.lemmas.OneReading.{one_reading}
+use Rattle.mesh_weld.specs.Balance.{IsBalanced}
 use Rattle.mesh_weld.specs.Solid.{Solid}
 use Rattle.mesh_weld.specs.Welder.{Welder}
-use Rattle.mesh_reading.specs.Loading.{AreWelded, IsFedBySource, IsInput, IsInputFault, IsLoadFault, IsLoaded, IsMisread, IsReadAs, IsReadToEnd, IsSolidOf, IsTextExtent, IsWeldedAsFed, OfText}
+use Rattle.mesh_weld.specs.Welding.{IsWeldFault}
+use Rattle.mesh_weld.specs.declared.weld_fault.WeldFault.{WeldFault}
+use Rattle.mesh_weld.specs.declared.weld_fault.WeldFault.TheVariants as weld
+use Rattle.mesh_reading.specs.Loading.{AreWelded, HasWelded, IsFedBySource, IsInput, IsInputFault, IsLoadFault, IsLoaded, IsMisread, IsReadAs, IsReadToEnd, IsSolidOf, IsTextExtent, IsWeldedAsFed, OfText}
 use Rattle.mesh_reading.specs.Transcript.{Transcript, transcript}
 use Rattle.mesh_reading.specs.declared.extent.Extent.{Extent}
-use Rattle.mesh_reading.proofs.lemmas.Faults.{IsTextFault, not_read}
+use Rattle.mesh_reading.proofs.lemmas.Faults.{IsTextFault, not_read, passed_on, unclosed}
 use Rattle.mesh_reading.specs.declared.read_fault.ReadFault.{ReadFault}
 use Rattle.mesh_reading.specs.declared.read_fault.ReadFault.TheVariants as fault
 
@@ -30,6 +36,38 @@ transcript_of bytes failure_count old new = transcript (bytes old) (bytes new) (
 pub none_made : {T : Type 0} (r : Result T ReadFault) (P : ReadFault → Type 0) (Q : T → Type 0) → IsErrAnd r P → IfOk r Q
 none_made (Ok x) P Q h = absurd h
 none_made (Err f) P Q h = tt
+
+-- where no welder was made of a text, no mesh is
+pub not_welded : (unit : LengthUnit) (fed : List ℕ) (r : Result Solid ReadFault) (f : ReadFault) → IsErrAnd r (λ own. own ≡ f) → IsLoadFault unit fed f
+    → ((facets : List Facet) → Reads FACET_LIMIT unit fed facets → f ≡ fault.Memory) → IsLoaded unit fed r
+not_welded unit fed r f gives err only = record {
+  ok = none_made r _ _ gives;
+  err = passed_on r _ _ (λ own is. subst (IsLoadFault unit fed) (sym is) err) gives;
+  only = λ facets reads closed. passed_on r _ _ (λ own is. is ∙ only facets reads) gives;
+}
+
+-- where no mesh was made of the facets of a text, they are not closed or memory is short
+pub not_closed : (unit : LengthUnit) (fed : List ℕ) (taken : List Facet) (r : Result Solid ReadFault) (cause : WeldFault)
+    → IsErrAnd r (λ f. (cause ≡ weld.Memory → f ≡ fault.Memory) × (cause ≢ weld.Memory → f ≡ fault.Weld cause))
+    → Reads FACET_LIMIT unit fed taken → IsWeldFault taken cause → (IsBalanced taken → cause ≡ weld.Memory) → IsLoaded unit fed r
+not_closed unit fed taken r cause gives reads known only = record {
+  ok = none_made r _ _ gives;
+  err = passed_on r _ _ (λ f is. unclosed unit fed taken cause f is reads known) gives;
+  only = λ facets others closed.
+      let same : taken ≡ facets = one_reading FACET_LIMIT unit fed taken facets reads others in
+      passed_on r _ _ (λ f is. is.0 (only (subst IsBalanced (sym same) closed))) gives;
+}
+
+-- a welder has the facets that were taken off a reader, and those that were taken off it next
+pub welded_on : (unit : LengthUnit) (start old new : Option (List ℕ)) (reader_old reader : TextReader) (welder_old welder : Welder)
+    (facets items : List Facet) → items ≡ facets → HasWelded items welder_old welder
+    → ((taken : List Facet) → IsFed unit taken reader_old start old → IsFed unit (taken ++ facets) reader start new)
+    → IsWeldedAsFed unit reader_old welder_old start old → IsWeldedAsFed unit reader welder start new
+welded_on unit start old new reader_old reader welder_old welder facets items same welds feeds before = (
+  before.0 ++ facets,
+  subst (λ fs. AreWelded (before.0 ++ fs) welder) same (welds before.0 before.1),
+  feeds before.0 before.2,
+)
 
 no_read : (P : Type 0) → (P → ⊥) → (fault.Read ≡ fault.Memory) ⊎ P → ⊥
 no_read P none (inl e) = cc
@@ -141,3 +179,10 @@ ended_early remaining failure_count old new reader_old reader welder_old welder 
   sound = λ other. sound (λ e. other (ap Err (is ∙ e)));
   only = rw is why;
 }
+
+-- no call of the source failed, and memory is short
+pub short_of_memory : {S : Type 0} (remaining : S → Option (List ℕ)) (failure_count : S → ℕ) (old new : S) (reader_old reader : TextReader)
+    (welder_old welder : Welder) → failure_count new ≡ failure_count old
+    → IsReadToEnd remaining failure_count old new reader_old reader welder_old welder (Err fault.Memory)
+short_of_memory remaining failure_count old new reader_old reader welder_old welder sound =
+    ended_early remaining failure_count old new reader_old reader welder_old welder (Err fault.Memory) fault.Memory refl (inr refl) (λ e. cc) (λ _. sound)

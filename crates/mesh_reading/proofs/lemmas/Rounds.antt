@@ -1,6 +1,10 @@
 -- A round that is filled while facets are welded.
-use Rattle.std.proofs.Common.{◌≡◌, ◌⊎◌, Bool, ℕ, List, Option, inl, inr, subst}
-use Rattle.std.specs.Prelude.{Err, IfErr, IfOk, IsOk, Ok, OnOk, Result}
+use Rattle.std.proofs.Common.{◌≡◌, ◌⊎◌, ◌∙◌, ◌+◌, ◌-◌, ◌<◌, ◌≤◌, ◌++◌, Bool, ℕ, List, Option, ap, arith, drop, false, inl, inr, length, subst, sym, take, true}
+use Rattle.std.specs.Prelude.{Err, IfErr, IfOk, IsErrAnd, IsOk, Ok, OnOk, Result}
+use Rattle.std.specs.Io.KnownBytes.{Consumes, IsAtEnd}
+use Rattle.std.proofs.Math.Seq.{take-append_seam, take-take}
+use Rattle.std.proofs.lemmas.List.{length-take-le}
+use Rattle.raster.specs.Devices.{Fails}
 use Rattle.mesh_reading.specs.Loading.{IsFilled}
 use Rattle.mesh_reading.specs.Round.{Round}
 use Rattle.mesh_reading.specs.declared.read_fault.ReadFault.{ReadFault}
@@ -42,3 +46,60 @@ pub welded_too : (filled : Result Bool ReadFault) (welded : Result (Unit {0}) Re
     → IsFirstFault filled welded r → OnOk welded H → OnOk r H
 welded_too filled welded (Ok more) H is h = subst (λ w. OnOk w H) is.0.1 h
 welded_too filled welded (Err f) H is h = tt
+
+-- Filling a round.
+
+-- room that grew has the bytes that it had
+pub grown_front : (len : ℕ) (old new : List ℕ) → len ≤ length old → take (length old) new ≡ old → take len new ≡ take len old
+grown_front len old new within same = sym (take-take len (length old) new within) ∙ ap (take len) same
+
+-- bytes that were written over all of a room are the room's
+pub written_over : (bytes items : List ℕ) (n : ℕ) → length bytes ≡ n → take n (bytes ++ drop (length bytes) items) ≡ bytes
+written_over bytes items n size = ap (λ k. take k (bytes ++ drop (length bytes) items)) (sym size) ∙ take-append_seam bytes (drop (length bytes) items)
+
+-- what was taken off a source, and what was taken off it next
+pub taken_on : (start mid new : Option (List ℕ)) (len count n : ℕ) (had given bytes items : List ℕ) → length bytes ≡ n
+    → ((s : Option (List ℕ)) → Consumes s mid (take len given) → Consumes s new (take (len + count) bytes))
+    → take len given ≡ had → Consumes start mid had → Consumes start new (take (len + count) (take n (bytes ++ drop (length bytes) items)))
+taken_on start mid new len count n had given bytes items size more same before =
+    subst (λ b. Consumes start new (take (len + count) b)) (sym (written_over bytes items n size)) (more start (subst (Consumes start mid) (sym same) before))
+
+pub within_on : (k n : ℕ) (bytes items : List ℕ) → length bytes ≡ n → k ≤ length bytes → k ≤ length (take n (bytes ++ drop (length bytes) items))
+within_on k n bytes items size within = subst (λ b. k ≤ length b) (sym (written_over bytes items n size)) within
+
+-- fewer bytes are left to be filled
+pub fewer_left : (wanted wanted_new len len_new count : ℕ) → len < wanted → wanted_new ≡ wanted → len_new ≡ len → (count ≡ 0 → ⊥)
+    → wanted_new - (len_new + count) < wanted - len
+fewer_left wanted wanted_new len len_new count room same_wanted same_len some = omega arith
+
+pub enough : (wanted len : ℕ) (items : List ℕ) → len ≤ length items → wanted ≤ len → wanted ≤ length (take len items)
+enough wanted len items within h = omega (arith, length-take-le len items within)
+
+module _ {S : Type 0} (remaining : S → Option (List ℕ)) (failure_count : S → ℕ) (old new : S) (before after : Round) where
+  pub filled_round : (is_more : Bool) → Consumes (remaining old) (remaining new) after.bytes → after.wanted ≡ before.wanted
+      → failure_count new ≡ failure_count old → (is_more ≡ true → after.wanted ≤ length after.bytes) → (is_more ≡ false → IsAtEnd (remaining new))
+      → IsFilled remaining failure_count old new true before after (Ok is_more)
+  filled_round is_more taken waits sound full end = record {
+    taken = taken;
+    full = λ e. full (cc);
+    waits = waits;
+    kept = λ e. cc;
+    whole = λ e _. end (cc);
+    unread = λ e. cc;
+    sound = λ _. sound;
+    only = tt;
+  }
+
+  pub not_filled : (r : Result Bool ReadFault) (f : ReadFault) → IsErrAnd r (λ own. own ≡ f) → f ≡ fault.Read → after.wanted ≡ before.wanted
+      → Fails (failure_count old) (failure_count new) → IsFilled remaining failure_count old new true before after r
+  not_filled (Ok x) f is read waits fails = absurd is
+  not_filled (Err own) f is read waits fails = record {
+    taken = tt;
+    full = λ e. cc;
+    waits = waits;
+    kept = λ e. cc;
+    whole = λ e. cc;
+    unread = λ _. fails;
+    sound = λ other. absurd (other (ap Err (is ∙ read)));
+    only = inl (is ∙ read);
+  }

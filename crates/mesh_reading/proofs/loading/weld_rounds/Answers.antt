@@ -1,4 +1,4 @@
-use Rattle.std.proofs.Common.{◌≡◌, ◌∙◌, ◌++◌, List, ap, inr, refl, subst, sym}
+use Rattle.std.proofs.Common.{◌≡◌, ◌∙◌, ◌++◌, List, ap, refl, subst, sym}
 use Rattle.std.specs.Prelude.{Err}
 use Rattle.std.specs.Io.KnownBytes.{Consumes, IsAtEnd}
 use Rattle.std.proofs.KnownBytes.{Consumes-trans}
@@ -9,7 +9,7 @@ use Rattle.raster.specs.Devices.{Fails}
 use Rattle.stl_text.specs.TextReader.{IsAfter}
 use Rattle.mesh_reading.specs.Loading.{AreWelded, HasWelded}
 use Rattle.mesh_reading.specs.declared.read_fault.ReadFault.TheVariants.{Read}
-use Rattle.mesh_reading.proofs.lemmas.Reading.{ended_early, read_to_end}
+use Rattle.mesh_reading.proofs.lemmas.Reading.{ended_early, read_to_end, short_of_memory}
 use Rattle.mesh_reading.proofs.loading.weld_rounds.Goals as goal
 
 pub loop-init : goal.loop-init
@@ -94,10 +94,4 @@ returns-in_err-is_next g c =
     (λ other. c.in_err-is_next.ensures.filled.sound (λ e. other (let same : f ≡ Read = cc in same)) ∙ c.loop.invariant.counted)
 
 pub returns : goal.returns
-returns g c = record {
-  fed = tt;
-  whole = tt;
-  unread = λ e. cc;
-  sound = λ _. c.loop.invariant.counted;
-  only = inr refl;
-}
+returns g c = short_of_memory g.I.Source.remaining g.I.Failures.failure_count _ _ _ _ _ _ c.loop.invariant.counted

@@ -1,8 +1,7 @@
-use Rattle.std.proofs.Common.{◌≡◌, ◌∙◌, ◌++◌, inl, inr, refl, rules, subst, sym}
+use Rattle.std.proofs.Common.{◌≡◌, ◌∙◌, inl, inr, refl, rules, subst, sym}
 use Rattle.raster.specs.Devices.{Fails}
-use Rattle.mesh_reading.specs.Loading.{AreWelded}
 use Rattle.mesh_reading.specs.declared.read_fault.ReadFault.TheVariants.{Memory, Read}
-use Rattle.mesh_reading.proofs.lemmas.Reading.{ended_early}
+use Rattle.mesh_reading.proofs.lemmas.Reading.{ended_early, short_of_memory, welded_on}
 use Rattle.mesh_reading.proofs.loading.weld_windows.Goals as goal
 
 pub loop-init : goal.loop-init
@@ -15,11 +14,9 @@ loop-init g c = record {
 pub loop-preserved : goal.loop-preserved
 loop-preserved g c = record {
   fed = λ unit start before.
-      (let so_far = c.loop.invariant.fed unit start before in (
-        so_far.0 ++ c.next_facets.new.facets.items,
-        subst (λ fs. AreWelded (so_far.0 ++ fs) c.weld_next.new.welder) c.as_slice.ensures.value (c.in_ok-weld_next.ensures.welded so_far.0 so_far.1),
-        c.in_ok-is_more.ensures.fed unit so_far.0 start so_far.2,
-      ));
+      welded_on unit start (g.I.Source.remaining c.loop.source) (g.I.Source.remaining c.next_facets.new.source) c.loop.reader c.next_facets.new.reader
+      c.loop.welder c.weld_next.new.welder c.next_facets.new.facets.items c.as_slice.result.now c.as_slice.ensures.value
+      c.in_ok-weld_next.ensures.welded (λ taken. c.in_ok-is_more.ensures.fed unit taken start) (c.loop.invariant.fed unit start before);
   counted = c.in_ok-is_more.ensures.sound ∙ c.loop.invariant.counted;
   room = c.in_ok-is_more.ensures.len ∙ c.loop.invariant.room;
 }
@@ -27,11 +24,9 @@ loop-preserved g c = record {
 pub returns-then-not-is_more : goal.returns-then-not-is_more
 returns-then-not-is_more g c = record {
   fed = λ unit start before.
-      (let so_far = c.loop.invariant.fed unit start before in (
-        so_far.0 ++ c.next_facets.new.facets.items,
-        subst (λ fs. AreWelded (so_far.0 ++ fs) c.weld_next.new.welder) c.as_slice.ensures.value (c.in_ok-weld_next.ensures.welded so_far.0 so_far.1),
-        c.in_ok-is_more.ensures.fed unit so_far.0 start so_far.2,
-      ));
+      welded_on unit start (g.I.Source.remaining c.loop.source) (g.I.Source.remaining c.next_facets.new.source) c.loop.reader c.next_facets.new.reader
+      c.loop.welder c.weld_next.new.welder c.next_facets.new.facets.items c.as_slice.result.now c.as_slice.ensures.value
+      c.in_ok-weld_next.ensures.welded (λ taken. c.in_ok-is_more.ensures.fed unit taken start) (c.loop.invariant.fed unit start before);
   whole = search rules;
   unread = λ e. cc;
   sound = λ _. c.in_ok-is_more.ensures.sound ∙ c.loop.invariant.counted;
@@ -57,10 +52,4 @@ returns-in_err-weld_next g c =
     (λ other. c.in_ok-is_more.ensures.sound ∙ c.loop.invariant.counted)
 
 pub returns : goal.returns
-returns g c = record {
-  fed = tt;
-  whole = tt;
-  unread = λ e. cc;
-  sound = λ _. c.loop.invariant.counted;
-  only = inr refl;
-}
+returns g c = short_of_memory g.I.Source.remaining g.I.Failures.failure_count _ _ _ _ _ _ c.loop.invariant.counted
