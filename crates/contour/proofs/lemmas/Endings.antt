@@ -56,20 +56,23 @@ ordered_rest R zero xs h = h
 ordered_rest R (suc k) [] h = h
 ordered_rest R (suc k) (x ∷ xs) h = ordered_rest R k xs (λ i j d l m. h (suc i) (suc j) d (omega (arith, l)) (omega (arith, m)))
 
-pub counted_on : {X : Type 0} (p : X → Bool) (k : ℕ) (xs : List X) → k ≤ prefix_len p xs → k + prefix_len p (drop k xs) ≡ prefix_len p xs
-counted_on p zero xs h = omega arith
-counted_on p (suc k) [] h = absurd (omega (arith, h))
-counted_on p (suc k) (x ∷ xs) h = by_test (counted_on p k xs) (p x) h
+from_on : {X : Type 0} (p : X → Bool) (k : ℕ) (xs : List X) → k ≤ prefix_len p xs → k + prefix_len p (drop k xs) ≡ prefix_len p xs
+from_on p zero xs h = omega arith
+from_on p (suc k) [] h = absurd (omega (arith, h))
+from_on p (suc k) (x ∷ xs) h = by_test (from_on p k xs) (p x) h
   where
     by_test : (k ≤ prefix_len p xs → k + prefix_len p (drop k xs) ≡ prefix_len p xs)
         → (b : Bool) → suc k ≤ cond b (1 + prefix_len p xs) 0 → suc k + prefix_len p (drop k xs) ≡ cond b (1 + prefix_len p xs) 0
     by_test on true m = let e = on (omega (arith, m)) in omega (arith, e)
     by_test on false m = absurd (omega (arith, m))
 
-pub found_on : {X : Type 0} (q : X → Bool) (k n : ℕ) (xs : List X) → All (λ x. q x ≡ false) (take k xs)
-    → filter q (take n (drop k xs)) ≡ filter q (take (k + n) xs)
-found_on q k n xs h =
-    sym (ap (filter q) (take-add k n xs) ∙ filter-append q (take k xs) (take n (drop k xs))
+pub counted_on : {X : Type 0} (p : X → Bool) (k n : ℕ) (xs : List X) → n ≡ prefix_len p (drop k xs) → k ≤ prefix_len p xs → k + n ≡ prefix_len p xs
+counted_on p k n xs e h = ap (λ m. k + m) e ∙ from_on p k xs h
+
+pub found_on : {X : Type 0} (q : X → Bool) (k n : ℕ) (xs found : List X) → found ≡ filter q (take n (drop k xs)) → All (λ x. q x ≡ false) (take k xs)
+    → found ≡ filter q (take (k + n) xs)
+found_on q k n xs found e h =
+    e ∙ sym (ap (filter q) (take-add k n xs) ∙ filter-append q (take k xs) (take n (drop k xs))
     ∙ ap (λ ys. ys ++ filter q (take n (drop k xs))) (none_pass q (take k xs) (recursion_from_All (λ x. q x ≡ false) (take k xs) h)))
 
 -- ---- far below a height
