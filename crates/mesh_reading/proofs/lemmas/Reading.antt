@@ -61,7 +61,7 @@ not_closed unit fed taken r cause gives reads known only = record {
 -- a welder has the facets that were taken off a reader, and those that were taken off it next
 pub welded_on : (unit : LengthUnit) (start old new : Option (List ℕ)) (reader_old reader : TextReader) (welder_old welder : Welder)
     (facets items : List Facet) → items ≡ facets → HasWelded items welder_old welder
-    → ((taken : List Facet) → IsFed unit taken reader_old start old → IsFed unit (taken ++ facets) reader start new)
+    → ((taken : List Facet) → IsFedBySource unit taken reader_old start old → IsFedBySource unit (taken ++ facets) reader start new)
     → IsWeldedAsFed unit reader_old welder_old start old → IsWeldedAsFed unit reader welder start new
 welded_on unit start old new reader_old reader welder_old welder facets items same welds feeds before = (
   before.0 ++ facets,
