@@ -30,19 +30,19 @@ both-right : (a b : Bool) → both a b ≡ true → b ≡ true
 both-right true b e = e
 both-right false b e = cc
 
-abbrev here : {ρ : List ℤ} {z : ℤ} → Place (z ∷ ρ) z
+abbrev pub here : {ρ : List ℤ} {z : ℤ} → Place (z ∷ ρ) z
 here = record { number = 0; is = refl }
 
 abbrev pub there : {ρ : List ℤ} {y z : ℤ} → Place ρ z → Place (y ∷ ρ) z
 there p = record { number = suc p.number; is = p.is }
 
-abbrev read_var : {ρ : List ℤ} {z : ℤ} → Place ρ z → Read ρ z
+abbrev pub read_var : {ρ : List ℤ} {z : ℤ} → Place ρ z → Read ρ z
 read_var p = record { ex = var p.number; all_fit = true; is = λ _. p.is }
 
-abbrev read_pos : {ρ : List ℤ} (n : ℕ) → Read ρ (pos n)
+abbrev pub read_pos : {ρ : List ℤ} (n : ℕ) → Read ρ (pos n)
 read_pos n = record { ex = con (pos n); all_fit = true; is = λ _. refl }
 
-abbrev read_negsuc : {ρ : List ℤ} (n : ℕ) → Read ρ (negsuc n)
+abbrev pub read_negsuc : {ρ : List ℤ} (n : ℕ) → Read ρ (negsuc n)
 read_negsuc n = record { ex = con (negsuc n); all_fit = true; is = λ _. refl }
 
 module _ {ρ : List ℤ} {a b : ℤ} (p : Read ρ a) (q : Read ρ b) where
@@ -58,7 +58,7 @@ module _ {ρ : List ℤ} {a b : ℤ} (p : Read ρ a) (q : Read ρ b) where
   abbrev pub read_mul : Read ρ (a *ℤ b)
   read_mul = record { ex = p.ex ⊗ q.ex; all_fit = both p.all_fit q.all_fit; is = mul-is }
 
-abbrev read_neg : {ρ : List ℤ} {a : ℤ} → Read ρ a → Read ρ (neg_ℤ a)
+abbrev pub read_neg : {ρ : List ℤ} {a : ℤ} → Read ρ a → Read ρ (neg_ℤ a)
 read_neg {ρ} {a} p = record { ex = opp p.ex; all_fit = p.all_fit; is = λ e. ap neg_ℤ (p.is e) }
 
 module _ {ρ : List ℤ} (w : Width) (z : ℤ) (p : Read ρ z) (s : Size z) where
@@ -73,7 +73,7 @@ pub record Sides (ρ : List ℤ) (a b : ℤ) : Type 0 where
   pub left : Read ρ a
   pub right : Read ρ b
 
-abbrev read_sides : {ρ : List ℤ} {a b : ℤ} → Read ρ a → Read ρ b → Sides ρ a b
+abbrev pub read_sides : {ρ : List ℤ} {a b : ℤ} → Read ρ a → Read ρ b → Sides ρ a b
 read_sides p q = record { left = p; right = q }
 
 pub ruleset reads = (read_sides, read_add, read_mul, read_neg, read_back, read_pos, read_negsuc, read_var, here, there)

@@ -24,7 +24,7 @@ sum_of a b m n h k = omega (arith, ints)
 pub neg_of : (a : ℤ) (m : ℕ) → unsigned_abs a ≤ m → unsigned_abs (neg_ℤ a) ≤ m
 neg_of a m h = omega (arith, ints)
 
-mul_of : (a b : ℤ) (m n : ℕ) → unsigned_abs a ≤ m → unsigned_abs b ≤ n → unsigned_abs (a *ℤ b) ≤ m * n
+pub mul_of : (a b : ℤ) (m n : ℕ) → unsigned_abs a ≤ m → unsigned_abs b ≤ n → unsigned_abs (a *ℤ b) ≤ m * n
 mul_of a b m n h k = omega (arith, unsigned_abs-mul a b, mul-le-mul h k)
 
 abbrev pub size_add : {a b : ℤ} → Size a → Size b → Size (a +ℤ b)
