@@ -1,4 +1,4 @@
-use Rattle.std.proofs.Common.{◌≡◌, ◌∙◌, ◌+◌, arith, length, rules, to_z, of_z, w64}
+use Rattle.std.proofs.Common.{◌≡◌, arith, length, rules, to_z, of_z, w64}
 use Rattle.std.proofs.lemmas.Int.{to_z-of_z}
 use Rattle.std.proofs.lemmas.List.Sums.{prefix_len-le-length}
 use Rattle.contour.specs.Active.{ends_above, starts_by}
