@@ -1,9 +1,9 @@
 -- Balances of edges: each half-edge counts in that of its number, and where all are even, so are the half-edges.
-use Rattle.std.proofs.Common.{◌≡◌, ℕ, zero, suc, ◌≤◌, ◌<◌, ◌+◌, ◌*◌, ◌^◌, ◌%◌, min, max, Bool, true, false, cond, ltb, ◌==◌, ◌&&◌, List, [], ◌∷◌, length, get_or, set, replicate, take, count_by, refl, sym, ap, ◌∙◌, subst, inl, inr, ◌⊎◌, arith}
+use Rattle.std.proofs.Common.{◌≡◌, ℕ, zero, suc, ◌≤◌, ◌<◌, ◌+◌, ◌*◌, ◌^◌, ◌%◌, min, max, Bool, true, false, cond, ltb, ◌==◌, ◌&&◌, List, [], ◌∷◌, length, get_or, set, take, count_by, refl, sym, ap, ◌∙◌, subst, inl, inr, ◌⊎◌, arith}
 use Rattle.std.specs.List.{All, Contains}
 use Rattle.std.proofs.lemmas.Bool.{cases_eq, cases_order}
 use Rattle.std.proofs.lemmas.Bool.Decides.{nat_tests}
-use Rattle.std.proofs.lemmas.List.{length-replicate, get_or-replicate, length-set, get_or-set_same, get_or-set_other, take_all}
+use Rattle.std.proofs.lemmas.List.{length-set, get_or-set_same, get_or-set_other, take_all}
 use Rattle.std.proofs.lemmas.List.Sums.{sum_by_more}
 use Rattle.mesh_weld.specs.declared.half_edge.HalfEdge.{HalfEdge}
 use Rattle.mesh_weld.specs.declared.by_hash.edges.TheConstants.{EVEN}
@@ -37,14 +37,6 @@ pub record AreBalances (half_edges : List HalfEdge) (numbers : List ℕ) (count 
   pub weighed : (s : ℕ) (d : HalfEdge) → s < length half_edges
       → get_or balances (get_or numbers s 0) 0 + count_between (greater (get_or half_edges s d)) (lesser (get_or half_edges s d)) (take i half_edges)
       ≡ EVEN + count_between (lesser (get_or half_edges s d)) (greater (get_or half_edges s d)) (take i half_edges)
-
-pub none_weighed : (half_edges : List HalfEdge) (numbers : List ℕ) (count : ℕ) → ArePairNumbers half_edges numbers count
-    → AreBalances half_edges numbers count 0 (replicate count EVEN)
-none_weighed half_edges numbers count own =
-    record {
-      each_edge = length-replicate count EVEN;
-      weighed = λ s d l. ap (λ n. n + 0) (get_or-replicate count (get_or numbers s 0) EVEN 0 (own.below s l));
-    }
 
 -- the half-edge has the ends of an edge
 counted_here : (from to x y there back : ℕ) → x + cond (ltb to from) 1 0 ≡ y + cond (ltb from to) 1 0 → y + back ≡ EVEN + there

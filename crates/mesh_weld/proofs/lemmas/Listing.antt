@@ -1,9 +1,13 @@
--- A list that grows by three elements at a time, each with its number.
-use Rattle.std.proofs.Common.{◌≡◌, ℕ, ◌+◌, List, [], ◌∷◌, ◌++◌, length, ap, ◌∙◌, length-append, append_assoc, arith}
-use Rattle.std.proofs.lemmas.List.{length_push}
+-- A list that grows: by one element for each of another list, or by three at a time, each with its number.
+use Rattle.std.proofs.Common.{◌≡◌, ℕ, ◌+◌, ◌<◌, List, [], ◌∷◌, ◌++◌, length, get_or, take, map, ap, sym, ◌∙◌, length-append, append_assoc, arith}
+use Rattle.std.proofs.lemmas.List.{length_push, map_more}
 
 pub longer : {X : Type 0} (xs ys : List X) (x : X) → ys ≡ xs ++ x ∷ [] → length ys ≡ length xs + 1
 longer xs ys x e = ap length e ∙ length_push xs x
+
+pub one_more : (f : ℕ → ℕ) (xs : List ℕ) (i : ℕ) (ys zs : List ℕ) → i < length xs → ys ≡ map f (take i xs) → zs ≡ ys ++ f (get_or xs i 0) ∷ []
+    → zs ≡ map f (take (i + 1) xs)
+one_more f xs i ys zs low so_far is = is ∙ ap (λ l. l ++ f (get_or xs i 0) ∷ []) so_far ∙ sym (map_more f xs i 0 low)
 
 pub three_more : {X : Type 0} (e f g : ℕ → X) (rest l m n o all : List X) (i j k : ℕ)
     → i ≡ length l → j ≡ length m → k ≡ length n
