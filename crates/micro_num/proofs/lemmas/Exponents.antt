@@ -1,5 +1,5 @@
 -- Reading an exponent.
-use Rattle.std.proofs.Common.{◌≡◌, ◌≢◌, ◌⊎◌, inl, inr, ℕ, zero, suc, ◌<◌, ◌≤◌, true, false, List, [], ◌∷◌, ◌++◌, length, take, drop, ℤ, pos, neg_ℤ, arith, ap, subst, sym, ◌∙◌, refl, append_assoc}
+use Rattle.std.proofs.Common.{◌≡◌, ◌≢◌, ◌⊎◌, inl, inr, ℕ, zero, suc, ◌<◌, ◌≤◌, true, false, List, [], ◌∷◌, ◌++◌, length, take, drop, ℤ, pos, neg_ℤ, ◌-ℤ◌, w64, to_z, of_z, arith, ap, subst, sym, ◌∙◌, refl, append_assoc}
 use Rattle.std.specs.Prelude.{Option, Some, None, nat_lt}
 use Rattle.std.specs.Char.{is_ascii_digit}
 use Rattle.std.specs.List.{list_all, position_or_len}
@@ -73,17 +73,25 @@ mark_101 mark e = rw e refl
 pub mark_69 : (mark : ℕ) → mark ≡ 69 → is_exponent_mark mark ≡ true
 mark_69 mark e = rw e refl
 
-pub IsNear-minus : (e : ℤ) (v j n : ℕ) (s : Sign) → IsLeading v j n → e ≡ neg_ℤ (pos v) → s ≡ minus → IsNear e (with_sign s n)
-IsNear-minus e v j n s leads value is =
+-- the leading digits of an exponent with its sign, as the machine turns them to 64 bits
+
+pub IsNear-minus : (e : ℤ) (v j n : ℕ) (s : Sign) → IsLeading v j n → e ≡ to_z w64 (of_z w64 (pos 0 -ℤ to_z w64 v)) → s ≡ minus → IsNear e (with_sign s n)
+IsNear-minus e v j n s leads bits is =
     subst (λ s. IsNear e (with_sign s n)) (sym is) (by_cases (near v j n leads))
   where
+    value : e ≡ neg_ℤ (pos v)
+    value = omega (arith, ints, leads.short)
+
     by_cases : (v ≡ n) ⊎ ((LEADING_ROOM ≤ v) × (LEADING_ROOM ≤ n)) → IsNear e (neg_ℤ (pos n))
     by_cases (inl same) = inl (value ∙ ap (λ n. neg_ℤ (pos n)) same)
     by_cases (inr far) = inr (inr (omega (arith, ints, far), omega (arith, ints, far)))
 
-pub IsNear-plus : (e : ℤ) (v j n : ℕ) (s : Sign) → IsLeading v j n → e ≡ pos v → s ≢ minus → IsNear e (with_sign s n)
-IsNear-plus e v j n s leads value other = by_sign s other
+pub IsNear-plus : (e : ℤ) (v j n : ℕ) (s : Sign) → IsLeading v j n → e ≡ to_z w64 v → s ≢ minus → IsNear e (with_sign s n)
+IsNear-plus e v j n s leads bits other = by_sign s other
   where
+    value : e ≡ pos v
+    value = omega (arith, ints, leads.short)
+
     by_cases : (v ≡ n) ⊎ ((LEADING_ROOM ≤ v) × (LEADING_ROOM ≤ n)) → IsNear e (pos n)
     by_cases (inl same) = inl (value ∙ ap pos same)
     by_cases (inr far) = inr (inl (omega (arith, ints, far), omega (arith, ints, far)))

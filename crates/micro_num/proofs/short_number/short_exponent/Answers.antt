@@ -1,5 +1,4 @@
-use Rattle.std.proofs.Common.{ℕ, ◌≡◌, ◌<◌, List, take, drop, arith, ap, subst, sym, ◌∙◌, true, ℤ, pos, neg_ℤ, w64, to_z, of_z, ◌-ℤ◌}
-use Rattle.std.proofs.lemmas.Int.{ints}
+use Rattle.std.proofs.Common.{ℕ, ◌≡◌, List, take, drop, arith, ap, subst, sym, ◌∙◌, true, ℤ, w64, to_z}
 use Rattle.micro_num.specs.Micrometres.{with_sign, digits_value}
 use Rattle.micro_num.specs.Scan.{IsExponentFront, IsLeading, IsNear, digits_after}
 use Rattle.micro_num.specs.Numeral.{sign_of, is_exponent_mark}
@@ -7,7 +6,6 @@ use Rattle.micro_num.proofs.lemmas.LeadingDigits.{IsLeading-none}
 use Rattle.micro_num.proofs.lemmas.Exponents.{marked_rest, front_exponent, IsNear-minus, IsNear-plus, mark_69, mark_101}
 use Rattle.micro_num.proofs.short_number.short_exponent.Goals.{else-mark-ne101-via-then-mark-ne101+else-mark-ne69, else-mark-ne101-via-else-mark-ne101, then-negative, else-negative}
 use Rattle.micro_num.proofs.short_number.short_exponent.Goals as goal
-use Rattle.micro_num.specs.declared.limits.TheConstants.{LEADING_LIMIT}
 
 is_mark : (c : goal.Joined-negative) → is_exponent_mark c.in-Some.mark.now ≡ true
 is_mark c =
@@ -20,13 +18,10 @@ returns-clause-front c =
     let v : ℕ = c.in_ok-digits.digits.leading.value in
     let e : ℤ = to_z w64 c.if-negative.result-bits in
     let leads : IsLeading v c.in_ok-digits.digits.leading.dropped (digits_after 0 (take n ds)) = c.in_ok-digits.ensures.leads 0 IsLeading-none in
-    let size : v < LEADING_LIMIT = leads.short in
-    let low : to_z w64 (of_z w64 (pos 0 -ℤ to_z w64 v)) ≡ neg_ℤ (pos v) = omega (arith, ints) in
-    let high : to_z w64 v ≡ pos v = omega (arith, ints) in
     let is_near : IsNear e (with_sign (sign_of c.in-Some.text.now) (digits_value (take n ds))) =
     elim c.if-negative.branch [
-      | then-negative w ↦ IsNear-minus e v _ _ (sign_of c.in-Some.text.now) leads (w.result-is ∙ low) (c.split_sign-negative.ensures.minus.0 w.if-negative.true)
-      | else-negative w ↦ IsNear-plus e v _ _ (sign_of c.in-Some.text.now) leads (w.result-is ∙ high) (λ h. let both = c.split_sign-negative.ensures.minus.1 h in let other = w.if-negative.false in cc)
+      | then-negative w ↦ IsNear-minus e v _ _ (sign_of c.in-Some.text.now) leads w.result-is (c.split_sign-negative.ensures.minus.0 w.if-negative.true)
+      | else-negative w ↦ IsNear-plus e v _ _ (sign_of c.in-Some.text.now) leads w.result-is (λ h. let both = c.split_sign-negative.ensures.minus.1 h in let other = w.if-negative.false in cc)
     ] in
     let front : IsExponentFront c.args.bytes.now _ e =
     front_exponent c.args.bytes.now c.in-Some.mark.now c.in-Some.text.now ds n e c.in-Some.ensures.cases.0 c.split_sign-negative.ensures.after (is_mark c)
