@@ -1,5 +1,5 @@
 -- What a DDA's steps keep: its position grows by the increment, and its whole units are the position over the unit, rounded up.
-use Rattle.std.proofs.Common.{◌≡◌, ◌↔◌, ◌⊎◌, inl, inr, ℕ, zero, suc, ◌+◌, ◌*◌, ◌-◌, ◌<◌, ◌≤◌, Bool, true, false, List, [], ◌∷◌, length, slice_index, ℤ, pos, ◌+ℤ◌, ◌-ℤ◌, ◌*ℤ◌, ◌≤ℤ◌, ◌<ℤ◌, unsigned_abs, int_lt, if◌then◌else◌, refl, sym, ◌∙◌, ap, subst, arith}
+use Rattle.std.proofs.Common.{◌≡◌, ◌⊎◌, inl, inr, ℕ, zero, suc, ◌+◌, ◌*◌, ◌-◌, ◌<◌, ◌≤◌, Bool, true, false, List, [], ◌∷◌, length, slice_index, ℤ, pos, ◌+ℤ◌, ◌-ℤ◌, ◌*ℤ◌, ◌≤ℤ◌, ◌<ℤ◌, unsigned_abs, int_lt, if◌then◌else◌, refl, sym, ◌∙◌, ap, subst, arith}
 use Rattle.std.proofs.Math.Nat.{mul-suc}
 use Rattle.std.proofs.lemmas.Int.{ints}
 use lib.IntN.{+ℤ_idr, -ℤ-+ℤ_cancel, *ℤ_comm}
@@ -7,6 +7,7 @@ use Rattle.exact_int.specs.Bounds.{IsAtMost}
 use Rattle.exact_int.proofs.lemmas.Identity.{reads, identity}
 use Rattle.exact_int.proofs.lemmas.Signs.{at_most_or_above, next_at_most, add_not_negative, mul_le_left, difference_from_le}
 use Rattle.exact_int.proofs.lemmas.Tests.{plain_less}
+use Rattle.exact_int.specs.Division.{IsCeilDiv}
 use Rattle.exact_cut.specs.Bounds.{step_limit, whole_limit}
 use Rattle.exact_cut.specs.Column.{clamp}
 use Rattle.exact_cut.specs.Dda.{IsDda, IsOnRows, next, columns_along, position_of, increment_of}
@@ -156,7 +157,7 @@ pub some_left : (left count : ℕ) (s : Dda) {columns : List ℕ} → columns_al
 some_left left count s e h = subst (λ n. 0 < n) (sym (ap length e) ∙ length-columns_along left count s) h
 
 -- ---- the ceiling
-pub ceiling_of : (s : Dda) → IsDda s → (q : ℤ) → (s.whole ≤ℤ q) ↔ (position_of s ≤ℤ (q *ℤ s.unit))
+pub ceiling_of : (s : Dda) → IsDda s → IsCeilDiv s.whole (position_of s) s.unit
 ceiling_of s h q = (λ l. up (s.unit *ℤ s.whole) (s.unit *ℤ q) _ s.remainder _ (mul_le_left s.unit s.whole q positive l) (*ℤ_comm s.unit s.whole) (*ℤ_comm s.unit q) h.not_negative, λ l. by (at_most_or_above s.whole q) l)
   where
     weak : (u l : ℤ) → pos 0 ≤ℤ l → l <ℤ u → pos 0 ≤ℤ u

@@ -1,11 +1,12 @@
 -- A number over a unit, rounded up: the remainder is at least 0 and less than a unit.
-use Rattle.std.proofs.Common.{◌≡◌, ◌↔◌, ◌⊎◌, inl, inr, ℕ, ◌+◌, ◌*◌, ◌≤◌, [], ◌∷◌, ℤ, pos, ◌+ℤ◌, ◌-ℤ◌, ◌*ℤ◌, ◌≤ℤ◌, ◌<ℤ◌, unsigned_abs, FitsSigned, refl, ◌∙◌, ap, arith}
+use Rattle.std.proofs.Common.{◌≡◌, ◌⊎◌, inl, inr, ℕ, ◌+◌, ◌*◌, ◌≤◌, [], ◌∷◌, ℤ, pos, ◌+ℤ◌, ◌-ℤ◌, ◌*ℤ◌, ◌≤ℤ◌, ◌<ℤ◌, unsigned_abs, FitsSigned, refl, ◌∙◌, ap, arith}
 use Rattle.std.proofs.lemmas.Int.{ints, unsigned_abs-mul}
 use Rattle.std.proofs.Math.Nat.{mul-le-mul}
 use mir.Syntax.{w64, w128}
 use Rattle.exact_int.specs.Bounds.{IsAtMost}
 use Rattle.exact_int.proofs.lemmas.Identity.{reads, identity}
 use Rattle.exact_int.proofs.lemmas.Signs.{at_most_or_above, difference_from_le}
+use Rattle.exact_int.specs.Division.{IsCeilDiv}
 use Rattle.exact_cut.specs.Bounds.{increment_limit, unit_limit}
 use Rattle.exact_cut.specs.Dda.{IsDivisionOf, IsDda}
 use Rattle.exact_cut.specs.declared.dda.Division.{Division}
@@ -22,7 +23,7 @@ factor_in {s} w u p h = by (unsigned_abs w) (unsigned_abs u) (unsigned_abs (w *�
     by w u p s h e k = omega (arith, mul-le-mul {n₁ = w} {m₁ = 1} {n₂ = w} {m₂ = u} (omega arith) h)
 
 -- w is the ceiling of n / u
-module _ (n u w : ℤ) (h : (q : ℤ) → (w ≤ℤ q) ↔ (n ≤ℤ (q *ℤ u))) where
+module _ (n u w : ℤ) (h : IsCeilDiv w n u) where
   self : w ≤ℤ w
   self = omega (arith, ints)
 

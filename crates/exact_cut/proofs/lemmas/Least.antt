@@ -3,11 +3,12 @@ use Rattle.std.proofs.Common.{◌≡◌, ℕ, ◌≤◌, Bool, true, false, nat_
 use Rattle.std.proofs.lemmas.Int.{ints}
 use Rattle.exact_int.proofs.lemmas.Identity.{reads, identity}
 use Rattle.exact_int.proofs.lemmas.Signs.{at_most_or_above, not_both, mul_positive}
+use Rattle.exact_int.specs.Division.{IsCeilDiv}
 use Rattle.exact_cut.specs.Column.{IsLeastColumn, clamp}
 
 -- i is the ceiling of (num - first * den) / (2 * step * den)
-pub record IsCeiling (i num den first step : ℤ) : Type 0 where
-  pub least : (q : ℤ) → (i ≤ℤ q) ↔ ((num -ℤ first *ℤ den) ≤ℤ (q *ℤ (pos 2 *ℤ step *ℤ den)))
+abbrev pub IsCeiling : ℤ → ℤ → ℤ → ℤ → ℤ → Type 0
+IsCeiling i num den first step = IsCeilDiv i (num -ℤ first *ℤ den) (pos 2 *ℤ step *ℤ den)
 
 -- centre k is not left of the crossing exactly where i is at most k
 moved : (first step k den : ℤ) → (first +ℤ pos 2 *ℤ step *ℤ k) *ℤ den ≡ first *ℤ den +ℤ k *ℤ (pos 2 *ℤ step *ℤ den)
@@ -21,8 +22,8 @@ le_back num a b c e h = omega (arith, ints)
 
 not_left : (i num den first step k : ℤ) → IsCeiling i num den first step → (i ≤ℤ k) ↔ (num ≤ℤ ((first +ℤ pos 2 *ℤ step *ℤ k) *ℤ den))
 not_left i num den first step k h = (
-  λ l. le_moved num (first *ℤ den) (k *ℤ (pos 2 *ℤ step *ℤ den)) ((first +ℤ pos 2 *ℤ step *ℤ k) *ℤ den) (moved first step k den) ((h.least k).0 l),
-  λ l. (h.least k).1 (le_back num (first *ℤ den) (k *ℤ (pos 2 *ℤ step *ℤ den)) ((first +ℤ pos 2 *ℤ step *ℤ k) *ℤ den) (moved first step k den) l),
+  λ l. le_moved num (first *ℤ den) (k *ℤ (pos 2 *ℤ step *ℤ den)) ((first +ℤ pos 2 *ℤ step *ℤ k) *ℤ den) (moved first step k den) ((h k).0 l),
+  λ l. (h k).1 (le_back num (first *ℤ den) (k *ℤ (pos 2 *ℤ step *ℤ den)) ((first +ℤ pos 2 *ℤ step *ℤ k) *ℤ den) (moved first step k den) l),
 )
 
 before : (i num den first step k : ℤ) → IsCeiling i num den first step → k <ℤ i → ((first +ℤ pos 2 *ℤ step *ℤ k) *ℤ den) <ℤ num
@@ -54,9 +55,9 @@ module _ (i num den first : ℤ) (step columns : ℕ) (h : IsCeiling i num den f
     before_left = λ k b. before i num den first (pos step) (pos k) h (omega (arith, ints));
   }
 
-pub ceiling_by : {i g u : ℤ} (num den first step : ℤ) → ((q : ℤ) → (i ≤ℤ q) ↔ (g ≤ℤ (q *ℤ u))) → g ≡ num -ℤ first *ℤ den → u ≡ pos 2 *ℤ step *ℤ den → IsCeiling i num den first step
+pub ceiling_by : {i g u : ℤ} (num den first step : ℤ) → IsCeilDiv i g u → g ≡ num -ℤ first *ℤ den → u ≡ pos 2 *ℤ step *ℤ den → IsCeiling i num den first step
 ceiling_by {i} {g} {u} num den first step h e f =
-    record { least = subst (λ x. (q : ℤ) → (i ≤ℤ q) ↔ (x ≤ℤ (q *ℤ (pos 2 *ℤ step *ℤ den)))) e (subst (λ x. (q : ℤ) → (i ≤ℤ q) ↔ (g ≤ℤ (q *ℤ x))) f h) }
+    subst (λ x. IsCeilDiv i x (pos 2 *ℤ step *ℤ den)) e (subst (IsCeilDiv i g) f h)
 
 pub ceiling_step : (i num den first s : ℤ) (n : ℕ) → s ≡ pos n → IsCeiling i num den first s → IsCeiling i num den first (pos n)
 ceiling_step i num den first s n e h = subst (IsCeiling i num den first) e h

@@ -1,7 +1,8 @@
-use Rattle.std.proofs.Common.{rules, ◌≡◌, ℤ, ◌↔◌, ◌≤ℤ◌, ◌*ℤ◌, FitsSigned}
+use Rattle.std.proofs.Common.{rules, ◌≡◌, FitsSigned}
 use Rattle.std.proofs.lemmas.Int.{to_z-of_z}
 use mir.Syntax.{w64, w128}
 use Rattle.exact_int.proofs.division.quick_ceil_div.Goals as goal
+use Rattle.exact_int.specs.Division.{IsCeilDiv}
 
 pub returns-in-Ok-Ok : goal.returns-in-Ok-Ok
 returns-in-Ok-Ok c =
@@ -17,7 +18,7 @@ returns-in-Ok-Ok c =
     let n_is : n ≡ c.args.n = simp to_z-of_z at c.in-Ok-Ok.ensures.1 in
     let d_is : d ≡ c.args.d = simp to_z-of_z at c.in-Ok-Ok.ensures'.1 in
     let w_is : c.from.result ≡ w = simp to_z-of_z at c.from.ensures in
-    let told : (q : ℤ) → (w ≤ℤ q) ↔ (n ≤ℤ (q *ℤ d)) = simp to_z-of_z at c.ceil_div_64.ensures in
+    let told : IsCeilDiv w n d = simp to_z-of_z at c.ceil_div_64.ensures in
     simp to_z-of_z (rw (w_is, ← n_is, ← d_is) told)
 
 pub returns-in_default : goal.returns-in_default
