@@ -18,6 +18,9 @@ read g c =
     c.as_mut_slice-crossings.ensures.value
     ∙ read-row (λ v. v.items) c.self.inside.rows.items c.args.self.now c.args.row c.index_mut.result.now c.self.view_is c.requires.row c.index_mut.ensures.value
 
+pub as_mut_slice-crossings-requires : goal.as_mut_slice-crossings-requires
+as_mut_slice-crossings-requires g c = c.fits_in_memory.ensures c.if-not-fits_in_memory.false
+
 pub fill_row-requires-clause-within : goal.fill_row-requires-clause-within
 fill_row-requires-clause-within g c =
     subst (λ (l : List RowCrossing). list_all (λ m. nat_le m.column c.args.width) l ≡ true) (sym (read g (goal.at.fill_row-requires-clause-within g c).After-as_mut_slice-crossings)) c.requires.within

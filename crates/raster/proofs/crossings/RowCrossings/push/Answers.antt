@@ -15,3 +15,6 @@ returns-clause-here g c =
 pub returns-clause-elsewhere : goal.returns-clause-elsewhere
 returns-clause-elsewhere g c =
     changed-elsewhere (λ v. v.items) c.self.inside.rows.items c.args.self.now c.args.row c.push.new.crossings c.self.view_is
+
+pub push-requires : goal.push-requires
+push-requires g c = c.fits_in_memory.ensures c.if-not-fits_in_memory.false

@@ -5,3 +5,9 @@ use Rattle.raster.proofs.crossings.RowCrossings.start.Goals as goal
 pub returns-clause-empty : goal.returns-clause-empty
 returns-clause-empty g c =
     on_ok_weaker c.make_room.result (λ empty. none-in (λ v. v.items) c.make_room.new.rows.items empty) c.make_room.ensures.empty
+
+pub forget_all-requires : goal.forget_all-requires
+forget_all-requires g c = c.fits_in_memory.ensures c.if-not-fits_in_memory.false
+
+pub make_room-requires : goal.make_room-requires
+make_room-requires g c = (c.fits_in_memory.ensures c.if-not-fits_in_memory.false, c.forget_all.ensures.empty)
