@@ -29,8 +29,8 @@ or_layer None layer = Some layer
 or_layer (Some old) layer = Some old
 
 -- the places, with these layers in those from `first` on that were free
-abbrev pub filled : ℕ → List Layer → List (Option Layer) → List (Option Layer)
-filled first layers [] = []
-filled zero [] (place ∷ places) = place ∷ places
-filled zero (layer ∷ layers) (place ∷ places) = or_layer place layer ∷ filled zero layers places
-filled (suc first) layers (place ∷ places) = place ∷ filled first layers places
+abbrev pub with_layers : ℕ → List Layer → List (Option Layer) → List (Option Layer)
+with_layers first layers [] = []
+with_layers zero [] (place ∷ places) = place ∷ places
+with_layers zero (layer ∷ layers) (place ∷ places) = or_layer place layer ∷ with_layers zero layers places
+with_layers (suc first) layers (place ∷ places) = place ∷ with_layers first layers places

@@ -1,7 +1,7 @@
 //! The places of a book: counting and searching them, filling those that are free, making what is missing.
 ghost use Rattle.std.specs.Prelude.{◌≡◌, ◌+◌, ◌*◌, ◌<◌, ◌≤◌, ℕ, IfOk, IfNone, IfSome, IsTrue, None, length, replicate, not, is_some, flat_map, option_to_list};
 ghost use Rattle.build_book.specs.Job.{stripe_count};
-ghost use Rattle.build_book.specs.Places.{AreFree, IsTaken, IsTakenAt, filled, or_layer, filed_count, place_area, total_area};
+ghost use Rattle.build_book.specs.Places.{AreFree, IsTaken, IsTakenAt, with_layers, or_layer, filed_count, place_area, total_area};
 ghost use Rattle.build_book.specs.Book.{IsLawfulBook};
 ghost use Rattle.build_book.specs.declared.limits.TheConstants.{STRIPE_LAYERS, VOXEL_LIMIT};
 ghost use Rattle.geometry.specs.declared.limits.TheConstants.{LAYER_LIMIT};
@@ -82,7 +82,7 @@ pub(crate) fn fill_gaps<A: Allocator>(
 ) -> u32
     requires room { first + length layers.items ≤ length places.old }
     requires few { length layers.items ≤ STRIPE_LAYERS }
-    ensures places { places.new ≡ filled first layers.items places.old }
+    ensures places { places.new ≡ with_layers first layers.items places.old }
     ensures made { result + filed_count places.old ≡ filed_count places.new }
 {
     let mut made = 0u32;

@@ -1,12 +1,12 @@
 -- The facets that a plane cuts, and how those at one height follow from those at a lower one. Heights z are in
 -- half-micrometres; TieRule says which corners count as below a height.
 --     active_facets facets z   the numbers of the facets that are cut at the height z, in ascending order
---     passed_count facets z    the number of facets that the plane has reached
+--     reached_count facets z    the number of facets that the plane has reached
 use Rattle.std.specs.Prelude.{ℕ, Bool, ◌&&◌, List, [], ◌∷◌, ◌++◌, map, filter, take, drop, count_by, ℤ, pos, ◌*ℤ◌, nat_lt}
 use Rattle.std.specs.List.{enumerate_from, list_any, prefix_len}
 use Rattle.geometry.specs.TieRule.{is_below, is_above}
-use Rattle.geometry.specs.Facet.{Facet, corners}
-use Rattle.mesh_weld.specs.Solid.{facet_at, greatest_z, least_z}
+use Rattle.geometry.specs.Facet.{Facet, corners, greatest_z, least_z}
+use Rattle.mesh_weld.specs.Solid.{facet_at}
 use Rattle.plane_segments.specs.Segment.{height}
 
 -- some corner counts as below the height z
@@ -14,14 +14,14 @@ abbrev pub is_reached : ℤ → Facet → Bool
 is_reached z t = list_any (λ p. is_below (height p) z) (corners t)
 
 -- some corner counts as below the height z, and some corner is above it
-abbrev pub is_cut : ℤ → Facet → Bool
-is_cut z t = is_reached z t && list_any (λ p. is_above (height p) z) (corners t)
+abbrev pub is_between : ℤ → Facet → Bool
+is_between z t = is_reached z t && list_any (λ p. is_above (height p) z) (corners t)
 
 abbrev pub active_facets : List Facet → ℤ → List ℕ
-active_facets facets z = map (λ e. e.0) (filter (λ e. is_cut z e.1) (enumerate_from 0 facets))
+active_facets facets z = map (λ e. e.0) (filter (λ e. is_between z e.1) (enumerate_from 0 facets))
 
-abbrev pub passed_count : List Facet → ℤ → ℕ
-passed_count facets z = count_by (is_reached z) facets
+abbrev pub reached_count : List Facet → ℤ → ℕ
+reached_count facets z = count_by (is_reached z) facets
 
 -- the greatest height of the corners of the facet with a number, in micrometres
 abbrev pub top_of : List Facet → ℕ → ℤ

@@ -3,7 +3,7 @@ use Rattle.std.specs.Prelude.{◌≡◌, ℕ, List, map, ℤ}
 use Rattle.exact_int.specs.Bounds.{IsAtMost}
 use Rattle.geometry.specs.Facet.{Facet}
 use Rattle.geometry.specs.declared.limits.TheConstants.{CENTRE_LIMIT}
-use Rattle.contour.specs.Active.{active_facets, passed_count, top_of}
+use Rattle.contour.specs.Active.{active_facets, reached_count, top_of}
 
 -- the mesh, and the plane's height in half-micrometres
 pub record Sweep : Type 0 where
@@ -13,6 +13,6 @@ pub record Sweep : Type 0 where
 -- what a sweep keeps beside its mesh and height
 pub record IsSwept (facets : List Facet) (height : ℤ) (passed : ℕ) (active : List ℕ) (tops : List ℤ) : Type 0 where
   pub within : IsAtMost CENTRE_LIMIT height
-  pub passed_is : passed ≡ passed_count facets height
+  pub passed_is : passed ≡ reached_count facets height
   pub active_is : active ≡ active_facets facets height
   pub tops_are : tops ≡ map (top_of facets) active

@@ -3,7 +3,7 @@
 ghost use Rattle.std.specs.Prelude.{◌≡◌, ◌<◌, ◌≤ℤ◌, All, IfOk, OnErr, OnOk, filter_map, length};
 ghost use Rattle.exact_int.specs.Bounds.{IsAtMost};
 ghost use Rattle.plane_segments.specs.Segment.{HasOrderedNodes, numbered_segment, segments};
-ghost use Rattle.contour.specs.Active.{active_facets, passed_count};
+ghost use Rattle.contour.specs.Active.{active_facets, reached_count};
 ghost use Rattle.geometry.specs.declared.limits.TheConstants.{CENTRE_LIMIT};
 
 use crate::active::{ActiveFacets, Arrivals};
@@ -86,7 +86,7 @@ impl<'m, A: Allocator + Copy + Send + Sync> Sweep<'m, A> {
     /// The number of kept facets that the plane has reached: those with a corner that counts as below its height, by the
     /// tie rule.
     pub fn passed(&self) -> u32
-        ensures { result ≡ passed_count self.now.facets self.now.height }
+        ensures { result ≡ reached_count self.now.facets self.now.height }
     {
         let facets = self.solid.count();
         prove!(self.passed <= facets);

@@ -1,7 +1,8 @@
 -- A facet by its corners, in order, and its three half-edges. An edge is directed: its two ends are in order. A
 -- half-edge is one occurrence of an edge in a facet: a mesh has three half-edges per facet, and an edge may occur
 -- several times.
-use Rattle.std.specs.Prelude.{◌≡◌, ℕ, zero, suc, List, [], ◌∷◌, length, slice_index_or, flat_map, refl}
+use Rattle.std.specs.Prelude.{◌≡◌, ℕ, zero, suc, List, [], ◌∷◌, length, slice_index_or, flat_map, ℤ, refl}
+use Rattle.std.specs.Int.{int_min, int_max}
 use Rattle.std.proofs.Common.{subst}
 use Rattle.geometry.specs.Point.{Point, origin, half_micrometres_of}
 
@@ -33,6 +34,13 @@ abbrev pub corner : Facet → ℕ → Point
 corner t zero = t.a
 corner t (suc zero) = t.b
 corner t (suc (suc n)) = t.c
+
+-- the least and the greatest height of a facet's corners
+abbrev pub least_z : Facet → ℤ
+least_z t = int_min (int_min t.a.z t.b.z) t.c.z
+
+abbrev pub greatest_z : Facet → ℤ
+greatest_z t = int_max (int_max t.a.z t.b.z) t.c.z
 
 -- the half-edges of all facets, in order, three per facet
 abbrev pub edges : List Facet → List Edge

@@ -30,7 +30,7 @@ half_micrometres_of p = record { x = pos 2 *ℤ p.x; y = pos 2 *ℤ p.y; z = pos
 
 -- the same coordinates
 abbrev pub same : Point → Point → Bool
-same p q = int_eq p.x q.x && int_eq p.y q.y && int_eq p.z q.z
+same p q = int_eq p.x q.x && (int_eq p.y q.y && int_eq p.z q.z)
 
 -- the order of points: by x, then y, then z
 abbrev pub is_before : Point → Point → Bool

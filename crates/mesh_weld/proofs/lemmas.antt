@@ -18,7 +18,6 @@ pub mod EdgeNumbering
 pub mod Naming
 pub mod Welds
 pub mod EdgeCount
-pub mod Alike
 pub mod Degenerate
 pub mod Sums
 pub mod Probing

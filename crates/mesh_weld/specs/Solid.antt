@@ -1,10 +1,9 @@
 -- A closed mesh as its kept facets and the number of dropped ones; its vertices and their numbers follow from these.
 use Rattle.std.specs.Prelude.{◌≡◌, ℕ, Bool, true, not, ◌&&◌, ◌||◌, List, [], ◌∷◌, length, map, filter, flat_map, count_by, IsPermutation, ℤ, pos, ◌-ℤ◌, ◌≤ℤ◌, ◌≤◌, if◌then◌else◌, slice_index, slice_index_or, nat_lt, int_lt}
 use Rattle.std.specs.Ordering.{int_eq}
-use Rattle.std.specs.Int.{int_min, int_max}
 use Rattle.std.specs.List.{All, position_or_len, range_with_len, AllPairs}
 use Rattle.geometry.specs.Point.{Point, origin, same, is_before}
-use Rattle.geometry.specs.Facet.{Facet, facet_with, corners}
+use Rattle.geometry.specs.Facet.{Facet, corners, facet_with, greatest_z, least_z}
 use Rattle.mesh_weld.specs.declared.height_order.HeightRange.{HeightRange}
 
 pub record Solid : Type 0 where
@@ -58,14 +57,6 @@ facet_by points numbers =
 -- facets by the numbers of their corners
 abbrev pub facets_by : List Point → List (List ℕ) → List Facet
 facets_by points numbers = map (facet_by points) numbers
-
--- the least height of a facet's corners
-abbrev pub least_z : Facet → ℤ
-least_z t = int_min (int_min t.a.z t.b.z) t.c.z
-
--- the greatest height of a facet's corners
-abbrev pub greatest_z : Facet → ℤ
-greatest_z t = int_max (int_max t.a.z t.b.z) t.c.z
 
 -- the heights of a facet's lowest and highest corner
 abbrev pub height_range : Facet → HeightRange

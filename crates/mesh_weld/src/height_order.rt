@@ -4,7 +4,8 @@ ghost use Rattle.std.specs.Prelude.{◌≡◌, ◌≤◌, ◌%◌, ◌/◌, ◌+
 ghost use Rattle.std.specs.List.{range_with_len};
 ghost use Rattle.std.specs.List.Sorted.{IsPermutation, IsNonDecreasing};
 ghost use Rattle.mesh_weld.specs.HeightOrder.{AreHeightKeys, AreNumbersSorted};
-ghost use Rattle.mesh_weld.specs.Solid.{IsByHeight, IsGreatestRise, facets_by, greatest_z, height_range, height_ranges, least_z, rise};
+ghost use Rattle.geometry.specs.Facet.{greatest_z, least_z};
+ghost use Rattle.mesh_weld.specs.Solid.{IsByHeight, IsGreatestRise, facets_by, height_range, height_ranges, rise};
 ghost use Rattle.mesh_weld.specs.Welder.{AreBelow};
 ghost use Rattle.mesh_weld.specs.declared.height_order.TheConstants.{HEIGHT_OFFSET};
 ghost use Rattle.mesh_weld.specs.declared.packing.TheConstants.{HALF_WORD};

@@ -2,11 +2,11 @@
 ghost use Rattle.std.specs.Prelude.{◌≡◌, ◌≢◌, ◌<◌, ◌≤◌, ◌↔◌, ℕ, IsTrue, List, Some, flat_map, length, slice_get, true};
 ghost use Rattle.std.specs.List.{AllPairs, Contains};
 ghost use Rattle.geometry.specs.BoundingBox.{extent};
-ghost use Rattle.geometry.specs.Facet.{corners};
+ghost use Rattle.geometry.specs.Facet.{corners, greatest_z, least_z};
 ghost use Rattle.geometry.specs.Point.{Point, is_before};
 ghost use Rattle.mesh_weld.specs.Balance.{IsBalanced};
 ghost use Rattle.mesh_weld.specs.EdgeNumbers.{AreEdgeNumbers};
-ghost use Rattle.mesh_weld.specs.Solid.{HaveDistinctCorners, IsByHeight, IsGreatestRise, facet_at, greatest_z, least_z, triples, vertices};
+ghost use Rattle.mesh_weld.specs.Solid.{HaveDistinctCorners, IsByHeight, IsGreatestRise, facet_at, triples, vertices};
 ghost use Rattle.geometry.specs.declared.limits.TheConstants.{FACET_LIMIT};
 
 use crate::facets::facet_by;

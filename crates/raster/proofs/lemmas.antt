@@ -5,7 +5,6 @@ pub mod Packing
 pub mod SpanOrder
 pub mod Covered
 pub mod Decimals
-pub mod Sent
 pub mod Written
 pub mod Sweeps
 pub mod Pairs

@@ -37,12 +37,12 @@ abbrev pub box : Point → Point → List Facet
 box low high = sides_x low high ++ sides_y low high ++ sides_z low high
 
 -- m, in half-micrometres, is not below the low end and is below the high end, both in micrometres
-abbrev pub is_between : ℤ → ℤ → ℤ → Bool
-is_between low high m = int_le (pos 2 *ℤ low) m && int_lt m (pos 2 *ℤ high)
+abbrev pub is_from_to : ℤ → ℤ → ℤ → Bool
+is_from_to low high m = int_le (pos 2 *ℤ low) m && int_lt m (pos 2 *ℤ high)
 
 -- the box between two corners, in micrometres, holds c, in half-micrometres: its near faces are held, its far faces are not
 abbrev pub holds : Point → Point → Point → Bool
-holds low high c = is_between low.x high.x c.x && is_between low.y high.y c.y && is_between low.z high.z c.z
+holds low high c = is_from_to low.x high.x c.x && is_from_to low.y high.y c.y && is_from_to low.z high.z c.z
 
 abbrev pub BoxesAreClosed : Type 0
 BoxesAreClosed = (low high : Point) → IsBalanced (box low high)

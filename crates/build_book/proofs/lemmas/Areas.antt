@@ -11,6 +11,7 @@ use Rattle.raster.specs.declared.rule.Rule.{Rule}
 use Rattle.raster.specs.Span.{AreSpans, covers, is_span_within, is_span_before, are_apart, span_area}
 use Rattle.raster.specs.Filler.{area_of, is_filled, below}
 use Rattle.raster.specs.Grid.{Grid, centre}
+use Rattle.raster.proofs.lemmas.Packing.{indicator}
 use Rattle.geometry.specs.Facet.{Facet}
 use Rattle.build_book.proofs.lemmas.OneLayer.{holds, Holds, holds-is, none_later, UpTo, within-parts}
 
@@ -41,23 +42,19 @@ no_sum f a (suc n) none =
     let rest : sum_by f (range_with_len (a + 1) n) ≡ 0 = no_sum f (a + 1) n (λ i l. none i (omega (arith, l))) in
     simp sum_by-cons (omega (arith, head, rest))
 
--- 1 where a test holds
-abbrev one_if : Bool → ℕ
-one_if b = cond b 1 0
-
 -- how many of n columns from a on lie from `from` up to but not including `to`
 between_count : (from to a n : ℕ)
-    → sum_by (λ i. one_if (nat_le from i && nat_lt i to)) (range_with_len a n) ≡ min to (a + n) - max from a
+    → sum_by (λ i. indicator (nat_le from i && nat_lt i to)) (range_with_len a n) ≡ min to (a + n) - max from a
 between_count from to a zero = omega arith
 between_count from to a (suc n) = simp sum_by-cons (by_order (leb_tells from a) (leb_tells (suc a) to) (between_count from to (a + 1) n))
   where
     after : ℕ
-    after = sum_by (λ i. one_if (nat_le from i && nat_lt i to)) (range_with_len (a + 1) n)
+    after = sum_by (λ i. indicator (nat_le from i && nat_lt i to)) (range_with_len (a + 1) n)
 
     by_order : ((nat_le from a ≡ true) × (from ≤ a)) ⊎ ((nat_le from a ≡ false) × (a < from))
         → ((nat_le (suc a) to ≡ true) × (suc a ≤ to)) ⊎ ((nat_le (suc a) to ≡ false) × (to < suc a))
         → after ≡ min to (a + 1 + n) - max from (a + 1)
-        → one_if (nat_le from a && nat_lt a to) + after ≡ min to (a + suc n) - max from a
+        → indicator (nat_le from a && nat_lt a to) + after ≡ min to (a + suc n) - max from a
     by_order (inl x) (inl y) rest = rw (x.0, y.0) (omega (arith, x.1, y.1, rest))
     by_order (inl x) (inr y) rest = rw (x.0, y.0) (omega (arith, x.1, y.1, rest))
     by_order (inr x) other rest = rw x.0 (omega (arith, x.1, rest))
@@ -89,7 +86,7 @@ once_sum r w a (suc n) low high = simp sum_by-cons (by_test (r == a) refl (once_
 
 -- the pixels that a span has in one row
 row_count : (columns from to : ℕ) (b : Bool) → to ≤ columns
-    → sum_by (λ i. one_if (b && nat_le from i && nat_lt i to)) (below columns) ≡ cond b (to - from) 0
+    → sum_by (λ i. indicator (b && nat_le from i && nat_lt i to)) (below columns) ≡ cond b (to - from) 0
 row_count columns from to true within = omega (arith, between_count from to 0 columns, within)
 row_count columns from to false within = no_sum (λ i. 0) 0 columns (λ i l. refl)
 
@@ -104,11 +101,11 @@ span_sum columns rows s within =
 
 -- a pixel lies in one span at most
 one_span : (s : Span) (ss : List Span) (i j : ℕ) → list_all (is_span_before s) ss ≡ true
-    → one_if (covers (s ∷ ss) i j) ≡ one_if (holds i j s) + one_if (covers ss i j)
+    → indicator (covers (s ∷ ss) i j) ≡ indicator (holds i j s) + indicator (covers ss i j)
 unfolding UpTo
 one_span s ss i j apart = by_test (holds i j s) refl
   where
-    by_test : (b : Bool) → holds i j s ≡ b → one_if (b || covers ss i j) ≡ one_if b + one_if (covers ss i j)
+    by_test : (b : Bool) → holds i j s ≡ b → indicator (b || covers ss i j) ≡ indicator b + indicator (covers ss i j)
     by_test true e =
         let at : Holds i j s = holds-is i j s e in
         let none : covers ss i j ≡ false = none_later s ss i j apart (inr (sym at.row, omega (arith, at.to))) in
@@ -127,7 +124,7 @@ spans_sum columns rows (s ∷ ss) within apart =
     let both : sum_by (λ j. count_by (λ i. covers (s ∷ ss) i j) (below columns)) (below rows)
     ≡ sum_by (λ j. count_by (λ i. holds i j s) (below columns)) (below rows) + sum_by (λ j. count_by (λ i. covers ss i j) (below columns)) (below rows) =
     added_sums (λ j. count_by (λ i. holds i j s) (below columns)) (λ j. count_by (λ i. covers ss i j) (below columns)) (λ j. count_by (λ i. covers (s ∷ ss) i j) (below columns)) 0 rows
-    (λ j l. added_sums (λ i. one_if (holds i j s)) (λ i. one_if (covers ss i j)) (λ i. one_if (covers (s ∷ ss) i j)) 0 columns (λ i m. one_span s ss i j ahead.0)) in
+    (λ j l. added_sums (λ i. indicator (holds i j s)) (λ i. indicator (covers ss i j)) (λ i. indicator (covers (s ∷ ss) i j)) 0 columns (λ i m. one_span s ss i j ahead.0)) in
     both ∙ simp sum_by-cons (omega (arith, first, rest))
 
 -- the spans of a layer's filled pixels are as long together as its area
@@ -138,8 +135,8 @@ pub span_area-is : (g : Grid) (rule : Rule) (facets : List Facet) (k : ℕ) (spa
 span_area-is g rule facets k spans form filled =
     sym (spans_sum g.columns g.rows spans form.within form.apart)
     ∙ same_sums (λ j. count_by (λ i. covers spans i j) (below g.columns)) (λ j. count_by (λ i. is_filled rule facets (centre g i j k)) (below g.columns)) 0 g.rows
-    (λ j y. same_sums (λ i. one_if (covers spans i j)) (λ i. one_if (is_filled rule facets (centre g i j k))) 0 g.columns
-    (λ i x. ap one_if (filled i j (omega (arith, x)) (omega (arith, y)))))
+    (λ j y. same_sums (λ i. indicator (covers spans i j)) (λ i. indicator (is_filled rule facets (centre g i j k))) 0 g.columns
+    (λ i x. ap indicator (filled i j (omega (arith, x)) (omega (arith, y)))))
 
 small_sum : (f : ℕ → ℕ) (m a n : ℕ) → ((i : ℕ) → f i ≤ m) → sum_by f (range_with_len a n) ≤ n * m
 small_sum f m a zero small = omega arith

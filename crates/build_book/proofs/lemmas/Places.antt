@@ -8,17 +8,17 @@ use Rattle.std.proofs.lemmas.List.Sums.{sum_by-cons, count_by-le-length}
 use Rattle.build_book.specs.Job.{Job, stripe_length, stripe_count}
 use Rattle.build_book.specs.Layer.{Layer, IsLawful, AreLawfulFrom}
 use Rattle.build_book.specs.Piece.{IsStripe}
-use Rattle.build_book.specs.Places.{filed_count, filled, or_layer, IsTaken, AreFree}
+use Rattle.build_book.specs.Places.{filed_count, with_layers, or_layer, IsTaken, AreFree}
 use Rattle.build_book.specs.Book.{IsLawfulPlace, IsLawfulBook}
 use Rattle.build_book.specs.Build.{IsComplete}
 use Rattle.build_book.specs.declared.limits.TheConstants.{MOST_STRIPES, STRIPE_LAYERS}
 use Rattle.geometry.specs.declared.limits.TheConstants.{LAYER_LIMIT}
 
-filled_none : (places : List (Option Layer)) → filled zero [] places ≡ places
+filled_none : (places : List (Option Layer)) → with_layers zero [] places ≡ places
 filled_none [] = refl
 filled_none (p ∷ ps) = refl
 
-pub filled_empty : (f : ℕ) (places : List (Option Layer)) → places ≡ filled f [] places
+pub filled_empty : (f : ℕ) (places : List (Option Layer)) → places ≡ with_layers f [] places
 filled_empty f [] = refl
 filled_empty zero (p ∷ ps) = refl
 filled_empty (suc f) (p ∷ ps) = ap (λ qs. p ∷ qs) (filled_empty f ps)
@@ -41,7 +41,7 @@ length_step ys x = omega (arith, length-append ys (x ∷ []))
 
 -- one more layer is put into its place
 pub filled_step : (f n : ℕ) (ys : List Layer) (y : Layer) (ps : List (Option Layer)) (v : Option Layer) → n ≡ f + length ys → n < length ps
-    → v ≡ get_or (filled f ys ps) n v → set (filled f ys ps) n (or_layer v y) ≡ filled f (ys ++ y ∷ []) ps
+    → v ≡ get_or (with_layers f ys ps) n v → set (with_layers f ys ps) n (or_layer v y) ≡ with_layers f (ys ++ y ∷ []) ps
 filled_step f n ys y [] v at low e = absurd (omega (arith, low))
 filled_step zero zero [] y (p ∷ ps) v at low e =
     let here : v ≡ p = e in
@@ -54,7 +54,7 @@ filled_step (suc f) zero ys y (p ∷ ps) v at low e = absurd (omega (arith, at))
 filled_step (suc f) (suc n) ys y (p ∷ ps) v at low e =
     ap (λ qs. p ∷ qs) (filled_step f n ys y ps v (omega (arith, at)) (omega (arith, low)) e)
 
-pub length-filled : (f : ℕ) (ys : List Layer) (ps : List (Option Layer)) → length (filled f ys ps) ≡ length ps
+pub length-filled : (f : ℕ) (ys : List Layer) (ps : List (Option Layer)) → length (with_layers f ys ps) ≡ length ps
 length-filled f ys [] = refl
 length-filled zero [] (p ∷ ps) = refl
 length-filled zero (y ∷ ys) (p ∷ ps) = ap suc (length-filled zero ys ps)
@@ -96,7 +96,7 @@ one_at_most (Some x) = omega arith
 -- where the places were free, the layers stand in them
 filled-is : (f n : ℕ) (ys : List Layer) (ps : List (Option Layer)) → n ≡ f + length ys → n ≤ length ps
     → ((k : ℕ) → f ≤ k → k < n → slice_get ps k ≡ Some None)
-    → filled f ys ps ≡ take f ps ++ map Some ys ++ drop n ps
+    → with_layers f ys ps ≡ take f ps ++ map Some ys ++ drop n ps
 filled-is zero zero [] [] at low free = refl
 filled-is zero (suc n) [] [] at low free = absurd (omega (arith, at))
 filled-is zero n (y ∷ ys) [] at low free = absurd (omega (arith, at, low))
@@ -105,11 +105,11 @@ filled-is zero zero [] (p ∷ ps) at low free = refl
 filled-is zero (suc n) [] (p ∷ ps) at low free = absurd (omega (arith, at))
 filled-is zero zero (y ∷ ys) (p ∷ ps) at low free = absurd (omega (arith, at))
 filled-is zero (suc n) (y ∷ ys) (p ∷ ps) at low free =
-    let rest : filled zero ys ps ≡ map Some ys ++ drop n ps =
+    let rest : with_layers zero ys ps ≡ map Some ys ++ drop n ps =
     filled-is zero n ys ps (omega (arith, at)) (omega (arith, low)) (λ k a b. free (suc k) (omega arith) (omega (arith, b))) in
     first p (free zero (omega arith) (omega arith)) ∙ ap (λ qs. Some y ∷ qs) rest
   where
-    first : (p : Option Layer) → Some p ≡ Some None → or_layer p y ∷ filled zero ys ps ≡ Some y ∷ filled zero ys ps
+    first : (p : Option Layer) → Some p ≡ Some None → or_layer p y ∷ with_layers zero ys ps ≡ Some y ∷ with_layers zero ys ps
     first None e = refl
     first (Some x) e = cc
 filled-is (suc f) zero ys (p ∷ ps) at low free = absurd (omega (arith, at))
@@ -125,7 +125,7 @@ lawful_or job k None y old new = new
 lawful_or job k (Some x) y old new = old
 
 lawful_filled : (job : Job) (at f : ℕ) (ys : List Layer) (ps : List (Option Layer)) → AreLawfulPlaces job at ps
-    → AreLawfulFrom job (at + f) ys → AreLawfulPlaces job at (filled f ys ps)
+    → AreLawfulFrom job (at + f) ys → AreLawfulPlaces job at (with_layers f ys ps)
 unfolding AreLawfulPlaces
 lawful_filled job at f ys [] old new n place e = cc
 lawful_filled job at zero [] (p ∷ ps) old new n place e = old n place e
@@ -146,7 +146,7 @@ lawful_filled job at (suc f) ys (p ∷ ps) old new (suc n) place e =
 
 -- a lawful book stays so
 lawful_book : (job : Job) (f : ℕ) (ys : List Layer) (ps : List (Option Layer)) → IsLawfulBook (record { job = job; places = ps })
-    → AreLawfulFrom job f ys → IsLawfulBook (record { job = job; places = filled f ys ps })
+    → AreLawfulFrom job f ys → IsLawfulBook (record { job = job; places = with_layers f ys ps })
 unfolding AreLawfulPlaces
 lawful_book job f ys ps old new = record {
   one_each = length-filled f ys ps ∙ old.one_each;
@@ -157,12 +157,12 @@ lawful_book job f ys ps old new = record {
 
 -- the places of the layers are taken, and those that were stay so
 taken_filled : (f n : ℕ) (ys : List Layer) (ps : List (Option Layer)) → n ≡ f + length ys
-    → (k : ℕ) → k < length ps → (k < f → IsTaken ps k) → k < n → IsTaken (filled f ys ps) k
+    → (k : ℕ) → k < length ps → (k < f → IsTaken ps k) → k < n → IsTaken (with_layers f ys ps) k
 taken_filled f n ys [] at k low below near = absurd (omega (arith, low))
 taken_filled zero n [] (p ∷ ps) at k low below near = absurd (omega (arith, at, near))
 taken_filled zero n (y ∷ ys) (p ∷ ps) at zero low below near = or_taken p
   where
-    or_taken : (p : Option Layer) → IsTaken (or_layer p y ∷ filled zero ys ps) zero
+    or_taken : (p : Option Layer) → IsTaken (or_layer p y ∷ with_layers zero ys ps) zero
     or_taken None = (y, refl)
     or_taken (Some x) = (x, refl)
 taken_filled zero zero (y ∷ ys) (p ∷ ps) at (suc k) low below near = absurd (omega (arith, at))
@@ -272,13 +272,13 @@ stripe_taken job s first end ps lawful at last below here k near low = by_order 
     by_order (inr x) = here k (omega (arith, at, x.1)) (omega (arith, last, x.1, near, low, lawful.one_each))
 
 pub stripe_lawful : (job : Job) (s first : ℕ) (ys : List Layer) (ps new : List (Option Layer)) → IsLawfulBook (record { job = job; places = ps })
-    → first ≡ STRIPE_LAYERS * s → IsStripe job s ys → new ≡ filled first ys ps → IsLawfulBook (record { job = job; places = new })
+    → first ≡ STRIPE_LAYERS * s → IsStripe job s ys → new ≡ with_layers first ys ps → IsLawfulBook (record { job = job; places = new })
 stripe_lawful job s first ys ps new lawful at stripe is =
     subst (λ l. IsLawfulBook (record { job = job; places = l })) (sym is)
     (lawful_book job first ys ps lawful (subst (λ n. AreLawfulFrom job n ys) (sym at) stripe.lawful))
 
 pub stripe_filled : (job : Job) (s first : ℕ) (ys : List Layer) (ps new : List (Option Layer)) → IsLawfulBook (record { job = job; places = ps })
-    → first ≡ STRIPE_LAYERS * s → IsStripe job s ys → new ≡ filled first ys ps
+    → first ≡ STRIPE_LAYERS * s → IsStripe job s ys → new ≡ with_layers first ys ps
     → ((k : ℕ) → k < STRIPE_LAYERS * s → k < length ps → IsTaken ps k)
     → (k : ℕ) → k < STRIPE_LAYERS * (s + 1) → k < length new → IsTaken new k
 stripe_filled job s first ys ps new lawful at stripe is below k near low =
@@ -302,10 +302,10 @@ stripe_free job s first end ys ps qs stripe at last same free k low high =
 -- where a stripe's places were free, its layers stand in them
 pub stripe_filed : (job : Job) (s first end : ℕ) (ys zs : List Layer) (ps qs new : List (Option Layer))
     → IsLawfulBook (record { job = job; places = ps }) → IsStripe job s ys → first ≡ STRIPE_LAYERS * s → end ≡ STRIPE_LAYERS * s + stripe_length job.grid s
-    → new ≡ filled first ys ps → AreFree ps first end → ys ≡ zs → ps ≡ qs
+    → new ≡ with_layers first ys ps → AreFree ps first end → ys ≡ zs → ps ≡ qs
     → new ≡ take (STRIPE_LAYERS * s) qs ++ map Some zs ++ drop (STRIPE_LAYERS * s + length zs) qs
 stripe_filed job s first end ys zs ps qs new lawful stripe at last is free same equal =
-    is ∙ ap (λ n. filled n ys ps) at
+    is ∙ ap (λ n. with_layers n ys ps) at
     ∙ filled-is (STRIPE_LAYERS * s) (STRIPE_LAYERS * s + length ys) ys ps refl (omega (arith, stripe.whole, lawful.one_each))
     (stripe_free job s first end ys ps ps stripe at last refl free)
     ∙ ap (λ l. take (STRIPE_LAYERS * s) ps ++ map Some l ++ drop (STRIPE_LAYERS * s + length l) ps) same

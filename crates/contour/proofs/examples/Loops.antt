@@ -7,7 +7,7 @@ use Rattle.geometry.specs.Winding.{ray, turn_of, wind, hit}
 use Rattle.plane_segments.specs.Segment.{segments}
 use Rattle.plane_segments.specs.declared.segment.Segment.{Segment}
 use Rattle.contour.specs.Loops.{loop_facets, loops}
-use Rattle.contour.specs.Active.{active_facets, passed_count}
+use Rattle.contour.specs.Active.{active_facets, reached_count}
 
 abbrev facets_in : List (List Segment) → List (List ℕ)
 facets_in found = map (λ loop. map (λ s. s.facet) loop) found
@@ -37,7 +37,7 @@ loop_rays_pair : map (λ loop. ray (loop_facets box_with_a_pair loop) (at (pos 1
 unfolding turn_of wind hit
 loop_rays_pair = refl
 
-passed_rows : map (passed_count two_boxes) (pos 2 ∷ pos 6 ∷ pos 10 ∷ pos 12 ∷ []) ≡ 10 ∷ 20 ∷ 22 ∷ 24 ∷ []
+passed_rows : map (reached_count two_boxes) (pos 2 ∷ pos 6 ∷ pos 10 ∷ pos 12 ∷ []) ≡ 10 ∷ 20 ∷ 22 ∷ 24 ∷ []
 passed_rows = refl
 
 active_rows : map (active_facets two_boxes) (pos 2 ∷ pos 6 ∷ pos 10 ∷ pos 12 ∷ [])

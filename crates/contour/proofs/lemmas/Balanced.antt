@@ -3,16 +3,16 @@ use Rattle.std.proofs.Common.{◌≡◌, ℕ, zero, suc, ◌+◌, ◌<◌, ◌�
 use Rattle.std.specs.Prelude.{Option, ℤ, filter_map, find, count_by, int_le, int_lt, ◌==◌}
 use Rattle.std.specs.List.{enumerate_from, cons_option}
 use Rattle.std.proofs.lemmas.Int.{ints}
-use Rattle.std.proofs.lemmas.Bool.{and_from, cases_lt, eqb-true, eq-eqb, ne_eqb, or_cases, or_left, or_right, true≢false}
+use Rattle.std.proofs.lemmas.Bool.{cases_lt, eqb-true, eq-eqb, ne_eqb, or_cases, or_left, or_right, true≢false}
 use Rattle.geometry.specs.Point.{Point, origin, same}
 use Rattle.geometry.specs.Facet.{Facet, facet_with, Edge, edge, edges, half_edges}
 use Rattle.mesh_weld.specs.Balance.{IsBalanced, half_edge_count}
 use Rattle.mesh_weld.specs.Solid.{vertices, number_of, facet_at}
 use Rattle.mesh_weld.specs.EdgeNumbers.{AreEdgeNumbers, HaveSameEnds, edge_of, edge_number}
 use Rattle.mesh_weld.proofs.lemmas.InOrder.{both_ways, is_in}
-use Rattle.mesh_weld.proofs.lemmas.Order.{same-self}
 use Rattle.mesh_weld.proofs.lemmas.Edges.{count_by-cons, runs, runs-is}
 use Rattle.mesh_weld.proofs.lemmas.HalfEdges.{either_order}
+use Rattle.mesh_weld.proofs.lemmas.Sums.{runs-own}
 use Rattle.plane_segments.specs.Node.{Node, between, is_node}
 use Rattle.plane_segments.specs.declared.segment.Segment.{Segment}
 use Rattle.plane_segments.specs.Segment.{both_of, height, is_downward, is_upward, node_of, segment_of, segments}
@@ -149,10 +149,6 @@ ups z t P =
 either_way : (dc there back r s : Bool) → (r ≡ true → dc ≡ there) → (s ≡ true → dc ≡ back) → (there ≡ true → back ≡ true → ⊥)
     → cond (dc && (r || s)) 1 0 ≡ cond there (cond r 1 0) 0 + cond back (cond s 1 0) 0
 either_way dc there back r s h k l = grind arith
-
-runs-own : (c : Edge) (u v : Point) → c.from ≡ u → c.to ≡ v → runs u v c ≡ true
-runs-own c u v h k =
-    and_from (same c.from u) (same c.to v) (ap (same c.from) (sym h) ∙ same-self c.from) (ap (same c.to) (sym k) ∙ same-self c.to)
 
 runs-ends : (c : Edge) (d : Edge) → HaveSameEnds c d → (runs d.from d.to c || runs d.to d.from c) ≡ true
 runs-ends c d (inl h) = or_left _ _ (runs-own c d.from d.to h.0 h.1)

@@ -13,9 +13,9 @@ use Rattle.exact_int.specs.Bounds.{IsAtMost}
 use Rattle.exact_int.proofs.lemmas.Sizes.{neg_of, sum_of}
 use Rattle.geometry.specs.Point.{origin}
 use Rattle.geometry.specs.TieRule.{is_below, is_above}
-use Rattle.geometry.specs.Facet.{Facet, facet_with}
+use Rattle.geometry.specs.Facet.{Facet, facet_with, greatest_z, least_z}
 use Rattle.geometry.specs.declared.limits.TheConstants.{CENTRE_LIMIT}
-use Rattle.mesh_weld.specs.Solid.{IsGreatestRise, facet_at, greatest_z, is_lower, least_z, rise}
+use Rattle.mesh_weld.specs.Solid.{IsGreatestRise, facet_at, is_lower, rise}
 use Rattle.contour.specs.Active.{ends_above, starts_by}
 use Rattle.contour.proofs.lemmas.Swept.{Fades, none_pass, order_fades, starts_by_wider}
 

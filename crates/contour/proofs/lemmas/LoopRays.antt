@@ -1,18 +1,16 @@
 -- The rays of a loop's facets, one after another.
-use Rattle.std.proofs.Common.{◌≡◌, ℕ, zero, suc, ◌+◌, ◌<◌, ◌≤◌, ◌^◌, Bool, true, false, List, [], ◌∷◌, refl, sym, ◌∙◌, ap, subst, length, take, get_or, map, arith, Some, None, to_z, of_z, w32, cond}
-use Rattle.std.specs.Prelude.{All, Option, ℤ, pos, ◌+ℤ◌, unsigned_abs, slice_get, filter}
+use Rattle.std.proofs.Common.{◌≡◌, ℕ, zero, suc, ◌+◌, ◌<◌, ◌≤◌, Bool, true, false, List, [], ◌∷◌, refl, sym, ◌∙◌, ap, subst, length, take, get_or, map, arith, Some, None, to_z, of_z, w32, cond}
+use Rattle.std.specs.Prelude.{All, Option, ℤ, ◌+ℤ◌, slice_get, filter}
 use Rattle.std.specs.List.{AllByRecursion}
-use Rattle.std.proofs.lemmas.Int.{ints, to_z-of_z, fits_signed_from_abs}
-use Rattle.std.proofs.lemmas.List.{map_more}
 use Rattle.std.proofs.lemmas.List.Elements.{All-filter, All-from_recursion, recursion_from_All}
 use Rattle.std.proofs.lemmas.Option.{get_or_from_slice_get, slice_get_within}
 use Rattle.exact_int.specs.Bounds.{IsAtMost}
-use Rattle.exact_int.proofs.lemmas.Sizes.{sum_of}
 use Rattle.geometry.specs.Point.{Point}
 use Rattle.geometry.specs.Facet.{Facet, twice}
-use Rattle.geometry.specs.Winding.{hit, ray}
+use Rattle.geometry.specs.Winding.{hit, ray, total}
 use Rattle.mesh_weld.specs.Solid.{facet_at}
-use Rattle.mesh_weld.proofs.lemmas.Sums.{total-append}
+use Rattle.mesh_weld.proofs.lemmas.Sums.{total-map}
+use Rattle.mesh_weld.proofs.lemmas.Probing.{Summed, sum_more}
 use Rattle.plane_segments.specs.Node.{is_node}
 use Rattle.plane_segments.specs.declared.segment.Segment.{Segment}
 use Rattle.plane_segments.specs.Segment.{segments, is_segment}
@@ -89,35 +87,21 @@ is_loop facets z list k e =
     record { within = All-from_recursion (λ s. s.facet < length facets) list here.0; few = omega arith }
 
 -- ---- the sum
-pub record Summed (facets : List Facet) (c : Point) (list : List Segment) (i : ℕ) (sum : ℤ) : Type 0 where
-  pub sum_is : sum ≡ ray (loop_facets facets (take i list)) c
-  pub small : IsAtMost i sum
+-- the hit of a segment's facet
+abbrev pub hit_of : List Facet → Point → Segment → ℤ
+hit_of facets c s = hit (twice (facet_at facets s.facet)) c
 
-read_back : (n : ℕ) (z : ℤ) → IsAtMost n z → n ≤ FACET_LIMIT + 1 → to_z w32 (of_z w32 z) ≡ z
-read_back n z small few = to_z-of_z w32 z (fits_signed_from_abs w32 z (below small.at_most))
-  where
-    below : unsigned_abs z ≤ n → unsigned_abs z < 2 ^ 31
-    below h = omega arith
+-- one more segment
+pub segment_more : (facets : List Facet) (c : Point) (list : List Segment) (i : ℕ) (d : Segment) (t : Facet) (sum more : ℤ)
+    → i < length list → i ≤ FACET_LIMIT → slice_get facets (get_or list i d).facet ≡ Some t → Summed (hit_of facets c) list i sum
+    → more ≡ hit (twice t) c → IsAtMost 1 more
+    → Summed (hit_of facets c) list (i + 1) (to_z w32 (of_z w32 (sum +ℤ to_z w32 (of_z w32 more))))
+segment_more facets c list i d t sum more inside few at so_far more_is unit =
+    sum_more (hit_of facets c) list i d sum more inside few so_far
+    (more_is ∙ ap (λ u. hit (twice u) c) (sym (facet_at-is facets (get_or list i d).facet t at))) unit
 
-pub sum_more : (facets : List Facet) (c : Point) (list : List Segment) (i : ℕ) (d : Segment) (t : Facet) (sum more : ℤ)
-    → i < length list → i ≤ FACET_LIMIT → slice_get facets (get_or list i d).facet ≡ Some t → Summed facets c list i sum
-    → more ≡ hit (twice t) c → IsAtMost 1 more → Summed facets c list (i + 1) (to_z w32 (of_z w32 (sum +ℤ to_z w32 (of_z w32 more))))
-sum_more facets c list i d t sum more l few at so_far more_is unit =
-    subst (Summed facets c list (i + 1)) (sym (ap (λ z. to_z w32 (of_z w32 (sum +ℤ z))) (read_back 1 more unit (omega arith)) ∙ whole))
-    (record { sum_is = sum_is; small = small })
-  where
-    small : IsAtMost (i + 1) (sum +ℤ more)
-    small = record { at_most = sum_of sum more i 1 so_far.small.at_most unit.at_most }
-
-    whole : to_z w32 (of_z w32 (sum +ℤ more)) ≡ sum +ℤ more
-    whole = read_back (i + 1) (sum +ℤ more) small (omega arith)
-
-    last : (a b : ℤ) → a +ℤ b ≡ a +ℤ (b +ℤ pos 0)
-    last a b = omega (arith, ints)
-
-    sum_is : sum +ℤ more ≡ ray (loop_facets facets (take (i + 1) list)) c
-    sum_is =
-        (λ j. so_far.sum_is j +ℤ (more_is ∙ ap (λ u. hit (twice u) c) (sym (facet_at-is facets (get_or list i d).facet t at))) j)
-        ∙ last (ray (loop_facets facets (take i list)) c) (hit (twice (facet_at facets (get_or list i d).facet)) c)
-        ∙ sym (ap (λ ts. ray ts c) (map_more (λ r. facet_at facets r.facet) list i d l)
-        ∙ total-append (λ u. hit (twice u) c) (loop_facets facets (take i list)) (facet_at facets (get_or list i d).facet ∷ []))
+-- the sum over all segments is the ray of the loop's facets
+pub summed_all : (facets : List Facet) (c : Point) (list : List Segment) (i : ℕ) (sum : ℤ) → take i list ≡ list
+    → Summed (hit_of facets c) list i sum → sum ≡ ray (loop_facets facets list) c
+summed_all facets c list i sum all h =
+    h.sum_is ∙ ap (total (hit_of facets c)) all ∙ sym (total-map (λ t. hit (twice t) c) (λ s. facet_at facets s.facet) list)

@@ -1,10 +1,11 @@
 -- The winds of a loop's facets cancel: an edge at which a segment ends has the opposite amount where the next one starts.
 use Rattle.std.proofs.Common.{◌≡◌, ℕ, Bool, true, false, cond, not, ◌&&◌, List, [], ◌∷◌, inl, inr, refl, sym, ◌∙◌, ap, subst, arith, Some, None, neg_ℤ}
-use Rattle.std.specs.Prelude.{Option, ℤ, pos, ◌+ℤ◌, ◌-ℤ◌, filter, find, int_le, slice_get}
+use Rattle.std.specs.Prelude.{Option, ℤ, pos, ◌+ℤ◌, filter, find, int_le, slice_get}
 use Rattle.std.specs.List.{AllByRecursion}
 use Rattle.std.proofs.lemmas.Int.{ints}
 use Rattle.std.proofs.lemmas.List.Elements.{All-from_recursion}
 use Rattle.std.proofs.lemmas.Option.{get_or_from_slice_get, slice_get_within}
+use Rattle.exact_int.proofs.lemmas.Laws.{neg_of_difference}
 use Rattle.geometry.specs.Point.{Point, half_micrometres_of}
 use Rattle.geometry.specs.Facet.{Facet, Edge, half_edges, twice}
 use Rattle.geometry.specs.Winding.{hit, neg_ray_back, ray, total, turn, turn_of, wind}
@@ -136,7 +137,4 @@ module _ (facets : List Facet) (numbers : List (List ℕ)) (count : ℕ) (number
 
   pub ray_from_back : neg_ray_back (loop_facets facets list) c ≡ ray (loop_facets facets list) c
   ray_from_back =
-      turned _ _ _ (total-difference (λ t. wind (twice t) c.y c.z) (λ t. hit (twice t) c) (loop_facets facets list)) winds
-    where
-      turned : (a w h : ℤ) → a ≡ w -ℤ h → w ≡ pos 0 → neg_ℤ a ≡ h
-      turned a w h e f = omega (arith, ints)
+      neg_of_difference _ _ _ (total-difference (λ t. wind (twice t) c.y c.z) (λ t. hit (twice t) c) (loop_facets facets list)) winds

@@ -6,8 +6,8 @@ use Rattle.std.proofs.lemmas.List.{take_more, map_more, map-append, append_assoc
 use Rattle.std.proofs.lemmas.List.Elements.{filter_map-append, filter_more}
 use Rattle.std.proofs.lemmas.List.Sums.{prefix_len-drop_yes, prefix_len-drop_no}
 use Rattle.geometry.specs.TieRule.{is_below, is_above}
-use Rattle.geometry.specs.Facet.{Facet}
-use Rattle.mesh_weld.specs.Solid.{vertices, facet_at, least_z}
+use Rattle.geometry.specs.Facet.{Facet, least_z}
+use Rattle.mesh_weld.specs.Solid.{vertices, facet_at}
 use Rattle.plane_segments.specs.declared.segment.Segment.{Segment}
 use Rattle.plane_segments.specs.Segment.{segment_of, numbered_segment}
 use Rattle.contour.specs.Active.{top_of, starts_by, ends_above, merge}

@@ -19,7 +19,7 @@ use Rattle.mesh_weld.specs.Solid.{facet_at, vertices, IsByHeight}
 use Rattle.exact_cut.specs.Cut.{IsBetween}
 use Rattle.plane_segments.specs.Segment.{height, segment_of, segments, numbered_segment}
 use Rattle.plane_segments.proofs.lemmas.Cutting.{segment-none}
-use Rattle.contour.specs.Active.{is_cut, active_facets, passed_count, top_of, starts_by, ends_above, merge}
+use Rattle.contour.specs.Active.{is_between, active_facets, reached_count, top_of, starts_by, ends_above, merge}
 use Rattle.contour.specs.Sweep.{IsSwept}
 use Rattle.contour.proofs.lemmas.Swept.{front_passed, first_active, next_passed, next_active, active-is, Gives, Gives-get_or, starts_by-is, ends_above-is}
 use Rattle.geometry.specs.declared.limits.TheConstants.{CENTRE_LIMIT}
@@ -52,7 +52,7 @@ found_in facets z k order found numbers h e p =
 pub rest_in : (facets : List Facet) (k : ℕ) (order : List ℕ) → IsByHeight facets order → AreNumbers facets (drop k order)
 rest_in facets k order by_height = All-drop (λ n. n < length facets) k order (order_in facets order by_height)
 
-pub passed_within : (facets : List Facet) (order : List ℕ) (z : ℤ) → IsByHeight facets order → passed_count facets z ≤ length order
+pub passed_within : (facets : List Facet) (order : List ℕ) (z : ℤ) → IsByHeight facets order → reached_count facets z ≤ length order
 passed_within facets order z by_height =
     let e = front_passed facets order by_height z in
     let le = prefix_len-le-length (starts_by facets z) order in
@@ -115,7 +115,7 @@ either_three f g h (inl p) = inl (f p)
 either_three f g h (inr (inl q)) = inr (inl (g q))
 either_three f g h (inr (inr r)) = inr (inr (h r))
 
-between-cut : (t : Facet) (z : ℤ) → IsBetween (twice t) z → is_cut z t ≡ true
+between-cut : (t : Facet) (z : ℤ) → IsBetween (twice t) z → is_between z t ≡ true
 between-cut t z b =
     (λ i.
     any_of_three (is_below (height t.a) z) (is_below (height t.b) z) (is_below (height t.c) z)

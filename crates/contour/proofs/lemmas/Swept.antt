@@ -10,11 +10,11 @@ use Rattle.std.proofs.lemmas.List.Elements.{filter_agree}
 use Rattle.std.proofs.lemmas.Int.{ints}
 use Rattle.geometry.specs.Point.{origin}
 use Rattle.geometry.specs.TieRule.{is_below, is_above}
-use Rattle.geometry.specs.Facet.{Facet, facet_with, corners}
-use Rattle.mesh_weld.specs.Solid.{facet_at, greatest_z, least_z, IsByHeight, is_lower}
+use Rattle.geometry.specs.Facet.{Facet, facet_with, corners, greatest_z, least_z}
+use Rattle.mesh_weld.specs.Solid.{facet_at, IsByHeight, is_lower}
 use Rattle.mesh_weld.proofs.lemmas.Edges.{count_by-cons}
 use Rattle.plane_segments.specs.Segment.{height}
-use Rattle.contour.specs.Active.{is_cut, active_facets, passed_count, top_of, starts_by, ends_above, merge}
+use Rattle.contour.specs.Active.{is_between, active_facets, reached_count, top_of, starts_by, ends_above, merge}
 use Rattle.contour.proofs.lemmas.Counts.{times, times-filter, times-merge, count-permutation, Ascends, Ascends-filter, Ascends-range, Ascends-merge, Ascends-from_sorted, same_from_counts}
 
 -- ---- a test that fails for good
@@ -180,11 +180,11 @@ ends_above-is t z =
 pub active-is : (facets : List Facet) (z : ℤ)
     → active_facets facets z ≡ filter (λ n. starts_by facets z n && ends_above facets z n) (range_with_len 0 (length facets))
 active-is facets z =
-    chosen (facet_at facets) (is_cut z) 0 facets (Gives-get_or facets (facet_with origin origin origin))
-    ∙ filter_agree (λ n. is_cut z (facet_at facets n)) (λ n. starts_by facets z n && ends_above facets z n)
+    chosen (facet_at facets) (is_between z) 0 facets (Gives-get_or facets (facet_with origin origin origin))
+    ∙ filter_agree (λ n. is_between z (facet_at facets n)) (λ n. starts_by facets z n && ends_above facets z n)
     (λ n i. starts_by-is (facet_at facets n) z i && ends_above-is (facet_at facets n) z i) (range_with_len 0 (length facets))
 
-passed-is : (facets : List Facet) (z : ℤ) → passed_count facets z ≡ count_by (starts_by facets z) (range_with_len 0 (length facets))
+passed-is : (facets : List Facet) (z : ℤ) → reached_count facets z ≡ count_by (starts_by facets z) (range_with_len 0 (length facets))
 passed-is facets z =
     counted (facet_at facets) (λ t. list_any (λ p. is_below (height p) z) (corners t)) 0 facets
     (Gives-get_or facets (facet_with origin origin origin))
@@ -221,7 +221,7 @@ module _ (facets : List Facet) (order : List ℕ) (by_height : IsByHeight facets
   order_times : (n : ℕ) → times n order ≡ times n all_numbers
   order_times n = count-permutation (λ m. m == n) all_numbers order by_height.all
 
-  pub front_passed : (z : ℤ) → prefix_len (starts_by facets z) order ≡ passed_count facets z
+  pub front_passed : (z : ℤ) → prefix_len (starts_by facets z) order ≡ reached_count facets z
   front_passed z =
       front-counted (starts_by facets z) order (starts_by_fades facets order z by_height)
       ∙ count-permutation (starts_by facets z) all_numbers order by_height.all ∙ sym (passed-is facets z)
@@ -276,7 +276,7 @@ module _ (facets : List Facet) (order : List ℕ) (by_height : IsByHeight facets
         ∙ ap (λ ns. cond (starts_by facets z n) (times n ns) 0) (rest-is (starts_by facets h) order (starts_by_fades facets order h by_height))
         ∙ ap (λ k. cond (starts_by facets z n) k 0) (times-filter (λ m. not (starts_by facets h m)) n order)
 
-    pub next_passed : passed_count facets h + prefix_len (starts_by facets z) rest ≡ passed_count facets z
+    pub next_passed : reached_count facets h + prefix_len (starts_by facets z) rest ≡ reached_count facets z
     next_passed =
         (λ i. sym (front_passed h) i + front-counted (starts_by facets z) rest (Fades-drop (starts_by facets z) (prefix_len (starts_by facets h) order) order (starts_by_fades facets order z by_height)) i)
         ∙ (λ i. front-counted (starts_by facets h) order (starts_by_fades facets order h by_height) i

@@ -6,6 +6,7 @@ use Rattle.std.specs.List.Sorted.{IsStrictlyIncreasing}
 use Rattle.std.proofs.lemmas.Bool.{and_parts, cases_eq, eq-eqb, eqb-false, leb-true, ne_eqb}
 use Rattle.geometry.specs.Facet.{Facet}
 use Rattle.mesh_weld.proofs.lemmas.Edges.{count_by-cons}
+use Rattle.mesh_weld.proofs.lemmas.HeightOrder.{eqb_flips}
 use Rattle.plane_segments.specs.Node.{is_node}
 use Rattle.plane_segments.specs.declared.segment.Segment.{Segment}
 use Rattle.plane_segments.specs.Segment.{no_segment, segments}
@@ -13,6 +14,7 @@ use Rattle.plane_segments.proofs.lemmas.FacetOrder.{AreFrom, segments_ascend}
 use Rattle.contour.specs.Loops.{AreLoops, Closes, IsCycle, count_of, cycle, first_facet, follower, is_from_least, is_leader, loops, run_from, rank_at_end}
 use Rattle.contour.proofs.lemmas.Counts.{count-append}
 use Rattle.contour.proofs.lemmas.Cycles.{NoneOf, onward, run-is}
+use Rattle.contour.proofs.lemmas.Walks.{facet-head}
 
 abbrev pub Has : Segment → List Segment → Type 0
 Has s [] = ⊥
@@ -244,16 +246,12 @@ passes list s w x (t ∷ rest) fuel h u (inr k) d l =
 
 -- ---- parts
 abbrev head_of : List Segment → Segment
-head_of [] = no_segment
-head_of (s ∷ rest) = s
+head_of part = get_or part 0 no_segment
 
 record IsPart (list part : List Segment) : Type 0 where
   closes : IsCycle list part
   least : is_from_least part ≡ true
   counts : (n : ℕ) → count_of n part ≤ count_of n list
-
-turned : (a b : ℕ) → eqb a b ≡ false → eqb b a ≡ false
-turned a b h = ne_eqb b a (λ e. eqb-false a b h (sym e))
 
 module _ (a : ℕ) (list : List Segment) (ascends : From a list) where
   single : (part : List Segment) → IsPart list part → Single part
@@ -277,7 +275,7 @@ module _ (a : ℕ) (list : List Segment) (ascends : From a list) where
   part-only (w ∷ rest) s g (inr h) k =
       let other : eqb s.facet w.facet ≡ false = none-has w.facet rest s (apart w rest (single (w ∷ rest) g)) h in
       let comes : Has w (cycle list s) =
-      passes list s w w rest (length list) g.closes (single (w ∷ rest) g) (inr h) (turned s.facet w.facet other)
+      passes list s w w rest (length list) g.closes (single (w ∷ rest) g) (inr h) (eqb_flips w.facet s.facet ∙ other)
       (let f = fits (w ∷ rest) list g.counts in omega (arith, f)) in
       let high = leb-true s.facet w.facet (all-has (λ t. nat_le s.facet t.facet) (cycle list s) w k comes) in
       let low = leb-true w.facet s.facet (all-has (λ t. nat_le w.facet t.facet) (w ∷ rest) s g.least (inr h)) in
@@ -322,10 +320,6 @@ module _ (a : ℕ) (list : List Segment) (ascends : From a list) where
           let r = count-has s.facet p d in
           let same : s ≡ r.0 = From-one a list s r.0 ascends h (cycle-has list p r.0 g.0.closes r.1) (sym r.2) in
           inl (part-only p s g.0 (subst (λ t. Has t p) (sym same) r.1) k)
-
-facet-head : (part : List Segment) → first_facet part ≡ (head_of part).facet
-facet-head [] = refl
-facet-head (s ∷ rest) = refl
 
 heads-from : (a : ℕ) (p : List Segment) (parts : List (List Segment)) → a ≤ first_facet p → IsStrictlyIncreasing (map first_facet (p ∷ parts))
     → From a (map head_of (p ∷ parts))

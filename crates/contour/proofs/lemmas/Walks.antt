@@ -24,7 +24,7 @@ head-push : (part : List Segment) (t : Segment) → 0 < length part → get_or (
 head-push [] t h = absurd (omega (arith, h))
 head-push (s ∷ part) t h = refl
 
-facet-head : (part : List Segment) → first_facet part ≡ (get_or part 0 no_segment).facet
+pub facet-head : (part : List Segment) → first_facet part ≡ (get_or part 0 no_segment).facet
 facet-head [] = refl
 facet-head (s ∷ part) = refl
 

@@ -4,7 +4,7 @@ use Rattle.std.proofs.lemmas.Int.{ints}
 use lib.IntN.{*ℤ_comm}
 use Rattle.exact_int.specs.Bounds.{IsAtMost}
 use Rattle.exact_int.proofs.lemmas.Identity.{reads, identity}
-use Rattle.exact_int.proofs.lemmas.Signs.{mul_le_left, mul_not_negative}
+use Rattle.exact_int.proofs.lemmas.Signs.{mul_le_left, mul_not_negative, le_trans}
 use Rattle.exact_cut.specs.Column.{centre_x, IsLeastColumn}
 use Rattle.geometry.specs.declared.limits.TheConstants.{CENTRE_LIMIT}
 
@@ -34,9 +34,6 @@ centre-mono first step i j h = by first _ _ (mul_le_left (pos 2 *ℤ pos step) (
 -- from the least row or column on, no centre is before num / den
 pub not_before : (num den first : ℤ) (step count i j : ℕ) → pos 0 <ℤ den → IsLeastColumn num den first step count i → i ≤ j → j < count → num ≤ℤ (centre_x first step j *ℤ den)
 not_before num den first step count i j p h l b =
-    chain num (centre_x first step i *ℤ den) (centre_x first step j *ℤ den) (h.not_left (omega arith))
+    le_trans num (centre_x first step i *ℤ den) (centre_x first step j *ℤ den) (h.not_left (omega arith))
     (subst (λ x. x ≤ℤ (centre_x first step j *ℤ den)) (*ℤ_comm den (centre_x first step i))
     (subst (λ x. (den *ℤ centre_x first step i) ≤ℤ x) (*ℤ_comm den (centre_x first step j)) (mul_le_left den (centre_x first step i) (centre_x first step j) (omega (arith, ints)) (centre-mono first step i j l))))
-  where
-    chain : (a b c : ℤ) → a ≤ℤ b → b ≤ℤ c → a ≤ℤ c
-    chain a b c h k = omega (arith, ints)

@@ -32,6 +32,9 @@ at_most_from_not_above a b h = by (at_most_or_above b a)
     by (inl k) = k
     by (inr k) = absurd (h k)
 
+pub le_trans : (a b c : ℤ) → a ≤ℤ b → b ≤ℤ c → a ≤ℤ c
+le_trans a b c h k = omega (arith, ints)
+
 pub antisym : (a b : ℤ) → a ≤ℤ b → b ≤ℤ a → a ≡ b
 antisym a b h k = omega (arith, ints)
 

@@ -14,13 +14,13 @@ use Rattle.mesh_reading.specs.declared.read_fault.ReadFault.{ReadFault}
 use Rattle.mesh_reading.specs.declared.read_fault.ReadFault.TheVariants as fault
 use Rattle.mesh_reading.specs.Loading.{IsLoadFault, IsMisread}
 
-abbrev pub IsTextFault : LengthUnit → List ℕ → ReadFault → Type 0
-IsTextFault unit input f = (f ≡ fault.Memory) ⊎ IsMisread unit input f
+abbrev pub IsReadingFault : LengthUnit → List ℕ → ReadFault → Type 0
+IsReadingFault unit input f = (f ≡ fault.Memory) ⊎ IsMisread unit input f
 
 -- what is answered for a fault of the text
 pub told : (unit : LengthUnit) (input : List ℕ) (cause : StlFault) (f : ReadFault)
     → ((cause ≡ stl.Memory → f ≡ fault.Memory) × (cause ≢ stl.Memory → f ≡ fault.Stl cause))
-    → (cause ≢ stl.Memory → IsFaultOf FACET_LIMIT unit input cause) → IsTextFault unit input f
+    → (cause ≢ stl.Memory → IsFaultOf FACET_LIMIT unit input cause) → IsReadingFault unit input f
 told unit input stl.Memory f gives known = inl (gives.0 refl)
 told unit input (stl.Expected word at) f gives known = inr (stl.Expected word at, gives.1 (λ e. cc), known (λ e. cc))
 told unit input (stl.Number cause at) f gives known = inr (stl.Number cause at, gives.1 (λ e. cc), known (λ e. cc))
@@ -31,7 +31,7 @@ told unit input (stl.TooMany at) f gives known = inr (stl.TooMany at, gives.1 (�
 unread_mesh : (unit : LengthUnit) (input : List ℕ) (f : ReadFault) → IsMisread unit input f → IsLoadFault unit input f
 unread_mesh unit input f h = rw h.1 h.2
 
-pub unread_text : (unit : LengthUnit) (input : List ℕ) (f : ReadFault) → IsTextFault unit input f → IsLoadFault unit input f
+pub unread_text : (unit : LengthUnit) (input : List ℕ) (f : ReadFault) → IsReadingFault unit input f → IsLoadFault unit input f
 unread_text unit input f (inl is) = rw is tt
 unread_text unit input f (inr h) = unread_mesh unit input f h
 

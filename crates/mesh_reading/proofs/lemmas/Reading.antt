@@ -20,7 +20,7 @@ use Rattle.mesh_weld.specs.declared.weld_fault.WeldFault.TheVariants as weld
 use Rattle.mesh_reading.specs.Loading.{AreWelded, HasWelded, IsFedBySource, IsInput, IsInputFault, IsLoadFault, IsLoaded, IsMisread, IsReadAs, IsReadToEnd, IsSolidOf, IsTextExtent, IsWeldedAsFed, OfText}
 use Rattle.mesh_reading.specs.Transcript.{Transcript, transcript}
 use Rattle.mesh_reading.specs.declared.extent.Extent.{Extent}
-use Rattle.mesh_reading.proofs.lemmas.Faults.{IsTextFault, not_read, passed_on, unclosed}
+use Rattle.mesh_reading.proofs.lemmas.Faults.{IsReadingFault, not_read, passed_on, unclosed}
 use Rattle.mesh_reading.specs.declared.read_fault.ReadFault.{ReadFault}
 use Rattle.mesh_reading.specs.declared.read_fault.ReadFault.TheVariants as fault
 
@@ -115,7 +115,7 @@ solid_read r source unit taken reader welder loads welded fed end sound =
 -- an extent is that of all that was read
 pub extent_read : (r : Result Extent ReadFault) (source : Transcript) (unit : LengthUnit) (taken : List Facet) (reader : TextReader)
     → IsFedBySource unit taken reader source.old source.new → IsAtEnd source.new → source.failed ≡ source.failed_before
-    → ((input : List ℕ) → IsAfter FACET_LIMIT unit taken reader input → IfOk r (IsTextExtent unit input) × IfErr r (IsTextFault unit input))
+    → ((input : List ℕ) → IsAfter FACET_LIMIT unit taken reader input → IfOk r (IsTextExtent unit input) × IfErr r (IsReadingFault unit input))
     → IsReadAs (IsTextExtent unit) (IsMisread unit) r source
 extent_read r source unit taken reader fed end sound comes =
     read_whole r (IsTextExtent unit) (IsMisread unit) source unit taken reader fed end sound

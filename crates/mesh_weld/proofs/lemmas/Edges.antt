@@ -16,12 +16,12 @@ count_by-cons p x xs = sum_by-cons (λ y. cond (p y) 1 0) x xs
 
 pub same-is : (p q : Point) → same p q ≡ true → p ≡ q
 same-is p q h =
-    let outer : ((int_eq p.x q.x && int_eq p.y q.y) ≡ true) × (int_eq p.z q.z ≡ true) = and_parts _ _ h in
-    let inner : (int_eq p.x q.x ≡ true) × (int_eq p.y q.y ≡ true) = and_parts _ _ outer.0 in
+    let outer : (int_eq p.x q.x ≡ true) × ((int_eq p.y q.y && int_eq p.z q.z) ≡ true) = and_parts _ _ h in
+    let inner : (int_eq p.y q.y ≡ true) × (int_eq p.z q.z ≡ true) = and_parts _ _ outer.1 in
     λ i. record {
-      x = (Decides-int_eq p.x q.x).0 inner.0 i;
-      y = (Decides-int_eq p.y q.y).0 inner.1 i;
-      z = (Decides-int_eq p.z q.z).0 outer.1 i;
+      x = (Decides-int_eq p.x q.x).0 outer.0 i;
+      y = (Decides-int_eq p.y q.y).0 inner.0 i;
+      z = (Decides-int_eq p.z q.z).0 inner.1 i;
     }
 
 -- where all elements of a list pass q, none passes p, or some element passes both

@@ -125,7 +125,7 @@ steps_keep_rays facets balanced c d level (inl same_x) free =
     moved = λ i. at (same_x i) d.y (level i)
 
 -- ---- the sum so far
-total_more : (f : Facet → ℤ) (xs : List Facet) (i : ℕ) (d : Facet) → i < length xs
+total_more : {X : Type 0} (f : X → ℤ) (xs : List X) (i : ℕ) (d : X) → i < length xs
     → total f (take (i + 1) xs) ≡ total f (take i xs) +ℤ f (get_or xs i d)
 total_more f xs i d h =
     ap (total f) (take_more xs i d h) ∙ total-append f (take i xs) (get_or xs i d ∷ []) ∙ last (total f (take i xs)) (f (get_or xs i d))
@@ -134,22 +134,23 @@ total_more f xs i d h =
     last a b = omega (arith, ints)
 
 -- a small number that went to 32 bits, and was read again, is the same
-read_back : (n : ℕ) (z : ℤ) → IsAtMost n z → n ≤ FACET_LIMIT → to_z w32 (of_z w32 z) ≡ z
+read_back : (n : ℕ) (z : ℤ) → IsAtMost n z → n ≤ FACET_LIMIT + 1 → to_z w32 (of_z w32 z) ≡ z
 read_back n z small few = to_z-of_z w32 z (fits_signed_from_abs w32 z (below small.at_most))
   where
     below : unsigned_abs z ≤ n → unsigned_abs z < 2 ^ 31
     below h = omega arith
 
--- one more facet in a sum of 32 bits
-pub record Summed (f : Facet → ℤ) (facets : List Facet) (i : ℕ) (sum : ℤ) : Type 0 where
-  pub sum_is : sum ≡ total f (take i facets)
+-- the sum over the first i elements of a list
+pub record Summed {X : Type 0} (f : X → ℤ) (xs : List X) (i : ℕ) (sum : ℤ) : Type 0 where
+  pub sum_is : sum ≡ total f (take i xs)
   pub small : IsAtMost i sum
 
-pub sum_more : (f : Facet → ℤ) (facets : List Facet) (i : ℕ) (t : Facet) (sum more : ℤ) → i < FACET_LIMIT
-    → slice_get facets i ≡ Some t → Summed f facets i sum → more ≡ f t → IsAtMost 1 more
-    → Summed f facets (i + 1) (to_z w32 (of_z w32 (sum +ℤ to_z w32 (of_z w32 more))))
-sum_more f facets i t sum more few at_i so_far more_is unit =
-    subst (Summed f facets (i + 1)) (sym (ap (λ z. to_z w32 (of_z w32 (sum +ℤ z))) (read_back 1 more unit (omega arith)) ∙ whole))
+-- one more element in a sum of 32 bits
+pub sum_more : {X : Type 0} (f : X → ℤ) (xs : List X) (i : ℕ) (d : X) (sum more : ℤ) → i < length xs → i ≤ FACET_LIMIT
+    → Summed f xs i sum → more ≡ f (get_or xs i d) → IsAtMost 1 more
+    → Summed f xs (i + 1) (to_z w32 (of_z w32 (sum +ℤ to_z w32 (of_z w32 more))))
+sum_more f xs i d sum more inside few so_far more_is unit =
+    subst (Summed f xs (i + 1)) (sym (ap (λ z. to_z w32 (of_z w32 (sum +ℤ z))) (read_back 1 more unit (omega arith)) ∙ whole))
     (record { sum_is = sum_is; small = small })
   where
     small : IsAtMost (i + 1) (sum +ℤ more)
@@ -158,7 +159,13 @@ sum_more f facets i t sum more few at_i so_far more_is unit =
     whole : to_z w32 (of_z w32 (sum +ℤ more)) ≡ sum +ℤ more
     whole = read_back (i + 1) (sum +ℤ more) small (omega arith)
 
-    sum_is : sum +ℤ more ≡ total f (take (i + 1) facets)
-    sum_is =
-        (λ j. so_far.sum_is j +ℤ (more_is ∙ ap f (sym (get_or_from_slice_get facets i t t at_i))) j)
-        ∙ sym (total_more f facets i t (slice_get_within facets i t at_i))
+    sum_is : sum +ℤ more ≡ total f (take (i + 1) xs)
+    sum_is = (λ j. so_far.sum_is j +ℤ more_is j) ∙ sym (total_more f xs i d inside)
+
+-- one more facet of a mesh
+pub facet_more : (f : Facet → ℤ) (facets : List Facet) (i : ℕ) (t : Facet) (sum more : ℤ) → i < FACET_LIMIT
+    → slice_get facets i ≡ Some t → Summed f facets i sum → more ≡ f t → IsAtMost 1 more
+    → Summed f facets (i + 1) (to_z w32 (of_z w32 (sum +ℤ to_z w32 (of_z w32 more))))
+facet_more f facets i t sum more few at_i so_far more_is unit =
+    sum_more f facets i t sum more (slice_get_within facets i t at_i) (omega arith) so_far
+    (more_is ∙ ap f (sym (get_or_from_slice_get facets i t t at_i))) unit

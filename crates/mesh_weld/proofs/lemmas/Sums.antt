@@ -1,10 +1,11 @@
 -- The edges of a closed mesh, all reversed, are the same edges in another order: so what changes its sign with an edge's
 -- direction sums to 0.
-use Rattle.std.proofs.Common.{◌≡◌, ℕ, ◌+◌, Bool, true, false, cond, ◌&&◌, List, [], ◌∷◌, ◌++◌, map, ◌⊎◌, ℤ, pos, ◌+ℤ◌, ◌-ℤ◌, neg_ℤ, refl, sym, ◌∙◌, ap, inl, inr, arith}
+use Rattle.std.proofs.Common.{◌≡◌, ℕ, ◌+◌, Bool, true, false, cond, List, [], ◌∷◌, ◌++◌, map, ◌⊎◌, ℤ, pos, ◌+ℤ◌, ◌-ℤ◌, neg_ℤ, refl, sym, ◌∙◌, ap, inl, inr, arith}
 use Rattle.std.specs.Prelude.{count_by}
 use Rattle.std.proofs.lemmas.Int.{ints}
 use lib.IntN.{+ℤ_assoc}
-use Rattle.exact_int.proofs.lemmas.Laws.{move_left}
+use Rattle.std.proofs.lemmas.Bool.{and_from}
+use Rattle.exact_int.proofs.lemmas.Laws.{move_left, neg_of_difference}
 use Rattle.geometry.specs.Point.{Point, same, half_micrometres_of}
 use Rattle.geometry.specs.Facet.{Facet, Edge, edges, half_edges, twice}
 use Rattle.geometry.specs.Winding.{total, turn, turn_x, wind, wind_y, hit, ray, neg_ray_back}
@@ -39,8 +40,9 @@ total-map f g [] = refl
 total-map f g (x ∷ xs) = ap (λ z. f (g x) +ℤ z) (total-map f g xs)
 
 -- ---- lists with equal numbers of each edge have the same sums
-runs-own : (e : Edge) → runs e.from e.to e ≡ true
-runs-own e = ap (λ b. b && same e.to e.to) (same-self e.from) ∙ same-self e.to
+pub runs-own : (c : Edge) (u v : Point) → c.from ≡ u → c.to ≡ v → runs u v c ≡ true
+runs-own c u v h k =
+    and_from (same c.from u) (same c.to v) (ap (same c.from) (sym h) ∙ same-self c.from) (ap (same c.to) (sym k) ∙ same-self c.to)
 
 -- a list is one edge and the rest, in another order
 record Taken (x : Edge) (ys : List Edge) : Type 0 where
@@ -90,7 +92,7 @@ abbrev HaveSameEdges : List Edge → List Edge → Type 0
 HaveSameEdges xs ys = (u v : Point) → count_by (runs u v) xs ≡ count_by (runs u v) ys
 
 own_one : (x : Edge) (xs : List Edge) → count_by (runs x.from x.to) (x ∷ xs) ≡ 1 + count_by (runs x.from x.to) xs
-own_one x xs = count_by-cons (runs x.from x.to) x xs ∙ ap (λ b. cond b 1 0 + count_by (runs x.from x.to) xs) (runs-own x)
+own_one x xs = count_by-cons (runs x.from x.to) x xs ∙ ap (λ b. cond b 1 0 + count_by (runs x.from x.to) xs) (runs-own x x.from x.to refl refl)
 
 not_none : (n m : ℕ) → m ≡ 1 + n → m ≡ 0 → ⊥
 not_none n m e h = omega arith
@@ -161,8 +163,5 @@ winds_along_y_cancel facets balanced x z =
 
 pub ray_from_left : (facets : List Facet) → IsBalanced facets → (c : Point) → neg_ray_back facets c ≡ ray facets c
 ray_from_left facets balanced c =
-    turned _ _ _ (total-difference (λ t. wind (twice t) c.y c.z) (λ t. hit (twice t) c) facets)
+    neg_of_difference _ _ _ (total-difference (λ t. wind (twice t) c.y c.z) (λ t. hit (twice t) c) facets)
     (winds_cancel facets balanced c.y c.z)
-  where
-    turned : (a w h : ℤ) → a ≡ w -ℤ h → w ≡ pos 0 → neg_ℤ a ≡ h
-    turned a w h e f = omega (arith, ints)

@@ -18,7 +18,7 @@ use Rattle.raster.specs.Grid.{Grid, centre}
 use Rattle.raster.specs.Rule.{is_inside}
 use Rattle.raster.specs.Filler.{is_filled}
 use Rattle.slicer_laws.proofs.lemmas.Shells.{ray-append}
-use Rattle.slicer_laws.specs.Boxes.{at, box, holds, is_between, side, sides_x, sides_y, sides_z}
+use Rattle.slicer_laws.specs.Boxes.{at, box, holds, is_from_to, side, sides_x, sides_y, sides_z}
 
 -- ---- a facet that is seen edge-on along x is not hit
 cond-zero : (b : Bool) (w : ℤ) → w ≡ pos 0 → cond b w (pos 0) ≡ pos 0
@@ -290,7 +290,7 @@ below_too low high m h k = grind (arith, ints)
 twice_order : (low high : ℤ) → low ≤ℤ high → (pos 2 *ℤ low) ≤ℤ (pos 2 *ℤ high)
 twice_order low high h = omega (arith, ints)
 
-between-is : (low high m : ℤ) → (not (int_lt m (pos 2 *ℤ low)) && int_lt m (pos 2 *ℤ high)) ≡ is_between low high m
+between-is : (low high m : ℤ) → (not (int_lt m (pos 2 *ℤ low)) && int_lt m (pos 2 *ℤ high)) ≡ is_from_to low high m
 between-is low high m = ap (λ b. b && int_lt m (pos 2 *ℤ high)) (sym (above_or_not (pos 2 *ℤ low) m))
 
 -- ---- the whole box
@@ -300,7 +300,7 @@ ray-sides_x low high c order =
     ∙ (λ i. near_hits (pos 2 *ℤ low.x) y1 y2 z1 z2 c.y c.z z_order c refl refl i +ℤ far_hits (pos 2 *ℤ high.x) y1 y2 z1 z2 c.y c.z z_order c refl refl i)
     ∙ depth-is (int_lt c.x (pos 2 *ℤ low.x)) (int_lt c.x (pos 2 *ℤ high.x)) w (below_too low.x high.x c.x order.x)
     ∙ (λ i. cond (between-is low.x high.x c.x i) (across i) (pos 0))
-    ∙ all_three (is_between low.x high.x c.x) (is_between low.y high.y c.y) (is_between low.z high.z c.z)
+    ∙ all_three (is_from_to low.x high.x c.x) (is_from_to low.y high.y c.y) (is_from_to low.z high.z c.z)
   where
     near : List Facet
     near = side (at low.x low.y low.z) (at low.x low.y high.z) (at low.x high.y high.z) (at low.x high.y low.z)
@@ -326,7 +326,7 @@ ray-sides_x low high c order =
     w : ℤ
     w = one_if (passes z1 z2 c.z && int_lt c.y y2) -ℤ one_if (passes z1 z2 c.z && int_lt c.y y1)
 
-    across : w ≡ one_if (is_between low.y high.y c.y && is_between low.z high.z c.z)
+    across : w ≡ one_if (is_from_to low.y high.y c.y && is_from_to low.z high.z c.z)
     across =
         width-is (int_lt c.y y1) (int_lt c.y y2) (passes z1 z2 c.z) (below_too low.y high.y c.y order.y)
         ∙ ap (λ b. one_if (b && passes z1 z2 c.z)) (between-is low.y high.y c.y)

@@ -7,7 +7,7 @@ use Rattle.geometry.specs.Winding.{hit, hit_y, ray, ray_y}
 use Rattle.exact_cut.proofs.lemmas.Steps.{hit-swap, swap, swap_tri}
 use Rattle.mesh_weld.proofs.lemmas.Sums.{total-map, total-neg}
 use Rattle.geometry.specs.BoundingBox.{IsBox}
-use Rattle.slicer_laws.specs.Boxes.{box, holds, is_between}
+use Rattle.slicer_laws.specs.Boxes.{box, holds, is_from_to}
 use Rattle.slicer_laws.specs.InsideOut.{inside_out}
 use Rattle.slicer_laws.proofs.lemmas.Boxes.{ray-box}
 use Rattle.slicer_laws.proofs.lemmas.ClosedBoxes.{exchanged}
@@ -43,4 +43,4 @@ ray_y-box low high c order =
     ∙ ray-turned (box (swap low) (swap high)) (swap c))
     ∙ neg-neg (ray (box (swap low) (swap high)) (swap c))
     ∙ ray-box (swap low) (swap high) (swap c) (record { x = order.y; y = order.x; z = order.z })
-    ∙ ap (λ b. cond b (pos 1) (pos 0)) (other_order (is_between low.x high.x c.x) (is_between low.y high.y c.y) (is_between low.z high.z c.z))
+    ∙ ap (λ b. cond b (pos 1) (pos 0)) (other_order (is_from_to low.x high.x c.x) (is_from_to low.y high.y c.y) (is_from_to low.z high.z c.z))

@@ -7,6 +7,7 @@ use Rattle.std.proofs.lemmas.Grind.{flat_map-append}
 use Rattle.std.proofs.Math.Nat.{mul-le-mul}
 use lib.IntN.{+ℤ_idr}
 use Rattle.exact_int.specs.Bounds.{IsAtMost}
+use Rattle.exact_int.proofs.lemmas.Signs.{le_trans}
 use Rattle.geometry.specs.Facet.{Facet}
 use Rattle.geometry.specs.declared.limits.TheConstants.{CENTRE_LIMIT, COORDINATE_LIMIT}
 use Rattle.raster.specs.declared.rule.Rule.{Rule}
@@ -96,9 +97,6 @@ middle-le start step a b h =
     twice_more : (a b : ℕ) → a ≤ b → 2 * a + 1 ≤ 2 * b + 1
     twice_more a b h = omega arith
 
-le-trans : (a b c : ℤ) → a ≤ℤ b → b ≤ℤ c → a ≤ℤ c
-le-trans a b c h k = omega (arith, ints)
-
 pub lower_part : (g : Grid) (m : ℕ) → IsGrid g → 1 ≤ m → m < g.layers → IsGrid (first_layers m g)
 lower_part g m h low high =
     record {
@@ -114,7 +112,7 @@ lower_part g m h low high =
       last_x = h.last_x;
       last_y = h.last_y;
       last_z =
-          le-trans (middle g.origin.z g.layer_height (m - 1)) (middle g.origin.z g.layer_height (g.layers - 1)) (pos CENTRE_LIMIT)
+          le_trans (middle g.origin.z g.layer_height (m - 1)) (middle g.origin.z g.layer_height (g.layers - 1)) (pos CENTRE_LIMIT)
           (middle-le g.origin.z g.layer_height (m - 1) (g.layers - 1) (omega arith)) h.last_z;
     }
 

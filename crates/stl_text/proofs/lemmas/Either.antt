@@ -25,6 +25,7 @@ use Rattle.stl_text.specs.Text.{Token, keyword, normal_word, coordinate, rest_of
 use Rattle.stl_text.proofs.lemmas.Determined.{Slot, fixed, any_word, any_coordinate, any_line, facet_slots}
 use Rattle.stl_text.proofs.lemmas.OneReading.{then_on, rest-append}
 use Rattle.stl_text.proofs.lemmas.Options.{some-is}
+use Rattle.stl_text.specs.Stage.{open_solid}
 
 -- The tokens that fill slots: coordinates are taken from a list in order, and are 0 when it is used up.
 
@@ -276,16 +277,12 @@ no_word-space bytes e = by_front (after_space bytes) refl (front_is bytes) e
 
 -- The scan of a whole text.
 
-abbrev end_tokens : List Token
+abbrev pub end_tokens : List Token
 end_tokens = end_word ∷ rest_of_line ∷ []
-
--- a solid that is open after these facets
-abbrev pub open_tokens : List Facet → List Token
-open_tokens facets = keyword_of Solid ∷ rest_of_line ∷ flat_map facet_tokens facets
 
 -- with one more solid, which is open
 cut_open : (solids : List (List Facet)) (facets : List Facet)
-    → flat_map solid_tokens (solids ++ facets ∷ []) ≡ flat_map solid_tokens solids ++ (open_tokens facets ++ end_tokens)
+    → flat_map solid_tokens (solids ++ facets ∷ []) ≡ flat_map solid_tokens solids ++ (open_solid facets ++ end_tokens)
 cut_open solids facets =
     flat_map-append solid_tokens solids (facets ∷ [])
     ∙ ap (λ r. flat_map solid_tokens solids ++ r) (append-nil (solid_tokens facets))
@@ -294,14 +291,14 @@ cut_open solids facets =
 pub cut_facet : (solids : List (List Facet)) (facets : List Facet) (t : Facet) (front : List Token) (p : Token) (more : List Token)
     → facet_tokens t ≡ front ++ p ∷ more
     → flat_map solid_tokens (solids ++ (facets ++ t ∷ []) ∷ [])
-    ≡ ((flat_map solid_tokens solids ++ open_tokens facets) ++ front) ++ p ∷ (more ++ end_tokens)
+    ≡ ((flat_map solid_tokens solids ++ open_solid facets) ++ front) ++ p ∷ (more ++ end_tokens)
 cut_facet solids facets t front p more is =
     cut_open solids (facets ++ t ∷ [])
     ∙ ap (λ r. P ++ ((keyword_of Solid ∷ rest_of_line ∷ r) ++ end_tokens)) last
-    ∙ ap (λ r. P ++ r) (append_assoc (open_tokens facets) (front ++ p ∷ more) end_tokens)
-    ∙ sym (append_assoc P (open_tokens facets) ((front ++ p ∷ more) ++ end_tokens))
-    ∙ ap (λ r. (P ++ open_tokens facets) ++ r) (append_assoc front (p ∷ more) end_tokens)
-    ∙ sym (append_assoc (P ++ open_tokens facets) front (p ∷ (more ++ end_tokens)))
+    ∙ ap (λ r. P ++ r) (append_assoc (open_solid facets) (front ++ p ∷ more) end_tokens)
+    ∙ sym (append_assoc P (open_solid facets) ((front ++ p ∷ more) ++ end_tokens))
+    ∙ ap (λ r. (P ++ open_solid facets) ++ r) (append_assoc front (p ∷ more) end_tokens)
+    ∙ sym (append_assoc (P ++ open_solid facets) front (p ∷ (more ++ end_tokens)))
   where
     P : List Token
     P = flat_map solid_tokens solids
@@ -319,12 +316,12 @@ facets_of-open solids facets =
     ∙ ap (λ r. length (facets_of solids) + length r) (append-nil facets)
 
 pub facet_count-open : (solids : List (List Facet)) (facets : List Facet)
-    → facet_count (flat_map solid_tokens solids ++ open_tokens facets) ≡ length (facets_of solids) + length facets
+    → facet_count (flat_map solid_tokens solids ++ open_solid facets) ≡ length (facets_of solids) + length facets
 facet_count-open solids facets =
     let f : Token → ℕ = λ x. cond (is_facet_word x) 1 0 in
-    let split : facet_count (flat_map solid_tokens solids ++ open_tokens facets) ≡ facet_count (flat_map solid_tokens solids) + facet_count (open_tokens facets) =
-    sum_by-append f (flat_map solid_tokens solids) (open_tokens facets) in
-    let inner : facet_count (open_tokens facets) ≡ length facets = facet_count-facets facets in
+    let split : facet_count (flat_map solid_tokens solids ++ open_solid facets) ≡ facet_count (flat_map solid_tokens solids) + facet_count (open_solid facets) =
+    sum_by-append f (flat_map solid_tokens solids) (open_solid facets) in
+    let inner : facet_count (open_solid facets) ≡ length facets = facet_count-facets facets in
     omega (arith, split, inner, facet_count-solids solids)
 
 module _ (limit : ℕ) (unit : LengthUnit) (bytes : List ℕ) where
@@ -335,7 +332,7 @@ module _ (limit : ℕ) (unit : LengthUnit) (bytes : List ℕ) where
     closed : (solids : List (List Facet)) (rest : List ℕ) → rest_after unit (flat_map solid_tokens solids) bytes ≡ Some rest
         → length (facets_of solids) ≤ limit → Situation
     opened : (solids : List (List Facet)) (facets : List Facet) (rest : List ℕ)
-        → rest_after unit (flat_map solid_tokens solids ++ open_tokens facets) bytes ≡ Some rest
+        → rest_after unit (flat_map solid_tokens solids ++ open_solid facets) bytes ≡ Some rest
         → length (facets_of solids) + length facets ≤ limit → Situation
 
   abbrev rest_of : Situation → List ℕ
@@ -473,7 +470,7 @@ module _ (limit : ℕ) (unit : LengthUnit) (bytes : List ℕ) where
       by_test some true h =
           let on : rest_after unit (solid_word ∷ rest_of_line ∷ []) rest ≡ Some next_rest = rw h refl in
           inr (
-            opened solids [] next_rest (on_after (flat_map solid_tokens solids) (open_tokens []) rest next_rest spelled on) (omega (arith, few)),
+            opened solids [] next_rest (on_after (flat_map solid_tokens solids) (open_solid []) rest next_rest spelled on) (omega (arith, few)),
             omega (arith, after_line-le (after_word rest), after_word-lt rest some),
           )
       by_test some false h =
@@ -550,7 +547,7 @@ module _ (limit : ℕ) (unit : LengthUnit) (bytes : List ℕ) where
       vertex = (λ w. refl, λ e. cc, λ e. cc)
 
   step_opened : (solids : List (List Facet)) (facets : List Facet) (rest : List ℕ)
-      (spelled : rest_after unit (flat_map solid_tokens solids ++ open_tokens facets) bytes ≡ Some rest)
+      (spelled : rest_after unit (flat_map solid_tokens solids ++ open_solid facets) bytes ≡ Some rest)
       (few : length (facets_of solids) + length facets ≤ limit) → Step (opened solids facets rest spelled few)
   step_opened solids facets rest spelled few = by_word (first_word rest) refl
     where
@@ -558,10 +555,10 @@ module _ (limit : ℕ) (unit : LengthUnit) (bytes : List ℕ) where
       P = flat_map solid_tokens solids
 
       front : List Token
-      front = P ++ open_tokens facets
+      front = P ++ open_solid facets
 
       cut_end : flat_map solid_tokens (solids ++ facets ∷ []) ≡ front ++ end_tokens
-      cut_end = cut_open solids facets ∙ sym (append_assoc P (open_tokens facets) end_tokens)
+      cut_end = cut_open solids facets ∙ sym (append_assoc P (open_solid facets) end_tokens)
 
       few_front : facet_count front ≤ limit
       few_front = omega (arith, facet_count-open solids facets, few)
@@ -576,9 +573,9 @@ module _ (limit : ℕ) (unit : LengthUnit) (bytes : List ℕ) where
           let whole : flat_map facet_tokens (facets ++ t ∷ []) ≡ flat_map facet_tokens facets ++ facet_tokens t =
           flat_map-append facet_tokens facets (t ∷ []) ∙ ap (λ r. flat_map facet_tokens facets ++ r) (append-nil (facet_tokens t)) in
           let read : rest_after unit (facet_word ∷ fill facet_slots on.values) rest ≡ Some on.rest = rw h on.spelled in
-          let longer : rest_after unit (P ++ open_tokens (facets ++ t ∷ [])) bytes ≡ Some on.rest =
+          let longer : rest_after unit (P ++ open_solid (facets ++ t ∷ [])) bytes ≡ Some on.rest =
           ap (λ r. rest_after unit (P ++ (keyword_of Solid ∷ rest_of_line ∷ r)) bytes) whole
-          ∙ ap (λ ps. rest_after unit ps bytes) (sym (append_assoc P (open_tokens facets) (facet_tokens t)))
+          ∙ ap (λ ps. rest_after unit ps bytes) (sym (append_assoc P (open_solid facets) (facet_tokens t)))
           ∙ on_after front (facet_word ∷ fill facet_slots on.values) rest on.rest spelled read in
           let more : length (facets ++ t ∷ []) ≡ length facets + 1 = length-append facets (t ∷ []) in
           inr (

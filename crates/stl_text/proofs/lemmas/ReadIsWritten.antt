@@ -18,7 +18,7 @@ use Rattle.stl_text.specs.Text.{Token, keyword, normal_word, coordinate, rest_of
 use Rattle.stl_text.specs.Written.{Spaced, is_word, is_spaced_word, are_white, laid_out, IsWordOf, AreWordsOf, IsApart, IsRemark, IsLineBreak, IsAfterSolids, WrittenSolid, AreWrittenSolids, Written}
 use Rattle.stl_text.proofs.lemmas.Determined.{read-is}
 use Rattle.stl_text.proofs.lemmas.OneReading.{then_on, rest-append}
-use Rattle.stl_text.proofs.lemmas.Solids.{end_tokens}
+use Rattle.stl_text.proofs.lemmas.Either.{end_tokens}
 use Rattle.stl_text.proofs.lemmas.Fronts.{line_end_white}
 use Rattle.stl_text.proofs.lemmas.Written.{EndsLine, some-lower}
 use Rattle.stl_text.proofs.lemmas.Options.{some-is}

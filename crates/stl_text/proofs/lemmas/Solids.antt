@@ -7,18 +7,15 @@ use Rattle.stl_text.specs.declared.stl_fault.StlFault.{StlFault}
 use Rattle.stl_text.specs.declared.stl_fault.StlFault.TheVariants as fault
 use Rattle.micro_num.specs.declared.unit.Unit.{Unit as LengthUnit}
 use Rattle.geometry.specs.Facet.{Facet}
-use Rattle.stl_text.specs.Text.{Token, rest_of_line, facets_of, Reads, IsFaultOf, facet_word, end_word, facet_tokens, solid_tokens, keyword_of}
+use Rattle.stl_text.specs.Text.{Token, rest_of_line, facets_of, Reads, IsFaultOf, facet_word, facet_tokens, solid_tokens, keyword_of}
 use Rattle.stl_text.specs.Reader.{facet_tail}
 use Rattle.stl_text.proofs.lemmas.OneFault.{not_both}
-use Rattle.stl_text.proofs.lemmas.Either.{open_tokens}
-
-abbrev pub end_tokens : List Token
-end_tokens = end_word ∷ rest_of_line ∷ []
+use Rattle.stl_text.specs.Stage.{open_solid}
 
 abbrev solid_word : Token
 solid_word = keyword_of Solid
 
-pub open-more : (added : List Facet) (t : Facet) → open_tokens (added ++ t ∷ []) ≡ open_tokens added ++ ((facet_word ∷ []) ++ facet_tail t)
+pub open-more : (added : List Facet) (t : Facet) → open_solid (added ++ t ∷ []) ≡ open_solid added ++ ((facet_word ∷ []) ++ facet_tail t)
 open-more added t =
     ap (λ ps. solid_word ∷ rest_of_line ∷ ps)
     (flat_map-append facet_tokens added (t ∷ []) ∙ ap (λ ps. flat_map facet_tokens added ++ ps) (append-nil (facet_tokens t)))

@@ -19,8 +19,8 @@ use Rattle.stl_text.specs.Reader.{facet_tail}
 use Rattle.stl_text.specs.Stage.{Goes, IsForm, IsStop, Stands, ReadInside, front, open_solid}
 use Rattle.stl_text.specs.FacetRun.{next_solid}
 use Rattle.stl_text.proofs.lemmas.OneFault.{facet_count-solids}
-use Rattle.stl_text.proofs.lemmas.Either.{cut_facet, facet_count-open, no_word-space}
-use Rattle.stl_text.proofs.lemmas.Solids.{end_tokens, facets-more, open-more, tokens-more}
+use Rattle.stl_text.proofs.lemmas.Either.{cut_facet, facet_count-open, no_word-space, end_tokens}
+use Rattle.stl_text.proofs.lemmas.Solids.{facets-more, open-more, tokens-more}
 use Rattle.stl_text.proofs.lemmas.Steps.{spelled-append}
 use Rattle.stl_text.proofs.lemmas.Options.{some-is}
 use Rattle.stl_text.proofs.lemmas.OneReading.{ended_word}

@@ -6,7 +6,7 @@ use Rattle.std.proofs.lemmas.List.{take_all}
 use Rattle.std.proofs.lemmas.Result.{IfErr-weaker}
 use Rattle.raster.specs.Devices.{AppendsFirst, Fails}
 use Rattle.raster.specs.Image.{images_limit}
-use Rattle.raster.proofs.lemmas.Sent.{appends-kept}
+use Rattle.std.proofs.KnownBytes.{Appends-kept}
 use Rattle.raster.proofs.lemmas.Written.{IsUnderWay, all-counted, all-out, more-out, written-within}
 use Rattle.mesh_reading.specs.Transcript.{Transcript}
 use Rattle.mesh_reading.proofs.lemmas.Faults.{passed_on}
@@ -36,7 +36,7 @@ pub flush_failed : {T : Type 0} (r : Result T RunFault) (sink : Transcript) (tex
 flush_failed r sink text put written count out kept whole same =
     let first : AppendsFirst sink.old sink.new written text =
     subst (λ (l : List ℕ). Appends sink.old sink.new l) (sym (take_all written text (omega (arith, whole))))
-    (appends-kept sink.old put sink.new text out kept) in
+    (Appends-kept sink.old put sink.new text out kept) in
     IfErr-weaker r (λ f. (f ≡ fault.Write written) × Fails count sink.failed) (IsUnwritten sink text)
     (λ f h. (written, h.0, omega (arith, whole), first, subst (λ (n : ℕ). Fails n sink.failed) same h.1))
 

@@ -1,6 +1,6 @@
 use Rattle.std.proofs.Common.{◌≡◌, ◌+◌, ◌^◌, ◌<◌, ◌≤◌, length, arith, rules, length-set, ◌∙◌, ap, sym}
 use Rattle.std.specs.Prelude.{get_or}
-use Rattle.build_book.specs.Places.{filled, or_layer}
+use Rattle.build_book.specs.Places.{with_layers, or_layer}
 use Rattle.build_book.specs.declared.limits.TheConstants.{STRIPE_LAYERS}
 use Rattle.build_book.proofs.lemmas.Places.{filled_step, filled_empty, front_step, count_step, room_here, room_after, few_front, length_step, one_if_free, one_or_none, one_at_most, length-filled}
 use Rattle.build_book.proofs.places.fill_gaps.Goals as goal
@@ -19,7 +19,7 @@ pub offset_bounds-places-at : goal.offset_bounds-places-at
 offset_bounds-places-at g c =
     let low : c.loop-layer.at < length c.loop-layer.places = room_here _ _ _ _ _ c.loop-layer.invariant.left c.in-Some.ensures.steps.0 in
     let early : c.loop-layer.at < length c.args.places.now =
-    omega (arith, low, ap length {y = filled c.args.first c.loop-layer.yielded c.args.places.now} c.loop-layer.invariant.places, length-filled c.args.first c.loop-layer.yielded c.args.places.now) in
+    omega (arith, low, ap length {y = with_layers c.args.first c.loop-layer.yielded c.args.places.now} c.loop-layer.invariant.places, length-filled c.args.first c.loop-layer.yielded c.args.places.now) in
     search (rules, early)
 
 pub overflow_add-made : goal.overflow_add-made
@@ -46,7 +46,7 @@ loop-layer-preserved g c =
       few = omega (arith, one, one_at_most c.index-places-at.result, c.loop-layer.invariant.few, length_step c.loop-layer.yielded c.in-Some.layer);
       places = rw (put, c.loop-layer.invariant.places)
           (filled_step _ _ _ _ _ _ c.loop-layer.invariant.here
-          (omega (arith, low, ap length {y = filled c.args.first c.loop-layer.yielded c.args.places.now} c.loop-layer.invariant.places, length-filled c.args.first c.loop-layer.yielded c.args.places.now))
-          (c.index-places-at.is ∙ ap (λ ps. get_or ps c.loop-layer.at c.index-places-at.result) {y = filled c.args.first c.loop-layer.yielded c.args.places.now} c.loop-layer.invariant.places));
+          (omega (arith, low, ap length {y = with_layers c.args.first c.loop-layer.yielded c.args.places.now} c.loop-layer.invariant.places, length-filled c.args.first c.loop-layer.yielded c.args.places.now))
+          (c.index-places-at.is ∙ ap (λ ps. get_or ps c.loop-layer.at c.index-places-at.result) {y = with_layers c.args.first c.loop-layer.yielded c.args.places.now} c.loop-layer.invariant.places));
       made = rw put (omega (arith, one, c.loop-layer.invariant.made, count_step c.loop-layer.places c.loop-layer.at c.in-Some.layer c.index-places-at.result low c.index-places-at.is));
     }

@@ -5,7 +5,7 @@ use Rattle.geometry.specs.Winding.{ray}
 use Rattle.plane_segments.specs.declared.segment.Segment.{Segment}
 use Rattle.contour.specs.Loops.{loop_facets}
 use Rattle.contour.proofs.lemmas.Links.{in-facets}
-use Rattle.contour.proofs.lemmas.LoopRays.{IsLoopOf, is_loop, sum_more}
+use Rattle.contour.proofs.lemmas.LoopRays.{IsLoopOf, is_loop, segment_more, summed_all}
 use Rattle.contour.proofs.lemmas.LoopWinds.{ray_from_back}
 use Rattle.contour.proofs.loop_list.loop_ray.Goals as goal
 
@@ -30,7 +30,7 @@ loop-segment-preserved g c =
     let few = is.few in
     let many = c.count-facets.ensures.few in
     let below = c.loop-segment-test.true in
-    sum_more c.args.s.now.facets c.args.c.now c.args.list.now c.loop-segment.segment-index c.segment-item.result c.facet.result _ c.ray_hit-sum.result
+    segment_more c.args.s.now.facets c.args.c.now c.args.list.now c.loop-segment.segment-index c.segment-item.result c.facet.result _ c.ray_hit-sum.result
     (omega arith) (omega arith) (sym (ap (λ (s : Segment). slice_get c.args.s.now.facets s.facet) c.segment-item.is) ∙ c.facet.ensures.value)
     (record { sum_is = c.loop-segment.invariant.sum_is; small = c.loop-segment.invariant.small })
     c.ray_hit-sum.ensures.value c.ray_hit-sum.ensures.unit
@@ -39,7 +39,8 @@ pub returns-clause-back : goal.returns-clause-back
 returns-clause-back g c =
     let all = take_all c.loop-segment.segment-index c.args.list.now (omega (arith, c.loop-segment-test.false)) in
     let ahead : to_z w32 c.loop-segment.sum-bits ≡ ray (loop_facets c.args.s.now.facets c.args.list.now) c.args.c.now =
-    c.loop-segment.invariant.sum_is ∙ ap (λ segments. ray (loop_facets c.args.s.now.facets segments) c.args.c.now) all in
+    summed_all c.args.s.now.facets c.args.c.now c.args.list.now c.loop-segment.segment-index _ all
+    (record { sum_is = c.loop-segment.invariant.sum_is; small = c.loop-segment.invariant.small }) in
     let numbered = c.edge_numbers-numbers.ensures in
     ahead
     ∙ sym (ray_from_back c.args.s.now.facets c.edge_numbers-numbers.result.now numbered.0 numbered.1 c.count-facets.ensures.closed

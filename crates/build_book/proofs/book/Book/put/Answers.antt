@@ -3,7 +3,7 @@ use Rattle.std.specs.Vec.{with_items}
 use Rattle.std.proofs.lemmas.List.{with_items_is}
 use Rattle.build_book.specs.Job.{stripe_length}
 use Rattle.build_book.specs.Piece.{IsStripe}
-use Rattle.build_book.specs.Places.{filled, AreFree}
+use Rattle.build_book.specs.Places.{with_layers, AreFree}
 use Rattle.build_book.specs.declared.limits.TheConstants.{STRIPE_LAYERS}
 use Rattle.build_book.proofs.lemmas.Places.{moved_stripe, stripe_lawful, stripe_filed, length-filled}
 use Rattle.build_book.proofs.book.Book.put.Goals as goal
@@ -18,8 +18,8 @@ piece_stripe g c = moved_stripe _ _ _ _ _ _ (same_job g c) refl c.into_layers.en
 first_place : (g : _) (c : After-fill_gaps g) → c.layer_range-first.result.0 ≡ STRIPE_LAYERS * c.args.piece.stripe
 first_place g c = c.layer_range-first.ensures.first ∙ ap (λ n. STRIPE_LAYERS * n) c.stripe.ensures
 
-filed_places : (g : _) (c : After-fill_gaps g) → c.fill_gaps.new.places ≡ filled c.layer_range-first.result.0 c.into_layers.result.items c.self.inside.places.items
-filed_places g c = c.fill_gaps.ensures.places ∙ ap (filled c.layer_range-first.result.0 c.into_layers.result.items) c.as_mut_slice-places.ensures.value
+filed_places : (g : _) (c : After-fill_gaps g) → c.fill_gaps.new.places ≡ with_layers c.layer_range-first.result.0 c.into_layers.result.items c.self.inside.places.items
+filed_places g c = c.fill_gaps.ensures.places ∙ ap (with_layers c.layer_range-first.result.0 c.into_layers.result.items) c.as_mut_slice-places.ensures.value
 
 whole_places : (g : _) (c : After-fill_gaps g) → (with_items c.self.inside.places c.fill_gaps.new.places).items ≡ c.fill_gaps.new.places
 whole_places g c =

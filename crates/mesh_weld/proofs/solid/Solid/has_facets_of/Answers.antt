@@ -1,7 +1,7 @@
 use Rattle.std.proofs.Common.{◌≡◌, Decides, false, sym, ap, ◌∙◌}
 use Rattle.std.proofs.lemmas.Slice.Eq.{slice_eq-Decides, bytes_eq-Decides}
 use Rattle.mesh_weld.specs.Solid.{Solid, facets_by, triples, vertices}
-use Rattle.mesh_weld.proofs.lemmas.Alike.{points_decide}
+use Rattle.mesh_weld.proofs.lemmas.Order.{points_decide}
 use Rattle.mesh_weld.proofs.solid.Solid.has_facets_of.Given.{Over}
 use Rattle.mesh_weld.proofs.solid.Solid.has_facets_of.Goals.{After-eq}
 use Rattle.mesh_weld.proofs.solid.Solid.has_facets_of.Goals as goal

@@ -2,7 +2,7 @@ use Rattle.std.proofs.Common.{◌≡◌, ◌∙◌, ◌+◌, ◌≤◌, ℕ, [],
 use Rattle.std.proofs.lemmas.Result.{on_ok_weaker}
 use Rattle.raster.specs.Image.{images_limit, layer_image}
 use Rattle.raster.specs.ImageWriter.{ImageWriter, pending}
-use Rattle.raster.proofs.lemmas.Sent.{appends-kept}
+use Rattle.std.proofs.KnownBytes.{Appends-kept}
 use Rattle.raster.proofs.lemmas.Written.{IsUnderWay, moved}
 use Rattle.mesh_reading.specs.Transcript.{Transcript}
 use Rattle.mesh_reading.proofs.lemmas.Reading.{transcript_of}
@@ -111,7 +111,7 @@ returns-clause-ok g c =
     let put = g.O.Sink.contents c.finish.new.w in
     let all = c.layers-layer-items.ensures in
     on_ok_weaker c.settle.result
-    (λ _. appends-kept old put (g.O.Sink.contents c.settle.new.sink) (images_of job)
+    (λ _. Appends-kept old put (g.O.Sink.contents c.settle.new.sink) (images_of job)
     (held_out job old (g.O.Sink.contents c.loop-layer.sink) put c.loop-layer.writer.sent c.loop-layer.layer-index c.loop-layer.writer.held
     (layers_end job c.args.build.now.layers c.layers-layer-items.result.now c.loop-layer.layer-index all.value all.complete
     c.loop-layer-test.false) c.loop-layer.invariant.text c.in_ok-written.ensures.ok) c.settle.ensures.kept) c.settle.ensures.flushed

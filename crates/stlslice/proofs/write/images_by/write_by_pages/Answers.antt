@@ -1,6 +1,6 @@
 use Rattle.std.proofs.Common.{◌≡◌, arith}
 use Rattle.std.proofs.lemmas.Result.{on_ok_weaker}
-use Rattle.raster.proofs.lemmas.Sent.{appends-kept}
+use Rattle.std.proofs.KnownBytes.{Appends-kept}
 use Rattle.build_book.specs.Job.{Job}
 use Rattle.mesh_reading.specs.Transcript.{Transcript}
 use Rattle.mesh_reading.proofs.lemmas.Faults.{passed_on}
@@ -22,7 +22,7 @@ returns-in_err-written-clause-err g c =
 pub returns-clause-ok : goal.returns-clause-ok
 returns-clause-ok g c =
     on_ok_weaker c.settle.result
-    (λ _. appends-kept (g.O.Sink.contents c.args.sink.now) (g.O.Sink.contents c.put_by_pages.new.sink) (g.O.Sink.contents c.settle.new.sink)
+    (λ _. Appends-kept (g.O.Sink.contents c.args.sink.now) (g.O.Sink.contents c.put_by_pages.new.sink) (g.O.Sink.contents c.settle.new.sink)
     (images_of c.args.build.now.job) c.in_ok-written.ensures.ok c.settle.ensures.kept) c.settle.ensures.flushed
 
 pub returns-clause-err : goal.returns-clause-err
