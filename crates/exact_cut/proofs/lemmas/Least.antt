@@ -7,7 +7,7 @@ use Rattle.exact_int.specs.Division.{IsCeilDiv}
 use Rattle.exact_cut.specs.Column.{IsLeastColumn, clamp}
 
 -- i is the ceiling of (num - first * den) / (2 * step * den)
-abbrev pub IsCeiling : ℤ → ℤ → ℤ → ℤ → ℤ → Type 0
+abbrev IsCeiling : ℤ → ℤ → ℤ → ℤ → ℤ → Type 0
 IsCeiling i num den first step = IsCeilDiv i (num -ℤ first *ℤ den) (pos 2 *ℤ step *ℤ den)
 
 -- centre k is not left of the crossing exactly where i is at most k

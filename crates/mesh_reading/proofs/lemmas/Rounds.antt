@@ -54,7 +54,7 @@ pub grown_front : (len : ℕ) (old new : List ℕ) → len ≤ length old → ta
 grown_front len old new within same = sym (take-take len (length old) new within) ∙ ap (take len) same
 
 -- bytes that were written over all of a room are the room's
-pub written_over : (bytes items : List ℕ) (n : ℕ) → length bytes ≡ n → take n (bytes ++ drop (length bytes) items) ≡ bytes
+written_over : (bytes items : List ℕ) (n : ℕ) → length bytes ≡ n → take n (bytes ++ drop (length bytes) items) ≡ bytes
 written_over bytes items n size = ap (λ k. take k (bytes ++ drop (length bytes) items)) (sym size) ∙ take-append_seam bytes (drop (length bytes) items)
 
 -- what was taken off a source, and what was taken off it next
