@@ -5,7 +5,7 @@
 --     IsMantissa                the digits of a number, with their leading digits
 --     IsCarry                   what dropped digits add to INCH_FACTOR times the leading ones
 --     IsCapped                  the same number, or both are beyond the limit of coordinates
---     IsCut                     the leading digits times the factor of a unit
+--     IsLeadingInUnit           the leading digits times the factor of a unit
 --     IsNear                    the same exponent, or both far beyond those of coordinates, on the same side
 --     IsExponentFront           a text begins with an exponent, or with none
 --     IsNumberFront             a text begins with a number that has no sign

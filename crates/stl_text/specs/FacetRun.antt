@@ -2,7 +2,6 @@
 --     IsRestOf        the rest of a text from some byte on
 --     StandsBefore    a text is read up to this rest of it, among the facets of a solid
 --     IsFacetRun      facets that stand one after another in a text
---     Chunk           a chunk of a text, whose numbers are in a unit
 use Rattle.std.specs.Prelude.{◌≡◌, ◌+◌, ◌≤◌, ℕ, List, [], ◌∷◌, ◌++◌, drop, length}
 use Rattle.micro_num.specs.declared.unit.Unit.{Unit as LengthUnit}
 use Rattle.geometry.specs.Facet.{Facet}

@@ -4,7 +4,7 @@
 --     AreWordsOf        these stretches are words that stand for these tokens, with white space after each
 --     IsRemark          what may follow a word up to the end of its line: a name, or what is skipped
 --     IsLineBreak       the end of a line, and more white space
---     IsEnd             a line break, or nothing
+--     IsAfterSolids     a line break, or nothing
 --     WrittenSolid      a solid of these facets, up to the end of the line of `endsolid`
 --     AreWrittenSolids  these stretches are solids of these facets, with a line break after each
 --     Written           a text of these facets
