@@ -157,8 +157,8 @@ pub(crate) struct Arrivals<A: Allocator> {
 }
 
 impl<A: Allocator + Copy + Send + Sync> Arrivals<A> {
-    /// What the plane reaches up to the height `z2`, in half-micrometres. Facets that have ended in any case, since they
-    /// start so far below, are not looked at one by one.
+    /// Finds what the plane reaches up to the height `z2`, in half-micrometres. Facets that start so far below `z2` that all of
+    /// them have ended there are counted by a binary search, and not looked at one by one.
     pub(crate) fn find(
         alloc: A,
         s: &Solid<A>,

@@ -206,7 +206,8 @@ fn is_finished(
     Ok(is_filed && build.late() == late && build.total_area() == 17)
 }
 
-// The number of the first order in which the book of the column has other counts.
+// Files the stripes of the column in each of these orders. The answer is the number of the first order after which the book
+// has other counts than those told.
 fn first_other_order(alloc: Global, orders: &[Order<'_>]) -> Result<Option<usize>, AllocError> {
     let job = job_of(alloc, COLUMN, 1, Rule::EvenOdd)?;
     for (n, order) in orders.iter().enumerate() {

@@ -53,13 +53,13 @@ fn are_layers(alloc: Global, (parts, size, told): Worked<'_>, rule: Rule) -> Opt
     Some(g.layers() as usize == told.len())
 }
 
-/// The least of two by two by two pixels.
+/// The layers of a grid of 2 x 2 x 2 voxels in which only the one of least x, y and z is filled.
 const LEAST_OF_EIGHT: &[Layer] = &[
     (&spans![0: 0, 1], b"P4\n2 2\n\x00\x80"),
     (&[], b"P4\n2 2\n\x00\x00"),
 ];
 
-// The centres lie at 1 and 3, and those at 3 in the far faces.
+// The centres lie at 1 and 3 micrometres; those at 3 lie in the far faces.
 static THREE_BY_TWOS: Worked = (CUBE_OF_THREE, 2, LEAST_OF_EIGHT);
 
 #[test]

@@ -49,8 +49,7 @@ AreWelded taken welder = length taken ≤ FACET_LIMIT → welder ≡ welder_of t
 abbrev pub HasWelded : List Facet → Welder → Welder → Type 0
 HasWelded facets old new = (taken : List Facet) → AreWelded taken old → AreWelded (taken ++ facets) new
 
--- A welder and a reader have all facets of a text between them, those that were taken off the reader in the welder: what
--- `says` tells holds of the text.
+-- `says` holds of each text that the reader was fed, where the welder has just the facets that were taken off the reader.
 abbrev pub OfText : Welder → TextReader → (LengthUnit → List ℕ → Type 0) → Type 0
 OfText welder reader says = (unit : LengthUnit) (taken : List Facet) (fed : List ℕ) → AreWelded taken welder
     → IsAfter FACET_LIMIT unit taken reader fed → says unit fed
@@ -112,7 +111,7 @@ pub record IsReadToEnd {S : Type 0} (remaining : S → Option (List ℕ)) (failu
   pub sound : result ≢ Err fault.Read → failure_count new ≡ failure_count old
   pub only : IfErr result (λ f. (f ≡ fault.Read) ⊎ (f ≡ fault.Memory))
 
--- What a call promises that makes a closed mesh of a whole text.
+-- The promise of a call that makes a closed mesh of a whole text.
 pub record IsLoaded (unit : LengthUnit) (bytes : List ℕ) (result : Result Solid ReadFault) : Type 0 where
   pub ok : IfOk result (IsSolidOf unit bytes)
   pub err : IfErr result (IsLoadFault unit bytes)

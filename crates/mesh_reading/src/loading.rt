@@ -46,8 +46,9 @@ pub fn load<A: Allocator + Copy + Send + Sync>(
     weld_end(reader, welder)
 }
 
-/// The closed mesh that a source spells, which is read to its end and welded as its facets come. Of the text no more is held
-/// than a window and the front of a word that it cuts; of the facets that are not welded yet, those of a window.
+/// The closed mesh that a source spells. The source is read to its end, and its facets are welded as they come. No more is
+/// held of the text than a window and the front of a word that it cuts, and of facets that are not welded yet those of a
+/// window.
 ///
 /// # Errors
 /// Those of [`load`], and `Read` where a call of the source failed, which is not tried again. The source is read to its end
@@ -103,7 +104,7 @@ fn weld_windows<A: Allocator + Copy + Send + Sync, I: Source>(
     ensures { IsReadToEnd I.remaining I.Failures.failure_count source.old source.new reader.old reader.new welder.old welder.new result }
 {
     let mut window = [0; WINDOW_LEN];
-    // the bound shows that the loop ends; no input is so long
+    // the bound proves that the loop ends; no input is that long
     for _ in 0..u64::MAX {
         let is_more = next_facets(source, &mut window, reader, fresh)?;
         weld_next(welder, fresh.as_slice())?;
@@ -141,7 +142,7 @@ fn weld_by_workers<R: Threads + Sync, A: Allocator + Copy + Send + Sync, I: Sour
     )
 }
 
-/// The same as [`weld_by_workers`], in two rounds and a list for the facets of one that the caller made. `round` and `facets`
+/// The same as [`weld_by_workers`]. The caller made the two rounds, and the list for the facets of one. `round` and `facets`
 /// are empty; what `next` has does not matter.
 fn weld_rounds<R: Threads + Sync, A: Allocator + Copy + Send + Sync, I: Source>(
     rt: &R,
@@ -158,7 +159,7 @@ fn weld_rounds<R: Threads + Sync, A: Allocator + Copy + Send + Sync, I: Source>(
     ensures { IsReadToEnd I.remaining I.Failures.failure_count source.old source.new reader.old reader.new welder.old welder.new result }
 {
     let mut is_more = true;
-    // the bound shows that the loop ends; no input is so long
+    // the bound proves that the loop ends; no input is that long
     for _ in 0..u64::MAX {
         let is_next = read_and_weld(
             rt,
@@ -240,7 +241,7 @@ pub fn read_extent<A: Allocator + Copy + Send + Sync, I: Source>(
     let mut extent = Extent::none();
     let mut facets = Vec::new(alloc);
     let mut window = [0; WINDOW_LEN];
-    // the bound shows that the loop ends; no input is so long
+    // the bound proves that the loop ends; no input is that long
     for _ in 0..u64::MAX {
         let is_more = next_facets(source, &mut window, &mut reader, &mut facets)?;
         extent = extent.with(facets.as_slice());
@@ -253,8 +254,8 @@ pub fn read_extent<A: Allocator + Copy + Send + Sync, I: Source>(
     Err(ReadFault::Memory)
 }
 
-/// Feeds a reader with a window that is filled from a source, and takes the facets off it that are whole then: `false` at
-/// the end of the source.
+/// Fills a window from a source, feeds a reader with it, and takes off the reader the facets that are whole then. The answer
+/// is `false` at the end of the source.
 fn next_facets<A: Allocator, I: Source>(
     source: &mut I,
     window: &mut [u8],

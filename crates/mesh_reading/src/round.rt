@@ -61,7 +61,7 @@ impl<A: Allocator> Round<A> {
         self.len = 0;
     }
 
-    /// Fills the round anew with what a source has next: `false` at the end of the source.
+    /// Fills the round anew with what a source has next. The answer is `false` at the end of the source.
     pub(crate) fn fill<I: Source>(&mut self, source: &mut I) -> Result<bool, ReadFault>
         ensures { IsFilled I.remaining I.Failures.failure_count source.old source.new true self.old self.new result }
     {
@@ -88,7 +88,7 @@ fn grow<A: Allocator>(room: &mut Vec<u8, A>) -> Result<(), AllocError>
     room.extend_from_slice(&[0; WINDOW_LEN])
 }
 
-/// Fills the bytes after the first `len` from a source: answers how many came, which is 0 only at its end.
+/// Fills the bytes after the first `len` from a source. The answer is how many came, which is 0 only at its end.
 fn fill_after<I: Source>(source: &mut I, bytes: &mut [u8], len: usize) -> Result<usize, ReadFault>
     requires { len < length bytes.old }
     ensures len { length bytes.new ≡ length bytes.old }

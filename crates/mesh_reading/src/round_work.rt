@@ -75,8 +75,8 @@ fn weld_and_find<'t, R: Threads + Sync, A: Allocator + Copy + Send + Sync, I: So
     (found, filled)
 }
 
-/// The same as [`weld_and_find`], by all workers but one. The thread that calls fills first, and another worker welds first. If
-/// only one worker is left, it does both.
+/// The same as [`weld_and_find`], by all workers but one, which looks for runs alone. The thread that calls fills first, and
+/// another worker welds first. If only one worker is left, it does both.
 fn weld_and_fill<'t, R: Threads + Sync, A: Allocator + Copy + Send + Sync, I: Source>(
     rt: &R,
     workers: u32,
@@ -96,7 +96,7 @@ fn weld_and_fill<'t, R: Threads + Sync, A: Allocator + Copy + Send + Sync, I: So
         let (found, filled) = fill_first(source, round, is_more, parts);
         return (found, read_before_memory(filled, welded));
     }
-    // beside these: the first new thread, the one that welds, and the one that fills
+    // three workers have tasks of their own: the first new thread, the one that welds, and the one that fills
     let others = workers - 3;
     let mut weld = || -> (FacetRuns<A>, Result<(), ReadFault>)
         ensures found { result.0 ≡ parts.entry.now }
@@ -186,7 +186,7 @@ fn fill_first<'t, A: Allocator + Copy, I: Source>(
     (parts.runs(), filled)
 }
 
-/// Adds facets to a welder. A text with more of them than the limit is a fault, so these need not be welded.
+/// Adds facets to a welder, unless it would then have more than `FACET_LIMIT`: a text with more is a fault and makes no mesh.
 pub(crate) fn weld_next<A: Allocator + Copy + Send + Sync>(
     welder: &mut Welder<A>,
     facets: &[Facet],

@@ -10,7 +10,7 @@ use raster::Source;
 /// The length of a window, in bytes.
 pub(crate) const WINDOW_LEN: usize = 65_536;
 
-/// Fills the front of a window from a source: answers how many bytes came, which is 0 only at its end.
+/// Fills the front of a window from a source. The answer is how many bytes came, which is 0 only at its end.
 pub(crate) fn fill<I: Source>(source: &mut I, window: &mut [u8]) -> Result<usize, ReadFault>
     requires { 0 < length window.old }
     ensures len { length window.new ≡ length window.old }

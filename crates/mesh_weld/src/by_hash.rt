@@ -1,11 +1,11 @@
 //! The numbering of large meshes by hashes, chains and groups; `by_sort` does the same by comparisons.
 //!
-//! A hash table gives the corners ids as the facets come, and compares each with the point of its id. Chains by lesser ends
+//! A hash table gives each corner an id as the facets come, and compares it with the point of that id. Chains by lesser ends
 //! number the edges of each list of facets when its corners have their ids. At the end counting sorts bring the points into
 //! order by groups of x, and the facets by groups of height. No contract speaks of a hash or a group: that would take long
 //! proofs, and is not needed. The points, and the keys of the facets, are checked to ascend strictly; where a point has two
-//! ids, the check fails. Where it fails, where chains, in the table or of edges, grow too long, or where the half-edges do
-//! not balance, `by_sort` does the work again.
+//! ids, the check fails. `by_sort` does the work again where a check fails, where a chain of the table or of edges grows too
+//! long, and where the half-edges do not balance.
 ghost use Rattle.std.specs.Prelude.{◌≤◌, IfOk, IfSome, length};
 ghost use Rattle.mesh_weld.specs.EdgeChains.{AreInHalfWords};
 ghost use Rattle.mesh_weld.specs.Grouping.{AreEdgesOf, AreOrdersOf};
@@ -47,9 +47,9 @@ pub(crate) struct Orders<A: Allocator> {
     pub(crate) heights: HeightOrder<A>,
 }
 
-/// Groups the half-edges and the points of facets that are given by ids among points, from the numbers of the half-edges'
-/// edges, where there are these. `None` without them, where the half-edges do not balance, and where the points have no
-/// order, so that sorts have to serve.
+/// Groups facets that are given by ids among points: tests by `numbering`, the numbers of the half-edges' edges, that the
+/// half-edges balance, and puts the points and the facets in order. The answer is `None`, so that sorts have to serve, where
+/// there is no `numbering`, where the half-edges do not balance, and where the points cannot be put in order.
 pub(crate) fn group_facets<A: Allocator + Copy>(
     alloc: A,
     points: &[Point],
@@ -75,7 +75,7 @@ pub(crate) fn group_facets<A: Allocator + Copy>(
     Ok(Some(Grouping { edges, orders }))
 }
 
-/// The same as [`group_facets`], by three threads at the same time: the balance on the one that calls.
+/// The same as [`group_facets`], by three threads at the same time. The one that calls tests the balance.
 pub(crate) fn group_facets_by<R: Threads + Sync, A: Allocator + Copy + Send + Sync>(
     rt: &R,
     alloc: A,
@@ -118,7 +118,7 @@ pub(crate) fn group_facets_by<R: Threads + Sync, A: Allocator + Copy + Send + Sy
     Ok(Some(Grouping { edges, orders }))
 }
 
-/// The points in their order, and the facets by height; `None` where the points have none. The heights go first, since
+/// The points in their order, and the facets by height; `None` where the points get no order. The heights go first, since
 /// they leave less memory in use.
 fn orders_of<A: Allocator + Copy>(
     alloc: A,

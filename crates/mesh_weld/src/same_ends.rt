@@ -16,7 +16,7 @@ pub(crate) struct SameEnds {
 }
 
 impl SameEnds {
-    /// No half-edge is counted, between no ends.
+    /// No ends yet, and no half-edge counted.
     pub(crate) const NONE: SameEnds = SameEnds {
         low: 0,
         high: 0,
@@ -24,7 +24,7 @@ impl SameEnds {
         back: 0,
     };
 
-    /// The ends of a half-edge, before any half-edge is counted.
+    /// The ends of a half-edge, and no half-edge counted.
     pub(crate) fn started(half_edge: &HalfEdge) -> SameEnds
         ensures { result ≡ started half_edge.now }
     {

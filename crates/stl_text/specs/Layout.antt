@@ -25,8 +25,8 @@ pub record Skips (tokens : List Token) (old new : Reader) : Type 0 where
   pub space : after_space after ≡ after_space new.rest
   pub same_unit : new.unit ≡ old.unit
 
--- Bytes that stand for these tokens and white space after them, at least one byte of it: so they stand for them whatever
--- follows.
+-- The bytes spell these tokens, and at least one byte of white space after them. So they spell the tokens whatever bytes
+-- follow.
 pub record IsSeparator (tokens : List Token) (bytes : List ℕ) : Type 0 where
   pub after : List ℕ
   pub spelled : (unit : LengthUnit) → rest_after unit tokens bytes ≡ Some after

@@ -26,7 +26,7 @@ pub fn one_answer()
 /// - `pixels`: where slicing has a text, the input reads as facets that are closed and have their grid, and the text is the
 ///   images of pixels, or the report that counts them. A pixel is 1 exactly where the signed crossings of all these facets by
 ///   the ray from its voxel's centre are odd, or not zero, or above zero, by the rule.
-/// - `all`: each text that follows so from an input is what slicing writes for it.
+/// - `all`: the other way round, each text of which this holds is what slicing writes for the input.
 pub fn written_pixels()
     ensures pixels { (unit : LengthUnit) (pitch layer : ℕ) (rule : Rule) (workers : ℕ) (report : Bool) (grid : Option Given)
         (input text : List ℕ) → IsOutcome (task.Slice unit pitch layer rule workers report grid) input (Ok text)

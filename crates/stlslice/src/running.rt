@@ -32,8 +32,8 @@ use task_words::{Given, Task};
 /// input comes; the other faults come from a device or from memory. After a fault of the output the first `written` bytes of
 /// the outcome went out, after any other fault nothing did. Each call of a device is tried once, so an interruption is a
 /// fault too. No call has failed unless the run ends with that device's fault, and then just one has. An allocation can fail
-/// at each step before the first byte is written. What the text of slicing is in pixels and rays, says the law
-/// [`written_pixels`](crate::written_pixels).
+/// at each step before the first byte is written. The law [`written_pixels`](crate::written_pixels) says what the text of
+/// slicing is in pixels and rays.
 pub fn run<R: Threads + Wait + Sync, A: Allocator + Copy + Send + Sync, I: Source, O: Sink>(
     rt: &R,
     alloc: A,
@@ -190,7 +190,7 @@ fn grid_for<A: Allocator>(
     Ok(placing_of(given).grid(solid, pitch, layer)?)
 }
 
-/// Where the grid lies by the words.
+/// Where the grid lies, by the command's words.
 fn placing_of(given: Option<Given>) -> Placing
     ensures { result ≡ placing_of given }
 {

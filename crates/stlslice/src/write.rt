@@ -1,5 +1,5 @@
 //! What a run writes: each output has a module of its own (`images`; for several workers `images_by` and `pages`), and all are
-//! flushed by [`flush`]. Here stands the choice among the outputs of slicing.
+//! flushed by [`flush`]. This module chooses among the outputs of slicing.
 ghost use Rattle.std.specs.Prelude.{◌≡◌, ◌⊎◌, IfErr, OnOk, true};
 ghost use Rattle.std.specs.Io.KnownBytes.{Appends};
 ghost use Rattle.mesh_reading.specs.Transcript.{transcript};

@@ -103,8 +103,9 @@ all_hold : (b : Bool) (p : Poly) → verdict_of b p ≡ holds → (b ≡ true) �
 all_hold true p e = (refl, no_terms p e)
 all_hold false p e = cc
 
--- `a ≡ b` in the variables ρ, as `identity (x ∷ y ∷ []) (search reads depth 40 fits 5000) refl`.
--- The verdict stands on the right, so that the term that `refl` is of is `holds`, and not the verdict written out
+-- `a ≡ b` in the variables ρ; a call is `identity (x ∷ y ∷ []) (search reads depth 40 fits 5000) refl`. The verdict stands
+-- on the right of its equation: `refl` takes its term from the left, so this is the short `holds`, and not the verdict
+-- written out
 pub identity : (ρ : List ℤ) {a b : ℤ} → (s : Sides ρ a b) → holds ≡ verdict s → a ≡ b
 identity ρ s e =
     let h = all_hold (both s.left.all_fit s.right.all_fit) (left_over (norm (s.left.ex ⊖ s.right.ex))) (sym e) in

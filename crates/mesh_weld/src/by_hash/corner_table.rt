@@ -10,7 +10,7 @@ use geometry::{Facet, Point};
 use std::alloc::{AllocError, Allocator};
 
 /// The number of slots of the table that are looked at for a point. A point for which none of them serves gets a new id
-/// each time it comes, and the table holds none of these.
+/// each time it comes, and the table holds none of these ids.
 const CHAIN_LIMIT: usize = 64;
 
 /// The table has at least this many slots for each point, so that chains stay far below `CHAIN_LIMIT`.
@@ -97,7 +97,7 @@ fn enter_points(ids: &mut [u32], points: &[Point], shift: u32) {
     }
 }
 
-/// The first free slot from a slot on, within `CHAIN_LIMIT`.
+/// The first free slot among the `CHAIN_LIMIT` slots from `from` on.
 fn free_slot(ids: &[u32], from: usize) -> Option<usize>
     ensures { IfSome result (λ slot. slot < length ids.now) }
 {
@@ -123,7 +123,8 @@ fn hash(point: Point, shift: u32) -> usize {
         .unbounded_shr(shift) as usize
 }
 
-/// The slot of a point's id in the table, or a slot where it belongs, which holds no point's id.
+/// The slot of a point's id among the `CHAIN_LIMIT` slots from `from` on, or else the first of them that holds no point's id:
+/// there the id belongs.
 fn slot_of(ids: &[u32], points: &[Point], point: Point, from: usize) -> Option<usize>
     ensures inside { IfSome result (λ slot. slot < length ids.now) }
     ensures named { IfSome result (λ slot. slice_index ids.now slot < length points.now → slice_index_or points.now (slice_index ids.now slot) origin ≡ point) }
@@ -150,7 +151,7 @@ fn leads_to(points: &[Point], id: u32, point: Point) -> bool
     (id as usize) < points.len() && points[id as usize] == point
 }
 
-/// The id of a point: its number among the points so far, after which a new point is put. A right guess saves the search.
+/// The id of a point: its number among the points so far. A new point is put after them. A right guess saves the search.
 fn id_of<A: Allocator + Copy>(
     table: &mut CornerTable<A>,
     points: &mut Vec<Point, A>,

@@ -46,8 +46,8 @@ pub(crate) fn write_images_by<R: Threads + Sync, A: Allocator + Copy + Send + Sy
     }
 }
 
-/// How many images a page has where workers draw before they write, else 0: there is one worker, an image is too long for a
-/// page, or rows have few spans.
+/// How many images a page has where workers draw before they write. It is 0 where they do not: where there is one worker, an
+/// image is too long for a page, or rows have few spans.
 fn drawn_a_page<A: Allocator>(build: &Build<'_, A>, workers: u32) -> usize {
     let per = images_a_page(build.job().grid(), workers);
     if workers > 1 && per > 0 && has_many_spans(build) {
@@ -107,8 +107,8 @@ fn write_by_pages<R: Threads + Sync, A: Allocator + Copy + Send + Sync, O: Sink>
     settle(sink, written)
 }
 
-/// How many images of this grid a page has, where a set has a page for each of these workers: 0 where an image is too long for
-/// a page.
+/// How many images of this grid a page has, where a set has a page for each of these workers. It is 0 where an image is too
+/// long for a page.
 fn images_a_page(grid: &Grid, workers: u32) -> usize {
     let len = image_len(grid);
     if len > DRAWN_LIMIT {

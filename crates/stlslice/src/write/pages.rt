@@ -55,7 +55,7 @@ fn blank_page<A: Allocator>(alloc: A, grid: &Grid, per: usize) -> Result<Page<A>
 {
     match image_len(grid).checked_mul(per as u64) {
         Some(room) => Page::new(alloc, room as usize),
-        // no memory is so large
+        // no memory is that large
         None => Err(AllocError),
     }
 }
@@ -214,14 +214,14 @@ fn draw_page<A: Allocator>(
 }
 
 /// The layer with which page `i` begins, where page 0 begins with layer `first`, and each has `per` layers. There are `count`
-/// layers: pages after the last layer begin there.
+/// layers: a page for which none is left begins at `count`.
 fn start_of_page(first: usize, per: usize, i: usize, count: usize) -> usize
     ensures { result ≡ min (first + i * per) count }
 {
     i.saturating_mul(per).saturating_add(first).min(count)
 }
 
-/// The layer after those that a set of pages has, which begins with layer `first`.
+/// The layer after the last one of a set of pages that begins with layer `first`.
 fn end_of_set<A: Allocator>(set: &Vec<Page<A>, A>, first: usize, per: usize, count: usize) -> usize
     ensures { result ≡ min (first + vec_len set.now * per) count }
 {
