@@ -9,7 +9,7 @@ use Rattle.geometry.specs.Winding.{left, left_x, turn, turn_x, turn_of, wind, wi
 use Rattle.exact_cut.specs.Crossing.{Winding}
 use Rattle.exact_cut.specs.RelativeFacet.{minus, relative_to}
 use Rattle.exact_cut.proofs.lemmas.Ahead.{wind_values}
-pub use Rattle.exact_cut.proofs.lemmas.Quadrants.{ahead_only}
+use Rattle.exact_cut.proofs.lemmas.Quadrants.{ahead_only}
 use Rattle.exact_cut.proofs.lemmas.Steps.{swap, swap_tri, hit-swap}
 
 abbrev point_with : ℤ → ℤ → ℤ → Point

@@ -6,7 +6,8 @@ use Rattle.geometry.specs.Point.{Point, half_micrometres_of, origin}
 use Rattle.geometry.specs.Facet.{Facet, facet_with, twice}
 use Rattle.geometry.specs.Winding.{hit, hit_y, ray, ray_y, total, volume, wind, wind_y}
 use Rattle.exact_cut.specs.RelativeFacet.{minus, relative_to}
-use Rattle.exact_cut.proofs.lemmas.Shifts.{ahead_only, hit_from, hit_y_from, point_by}
+use Rattle.exact_cut.proofs.lemmas.Quadrants.{ahead_only}
+use Rattle.exact_cut.proofs.lemmas.Shifts.{hit_from, hit_y_from, point_by}
 use Rattle.mesh_weld.proofs.lemmas.Sums.{total-map}
 use Rattle.raster.specs.declared.rule.Rule.{Rule}
 use Rattle.raster.specs.Grid.{Grid, centre, middle}

@@ -6,7 +6,7 @@ use Rattle.geometry.specs.Point.{Point}
 use Rattle.geometry.specs.Facet.{Facet, twice}
 use Rattle.geometry.specs.Winding.{turn, turn_x, wind, wind_y, volume, hit, hit_y, ray, ray_y}
 use Rattle.exact_cut.proofs.lemmas.Turns.{turn-opposite, turn_x-opposite}
-use Rattle.exact_cut.proofs.lemmas.Shifts.{ahead_only}
+use Rattle.exact_cut.proofs.lemmas.Quadrants.{ahead_only}
 use Rattle.exact_cut.proofs.lemmas.Steps.{taken-neg}
 use Rattle.mesh_weld.proofs.lemmas.Sums.{total-map, total-neg}
 use Rattle.raster.specs.declared.rule.Rule.TheVariants.{EvenOdd, NonZero}
