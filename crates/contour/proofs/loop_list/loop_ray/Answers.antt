@@ -1,9 +1,7 @@
-use Rattle.std.proofs.Common.{◌≡◌, ◌∙◌, ap, arith, sym, to_z, w32}
+use Rattle.std.proofs.Common.{◌∙◌, ap, arith, sym}
 use Rattle.std.proofs.lemmas.List.{take_all}
 use Rattle.std.specs.Prelude.{slice_get}
-use Rattle.geometry.specs.Winding.{ray}
 use Rattle.plane_segments.specs.declared.segment.Segment.{Segment}
-use Rattle.contour.specs.Loops.{loop_facets}
 use Rattle.contour.proofs.lemmas.Links.{in-facets}
 use Rattle.contour.proofs.lemmas.LoopRays.{IsLoopOf, is_loop, segment_more, summed_all}
 use Rattle.contour.proofs.lemmas.LoopWinds.{ray_from_back}
@@ -35,13 +33,15 @@ loop-segment-preserved g c =
     (record { sum_is = c.loop-segment.invariant.sum_is; small = c.loop-segment.invariant.small })
     c.ray_hit-sum.ensures.value c.ray_hit-sum.ensures.unit
 
+pub returns-clause-ahead : goal.returns-clause-ahead
+returns-clause-ahead g c =
+    let all = take_all c.loop-segment.segment-index c.args.list.now (omega (arith, c.loop-segment-test.false)) in
+    summed_all c.args.s.now.facets c.args.c.now c.args.list.now c.loop-segment.segment-index _ all
+    (record { sum_is = c.loop-segment.invariant.sum_is; small = c.loop-segment.invariant.small })
+
 pub returns-clause-back : goal.returns-clause-back
 returns-clause-back g c =
-    let all = take_all c.loop-segment.segment-index c.args.list.now (omega (arith, c.loop-segment-test.false)) in
-    let ahead : to_z w32 c.loop-segment.sum-bits ≡ ray (loop_facets c.args.s.now.facets c.args.list.now) c.args.c.now =
-    summed_all c.args.s.now.facets c.args.c.now c.args.list.now c.loop-segment.segment-index _ all
-    (record { sum_is = c.loop-segment.invariant.sum_is; small = c.loop-segment.invariant.small }) in
     let numbered = c.edge_numbers-numbers.ensures in
-    ahead
+    returns-clause-ahead g c
     ∙ sym (ray_from_back c.args.s.now.facets c.edge_numbers-numbers.result.now numbered.0 numbered.1 c.count-facets.ensures.closed
     c.args.c.now c.args.list.now c.requires.0 c.requires.1)
