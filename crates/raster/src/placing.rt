@@ -1,5 +1,5 @@
 //! Where a grid lies: where the mesh is, or where it is told to lie.
-ghost use Rattle.std.specs.Prelude.{◌≡◌, ◌≤◌};
+ghost use Rattle.std.specs.Prelude.{◌≡◌};
 ghost use Rattle.geometry.specs.Limits.{IsStep};
 ghost use Rattle.raster.specs.Placing.{placed_grid};
 

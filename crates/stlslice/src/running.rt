@@ -1,5 +1,5 @@
 //! A run: reads the whole input, does the task, writes its outcome.
-ghost use Rattle.std.specs.Prelude.{◌≡◌, ◌≤◌, Err, IfErr, IfOk, Ok};
+ghost use Rattle.std.specs.Prelude.{◌≡◌, Err, IfErr, IfOk, Ok};
 ghost use Rattle.mesh_reading.specs.Transcript.{transcript};
 ghost use Rattle.stlslice.specs.Outcome.{grid_for, placing_of};
 ghost use Rattle.stlslice.specs.Run.{IsRun};
