@@ -47,9 +47,9 @@ pub(crate) struct Orders<A: Allocator> {
     pub(crate) heights: HeightOrder<A>,
 }
 
-/// Groups facets that are given by ids among points: tests by `numbering`, the numbers of the half-edges' edges, that the
-/// half-edges balance, and puts the points and the facets in order. The answer is `None`, so that sorts have to serve, where
-/// there is no `numbering`, where the half-edges do not balance, and where the points cannot be put in order.
+/// Puts the points and the facets in order, once the half-edges balance by the numbers of their edges (`numbering`). The facets
+/// are given by ids among the points. The answer is `None`, so that sorts have to serve, where there is no `numbering`, where
+/// the half-edges do not balance, and where the points cannot be put in order.
 pub(crate) fn group_facets<A: Allocator + Copy>(
     alloc: A,
     points: &[Point],
