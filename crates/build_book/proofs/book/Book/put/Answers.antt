@@ -5,9 +5,9 @@ use Rattle.build_book.specs.Job.{stripe_length}
 use Rattle.build_book.specs.Piece.{IsStripe}
 use Rattle.build_book.specs.Places.{with_layers, AreFree}
 use Rattle.build_book.specs.declared.limits.TheConstants.{STRIPE_LAYERS}
-use Rattle.build_book.proofs.lemmas.Places.{moved_stripe, stripe_lawful, stripe_filed, length-filled}
+use Rattle.build_book.proofs.lemmas.Places.{moved_stripe, stripe_lawful, stripe_filed, stripe_few, below_end, length-filled}
 use Rattle.build_book.proofs.book.Book.put.Goals as goal
-use Rattle.build_book.proofs.book.Book.put.Goals.{After-fill_gaps}
+use Rattle.build_book.proofs.book.Book.put.Goals.{After-fill_gaps, After-into_layers}
 
 same_job : (g : _) (c : After-fill_gaps g) → c.args.piece.job ≡ c.self.inside.job.now
 same_job g c = c.requires.job ∙ sym (ap (λ s. s.job) c.self.view_is)
@@ -25,6 +25,21 @@ whole_places : (g : _) (c : After-fill_gaps g) → (with_items c.self.inside.pla
 whole_places g c =
     with_items_is c.self.inside.places c.fill_gaps.new.places
     (ap length (filed_places g c) ∙ length-filled c.layer_range-first.result.0 c.into_layers.result.items c.self.inside.places.items ∙ sym c.self.inside.places.ok.0)
+
+-- the stripe of the piece, by the number and the layers that its calls answer
+read_stripe : (g : _) (c : After-into_layers g) → IsStripe c.self.inside.job.now c.stripe.result c.into_layers.result.items
+read_stripe g c =
+    moved_stripe _ _ _ _ _ _ (c.requires.job ∙ sym (ap (λ s. s.job) c.self.view_is)) (sym c.stripe.ensures) c.into_layers.ensures c.layers-layers.ensures.lawful
+
+pub layer_range-first-requires : goal.layer_range-first-requires
+layer_range-first-requires g c =
+    (moved_stripe c.self.inside.job.now _ c.stripe.result _ _ _ (c.requires.job ∙ sym (ap (λ s. s.job) c.self.view_is)) (sym c.stripe.ensures) refl c.layers-layers.ensures.lawful).within
+
+pub overflow_cast-first : goal.overflow_cast-first
+overflow_cast-first g c = below_end _ _ c.layer_range-first.ensures.some c.layer_range-first.ensures.few
+
+pub fill_gaps-requires-clause-few : goal.fill_gaps-requires-clause-few
+fill_gaps-requires-clause-few g c = stripe_few _ _ _ (read_stripe g c)
 
 pub invariant_of-self : goal.invariant_of-self
 invariant_of-self g c =
