@@ -3,7 +3,8 @@
 //! Other crates compute crossings of edges and rays as fractions of whole numbers, never with floats. Their proofs use
 //! the laws of this crate, in `proofs/lemmas`: `Ring` and `Identity` (identities of polynomials), `Signs` (signs of
 //! products, comparison of multiples), `Sizes` (a result fits its type), `Ceilings` (the division below), `Laws` (sums
-//! and products in another order), `Lists` (lists that pass a test, and empty ones) and `Tests` (comparisons). `proofs/examples/Calls.antt` shows how each is called.
+//! and products in another order), `Lists` (lists that pass a test, and empty ones) and `Tests` (comparisons).
+//! `proofs/examples/Calls.antt` shows how those of `Identity` and `Sizes` are called.
 //!
 //! ```
 //! assert!(rt; ceil_div(7, 2) == 4 && ceil_div(-7, 2) == -3);
