@@ -1,1 +1,2 @@
 pub mod BoxBuild
+pub mod Limits

@@ -1,4 +1,4 @@
--- Jobs: what is to be sliced; and the stripes that a job is cut into.
+-- Jobs, and the stripes that a job is cut into.
 use Rattle.std.specs.Prelude.{ℕ, ◌*◌, ◌-◌, [], min}
 use Rattle.std.specs.Int.{div_ceil}
 use Rattle.geometry.specs.Point.{origin}
@@ -8,7 +8,7 @@ use Rattle.raster.specs.declared.rule.Rule.{Rule}
 use Rattle.raster.specs.declared.rule.Rule.TheVariants.{EvenOdd}
 use Rattle.build_book.specs.declared.limits.TheConstants.{STRIPE_LAYERS}
 
--- what is to be sliced, in which grid, by which rule
+-- what is to be sliced, in which grid, and by which rule
 pub record Job : Type 0 where
   pub solid : Solid
   pub grid : Grid
@@ -26,6 +26,6 @@ stripe_start s = STRIPE_LAYERS * s
 abbrev pub stripe_length : Grid → ℕ → ℕ
 stripe_length g s = min STRIPE_LAYERS (g.layers - STRIPE_LAYERS * s)
 
--- an empty job, for where a type asks for a job and any will do
+-- an empty job, for types that ask for a job when any will do
 abbrev pub no_job : Job
 no_job = record { solid = record { facets = []; dropped = 0 }; grid = grid_with origin 0 0 0 0 0; rule = EvenOdd }

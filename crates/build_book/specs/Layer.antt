@@ -15,8 +15,8 @@ pub record Layer : Type 0 where
   pub spans : List Span
   pub area : ℕ
 
--- The layer is what the job makes at place k: its loops are those of the plane, closed, with each segment in exactly
--- one, and a pixel lies in a span exactly where its voxel is filled.
+-- The layer is what the job makes at place k. Its loops are those of the plane, closed, with each segment in exactly one. A
+-- pixel lies in a span exactly if its voxel is filled.
 pub record IsLawful (job : Job) (k : ℕ) (layer : Layer) : Type 0 where
   pub number : layer.number ≡ k
   pub loops_are : layer.loops ≡ loops (segments job.solid.facets (plane job.grid k))

@@ -9,7 +9,7 @@ pub record Piece : Type 0 where
   pub stripe : ℕ
   pub layers : List Layer
 
--- just the layers of stripe s, in order
+-- exactly the layers of stripe s, in order
 pub record IsStripe (job : Job) (s : ℕ) (layers : List Layer) : Type 0 where
   pub within : s < stripe_count job.grid
   pub whole : length layers ≡ stripe_length job.grid s

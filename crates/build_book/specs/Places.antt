@@ -23,7 +23,7 @@ IsTakenAt places first end k = (first ≤ k) × (k < end) × IsTaken places k ×
 abbrev pub AreFree : List (Option Layer) → ℕ → ℕ → Type 0
 AreFree places first end = (k : ℕ) → first ≤ k → k < end → slice_get places k ≡ Some None
 
--- a place's layer, or this one where it has none
+-- a place's layer, or this one if it has none
 abbrev pub or_layer : Option Layer → Layer → Option Layer
 or_layer None layer = Some layer
 or_layer (Some old) layer = Some old

@@ -1,7 +1,7 @@
 -- What is promised of the layers of a mesh, in terms of all facets that were read, degenerate ones among them.
---     job_of          the job of slicing the mesh of these facets
---     IsClosed        a loop comes back to the node that it starts from
---     IsPromised      what a layer of that job has: closed loops, just the filled pixels, and their number
+-- - `job_of`: the job of slicing the mesh of these facets
+-- - `IsClosed`: a loop comes back to the node that it starts from
+-- - `IsPromised`: what a layer of that job has: closed loops, exactly the filled pixels, and their number
 use Rattle.std.specs.Prelude.{◌≡◌, ◌↔◌, ◌<◌, ℕ, Bool, IsTrue, List, [], ◌∷◌, count_by, sum_by}
 use Rattle.std.specs.List.{AllByRecursion}
 use Rattle.geometry.specs.Facet.{Facet}
@@ -33,7 +33,7 @@ abbrev pub IsClosed : List Segment → Type 0
 IsClosed [] = ⊥
 IsClosed (s ∷ rest) = LeadsTo s.from (s ∷ rest)
 
--- how many of the grid's pixels, each by column and row, are 1
+-- the number of the grid's pixels, each by column and row, that are 1
 abbrev pub pixel_count : Grid → (ℕ → ℕ → Bool) → ℕ
 pixel_count grid pixel = sum_by (λ j. count_by (λ i. pixel i j) (below grid.columns)) (below grid.rows)
 
@@ -42,11 +42,11 @@ pub record IsPromised (facets : List Facet) (grid : Grid) (rule : Rule) (k : ℕ
   pub number : layer.number ≡ k
   -- its loops are closed
   pub closed : AllByRecursion IsClosed layer.loops
-  -- they are those of its plane: each segment where the plane cuts the mesh stands in exactly one, from its least facet on
+  -- they are those of its plane: each segment where the plane cuts the mesh is in exactly one, from its least facet on
   pub loops : AreLoops (segments (kept_facets facets) (plane grid k)) layer.loops
   -- its spans are not empty, in order and in the grid, and no two touch
   pub spans : AreSpans grid.columns grid.rows layer.spans
-  -- a pixel lies in a span exactly where the signed crossings of all facets by the ray from its voxel's centre are inside
+  -- a pixel lies in a span exactly if the signed crossings of all facets by the ray from its voxel's centre are inside
   pub filled : (i j : ℕ) → i < grid.columns → j < grid.rows
       → IsTrue (covers layer.spans i j) ↔ IsInside rule (ray facets (centre grid i j k))
   -- its area is the number of its filled pixels

@@ -1,4 +1,4 @@
-//! Books: where the pieces of a job are filed, in any order.
+//! Books: the pieces of a job are filed in them, in any order.
 ghost use Rattle.std.specs.Prelude.{◌≡◌, ◌≢◌, ◌+◌, ℕ, IfErr, IfNone, IfOk, IfSome, None, OnErr, OnOk, Some, replicate, slice_get};
 ghost use Rattle.build_book.specs.Layer.{IsLawful};
 ghost use Rattle.build_book.specs.Piece.{IsPlaceOf};
@@ -36,7 +36,7 @@ impl<'m, A: Allocator> Model for Book<'m, A> {
 }
 
 impl<'m, A: Allocator + Copy + Send + Sync> Book<'m, A> {
-    /// A book of the job with every place empty. `Err` comes only where an allocation failed.
+    /// A book of the job with every place empty. `Err` only if an allocation failed.
     pub fn open(alloc: A, job: &'m Job<A>) -> Result<Book<'m, A>, AllocError>
         ensures { IfOk result (λ book. book ≡ record { job = job.now; places = replicate job.now.grid.layers None }) }
     {
@@ -53,9 +53,12 @@ impl<'m, A: Allocator + Copy + Send + Sync> Book<'m, A> {
 
     /// Files a piece: its layers go into their places.
     ///
-    /// `Stranger` where the jobs of piece and book differ in content. `Double` where they are the same and a place of the
-    /// piece is taken already; its `layer` is the least such place. On an error the book is unchanged, and the piece
-    /// comes back. The jobs are compared facet by facet; `file_own` compares none.
+    /// # Errors
+    /// - `Stranger` if the jobs of piece and book differ in content,
+    /// - `Double` if they are the same, but a place of the piece is taken; its `layer` is the least such place.
+    ///
+    /// On an error the book is unchanged, and the piece comes back. The jobs are compared facet by facet; `file_own` compares
+    /// none.
     pub fn file(&mut self, piece: Piece<'m, A>) -> Result<(), (FileFault, Piece<'m, A>)>
         ensures ok { OnOk result (Files self.old piece.entry self.new) }
         ensures fault { IfErr result (λ refusal. IsFileFault self.old piece.entry refusal.0) }
@@ -68,8 +71,8 @@ impl<'m, A: Allocator + Copy + Send + Sync> Book<'m, A> {
         self.file_own(piece)
     }
 
-    /// Files a piece as `file` does, but compares no jobs: the piece's job has to be that of the book, in content. So the
-    /// only error is `Double`.
+    /// Files a piece as `file` does, but compares no jobs: the piece's job must equal that of the book in content. So the only
+    /// error is `Double`.
     pub fn file_own(&mut self, piece: Piece<'m, A>) -> Result<(), (FileFault, Piece<'m, A>)>
         requires own { piece.job ≡ self.old.job }
         ensures ok { OnOk result (Files self.old piece.entry self.new) }
@@ -85,14 +88,14 @@ impl<'m, A: Allocator + Copy + Send + Sync> Book<'m, A> {
         Ok(())
     }
 
-    /// The fault of filing a piece of the book's own job: the least place of the piece that is taken. `None` where all its
+    /// The fault of filing a piece of the book's own job: the least place of the piece that is taken. `None` if all its
     /// places are free.
     fn fault_of(&self, piece: &Piece<'m, A>) -> Option<FileFault>
         requires { piece.now.job ≡ self.now.job }
         ensures fault { IfSome result (λ fault. IsFileFault self.now piece.now fault) }
         ensures free { IfNone result ((k : ℕ) → IsPlaceOf piece.now k → slice_get self.now.places k ≡ Some None) }
     {
-        // wakes the invariant: a piece has just the layers of its stripe
+        // wakes the invariant: a piece has exactly the layers of its stripe
         let _layers = piece.layers();
         let (first, end) = self.job.layer_range(piece.stripe());
         let places = self.places.as_slice();
@@ -107,14 +110,14 @@ impl<'m, A: Allocator + Copy + Send + Sync> Book<'m, A> {
         requires free { (k : ℕ) → IsPlaceOf piece k → slice_get self.old.places k ≡ Some None }
         ensures { Files self.old piece.entry self.new }
     {
-        // wakes the invariant: a piece has just the layers of its stripe
+        // wakes the invariant: a piece has exactly the layers of its stripe
         let _layers = piece.layers();
         let (first, _) = self.job.layer_range(piece.stripe());
         let places = self.places.as_mut_slice();
         fill_gaps(places, first as usize, piece.into_layers());
     }
 
-    /// The layer in place k, or `None` where that place is empty or the grid has no such layer.
+    /// The layer in place k, or `None` if that place is empty or the grid has no such layer.
     pub fn layer(&self, k: u32) -> Option<&Layer<A>>
         ensures some { IfSome result (λ layer. slice_get self.now.places k ≡ Some (Some layer.now)) }
         ensures none { result ≡ None → (layer : _) → slice_get self.now.places k ≢ Some (Some layer) }
@@ -123,8 +126,8 @@ impl<'m, A: Allocator + Copy + Send + Sync> Book<'m, A> {
         self.places.get(k as usize)?.as_ref()
     }
 
-    /// The number of places that are taken. The clause `lawful` holds of every book; it stands here so that a caller can
-    /// use it.
+    /// The number of places that are taken. The clause `lawful` holds of every book; it is stated here so that a caller can use
+    /// it.
     pub fn filed(&self) -> u32
         ensures count { result ≡ filed_count self.now.places }
         ensures lawful { IsLawfulBook self.now }
@@ -145,9 +148,9 @@ impl<'m, A: Allocator + Copy + Send + Sync> Book<'m, A> {
         total_area(self.places.as_slice())
     }
 
-    /// The complete build of a job. It takes over the layers of the book where the book's job is the same in content,
-    /// and makes those that are missing; `late` is the number of layers so made. `Err` comes only where an allocation
-    /// failed; the book is then lost.
+    /// The complete build of a job. If the book's job is the same in content, its layers are taken over, and the missing ones
+    /// are made. Otherwise all are made. `late` is the number of layers made. `Err` only if an allocation failed; the book is
+    /// then lost.
     pub fn finish(self, job: &'m Job<A>) -> Result<Build<'m, A>, AllocError>
         ensures job { IfOk result (λ build. build.job ≡ job.now) }
         ensures complete { IfOk result (λ build. IsComplete build.job build.layers) }
@@ -161,7 +164,7 @@ impl<'m, A: Allocator + Copy + Send + Sync> Book<'m, A> {
         Ok(Build::of(job, layers, late))
     }
 
-    /// The book's places where its job is the same as this one in content, else empty places.
+    /// The book's places if its job is the same as this one in content, else empty places.
     fn places_for(self, job: &Job<A>) -> Result<Vec<Option<Layer<A>>, A>, AllocError>
         ensures lawful { IfOk result (λ found. IsLawfulBook (record { job = job.now; places = found.items })) }
         ensures same { IfOk result (λ found. self.entry.job ≡ job.now → found.items ≡ self.entry.places) }

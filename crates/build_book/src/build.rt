@@ -42,7 +42,7 @@ impl<'m, A: Allocator> Build<'m, A> {
         self.job
     }
 
-    /// Layer k, or `None` exactly where the grid has no layer of that number. Layers count from 0.
+    /// Layer k, or `None` exactly if the grid has no layer of that number. Layers count from 0.
     pub fn layer(&self, k: u32) -> Option<&Layer<A>>
         ensures some { IfSome result (λ layer. slice_get self.now.layers k ≡ Some layer.now) }
         ensures lawful { IfSome result (λ layer. IsLawful self.now.job k layer.now) }
@@ -71,7 +71,7 @@ impl<'m, A: Allocator> Build<'m, A> {
         layers_area(self.layers.as_slice())
     }
 
-    /// The number of layers that were not filed, so that `Book::finish` made them.
+    /// The number of layers that were not filed, so `Book::finish` made them.
     pub fn late(&self) -> u32
         ensures { result ≡ self.now.late }
     {

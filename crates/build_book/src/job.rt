@@ -10,7 +10,7 @@ use raster::{Grid, Rule};
 use std::alloc::Allocator;
 use std::marker::Model;
 
-/// What is to be sliced (a solid), in which grid, by which rule.
+/// What is to be sliced (a solid), in which grid, and by which rule.
 #[derive(Drop)]
 pub struct Job<A: Allocator> {
     solid: Solid<A>,

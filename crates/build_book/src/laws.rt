@@ -1,7 +1,6 @@
-//! What follows from the definition of a lawful layer alone: there is just one, and it is what a slicer promises.
-ghost use Rattle.std.specs.Prelude.{◌≡◌, ◌<◌, ◌≤◌, ℕ, List, Some, length, slice_get};
+//! What follows from the definition of a lawful layer alone: there is exactly one, and it is what a slicer promises.
+ghost use Rattle.std.specs.Prelude.{◌≡◌, ◌<◌, ℕ, List, Some, slice_get};
 ghost use Rattle.geometry.specs.Facet.{Facet};
-ghost use Rattle.geometry.specs.declared.limits.TheConstants.{FACET_LIMIT};
 ghost use Rattle.mesh_weld.specs.Balance.{IsBalanced};
 ghost use Rattle.raster.specs.Grid.{Grid};
 ghost use Rattle.raster.specs.declared.rule.Rule.{Rule};
@@ -18,13 +17,13 @@ pub fn one_layer()
 
 /// For all facets, each grid and each rule:
 ///
-/// - `book`: each layer that stands in a book of their job is as promised. Its loops are closed, its area is the number
-///   of its filled pixels, and a pixel is filled exactly where the signed crossings of the facets by the ray from its
-///   voxel's centre are odd, or not zero, or above zero, by the rule.
+/// - `book`: each layer in a book of their job is as promised. Its loops are closed, and its area is the number of its filled
+///   pixels. A pixel is filled exactly if the signed crossings of the facets by the ray from its voxel's centre are odd, or
+///   not zero, or above zero, by the rule.
 /// - `build`: so is each layer of a complete build, and `whole`: it has one for each number below the grid's count.
 /// - `only`: the promise leaves no choice of a layer.
-/// - `some_build`: a closed mesh of at most `FACET_LIMIT` facets has a complete build, and `one_build`: a job has one at
-///   most, so it is the same for every number of workers.
+/// - `some_build`: a closed mesh has a complete build, and `one_build`: a job has at most one. So the build is the same for
+///   every number of workers.
 pub fn headline()
     ensures book { (facets : List Facet) (grid : Grid) (rule : Rule) (book : Book) (k : ℕ) (layer : Layer)
         → IsLawfulBook book → book.job ≡ job_of facets grid rule → slice_get book.places k ≡ Some (Some layer)
@@ -37,8 +36,7 @@ pub fn headline()
         → (layer : Layer) × (slice_get layers k ≡ Some layer) }
     ensures only { (facets : List Facet) (grid : Grid) (rule : Rule) (k : ℕ) (a b : Layer)
         → IsPromised facets grid rule k a → IsPromised facets grid rule k b → a ≡ b }
-    ensures some_build { (facets : List Facet) (grid : Grid) (rule : Rule)
-        → length facets ≤ FACET_LIMIT → IsBalanced facets
+    ensures some_build { (facets : List Facet) (grid : Grid) (rule : Rule) → IsBalanced facets
         → (layers : List Layer) × IsComplete (job_of facets grid rule) layers }
     ensures one_build { (job : Job) (a b : List Layer) → IsComplete job a → IsComplete job b → a ≡ b }
 {}

@@ -1,4 +1,4 @@
-//! Layers: what a job has at one plane, its loops and its filled pixels.
+//! Layers: the loops and the filled pixels of a job at one plane.
 ghost use Rattle.std.specs.Prelude.{◌≡◌, ◌≤◌};
 ghost use Rattle.build_book.specs.Layer.{layers_area};
 ghost use Rattle.build_book.specs.declared.limits.TheConstants.{VOXEL_LIMIT};
@@ -8,8 +8,8 @@ use raster::Span;
 use std::alloc::Allocator;
 use std::marker::Model;
 
-/// One layer: its number, its loops, its spans, and its area in pixels. What these are is said where a layer is answered:
-/// by `lawful` of `Book::layer`, `Build::layer` and `Piece::layers`.
+/// One layer: its number, its loops, its spans, and its area in pixels. The clause `lawful` of `Book::layer`, `Build::layer`
+/// and `Piece::layers` says what these are.
 #[derive(Drop)]
 pub struct Layer<A: Allocator> {
     number: u32,

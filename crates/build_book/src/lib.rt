@@ -9,16 +9,16 @@
 //! let build = book.finish(&job)?;
 //! ```
 //!
-//! - [`Job`]: what is to be sliced, in which grid, by which rule. Its layers are cut into stripes, slabs of
-//!   [`STRIPE_LAYERS`] layers; a job with the most layers has [`MOST_STRIPES`] of them.
+//! - [`Job`]: what is to be sliced, in which grid, and by which rule. Its layers are cut into stripes, slabs of
+//!   [`STRIPE_LAYERS`] layers. A job with the most layers has [`MOST_STRIPES`] of them.
 //! - [`Layer`]: the loops, the filled pixels and their area, of one plane. Areas are counts of pixels.
 //! - [`Piece`]: the layers of one stripe. [`slice_stripe`] makes one; a [`Slicer`] makes several and keeps its memory.
 //! - [`Book`]: a place for each layer. Pieces are filed in any order, and [`FileFault`] says why one is not.
 //! - [`Build`]: all layers. `Book::finish` makes what is not filed; these layers are `late`.
 //!
 //! Each layer of a piece, a book or a build is lawful: it is the one that the job makes there by the definition in
-//! `specs/Layer`; by [`one_layer`] no other layer is. [`headline`] says what a lawful layer has, in terms of the facets that
-//! were read: closed loops, just the pixels that the rule fills, and the number of these.
+//! `specs/Layer`. By [`one_layer`], no other layer is lawful. The law [`headline`] says what a lawful layer has: closed loops,
+//! exactly the pixels that the rule fills, and the number of these. It says so in terms of the facets that were read.
 #![tactic(auto)]
 
 mod book;

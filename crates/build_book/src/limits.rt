@@ -1,7 +1,7 @@
 //! The limits of jobs. Clauses and definitions cite these names.
 use geometry::{COLUMN_LIMIT, LAYER_LIMIT};
 
-/// How many layers a stripe has; the last one may have fewer.
+/// The number of layers of a stripe; the last one may have fewer.
 pub const STRIPE_LAYERS: u32 = 8;
 
 /// The count of stripes of a job with the most layers: 8,192.

@@ -52,7 +52,7 @@ impl<'m, A: Allocator> Piece<'m, A> {
         self.stripe
     }
 
-    /// Its layers, from the lowest up: just those of its stripe, each lawful for the job.
+    /// Its layers, from the lowest up: exactly those of its stripe, each lawful for the job.
     pub fn layers(&self) -> &[Layer<A>]
         ensures value { result.now ≡ self.now.layers }
         ensures lawful { IsStripe self.now.job self.now.stripe self.now.layers }

@@ -1,4 +1,4 @@
-//! The places of a book: counting and searching them, filling those that are free, making what is missing.
+//! The places of a book: counting and searching them, filling the free ones, making what is missing.
 ghost use Rattle.std.specs.Prelude.{◌≡◌, ◌+◌, ◌*◌, ◌<◌, ◌≤◌, ℕ, IfOk, IfNone, IfSome, IsTrue, None, length, replicate, not, is_some, flat_map, option_to_list};
 ghost use Rattle.build_book.specs.Job.{stripe_count};
 ghost use Rattle.build_book.specs.Places.{AreFree, IsTaken, IsTakenAt, with_layers, or_layer, filed_count, place_area, total_area};
@@ -45,7 +45,7 @@ pub(crate) fn total_area<A: Allocator>(places: &[Option<Layer<A>>]) -> u64
     sum
 }
 
-/// The area of a place's layer, or 0 where it is empty.
+/// The area of a place's layer, or 0 if it is empty.
 fn place_area<A: Allocator>(place: &Option<Layer<A>>) -> u64
     ensures { result ≡ place_area place.now }
 {
@@ -55,7 +55,7 @@ fn place_area<A: Allocator>(place: &Option<Layer<A>>) -> u64
     }
 }
 
-/// The least taken place from `first` up to, but not including, `end`; `None` where none of these is taken.
+/// The least taken place from `first` up to, but not including, `end`; `None` if none of these is taken.
 pub(crate) fn first_taken<A: Allocator>(
     places: &[Option<Layer<A>>],
     first: usize,
@@ -73,8 +73,8 @@ pub(crate) fn first_taken<A: Allocator>(
     None
 }
 
-/// Puts layers into the places from `first` on, one each, where the place is free; a taken place stays as it is. Answers how
-/// many were free.
+/// Puts layers into the places from `first` on, one each, if the place is free; a taken place stays as it is. Returns the
+/// number of places that were free.
 pub(crate) fn fill_gaps<A: Allocator>(
     places: &mut [Option<Layer<A>>],
     first: usize,
@@ -94,7 +94,7 @@ pub(crate) fn fill_gaps<A: Allocator>(
     made
 }
 
-/// Puts a layer into a place if that is free. Answers whether it was.
+/// Puts a layer into a place if that is free. Returns whether it was.
 fn fill_gap<A: Allocator>(place: &mut Option<Layer<A>>, layer: Layer<A>) -> bool
     ensures place { place.new ≡ or_layer place.old layer }
     ensures made { result ≡ not (is_some place.old) }
@@ -106,7 +106,7 @@ fn fill_gap<A: Allocator>(place: &mut Option<Layer<A>>, layer: Layer<A>) -> bool
     true
 }
 
-/// Makes the layers that are missing in the places of a job. Answers their number.
+/// Makes the layers that are missing in the places of a job. Returns their number.
 pub(crate) fn make_missing<A: Allocator + Copy + Send + Sync>(
     alloc: A,
     job: &Job<A>,
@@ -128,7 +128,7 @@ pub(crate) fn make_missing<A: Allocator + Copy + Send + Sync>(
     Ok(late)
 }
 
-/// Makes the layers that are missing in the places of a stripe. Answers their number.
+/// Makes the layers that are missing in the places of a stripe. Returns their number.
 fn make_stripe<A: Allocator + Copy + Send + Sync>(
     job: &Job<A>,
     slicer: &mut Slicer<'_, A>,
@@ -165,7 +165,7 @@ fn is_full<A: Allocator>(places: &[Option<Layer<A>>], first: usize, end: usize) 
     true
 }
 
-/// The layers that stand in the places, in order.
+/// The layers in the places, in order.
 pub(crate) fn all_layers<A: Allocator>(
     alloc: A,
     places: Vec<Option<Layer<A>>, A>,

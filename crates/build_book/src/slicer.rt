@@ -15,9 +15,8 @@ use raster::{Filler, Span, area};
 use std::alloc::{AllocError, Allocator};
 use std::marker::Model;
 
-/// Slices stripes of one job, in any order. It keeps the sweep where the last stripe ended, so that a higher stripe looks
-/// only at the facets in between, while a lower one begins a new sweep, and it keeps the memory in which layers are
-/// linked and filled.
+/// Slices stripes of one job, in any order. It keeps the sweep of the last stripe. So a higher stripe looks only at the facets
+/// in between, while a lower one begins a new sweep. It also keeps the memory in which layers are linked and filled.
 #[derive(Drop)]
 pub struct Slicer<'m, A: Allocator> {
     alloc: A,
@@ -40,7 +39,7 @@ impl<'m, A: Allocator> Model for Slicer<'m, A> {
 }
 
 impl<'m, A: Allocator + Copy + Send + Sync> Slicer<'m, A> {
-    /// A slicer of the job. `Err` comes only where an allocation failed.
+    /// A slicer of the job. `Err` only if an allocation failed.
     pub fn new(alloc: A, job: &'m Job<A>) -> Result<Slicer<'m, A>, AllocError>
         ensures { IfOk result (λ slicer. slicer ≡ job.now) }
     {
@@ -53,8 +52,8 @@ impl<'m, A: Allocator + Copy + Send + Sync> Slicer<'m, A> {
         })
     }
 
-    /// Slices stripe s of the job, its layers from the lowest up; s is below `Job::stripes`. `Err` comes only where an
-    /// allocation failed; the slicer can be used again.
+    /// Slices stripe s of the job, its layers from the lowest up; s is below `Job::stripes`. `Err` only if an allocation
+    /// failed; the slicer can be used again.
     pub fn slice(&mut self, s: u64) -> Result<Piece<'m, A>, AllocError>
         requires { s < stripe_count self.old.grid }
         ensures job { IfOk result (λ piece. piece.job ≡ self.old) }
@@ -77,7 +76,7 @@ impl<'m, A: Allocator + Copy + Send + Sync> Slicer<'m, A> {
         Ok(Piece::of(self.job, s, layers))
     }
 
-    /// A sweep at the plane of layer k: the kept one, raised, or a new one where none is kept or it stands higher.
+    /// A sweep at the plane of layer k: the kept one, raised, or a new one if none is kept or the kept one is higher.
     fn sweep_at(&mut self, k: u32) -> Result<Sweep<'m, A>, AllocError>
         requires { k < self.old.grid.layers }
         ensures solid { IfOk result (λ sweep. sweep.facets ≡ self.old.solid.facets) }
@@ -95,8 +94,8 @@ impl<'m, A: Allocator + Copy + Send + Sync> Slicer<'m, A> {
     }
 }
 
-/// Slices stripe s of a job, its layers from the lowest up; s is below `Job::stripes`. `Err` comes only where an
-/// allocation failed. A [`Slicer`] keeps its sweep and its memory from stripe to stripe.
+/// Slices stripe s of a job, its layers from the lowest up; s is below `Job::stripes`. `Err` only if an allocation failed. For
+/// many stripes use a [`Slicer`], which keeps its sweep and its memory from stripe to stripe.
 pub fn slice_stripe<'m, A: Allocator + Copy + Send + Sync>(
     alloc: A,
     job: &'m Job<A>,
@@ -110,7 +109,7 @@ pub fn slice_stripe<'m, A: Allocator + Copy + Send + Sync>(
     Slicer::new(alloc, job)?.slice(s)
 }
 
-/// Slices the layers from `first` up to, but not including, `end` by a sweep that stands at the first.
+/// Slices the layers from `first` up to, but not including, `end` by a sweep that is at the first.
 fn slice_layers<A: Allocator + Copy + Send + Sync>(
     alloc: A,
     job: &Job<A>,
@@ -151,7 +150,7 @@ fn step_up<A: Allocator + Copy + Send + Sync>(
     sweep.advance(job.grid().plane(k))
 }
 
-/// Slices layer k, at whose plane the sweep stands.
+/// Slices layer k. The sweep is at its plane.
 fn slice_layer<A: Allocator + Copy + Send + Sync>(
     job: &Job<A>,
     k: u32,

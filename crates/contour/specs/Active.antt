@@ -1,7 +1,7 @@
 -- The facets that a plane cuts, and how those at one height follow from those at a lower one. Heights z are in
--- half-micrometres; TieRule says which corners count as below a height.
---     active_facets facets z    the numbers of the facets that are cut at the height z, in ascending order
---     reached_count facets z    the number of facets that the plane has reached
+-- half-micrometres. TieRule says which corners count as below a height.
+-- - `active_facets facets z`: the numbers of the facets that are cut at the height z, in ascending order
+-- - `reached_count facets z`: the number of facets that the plane has reached
 use Rattle.std.specs.Prelude.{ℕ, Bool, ◌&&◌, List, [], ◌∷◌, ◌++◌, map, filter, take, drop, count_by, ℤ, pos, ◌*ℤ◌, nat_lt}
 use Rattle.std.specs.List.{enumerate_from, list_any, prefix_len}
 use Rattle.geometry.specs.TieRule.{is_below, is_above}

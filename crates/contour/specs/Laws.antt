@@ -1,26 +1,23 @@
--- What holds of the segments of every plane: how a line crosses the facets of a loop, that a closed mesh has loops, that
--- these are one list, that their nodes are ordered, and where their outlines lie.
-use Rattle.std.specs.Prelude.{◌≡◌, ℕ, All, List, Some, ℤ, pos}
+-- What holds of the segments of every plane: how a line crosses the facets of a loop, and that a closed mesh has loops. They
+-- are one list, their nodes are ordered, and their outlines lie where the plane cuts edges.
+use Rattle.std.specs.Prelude.{◌≡◌, All, List, Some, ℤ, pos}
 use Rattle.geometry.specs.Facet.{Facet, twice}
 use Rattle.geometry.specs.Winding.{total, wind}
 use Rattle.mesh_weld.specs.Balance.{IsBalanced}
-use Rattle.mesh_weld.specs.EdgeNumbers.{AreEdgeNumbers}
 use Rattle.mesh_weld.specs.Solid.{HaveDistinctCorners}
 use Rattle.plane_segments.specs.declared.segment.Segment.{Segment}
 use Rattle.plane_segments.specs.Segment.{HasOrderedNodes, segments}
 use Rattle.contour.specs.Loops.{AreLoops, IsCycle, follower, loop_facets, loops}
 use Rattle.contour.specs.Outlines.{IsStartOf, end_point, start_point}
 
--- a line along x in the plane crosses the facets of a closed cycle upward as often as downward: their windings sum up to
--- nothing
+-- a line along x in the plane crosses the facets of a closed cycle upward as often as downward: their windings sum up to 0
 abbrev pub CycleWindsCancel : Type 0
 CycleWindsCancel = (facets : List Facet) (loop : List Segment) (y z : ℤ) → IsCycle (segments facets z) loop
     → total (λ t. wind (twice t) y z) (loop_facets facets loop) ≡ pos 0
 
--- the segments of a closed mesh at a height have loops; each solid has such numbers (`Solid::edge_numbers`)
+-- the segments of a closed mesh at a height have loops
 abbrev pub ClosedMeshesHaveLoops : Type 0
-ClosedMeshesHaveLoops = (facets : List Facet) (numbers : List (List ℕ)) (count : ℕ) (z : ℤ) → AreEdgeNumbers facets numbers count → IsBalanced facets
-    → AreLoops (segments facets z) (loops (segments facets z))
+ClosedMeshesHaveLoops = (facets : List Facet) (z : ℤ) → IsBalanced facets → AreLoops (segments facets z) (loops (segments facets z))
 
 -- two lists that are the loops of the segments at a height are equal
 abbrev pub LoopsAreOne : Type 0

@@ -1,4 +1,4 @@
--- How segments are linked: by the numbers of the edges where they start and end, and by slots, their positions in the
+-- How segments are linked: by the numbers of the edges at which they start and end, and by slots, their positions in the
 -- plane's list. The segments that start at an edge form a linked list: `heads` has its first slot, `after` the next one.
 use Rattle.std.specs.Prelude.{◌≡◌, ℕ, ◌+◌, ◌<◌, ◌≤◌, ◌==◌, List, [], ◌∷◌, length, map, slice_index, slice_index_or, count_by, take, drop, Bool, true, false, nat_le, Some, if◌then◌else◌}
 use Rattle.std.specs.List.{AllByRecursion, list_all}
@@ -12,7 +12,7 @@ use Rattle.plane_segments.specs.Segment.{edge_node, no_segment}
 use Rattle.contour.specs.declared.linker.TheConstants.{NONE}
 use Rattle.contour.specs.Loops.{AreEnds, IsCycle, count_of, first_facet, follower, is_from_least, parts_from}
 
--- of a facet by the numbers of its corners and of its edges, the number of the edge that is this node
+-- the number of the edge that is this node, for a facet by the numbers of its corners and of its edges
 abbrev pub edge_at_node : List ℕ → List ℕ → Node → ℕ
 edge_at_node corners edges node =
     if is_node (edge_node corners 0) node then slice_index edges 0
@@ -28,7 +28,7 @@ start_edge facets numbers t = edge_of_facet facets numbers t.facet t.from
 abbrev pub finish_edge : List Facet → List (List ℕ) → Segment → ℕ
 finish_edge facets numbers t = edge_of_facet facets numbers t.facet t.to
 
--- the numbers of the edges where segments start and where they end
+-- the numbers of the edges at which segments start and end
 pub record AreSegmentEdges (facets : List Facet) (list : List Segment) (starts finishes : List ℕ) : Type 0 where
   pub numbers : List (List ℕ)
   pub count : ℕ
@@ -36,7 +36,7 @@ pub record AreSegmentEdges (facets : List Facet) (list : List Segment) (starts f
   pub starts_are : starts ≡ map (start_edge facets numbers) list
   pub finishes_are : finishes ≡ map (finish_edge facets numbers) list
 
--- the slots of an edge: where a list of edges has it, the first slot being n
+-- the slots of an edge: its positions in a list of edges, with n as the first slot
 abbrev pub slots : ℕ → ℕ → List ℕ → List ℕ
 slots n e [] = []
 slots n e (x ∷ xs) = if x == e then n ∷ slots (n + 1) e xs else slots (n + 1) e xs
@@ -45,7 +45,7 @@ slots n e (x ∷ xs) = if x == e then n ∷ slots (n + 1) e xs else slots (n + 1
 abbrev pub IsClear : List ℕ → Type 0
 IsClear heads = (e : ℕ) → slice_index_or heads e NONE ≡ NONE
 
--- each edge has as its head its first slot among the starts from the n-th on
+-- the head of each edge is its first slot among the starts from the n-th on
 abbrev pub HasFirsts : List ℕ → ℕ → List ℕ → Type 0
 HasFirsts heads n starts = (e : ℕ) → slice_index_or heads e NONE ≡ slice_index_or (slots n e (drop n starts)) 0 NONE
 
@@ -55,11 +55,11 @@ HasNexts after n starts =
     (j : ℕ) → n ≤ j → j < length starts
     → slice_index_or after j NONE ≡ slice_index_or (slots (j + 1) (slice_index starts j) (drop (j + 1) starts)) 0 NONE
 
--- the slot of the k-th start at an edge, where k of the first n segments end there
+-- the slot of the k-th start at an edge, if k of the first n segments end there
 abbrev pub slot_after : List ℕ → List ℕ → ℕ → ℕ → ℕ
 slot_after starts finishes n e = slice_index_or (slots 0 e starts) (count_by (λ f. f == e) (take n finishes)) NONE
 
--- each edge has as its head the first slot that is left after the first n pops
+-- the head of each edge is the first slot that is left after the first n pops
 abbrev pub HasLeft : List ℕ → List ℕ → List ℕ → ℕ → Type 0
 HasLeft heads starts finishes n = (e : ℕ) → slice_index_or heads e NONE ≡ slot_after starts finishes n e
 
@@ -93,7 +93,7 @@ unvisited [] list = list
 unvisited (b ∷ visited) [] = []
 unvisited (b ∷ visited) (x ∷ list) = if b then unvisited visited list else x ∷ unvisited visited list
 
--- no loop has been visited in part: where a slot is not visited, its follower is not
+-- no loop has been visited in part: if a slot is not visited, its follower is not
 abbrev pub KeepsLoopsWhole : List Segment → List ℕ → List Bool → Type 0
 KeepsLoopsWhole list next visited =
     (j : ℕ) → j < length list → is_visited visited j ≡ false → is_visited visited (slice_index_or next j NONE) ≡ false
@@ -108,7 +108,8 @@ pub record IsTracedLoop (list : List Segment) (next : List ℕ) (first : ℕ) (b
   pub kept : (j : ℕ) → is_visited before j ≡ true → is_visited after j ≡ true
   pub done : is_visited after first ≡ true
 
--- the loops that have a segment before the slot `first` have been traced, one after another, and just their slots have been visited
+-- The loops that have a segment before the slot `first` have been traced, one after another. Exactly their slots have been
+-- visited.
 pub record AreTraced (list : List Segment) (next : List ℕ) (first : ℕ) (visited : List Bool) (flat : List Segment) (ends : List ℕ) : Type 0 where
   pub ends_are : AreEnds 0 ends (length flat)
   pub size : length visited ≡ length list

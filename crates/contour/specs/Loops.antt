@@ -1,8 +1,8 @@
 -- The loops that the segments of a plane make.
---     follower list s       the segment after s: at its end node, of those that start there, the one with the rank that
---                           s has among those that end there
---     loops list            the cycles, each from its least facet, in order of these
---     AreLoops list found   the same without a word on how they are found
+-- - `follower list s`: the segment after s. Of the segments that start at its end node, it has the rank that s has among those
+--   that end there.
+-- - `loops list`: the cycles, each from its least facet, in order of these
+-- - `AreLoops list found`: the same, without saying how they are found
 use Rattle.std.specs.Prelude.{◌≡◌, ℕ, ◌-◌, ◌≤◌, take, drop, zero, suc, Bool, true, List, [], ◌∷◌, ◌++◌, length, map, Option, Some, None, filter, slice_get, ◌==◌, nat_le, if◌then◌else◌, flat_map, count_by}
 use Rattle.std.specs.List.{list_all, position_or_len, AllByRecursion}
 use Rattle.std.specs.List.Sorted.{IsStrictlyIncreasing}
@@ -12,14 +12,14 @@ use Rattle.plane_segments.specs.Node.{is_node}
 use Rattle.plane_segments.specs.declared.segment.Segment.{Segment}
 use Rattle.plane_segments.specs.Segment.{is_segment}
 
--- the rank of s among the segments that end where it does
+-- the rank of s among the segments that end at the same node
 abbrev pub rank_at_end : List Segment → Segment → ℕ
 rank_at_end list s = position_or_len (is_segment s) (filter (λ t. is_node t.to s.to) list)
 
 abbrev pub follower : List Segment → Segment → Option Segment
 follower list s = slice_get (filter (λ t. is_node t.from s.to) list) (rank_at_end list s)
 
--- from s on, each one's follower, until first comes again
+-- each follower in turn, from s on, until first comes again
 abbrev pub run_from : List Segment → Segment → ℕ → Segment → List Segment
 run_from list first zero s = s ∷ []
 run_from list first (suc more) s =
@@ -36,7 +36,7 @@ is_leader list s = list_all (λ t. nat_le s.facet t.facet) (cycle list s)
 abbrev pub loops : List Segment → List (List Segment)
 loops list = map (cycle list) (filter (is_leader list) list)
 
--- each one's follower is the next, and the last one's is first
+-- the follower of each is the next, and that of the last is first
 abbrev pub Closes : List Segment → Segment → List Segment → Type 0
 Closes list first [] = ⊥
 Closes list first (s ∷ []) = follower list s ≡ Some first
@@ -57,7 +57,7 @@ is_from_least loop = list_all (λ t. nat_le (first_facet loop) t.facet) loop
 abbrev pub count_of : ℕ → List Segment → ℕ
 count_of n list = count_by (λ s. s.facet == n) list
 
--- What loops are: each is a cycle, from its least facet; they are in order of these; each segment stands in exactly one.
+-- What loops are: each is a cycle, from its least facet; they are in order of these; each segment is in exactly one.
 pub record AreLoops (list : List Segment) (found : List (List Segment)) : Type 0 where
   pub cycles : AllByRecursion (IsCycle list) found
   pub from_least : list_all is_from_least found ≡ true
@@ -75,18 +75,18 @@ abbrev pub parts_from : {X : Type 0} → ℕ → List ℕ → List X → List (L
 parts_from at [] xs = []
 parts_from at (e ∷ ends) xs = take (e - at) xs ∷ parts_from e ends (drop (e - at) xs)
 
--- the parts begin at the position `at`, stand in order, and the last ends at n
+-- the parts begin at the position `at`, are in order, and the last ends at n
 abbrev pub AreEnds : ℕ → List ℕ → ℕ → Type 0
 AreEnds at [] n = at ≡ n
 AreEnds at (e ∷ ends) n = (at ≤ e) × AreEnds e ends n
 
--- These are the positions where the parts of a list with n elements end, of all but the last one, which ends with the
--- list; an empty list has no parts.
+-- The positions at which the parts of a list with n elements end, except the last one, which ends with the list. An empty list
+-- has no parts.
 abbrev pub AreInnerEnds : List ℕ → ℕ → Type 0
 AreInnerEnds inner zero = inner ≡ []
 AreInnerEnds inner (suc n) = AreEnds 0 (inner ++ suc n ∷ []) (suc n)
 
--- those of all parts
+-- the ends of all parts
 abbrev pub all_ends : List ℕ → ℕ → List ℕ
 all_ends inner zero = []
 all_ends inner (suc n) = inner ++ suc n ∷ []

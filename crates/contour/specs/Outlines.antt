@@ -1,7 +1,7 @@
 -- Outlines: loops as points, each to the nearest half-micrometre.
---     start_point     where a segment starts, and end_point where it ends
---     outlines        the loops of a plane as points
---     IsStartOf       what a start point is
+-- - `start_point`, `end_point`: the points at which a segment starts and ends
+-- - `outlines`: the loops of a plane as points
+-- - `IsStartOf`: what a start point is
 use Rattle.std.specs.Prelude.{◌≡◌, ℤ, pos, List, map, Option, Some, None, find}
 use Rattle.geometry.specs.Point.{half_micrometres_of}
 use Rattle.geometry.specs.Facet.{Facet, Edge, half_edges}
@@ -14,23 +14,23 @@ use Rattle.plane_segments.specs.declared.segment.Segment.{Segment}
 use Rattle.plane_segments.specs.Segment.{is_downward, is_upward, node_of, segments}
 use Rattle.contour.specs.Loops.{loops}
 
--- where an edge passes the height z downward, and where one passes it upward
+-- the point at which an edge passes the height z downward, and the point at which one passes it upward
 abbrev pub falling_point : ℤ → Edge → PlanePoint
 falling_point z e = passing_point (half_micrometres_of e.to) (half_micrometres_of e.from) z
 
 abbrev pub rising_point : ℤ → Edge → PlanePoint
 rising_point z e = passing_point (half_micrometres_of e.from) (half_micrometres_of e.to) z
 
--- every segment has an edge, so that the other case does not come
+-- every segment has an edge, so the other case never comes
 abbrev pub point_or_origin : (Edge → PlanePoint) → Option Edge → PlanePoint
 point_or_origin f None = record { x2 = pos 0; y2 = pos 0 }
 point_or_origin f (Some e) = f e
 
--- where a segment starts: on its facet's edge down
+-- the point at which a segment starts: on its facet's edge down
 abbrev pub start_point : List Facet → ℤ → Segment → PlanePoint
 start_point facets z t = point_or_origin (falling_point z) (find (is_downward z) (half_edges (facet_at facets t.facet)))
 
--- where it ends: on its facet's edge up
+-- the point at which it ends: on its facet's edge up
 abbrev pub end_point : List Facet → ℤ → Segment → PlanePoint
 end_point facets z t = point_or_origin (rising_point z) (find (is_upward z) (half_edges (facet_at facets t.facet)))
 

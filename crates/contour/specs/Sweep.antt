@@ -1,4 +1,4 @@
--- A plane that rises through a mesh: where it stands, and what a sweep keeps to go on from there.
+-- A plane that rises through a mesh: its height, and what a sweep keeps to go on from there.
 use Rattle.std.specs.Prelude.{◌≡◌, ℕ, List, map, ℤ}
 use Rattle.exact_int.specs.Bounds.{IsAtMost}
 use Rattle.geometry.specs.Facet.{Facet}
@@ -10,7 +10,7 @@ pub record Sweep : Type 0 where
   pub facets : List Facet
   pub height : ℤ
 
--- what a sweep keeps beside its mesh and height
+-- what a sweep keeps in addition to its mesh and height
 pub record IsSwept (facets : List Facet) (height : ℤ) (passed : ℕ) (active : List ℕ) (tops : List ℤ) : Type 0 where
   pub within : IsAtMost CENTRE_LIMIT height
   pub passed_is : passed ≡ reached_count facets height

@@ -1,6 +1,6 @@
-//! The active list of a sweep: the facets that its plane cuts, in ascending order of their numbers, each with the height
-//! of its top. A facet starts at its lowest corner and ends at its top, its highest corner. At each step the facets that
-//! have started and not ended are merged into those that stay.
+//! The active list of a sweep: the facets that its plane cuts, in ascending order of their numbers, each with the height of its
+//! top. A facet starts at its lowest corner and ends at its top, its highest corner. At each step the facets that have started
+//! and not ended are merged into those that stay.
 ghost use Rattle.std.specs.Prelude.{◌≡◌, ◌<◌, ◌≤◌, ◌++◌, ◌∷◌, ◌*ℤ◌, [], All, IfOk, List, OnOk, drop, false, filter, if◌then◌else◌, length, map, nat_lt, pos, take, true, ℕ};
 ghost use Rattle.std.specs.List.{AllPairs, prefix_len};
 ghost use Rattle.exact_int.specs.Bounds.{IsAtMost};
@@ -43,7 +43,7 @@ impl<A: Allocator + Copy + Send + Sync> ActiveFacets<A> {
         Ok(active)
     }
 
-    /// Takes all facets away.
+    /// Removes all facets.
     fn clear(&mut self)
         ensures numbers { self.new.numbers.items ≡ [] }
         ensures tops { self.new.tops.items ≡ [] }
@@ -97,8 +97,8 @@ impl<A: Allocator + Copy + Send + Sync> ActiveFacets<A> {
         Ok(left)
     }
 
-    /// One step of the merge where the facet's top is above the height `z2`; where it is not, the facet has ended and
-    /// nothing is pushed.
+    /// One step of the merge if the facet's top is above the height `z2`. If it is not, the facet has ended and nothing is
+    /// pushed.
     fn push_if_above<'r>(
         &mut self,
         s: &Solid<A>,
@@ -122,8 +122,8 @@ impl<A: Allocator + Copy + Send + Sync> ActiveFacets<A> {
         Ok(left)
     }
 
-    /// Replaces this list by the facets of `before` whose tops are above the height `z2` in half-micrometres, merged
-    /// with `fresh`, the numbers of the facets that became active. The result is in ascending order where both lists are.
+    /// Replaces this list by the facets of `before` whose tops are above the height `z2` in half-micrometres, merged with
+    /// `fresh`, the numbers of the facets that became active. The result is in ascending order if both lists are.
     pub(crate) fn advance(
         &mut self,
         s: &Solid<A>,
@@ -147,9 +147,9 @@ impl<A: Allocator + Copy + Send + Sync> ActiveFacets<A> {
     }
 }
 
-/// What a plane reaches on its way up to a height: of facets in the order of their least heights, the number of those
-/// that start by the height, and which of these also end above it. A facet starts by a height where its lowest corner
-/// counts as below it (the tie rule).
+/// The facets that a plane reaches on its way up to a height, in the order of their least heights. The number of those that
+/// start by the height is `count`. Those of them that also end above it are `active`. A facet starts by a height if its lowest
+/// corner counts as below it (the tie rule).
 #[derive(Drop)]
 pub(crate) struct Arrivals<A: Allocator> {
     pub(crate) count: usize,
@@ -157,8 +157,8 @@ pub(crate) struct Arrivals<A: Allocator> {
 }
 
 impl<A: Allocator + Copy + Send + Sync> Arrivals<A> {
-    /// Finds what the plane reaches up to the height `z2`, in half-micrometres. Facets that start so far below `z2` that all of
-    /// them have ended there are counted by a binary search, and not looked at one by one.
+    /// Finds what the plane reaches up to the height `z2`, in half-micrometres. Some facets start so far below `z2` that all of
+    /// them have ended there. A binary search counts these, without a look at each.
     pub(crate) fn find(
         alloc: A,
         s: &Solid<A>,
@@ -203,8 +203,8 @@ impl<A: Allocator + Copy + Send + Sync> Arrivals<A> {
     }
 }
 
-/// The number of facets at the front of a list, in the order of their least heights, that start so far below the height
-/// `z2`, in half-micrometres, that even the greatest rise does not bring them above it: they have started and ended there.
+/// The number of facets at the front of a list that have surely ended at the height `z2`, in half-micrometres. The list is in
+/// the order of least heights. These facets start so far below `z2` that even the greatest rise does not bring them above it.
 /// After a small step of the plane there are none, and a look at the first facet shows it.
 fn count_ended<A: Allocator + Copy + Send + Sync>(s: &Solid<A>, order: &[u32], z2: i64) -> usize
     requires numbers { All (λ n. n < length s.now.facets) order.now }
@@ -223,7 +223,7 @@ fn count_ended<A: Allocator + Copy + Send + Sync>(s: &Solid<A>, order: &[u32], z
     count_started(s, order, low)
 }
 
-/// Of facets in the order of their least heights, the number of those that start by the height `z2`, in half-micrometres.
+/// The number of facets that start by the height `z2`, in half-micrometres. The list is in the order of least heights.
 fn count_started<A: Allocator + Copy + Send + Sync>(s: &Solid<A>, order: &[u32], z2: i64) -> usize
     requires numbers { All (λ n. n < length s.now.facets) order.now }
     requires ascending { AllPairs (λ m n. is_lower s.now.facets m n ≡ true) order.now }
@@ -250,8 +250,8 @@ fn count_before(list: &[u32], number: u32) -> usize
     list.iter().take_while(|m| **m < number).count()
 }
 
-/// Whether a facet whose lowest corner is at `start`, in micrometres, starts by the height `z2` in half-micrometres: that
-/// corner counts as below it, by the tie rule.
+/// Whether a facet starts by the height `z2`, in half-micrometres, if its lowest corner is at `start`, in micrometres. It does
+/// if that corner counts as below the height, by the tie rule.
 fn starts_by(start: i32, z2: i64) -> bool
     ensures { result ≡ TieRule.is_below (pos 2 *ℤ start) z2 }
 {

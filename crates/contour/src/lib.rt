@@ -1,5 +1,5 @@
-//! Where horizontal planes cut a closed mesh: the segments of a plane, the closed loops that they make, and a sweep
-//! that finds the segments of rising planes without a look at every facet.
+//! Slices of a closed mesh by horizontal planes: the segments of a plane, and the closed loops that they make. A sweep finds
+//! the segments of rising planes without a look at every facet.
 //!
 //! ```text
 //! let mut sweep = Sweep::start(alloc, &solid, heights[0])?;
@@ -11,7 +11,7 @@
 //! }
 //! ```
 //!
-//! - [`Segment`], [`Node`], [`segment_at`], [`segments`]: where a plane cuts one facet, and all facets, handed on from
+//! - [`Segment`], [`Node`], [`segment_at`], [`segments`]: the cuts of one facet and of all facets by a plane, re-exported from
 //!   `plane_segments`.
 //! - [`Sweep`]: a rising plane with its list of active facets, those that it cuts.
 //! - [`Loops`], [`Linker`], [`loops`]: the loops of a plane's segments. A linker keeps its memory from plane to plane.

@@ -1,8 +1,11 @@
-//! Linking finds the loops of a plane's segments in time linear in their number. The segments that start at an edge
-//! form a linked list: `heads[e]` is the slot (the position in the plane's list) of the first one that starts at the
-//! edge `e`, `after[i]` the slot of the next one at the same edge as slot `i`, and [`NONE`] the end of a list. Each
-//! segment takes the head of the list of the edge where it ends: that is its follower, whose slot is kept in `next`.
-//! Then the loops are traced from follower to follower, with a flag for each slot that was visited.
+//! Linking finds the loops of a plane's segments in time linear in their number. A slot is a position in the plane's list. The
+//! segments that start at an edge form a linked list:
+//! - `heads[e]` is the slot of the first segment that starts at the edge `e`;
+//! - `after[i]` is the slot of the next segment that starts at the same edge as that in slot `i`;
+//! - [`NONE`] is the end of a list.
+//!
+//! Each segment takes the head of the list of the edge where it ends. That is its follower, and `next` keeps its slot. Then the
+//! loops are traced from follower to follower, with a flag for each slot that was visited.
 ghost use Rattle.std.specs.Prelude.{[], ◌++◌, true, false, ◌≡◌, ◌<◌, ◌≤◌, ℕ, ℤ, All, List, IfOk, OnOk, length, slice_index_or};
 ghost use Rattle.exact_int.specs.Bounds.{IsAtMost};
 ghost use Rattle.mesh_weld.specs.Balance.{IsBalanced};
@@ -22,8 +25,8 @@ use std::marker::Model;
 /// The slot of no segment.
 const NONE: u32 = u32::MAX;
 
-/// Links the segments of planes to loops. Between two planes no edge has a first segment in `heads`; all other lists
-/// are filled anew for each plane, and kept for their memory alone.
+/// Links the segments of planes into loops. Between two planes no edge has a first segment in `heads`. All other lists are
+/// filled anew for each plane, and are kept only for their memory.
 #[derive(Drop)]
 pub struct Linker<A: Allocator> {
     alloc: A,
@@ -44,7 +47,7 @@ impl<A: Allocator> Model for Linker<A> {
 }
 
 impl<A: Allocator + Copy + Send + Sync> Linker<A> {
-    /// A linker for the planes of a mesh. `Err` comes only where an allocation failed.
+    /// A linker for the planes of a mesh. `Err` only if an allocation failed.
     pub fn new(alloc: A, s: &Solid<A>) -> Result<Linker<A>, AllocError> {
         Ok(Linker {
             alloc,
@@ -55,10 +58,10 @@ impl<A: Allocator + Copy + Send + Sync> Linker<A> {
         })
     }
 
-    /// The loops of the segments of one plane; `list` is the mesh's segments at some height. Each loop is a closed cycle:
-    /// each segment ends at the node where the next one starts, and the last one ends where the first starts. Each segment
-    /// stands in exactly one loop, and of each node `low` is below `high`. `Err` comes only where an allocation failed, and
-    /// the linker can link the next plane in either case.
+    /// The loops of the segments of one plane; `list` is the mesh's segments at some height. Each loop is a closed cycle: each
+    /// segment ends at the node where the next one starts, and the last one ends where the first starts. Each segment is in
+    /// exactly one loop. In each node `low` is below `high`. `Err` only if an allocation failed. The linker can link the next
+    /// plane in either case.
     pub fn loops(&mut self, s: &Solid<A>, list: &[Segment]) -> Result<Loops<A>, AllocError>
         requires { (z : ℤ) × (list.now ≡ segments s.now.facets z) }
         ensures closed { IfOk result (AreLoops list.now) }
@@ -102,8 +105,8 @@ fn slot_count<A: Allocator>(s: &Solid<A>, list: &[Segment]) -> u32
     list.len().min(s.count()) as u32
 }
 
-/// The links of a plane's segments: `next` has for each the slot of its follower, `after` the slot of the next
-/// segment that starts at the same edge.
+/// The links of a plane's segments: for each, `next` has the slot of its follower, and `after` the slot of the next segment
+/// that starts at the same edge.
 #[derive(Drop)]
 struct Links<A: Allocator> {
     edges: SegmentEdges<A>,
@@ -127,8 +130,7 @@ impl<A: Allocator> Links<A> {
         }
     }
 
-    /// Links the segments of a plane: at each node the n-th that ends there is followed by the n-th that starts
-    /// there.
+    /// Links the segments of a plane: at each node, the n-th that ends there is followed by the n-th that starts there.
     fn fill(&mut self, s: &Solid<A>, list: &[Segment], heads: &mut [u32]) -> Result<(), AllocError>
         requires list { (z : ℤ) × (list.now ≡ segments s.now.facets z) }
         requires room { (numbers : List (List ℕ)) (count : ℕ) → AreEdgeNumbers s.now.facets numbers count → count ≤ length heads.old }
@@ -147,7 +149,7 @@ impl<A: Allocator> Links<A> {
     }
 }
 
-/// The numbers of the edges where each segment starts and where it ends.
+/// The numbers of the edges at which each segment starts and ends.
 #[derive(Drop)]
 struct SegmentEdges<A: Allocator> {
     starts: Vec<u32, A>,
@@ -188,8 +190,8 @@ fn edge_at(corners: &[u32; 3], numbers: &[u32; 3], node: Node) -> u32
     }
 }
 
-/// Pushes each slot at the front of the linked list of the edge where its segment starts, from the last slot to the
-/// first, so that each list is in ascending order.
+/// Pushes each slot at the front of the linked list of the edge where its segment starts. It goes from the last slot to the
+/// first, so each list is in ascending order.
 fn push_starts<A: Allocator>(heads: &mut [u32], edges: &SegmentEdges<A>, after: &mut [u32])
     requires edges { All (λ e. e < length heads.old) edges.now.starts.items }
     requires room { length after.old ≡ length edges.now.starts.items }
@@ -205,7 +207,7 @@ fn push_starts<A: Allocator>(heads: &mut [u32], edges: &SegmentEdges<A>, after: 
     }
 }
 
-/// Pops for each slot, from the first on, the front of the linked list of the edge where its segment ends: its
+/// For each slot, from the first on, pops the front of the linked list of the edge where its segment ends. That is its
 /// follower.
 fn pop_starts<A: Allocator>(
     heads: &mut [u32],
@@ -229,16 +231,16 @@ fn pop_starts<A: Allocator>(
     }
 }
 
-/// The slot that a list has at a slot; [`NONE`] where the list is shorter.
+/// The slot that a list has at a slot, or [`NONE`] if the list is shorter.
 fn slot_at(list: &[u32], slot: u32) -> u32
     ensures { result ≡ slice_index_or list.now slot NONE }
 {
     list.get(slot as usize).copied().unwrap_or(NONE)
 }
 
-/// Traces the loops, each from its first segment, in the order of their first segments; `next` has for each slot that
-/// of its follower. `visited` and `ends` are overwritten: the caller keeps them for their memory. The result has
-/// room for just its segments and ends.
+/// Traces the loops, each from its first segment, in the order of their first segments. For each slot `next` has the slot of
+/// its follower. `visited` and `ends` are overwritten: the caller keeps them for their memory. The result has exactly the room
+/// for its segments and ends.
 fn trace_loops<A: Allocator + Copy + Send + Sync>(
     alloc: A,
     list: &[Segment],
@@ -258,7 +260,7 @@ fn trace_loops<A: Allocator + Copy + Send + Sync>(
     Ok(Loops::of(flat, inner_ends))
 }
 
-/// Appends all loops to the empty `flat`, one after another, and puts where each ends into `ends`.
+/// Appends all loops to the empty `flat`, one after another, and puts the end of each into `ends`.
 fn trace_all<A: Allocator>(
     list: &[Segment],
     next: &[u32],
@@ -310,11 +312,12 @@ fn trace_loop<A: Allocator>(
     Ok(())
 }
 
-/// The loops of a mesh at the height `z2` in half-micrometres, at most `geometry::CENTRE_LIMIT` from 0; `list` is its
-/// segments there. Each loop is a closed cycle: each segment ends at the node where the next one starts, and the last one
-/// ends where the first starts. Each segment stands in exactly one loop, and of each node `low` is below `high`. `Err` comes
-/// only where an allocation failed; the list is used up in either case. A [`Linker`] of many planes keeps its memory from
-/// one to the next.
+/// The loops of a mesh at the height `z2` in half-micrometres, at most `geometry::CENTRE_LIMIT` from 0; `list` is its segments
+/// there. Each loop is a closed cycle: each segment ends at the node where the next one starts, and the last one ends where the
+/// first starts. Each segment is in exactly one loop. In each node `low` is below `high`.
+///
+/// `Err` only if an allocation failed; the list is used up in either case. For many planes use a [`Linker`], which keeps its
+/// memory from one to the next.
 pub fn loops<A: Allocator + Copy + Send + Sync>(
     alloc: A,
     s: &Solid<A>,

@@ -13,11 +13,11 @@ use plane_segments::Segment;
 use std::alloc::{AllocError, Allocator};
 use std::marker::Model;
 
-/// The loops of a plane as points: of each loop, in its order, the points where its segments start, each rounded to the
-/// nearest half-micrometre, halves upward. A segment ends where the next one of its loop starts, and the last one where
-/// the first starts, whose point is not repeated.
+/// The loops of a plane as points: for each loop, in its order, the points where its segments start. Each point is rounded to
+/// the nearest half-micrometre, halves upward. A segment ends where the next one of its loop starts. The last one ends where
+/// the first starts, and that point is not repeated.
 ///
-/// The inside of a mesh whose facets face outward lies on the left of each segment, so that a loop around it runs
+/// If the facets of a mesh face outward, its inside lies on the left of each segment. So a loop around it runs
 /// counterclockwise, seen from above. No clause says so; tests do. Rounding may move two points of a loop into one.
 #[derive(Drop)]
 pub struct Outlines<A: Allocator> {
@@ -38,8 +38,8 @@ impl<A: Allocator> Model for Outlines<A> {
 }
 
 impl<A: Allocator> Outlines<A> {
-    /// The outlines of the loops of a plane; `found` is the loops of the mesh at the height `z2` in half-micrometres, at
-    /// most `geometry::CENTRE_LIMIT` from 0. `Err` comes only where an allocation failed.
+    /// The outlines of the loops of a plane. The loops of the mesh at the height `z2` in half-micrometres, at most
+    /// `geometry::CENTRE_LIMIT` from 0, are `found`. `Err` only if an allocation failed.
     pub fn of(alloc: A, s: &Solid<A>, found: Loops<A>, z2: i64) -> Result<Outlines<A>, AllocError>
         requires height { IsAtMost CENTRE_LIMIT z2 }
         requires loops { found ≡ loops (segments s.now.facets z2) }
@@ -57,7 +57,7 @@ impl<A: Allocator> Outlines<A> {
         self.ends.len()
     }
 
-    /// The points of the loop with this number; `None` where there is no such loop.
+    /// The points of the loop with this number; `None` if there is no such loop.
     pub fn get(&self, number: usize) -> Option<&[PlanePoint]>
         ensures { option_map (λ part. part.now) result ≡ slice_get self.now number }
     {

@@ -1,5 +1,5 @@
-//! A sweep raises a plane through a mesh. It keeps the list of active facets, as a scanline's polygon fill keeps
-//! active edges, so that a step up looks only at the facets that are active before it or whose lowest corner it passes.
+//! A sweep raises a plane through a mesh. It keeps the list of active facets, as a scanline fill of polygons keeps active
+//! edges. So a step up looks only at facets that were active before it, and at facets whose lowest corner it passes.
 ghost use Rattle.std.specs.Prelude.{◌≡◌, ◌<◌, ◌≤ℤ◌, All, IfOk, OnErr, OnOk, filter_map, length};
 ghost use Rattle.exact_int.specs.Bounds.{IsAtMost};
 ghost use Rattle.plane_segments.specs.Segment.{HasOrderedNodes, numbered_segment, segments};
@@ -36,8 +36,8 @@ impl<'m, A: Allocator> Model for Sweep<'m, A> {
 }
 
 impl<'m, A: Allocator + Copy + Send + Sync> Sweep<'m, A> {
-    /// A sweep that stands at the height `z2` in half-micrometres, at most `geometry::CENTRE_LIMIT` from 0. `Err`
-    /// comes only where an allocation failed.
+    /// A sweep at the height `z2` in half-micrometres, at most `geometry::CENTRE_LIMIT` from 0. `Err` only if an allocation
+    /// failed.
     pub fn start(alloc: A, s: &'m Solid<A>, z2: i64) -> Result<Sweep<'m, A>, AllocError>
         requires { IsAtMost CENTRE_LIMIT z2 }
         ensures mesh { IfOk result (λ sweep. sweep.facets ≡ s.now.facets) }
@@ -56,8 +56,8 @@ impl<'m, A: Allocator + Copy + Send + Sync> Sweep<'m, A> {
         })
     }
 
-    /// Raises the plane to the height `z2` in half-micrometres, which is not below its own and is at most
-    /// `geometry::CENTRE_LIMIT` from 0. `Err` comes only where an allocation failed, and the sweep is then as before.
+    /// Raises the plane to the height `z2` in half-micrometres. That is not below its own height, and at most
+    /// `geometry::CENTRE_LIMIT` from 0. `Err` only if an allocation failed, and the sweep is then as before.
     pub fn advance(&mut self, z2: i64) -> Result<(), AllocError>
         requires height { IsAtMost CENTRE_LIMIT z2 }
         requires up { self.old.height ≤ℤ z2 }
@@ -101,7 +101,7 @@ impl<'m, A: Allocator + Copy + Send + Sync> Sweep<'m, A> {
         self.active.numbers.as_slice()
     }
 
-    /// The segments at the height, in order of facets. `Err` comes only where an allocation failed.
+    /// The segments at the height, in order of facets. `Err` only if an allocation failed.
     pub fn segments(&self) -> Result<Vec<Segment, A>, AllocError>
         ensures segments { IfOk result (λ list. list.items ≡ segments self.now.facets self.now.height) }
         ensures ordered { IfOk result (λ list. All HasOrderedNodes list.items) }

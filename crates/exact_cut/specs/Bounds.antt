@@ -48,7 +48,7 @@ unit_limit = 2 * (STEP_LIMIT * denominator_limit)
 abbrev pub distance_limit : ℕ
 distance_limit = numerator_limit + CENTRE_LIMIT * denominator_limit
 
--- a quotient that is rounded up is at most the dividend and the unit together: that of the distance, and of the increment
+-- a quotient that is rounded up is at most the dividend plus the unit; this holds for the distance and for the increment
 abbrev pub quotient_limit : ℕ
 quotient_limit = distance_limit + unit_limit
 

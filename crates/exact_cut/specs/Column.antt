@@ -5,13 +5,13 @@ use Rattle.std.specs.Prelude.{ℕ, nat_lt, if◌then◌else◌, negsuc, ◌<◌,
 abbrev pub centre_x : ℤ → ℕ → ℕ → ℤ
 centre_x first step i = first +ℤ pos 2 *ℤ pos step *ℤ pos i
 
--- i is the least column whose centre is not left of num / den, or the count of columns where there is none
+-- i is the least column whose centre is not left of num / den, or the count of columns if there is none
 pub record IsLeastColumn (num den first : ℤ) (step columns i : ℕ) : Type 0 where
   pub in_row : i ≤ columns
   pub not_left : i < columns → num ≤ℤ (centre_x first step i *ℤ den)
   pub before_left : (k : ℕ) → k < i → (centre_x first step k *ℤ den) <ℤ num
 
--- i is the least row whose centre is not before num / den, or the count of rows where there is none
+-- i is the least row whose centre is not before num / den, or the count of rows if there is none
 abbrev pub IsLeastRow : ℤ → ℤ → ℤ → ℕ → ℕ → ℕ → Type 0
 IsLeastRow = IsLeastColumn
 

@@ -1,11 +1,11 @@
--- Where the line along x through a scanline passes a facet.
+-- The crossing of a facet by the line along x through a scanline.
 use Rattle.std.specs.Prelude.{◌≡◌, ◌⊎◌, ◌↔◌, ℤ, pos, negsuc, ◌*ℤ◌, ◌<ℤ◌}
 use Rattle.exact_int.specs.Bounds.{IsAtMost}
 use Rattle.exact_cut.specs.Bounds.{denominator_limit, numerator_limit}
 use Rattle.geometry.specs.Facet.{Facet}
 use Rattle.geometry.specs.Winding.{wind, volume, normal_x}
 
--- where a line along x crosses a facet: at x = num / den, with this sign
+-- the crossing of a facet by a line along x: at x = num / den, with this sign
 pub record Crossing : Type 0 where
   pub sign : ℤ
   pub num : ℤ

@@ -1,4 +1,4 @@
--- Where an edge passes a height, as a fraction.
+-- The point at which an edge passes a height, as a fraction.
 use Rattle.std.specs.Prelude.{◌≡◌, ℤ, ◌+ℤ◌, ◌-ℤ◌, ◌*ℤ◌}
 use Rattle.geometry.specs.Point.{Point}
 

@@ -8,7 +8,7 @@ use Rattle.exact_cut.specs.declared.dda.Division.{Division}
 use Rattle.exact_cut.specs.declared.dda.Dda.{Dda}
 use Rattle.geometry.specs.declared.limits.TheConstants.{COLUMN_LIMIT}
 
--- n over the unit: the quotient is rounded up, and the remainder is what n misses to that many units, less than one unit
+-- n over the unit: the quotient is rounded up; the remainder is quotient * unit less n, which is below one unit
 pub record IsDivisionOf (n unit : ℤ) (d : Division) : Type 0 where
   pub value : n ≡ d.quotient *ℤ unit -ℤ d.remainder
   pub not_negative : pos 0 ≤ℤ d.remainder

@@ -14,7 +14,8 @@ pub record IsSection (t : Facet) (z : ℤ) (s : Section) : Type 0 where
   pub down : CutIs (finish t cut.down) (start t cut.down) z s.down.x s.down.y s.down.d
   pub up : CutIs (start t cut.up) (finish t cut.up) z s.up.x s.up.y s.up.d
 
--- the line through two cut points crosses the scanline y at x = num_between / den_between; x grows by slope_between / den_between for each half-micrometre of y
+-- The line through two cut points crosses the scanline y at x = num_between / den_between. There x grows by slope_between /
+-- den_between for each half-micrometre of y.
 abbrev pub slope_between : CutPoint → CutPoint → ℤ
 slope_between p q = q.x *ℤ p.d -ℤ p.x *ℤ q.d
 

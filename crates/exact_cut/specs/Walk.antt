@@ -13,7 +13,7 @@ pub record Walk : Type 0 where
   pub sign : ℤ
   pub columns : List ℕ
 
--- a facet is crossed in row j, and `column` is where: its rays hit from the columns before that, and from no other
+-- a facet is crossed in row j, and `column` is where: its rays hit from the columns before that one, and from no other
 pub record IsCrossedAt (t : Facet) (z : ℤ) (l : Lattice) (sign : ℤ) (j column : ℕ) : Type 0 where
   pub num : ℤ
   pub den : ℤ
@@ -31,7 +31,7 @@ pub record IsWalkOf (t : Facet) (z : ℤ) (l : Lattice) (w : Walk) : Type 0 wher
   pub after : (j : ℕ) → w.row + length w.columns ≤ j → j < l.rows → wind t (row_y l j) z ≡ pos 0
   pub crossed : (n : ℕ) → n < length w.columns → IsCrossedAt t z l w.sign (w.row + n) (slice_index w.columns n)
 
--- by its walk, how the ray from the pixel in column i and row j crosses a facet
+-- how the ray from the pixel in column i and row j crosses a facet, by the facet's walk
 abbrev pub walk_hit : Walk → ℕ → ℕ → ℤ
 walk_hit w i j =
     if nat_le w.row j && nat_lt j (w.row + length w.columns) && nat_lt i (slice_index w.columns (j - w.row)) then w.sign else pos 0

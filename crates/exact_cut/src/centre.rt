@@ -8,7 +8,7 @@ use exact_int::is_at_most;
 use geometry::CENTRE_LIMIT;
 use std::marker::Model;
 
-/// A point in half-micrometres from which a ray starts, as the centre of a voxel. Each coordinate lies within
+/// A point that a ray starts from, in half-micrometres, such as the centre of a voxel. Each coordinate lies within
 /// `CENTRE_LIMIT` of 0.
 #[derive(Clone, Copy, Debug, PartialEq, Eq)]
 pub struct Centre {
@@ -30,8 +30,7 @@ impl Model for Centre {
 }
 
 impl Centre {
-    /// The centre with these coordinates in half-micrometres, or `None` where one lies more than
-    /// `CENTRE_LIMIT` from 0.
+    /// The centre with these coordinates in half-micrometres, or `None` if one lies more than `CENTRE_LIMIT` from 0.
     pub fn new(x2: i64, y2: i64, z2: i64) -> Option<Centre>
         ensures some { IsSome result ↔ IsCentre (record { x = x2; y = y2; z = z2 }) }
         ensures value { IfSome result (λ c. c ≡ record { x = x2; y = y2; z = z2 }) }

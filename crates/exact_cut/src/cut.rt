@@ -13,8 +13,7 @@ pub(crate) mod half_point;
 use crate::cut::half_point::HalfPoint;
 use geometry::{Facet, Point, is_below};
 
-/// The edges of a facet that pass a height, by number: edge 0 runs from corner 0 to 1, edge 1 from 1 to 2, edge 2 from
-/// 2 to 0.
+/// The edges of a facet that pass a height, by number. Edge 0 runs from corner 0 to 1, edge 1 from 1 to 2, edge 2 from 2 to 0.
 #[derive(Clone, Copy, Debug, PartialEq, Eq)]
 pub struct Cut {
     /// The edge from above the height to a corner that counts as below it.
@@ -23,9 +22,8 @@ pub struct Cut {
     pub up: usize,
 }
 
-/// The one edge that passes the height `z2` downward and the one that passes it upward, or `None` where no corner
-/// counts as below `z2`, by the tie rule, or no corner is above it. `z2` is in half-micrometres, within `CENTRE_LIMIT`
-/// of 0.
+/// The one edge that passes the height `z2` downward and the one that passes it upward. It is `None` if no corner counts as
+/// below `z2`, by the tie rule, or no corner is above it. The height is in half-micrometres, within `CENTRE_LIMIT` of 0.
 #[inline(always)]
 pub fn cuts(f: &Facet, z2: i64) -> Option<Cut>
     requires { IsAtMost CENTRE_LIMIT z2 }

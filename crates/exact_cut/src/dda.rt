@@ -1,5 +1,5 @@
-//! Fractions that grow by one increment a step, without a division: a digital differential analyser (DDA). A walk along
-//! the rows of a lattice divides at its start alone, and then adds.
+//! Fractions that grow by one increment a step, without a division: a digital differential analyser (DDA). A walk along the
+//! rows of a lattice divides only at its start, and then adds.
 ghost use Rattle.std.specs.Prelude.{◌≡◌, ◌+◌, ◌<◌, ◌≤◌, ◌*ℤ◌, ◌-ℤ◌, ◌<ℤ◌, ◌≤ℤ◌, IfSome, if◌then◌else◌, int_lt, pos, unsigned_abs, ℤ};
 ghost use Rattle.exact_int.specs.Bounds.{IsAtMost};
 ghost use Rattle.exact_cut.specs.Bounds.{distance_limit, quotient_limit, unit_limit, whole_limit};
@@ -18,7 +18,7 @@ use exact_int::quick_ceil_div;
 /// The place of the sign in a number of 128 bits.
 const SIGN_BIT: u32 = 127;
 
-/// The bits of a number that a guess of a quotient looks at; with the sign they fill 32.
+/// The number of leading bits that the guess of a quotient looks at; with the sign they fill 32 bits.
 const LEADING_BITS: u32 = 31;
 
 /// A position that grows by one increment a step. The position is `whole * unit - remainder`, and the increment
@@ -33,16 +33,15 @@ pub(crate) struct Dda {
     pub(crate) increment_remainder: i128,
 }
 
-/// A division that rounds up: the number is `quotient * unit - remainder`, and the remainder is at least 0 and below the
-/// unit.
+/// A division that rounds up: the number is `quotient * unit - remainder`. The remainder is at least 0 and below the unit.
 #[derive(Clone, Copy)]
 pub(crate) struct Division {
     pub(crate) quotient: i128,
     pub(crate) remainder: i128,
 }
 
-/// Divides a number by a unit, rounding up. Most numbers of a walk take more than 32 bits, where a division takes several
-/// times as long as one of 32 bits: so the quotient is guessed by the numbers' leading bits, and tested exactly.
+/// Divides a number by a unit, rounding up. Most numbers of a walk take more than 32 bits. A division of these takes several
+/// times as long as one of 32 bits. So the quotient is guessed from the numbers' leading bits, and tested exactly.
 #[inline(always)]
 fn divide(n: i128, unit: i128) -> Division
     requires n_in { IsAtMost distance_limit n }
@@ -57,7 +56,7 @@ fn divide(n: i128, unit: i128) -> Division
     }
 }
 
-/// What [`divide`] answers, or `None` where a number takes more than 64 bits or the guess is off by more than one.
+/// What [`divide`] returns, or `None` if a number takes more than 64 bits or the guess is off by more than one.
 #[inline(always)]
 fn divide_by_guess(n: i128, unit: i128) -> Option<Division>
     requires { pos 0 <ℤ unit }
@@ -69,7 +68,7 @@ fn divide_by_guess(n: i128, unit: i128) -> Option<Division>
     }
 }
 
-/// The division whose quotient is the guess or one more, or `None` where neither is the quotient.
+/// The division whose quotient is the guess or one more, or `None` if neither is the quotient.
 #[inline(always)]
 fn division_near(n: i64, unit: i64, guess: i64) -> Option<Division>
     requires { pos 0 <ℤ unit }
@@ -95,7 +94,7 @@ fn division_near(n: i64, unit: i64, guess: i64) -> Option<Division>
     }
 }
 
-/// A whole number near `n / unit`, by at most `LEADING_BITS` leading bits of both.
+/// A whole number near `n / unit`, from at most `LEADING_BITS` leading bits of both.
 #[inline(always)]
 fn guessed_quotient(n: i64, unit: i64) -> i64 {
     let size = u64::BITS - (n.unsigned_abs() | unit.unsigned_abs()).leading_zeros();
@@ -105,7 +104,7 @@ fn guessed_quotient(n: i64, unit: i64) -> i64 {
     i64::from(n.checked_div(unit).unwrap_or(0))
 }
 
-/// What [`divide`] answers, by a division of whole numbers.
+/// What [`divide`] returns, by a division of whole numbers.
 #[cold]
 #[inline(never)]
 fn divide_exactly(n: i128, unit: i128) -> Division
@@ -143,9 +142,11 @@ fn divide_increment(n: i128, unit: i128, rows: u32) -> Division
     }
 }
 
-/// The DDA of the line through two cut points, for `rows` rows from `row` on. Its position is how far right of the
-/// centres of column 0 the line crosses the row, its unit is the distance from one column to the next, and its increment
-/// is how far right the line goes from one row to the next. Each is in half-micrometres, times the line's denominator.
+/// The DDA of the line through two cut points, for `rows` rows from `row` on. Each number is in half-micrometres, times the
+/// line's denominator:
+/// - the position is how far right of the centres of column 0 the line crosses the row;
+/// - the unit is the distance from one column to the next;
+/// - the increment is how far right the line goes from one row to the next.
 #[inline(always)]
 fn dda_between(near: &CutPoint, far: &CutPoint, lattice: &Lattice, row: u32, rows: u32) -> Dda
     requires row_in { row < lattice.now.rows }
@@ -172,7 +173,7 @@ fn dda_between(near: &CutPoint, far: &CutPoint, lattice: &Lattice, row: u32, row
     }
 }
 
-/// The number where `excess` is below 0, else 0. A mask in place of a branch: which of the two comes next follows no pattern.
+/// The number if `excess` is below 0, else 0. A mask replaces a branch, since which of the two comes next follows no pattern.
 #[inline(always)]
 fn if_negative(excess: i128, n: i128) -> i128
     ensures { result ≡ (if int_lt excess (pos 0) then n else pos 0) }

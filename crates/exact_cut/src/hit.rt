@@ -16,7 +16,7 @@ use crate::cut::half_point::HalfPoint;
 use crate::hit::relative_facet::{Offset, RelativeFacet};
 use geometry::{Facet, rises_through};
 
-/// How the ray from a centre along x crosses the facet, by its winding: 1, -1, or 0 where it misses.
+/// How the ray from a centre along x crosses the facet, by its winding: 1, -1, or 0 if it misses.
 pub fn ray_hit(f: &Facet, c: &Centre) -> i32
     ensures value { result ≡ hit (twice f.now) c.now }
     ensures unit { IsAtMost 1 result }
@@ -25,7 +25,7 @@ pub fn ray_hit(f: &Facet, c: &Centre) -> i32
     wind_if_ahead(wind_about_x(&g), determinant(&g))
 }
 
-/// How the ray from a centre along y crosses the facet, by its winding: 1, -1, or 0 where it misses.
+/// How the ray from a centre along y crosses the facet, by its winding: 1, -1, or 0 if it misses.
 pub fn ray_hit_y(f: &Facet, c: &Centre) -> i32
     ensures value { result ≡ hit_y (twice f.now) c.now }
     ensures unit { IsAtMost 1 result }
@@ -68,8 +68,8 @@ fn cross(a: i64, b: i64, c: i64, d: i64) -> i128
     (a as i128) * (d as i128) - (b as i128) * (c as i128)
 }
 
-/// How an edge from height `u` to height `v` turns round the origin, by its cross product `l` and the tie rule: 1 where
-/// it rises through 0 with `l` above 0, -1 where it falls through 0 with `l` below 0, else 0.
+/// How an edge from height `u` to height `v` turns round the origin, by its cross product `l` and the tie rule. It is 1 if the
+/// edge rises through 0 and `l` is above 0, -1 if it falls through 0 and `l` is below 0, else 0.
 #[tactic(auto, unfolding(geometry::specs::Winding::turn_of))]
 fn turn_by(u: i64, v: i64, l: i128) -> i32
     ensures value { result ≡ turn_of u v (pos 0) l }
@@ -127,7 +127,7 @@ fn determinant(f: &RelativeFacet) -> i128
     x - y + z
 }
 
-/// The winding where the facet lies ahead, else 0.
+/// The winding if the facet lies ahead, else 0.
 fn wind_if_ahead(wind: i32, volume: i128) -> i32
     requires wind_in { IsAtMost 3 wind }
     requires volume_in { IsAtMost determinant_limit volume }

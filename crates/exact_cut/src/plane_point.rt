@@ -18,9 +18,9 @@ pub struct PlanePoint {
     pub y2: i64,
 }
 
-/// Where the plane at the height `z2` passes the one edge of a facet that runs downward through it, or `None` where the
-/// plane does not cut the facet. Each coordinate is rounded to the nearest half-micrometre, halves upward. `z2` is in
-/// half-micrometres, within `CENTRE_LIMIT` of 0.
+/// The point at which the plane at the height `z2` passes the one edge of a facet that runs downward through it. It is `None`
+/// if the plane does not cut the facet. Each coordinate is rounded to the nearest half-micrometre, halves upward. The height is
+/// in half-micrometres, within `CENTRE_LIMIT` of 0.
 pub fn start_point(f: &Facet, z2: i64) -> Option<PlanePoint>
     requires { IsAtMost CENTRE_LIMIT z2 }
     ensures { MatchOption result (IsBetween (twice f.now) z2 → ⊥)

@@ -11,7 +11,7 @@ pub(crate) mod section;
 use crate::scanline::crossing::Crossing;
 use exact_int::ceil_div;
 
-/// The first column whose centre is not left of the crossing, or `columns` where there is none.
+/// The first column whose centre is not left of the crossing, or `columns` if there is none.
 ///
 /// Column i has its centre at x = `first2 + 2 * step * i`, in half-micrometres. `first2` lies within
 /// `CENTRE_LIMIT` of 0; `step` is in micrometres, 1 to `STEP_LIMIT`; there are at most `COLUMN_LIMIT` columns.

@@ -1,4 +1,4 @@
-//! Bounds on magnitudes. Points and centres test their ranges by this function.
+//! Bounds on magnitudes. Points and centres test their ranges with this function.
 ghost use Rattle.std.specs.Prelude.{◌↔◌, IsTrue};
 ghost use Rattle.exact_int.specs.Bounds.{IsAtMost};
 

@@ -1,4 +1,4 @@
-//! Division that rounds up. Callers find by it the first column whose centre is not left of a crossing.
+//! Division that rounds up. Callers use it to find the first column whose centre is not left of a crossing.
 ghost use Rattle.std.specs.Prelude.{pos, ◌<ℤ◌};
 ghost use Rattle.exact_int.specs.Division.{IsCeilDiv};
 
@@ -11,7 +11,7 @@ pub fn ceil_div(n: i128, d: i128) -> i128
     if n % d > 0 { q + 1 } else { q }
 }
 
-/// What [`ceil_div`] answers, for numbers of 64 bits: the least whole number that is not below `n / d`, for a `d` above 0.
+/// [`ceil_div`] for numbers of 64 bits: the least whole number that is not below `n / d`, for a `d` above 0.
 pub fn ceil_div_64(n: i64, d: i64) -> i64
     requires { pos 0 <ℤ d }
     ensures { IsCeilDiv result n d }
@@ -20,8 +20,7 @@ pub fn ceil_div_64(n: i64, d: i64) -> i64
     if n % d > 0 { quotient + 1 } else { quotient }
 }
 
-/// What [`ceil_div`] answers, in less time where both numbers fit 64 bits: a division of these takes a fraction of the time
-/// that one of 128 bits takes.
+/// [`ceil_div`], faster if both numbers fit 64 bits: a division of 64 bits takes a fraction of the time of one of 128 bits.
 pub fn quick_ceil_div(n: i128, d: i128) -> i128
     requires { pos 0 <ℤ d }
     ensures { IsCeilDiv result n d }

@@ -1,7 +1,7 @@
 -- Bounding boxes: the least and the greatest x, y and z of some points, or of the corners of facets.
---     Bounds        a bounding box by its two corners
---     extent        that of facets as calls answer it: a pair, the low corner first
---     IsBox         which two points are the corners of a box
+-- - `Bounds`: a bounding box by its two corners
+-- - `extent`: the bounding box of facets as calls return it: a pair, the low corner first
+-- - `IsBox`: which two points are the corners of a box
 use Rattle.std.specs.Prelude.{List, [], ◌∷◌, Option, Some, None, Contains, flat_map, fold, map, option_map, ◌≤ℤ◌}
 use Rattle.std.specs.Int.{int_min, int_max}
 use Rattle.geometry.specs.Point.{Point}
@@ -23,15 +23,15 @@ abbrev pub bounds_of : List Point → Option Bounds
 bounds_of [] = None
 bounds_of (p ∷ ps) = Some (record { low = fold least_of p ps; high = fold greatest_of p ps })
 
--- the bounding box of facets; none where there is no facet
+-- the bounding box of facets; none if there are no facets
 abbrev pub bounds : List Facet → Option Bounds
 bounds facets = bounds_of (flat_map corners facets)
 
--- a bounding box as calls answer it: its low corner, then its high corner
+-- a bounding box as calls return it: its low corner, then its high corner
 abbrev pub corner_pair : Bounds → Point × Point
 corner_pair b = (b.low, b.high)
 
--- the bounding box of facets as calls answer it; none where there is no facet
+-- the bounding box of facets as calls return it; none if there are no facets
 abbrev pub extent : List Facet → Option (Point × Point)
 extent facets = option_map corner_pair (bounds facets)
 

@@ -46,7 +46,7 @@ greatest_z t = int_max (int_max t.a.z t.b.z) t.c.z
 abbrev pub edges : List Facet → List Edge
 edges facets = flat_map half_edges facets
 
--- a facet that is given in micrometres, in half-micrometres
+-- a facet given in micrometres, in half-micrometres
 abbrev pub twice : Facet → Facet
 twice t = facet_with (half_micrometres_of t.a) (half_micrometres_of t.b) (half_micrometres_of t.c)
 

@@ -1,4 +1,4 @@
--- The range of a step. A pitch is a step, and so is a layer height.
+-- The range of a step: a pitch or a layer height.
 use Rattle.std.specs.Prelude.{ℕ, ◌≤◌}
 use Rattle.geometry.specs.declared.limits.TheConstants.{STEP_LIMIT}
 

@@ -12,7 +12,7 @@ pub record Point : Type 0 where
 abbrev pub origin : Point
 origin = record { x = pos 0; y = pos 0; z = pos 0 }
 
--- each coordinate is at most this far from 0
+-- each coordinate is at most `bound` from 0
 abbrev pub IsWithin : ℕ → Point → Type 0
 IsWithin bound p = IsAtMost bound p.x × IsAtMost bound p.y × IsAtMost bound p.z
 
@@ -24,7 +24,7 @@ IsMeshPoint p = IsWithin COORDINATE_LIMIT p
 abbrev pub IsCentre : Point → Type 0
 IsCentre p = IsWithin CENTRE_LIMIT p
 
--- a point that is given in micrometres, in half-micrometres
+-- a point given in micrometres, in half-micrometres
 abbrev pub half_micrometres_of : Point → Point
 half_micrometres_of p = record { x = pos 2 *ℤ p.x; y = pos 2 *ℤ p.y; z = pos 2 *ℤ p.z }
 

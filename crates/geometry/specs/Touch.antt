@@ -1,5 +1,5 @@
--- When a point lies on a facet, and when a facet meets the segment between two points. Both are said by whole weights of the
--- corners (barycentric coordinates without the division). All coordinates are in half-micrometres.
+-- When a point lies on a facet, and when a facet meets the segment between two points. Both are stated by whole weights of the
+-- corners: barycentric coordinates without the division. All coordinates are in half-micrometres.
 use Rattle.std.specs.Prelude.{◌≡◌, ℕ, ◌+◌, ◌<◌, pos, ◌+ℤ◌, ◌*ℤ◌}
 use Rattle.geometry.specs.Point.{Point}
 use Rattle.geometry.specs.Facet.{Facet}

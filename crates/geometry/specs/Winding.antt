@@ -1,25 +1,26 @@
 -- The signed crossings of a mesh by a ray. The fill rules (nonzero, even-odd, positive) judge the count for the ray from a
--- centre, as PostScript and SVG judge winding numbers. The tie rule (`TieRule`) says on which side of a ray a
--- corner at the ray's height counts. All coordinates are in half-micrometres, except those of a mesh.
---     left u v y z       orient2d: twice the signed area of the triangle u, v, (y, z), seen along x
---     turn u v y z       1 where the edge rises through height z with (y, z) on its left, -1 where it falls through it with
---                        (y, z) on its right, else 0
---     wind t y z         the sum of turn over the three half-edges: how the line along x through (y, z) crosses the facet
---     volume t c         orient3d: six times the signed volume of the tetrahedron of the facet and c
---     hit t c            wind where the line crosses the facet ahead of c, else 0
---     ray facets c       the signed ray-crossing count: the sum of hit over the facets of a mesh, in micrometres
--- and the same along y: left_x, turn_x, wind_y, hit_y, ray_y.
+-- centre, as PostScript and SVG judge winding numbers. The tie rule (`TieRule`) says on which side of a ray a corner at the
+-- ray's height counts. All coordinates are in half-micrometres, except those of a mesh.
+-- - `left u v y z`: orient2d, twice the signed area of the triangle u, v, (y, z), seen along x
+-- - `turn u v y z`: 1 if the edge rises through height z with (y, z) on its left, -1 if it falls through it with (y, z) on its
+--   right, else 0
+-- - `wind t y z`: the sum of turn over the three half-edges, which is how the line along x through (y, z) crosses the facet
+-- - `volume t c`: orient3d, six times the signed volume of the tetrahedron of the facet and c
+-- - `hit t c`: wind if the line crosses the facet ahead of c, else 0
+-- - `ray facets c`: the signed crossings of the ray from c, which is the sum of hit over the facets of a mesh, in micrometres
+--
+-- The same along y: left_x, turn_x, wind_y, hit_y, ray_y.
 use Rattle.std.specs.Prelude.{List, [], ◌∷◌, ◌&&◌, ℤ, pos, negsuc, ◌+ℤ◌, ◌-ℤ◌, ◌*ℤ◌, neg_ℤ, int_lt, if◌then◌else◌}
 use Rattle.geometry.specs.TieRule.{rises_through}
 use Rattle.geometry.specs.Point.{Point}
 use Rattle.geometry.specs.Facet.{Facet, twice}
 
--- orient2d: the cross product of the edge from u to v and of the way from u to the point (y, z), seen along x
+-- orient2d: the cross product of the edge from u to v and the vector from u to the point (y, z), seen along x
 abbrev pub left : Point → Point → ℤ → ℤ → ℤ
 left u v y z = (v.y -ℤ u.y) *ℤ (z -ℤ u.z) -ℤ (y -ℤ u.y) *ℤ (v.z -ℤ u.z)
 
--- the turn of an edge from height u to height v at height z, where l is `left`: 1 where it passes z upward and l is above 0,
--- -1 where it passes z downward and l is below 0, else 0
+-- The turn of an edge from height u to height v at height z, with l as `left`. It is 1 if the edge passes z upward and l is
+-- above 0, -1 if it passes z downward and l is below 0, else 0.
 unfoldable pub turn_of : ℤ → ℤ → ℤ → ℤ → ℤ
 turn_of u v z l =
     if rises_through u v z && int_lt (pos 0) l then pos 1
@@ -69,7 +70,7 @@ ray facets c = total (λ t. hit (twice t) c) facets
 abbrev pub ray_back : List Facet → Point → ℤ
 ray_back facets c = total (λ t. wind (twice t) c.y c.z -ℤ hit (twice t) c) facets
 
--- the negative of that: in a closed mesh the crossings of a whole line add up to 0, so this is the ray from c
+-- the negative of that: the crossings of a whole line with a closed mesh add up to 0, so this is the ray from c
 abbrev pub neg_ray_back : List Facet → Point → ℤ
 neg_ray_back facets c = neg_ℤ (ray_back facets c)
 

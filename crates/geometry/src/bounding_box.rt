@@ -1,4 +1,4 @@
-//! The bounding box of facets: a grid is fitted to it. It can be computed from all facets at once or in parts, as facets
+//! The bounding box of facets, which a grid is fitted to. It can be computed from all facets at once, or in parts as facets
 //! come. A bounding box is a pair: its low corner (the least x, y and z), then its high corner (the greatest).
 ghost use Rattle.std.specs.Prelude.{◌≡◌, ◌++◌, All, IfSome, List, flat_map, fold};
 ghost use Rattle.geometry.specs.BoundingBox.{IsInBox, IsTight, extent, greatest_of, least_of};
@@ -7,8 +7,8 @@ ghost use Rattle.geometry.specs.Facet.{Facet, corners};
 use crate::facet::Facet;
 use crate::point::Point;
 
-/// The bounding box of facets, in micrometres: its low corner and its high corner. `None` exactly where there is no facet. Each
-/// corner of a facet lies in the box, and on each of the box's six sides lies a corner of a facet.
+/// The bounding box of facets, in micrometres: its low corner and its high corner. `None` exactly if there are no facets.
+/// Each corner of a facet lies in the box, and each of the box's six sides holds a corner of a facet.
 pub fn extent(facets: &[Facet]) -> Option<(Point, Point)>
     ensures value { result ≡ extent facets.now }
     ensures holds { IfSome result (λ b. All (IsInBox b.0 b.1) (flat_map corners facets.now)) }
@@ -18,8 +18,8 @@ pub fn extent(facets: &[Facet]) -> Option<(Point, Point)>
     Some(grown(start, start, facets))
 }
 
-/// The bounding box of facets and of earlier ones together, in micrometres, where `before` is the bounding box of the earlier
-/// ones. `None` exactly where there is no facet at all.
+/// The bounding box of earlier facets and of these, in micrometres. `before` is the bounding box of the earlier ones. `None`
+/// exactly if there are no facets at all.
 pub fn extent_with(before: Option<(Point, Point)>, facets: &[Facet]) -> Option<(Point, Point)>
     ensures { (earlier : List Facet) → before ≡ extent earlier → result ≡ extent (earlier ++ facets.now) }
 {
@@ -29,7 +29,7 @@ pub fn extent_with(before: Option<(Point, Point)>, facets: &[Facet]) -> Option<(
     }
 }
 
-/// The bounding box of two points, the one low and the other high, and of the corners of facets.
+/// The bounding box of a low point, a high point and the corners of facets.
 fn grown(low: Point, high: Point, facets: &[Facet]) -> (Point, Point)
     ensures low { result.0 ≡ fold least_of low (flat_map corners facets.now) }
     ensures high { result.1 ≡ fold greatest_of high (flat_map corners facets.now) }

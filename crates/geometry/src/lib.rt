@@ -1,12 +1,13 @@
 //! The geometry of triangle meshes, in whole numbers.
 //!
-//! - [`Point`]: a point of a mesh, in whole micrometres; [`points_in_order`]: their order.
+//! - [`Point`]: a point of a mesh, in whole micrometres; [`equal_points`], [`points_in_order`]: when points are equal, and
+//!   their order.
 //! - [`Facet`]: a triangle by its three corners, counterclockwise as seen from outside.
 //! - [`extent`], [`extent_with`]: the bounding box of facets, and of facets and earlier ones; [`lower`], [`higher`]: the
 //!   corners of the bounding box of two points.
 //! - [`is_below`], [`rises_through`]: the tie rule, the same for every cut and every ray.
-//! - [`COORDINATE_LIMIT`], [`CENTRE_LIMIT`]: the limits of coordinates; [`STEP_LIMIT`], [`COLUMN_LIMIT`], [`LAYER_LIMIT`]: those
-//!   of grids; [`FACET_LIMIT`], [`CORNER_LIMIT`]: those of meshes.
+//! - [`COORDINATE_LIMIT`], [`CENTRE_LIMIT`]: the limits of coordinates; [`STEP_LIMIT`], [`COLUMN_LIMIT`], [`LAYER_LIMIT`]: the
+//!   limits of grids; [`FACET_LIMIT`], [`CORNER_LIMIT`]: the limits of meshes.
 //!
 //! ```
 //! // each corner is a `Some` of `Point::new`
@@ -33,7 +34,7 @@ mod tie_rule;
 
 pub use bounding_box::{extent, extent_with, higher, lower};
 pub use facet::Facet;
-pub use laws::points_in_order;
+pub use laws::{equal_points, points_in_order};
 pub use limits::{
     CENTRE_LIMIT, COLUMN_LIMIT, COORDINATE_LIMIT, CORNER_LIMIT, FACET_LIMIT, LAYER_LIMIT,
     STEP_LIMIT,

@@ -3,8 +3,7 @@
 /// The greatest distance of a mesh's coordinate from 0, in micrometres: 128 metres.
 pub const COORDINATE_LIMIT: u64 = 128_000_000;
 
-/// The greatest distance of a centre's coordinate from 0, in half-micrometres: the limit of a mesh and one
-/// pitch more, 256,200,000.
+/// The greatest distance of a centre's coordinate from 0, in half-micrometres: the limit of a mesh plus one pitch, 256,200,000.
 pub const CENTRE_LIMIT: u64 = 2 * COORDINATE_LIMIT + 2 * (STEP_LIMIT as u64);
 
 /// The greatest pitch and the greatest layer height, in micrometres.

@@ -30,7 +30,7 @@ impl Model for Point {
 }
 
 impl Point {
-    /// The point with these coordinates in micrometres, or `None` where one of them is farther than
+    /// The point with these coordinates in micrometres, or `None` if one of them is farther than
     /// [`COORDINATE_LIMIT`] from 0.
     pub fn new(x: i32, y: i32, z: i32) -> Option<Point>
         ensures some { IsSome result ↔ IsMeshPoint (record { x = x; y = y; z = z }) }

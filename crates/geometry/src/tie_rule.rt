@@ -1,5 +1,5 @@
-//! The tie rule: a corner that lies in a plane counts as below it. Each half-edge then lies below the plane, lies
-//! above it, or passes it once, and a plane or a ray through a vertex or an edge needs no special case.
+//! The tie rule: a corner that lies in a plane counts as below it. Each half-edge then lies below the plane, lies above it, or
+//! passes it once. So a plane or a ray through a vertex or an edge needs no special case.
 ghost use Rattle.std.specs.Prelude.{◌≡◌, ◌↔◌, IsTrue, not};
 ghost use Rattle.geometry.specs.TieRule as TieRule;
 ghost use Rattle.geometry.specs.TieRule.{IsAbove, IsBelow, is_above};

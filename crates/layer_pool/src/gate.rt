@@ -3,7 +3,7 @@ use build_book::Piece;
 use std::alloc::Allocator;
 
 /// An observer of the workers, which count from 0. A worker calls it while it does not hold the lock on the book, so a
-/// gate that waits delays only the worker that calls it. No clause says when a gate is called, or of what it is told;
+/// gate that waits delays only the worker that calls it. No clause says when a gate is called, or with what;
 /// tests do.
 pub trait Gate<A: Allocator> {
     /// A worker has drawn a stripe and is about to slice it.
@@ -13,7 +13,7 @@ pub trait Gate<A: Allocator> {
     fn made(&self, worker: u32, piece: &Piece<'_, A>);
 }
 
-/// The gate that lets every worker pass: it ignores what it is told.
+/// The gate that lets every worker pass: it ignores what it is given.
 pub struct OpenGate;
 
 impl<A: Allocator> Gate<A> for OpenGate {

@@ -5,7 +5,7 @@
 //! build.total_area()
 //! ```
 //!
-//! [`build`] answers the complete build of a job, the same for 1 to [`PASS_LIMIT`] workers. A [`Gate`] observes what
+//! [`build`] returns the complete build of a job, the same for 1 to [`PASS_LIMIT`] workers. A [`Gate`] observes what
 //! the workers do; [`OpenGate`] is the one that ignores it. `Claims`, `Pass`, `PASS_LIMIT` and `claims_laws` are those of
 //! `stripe_claims`.
 //!

@@ -13,7 +13,7 @@ pub(crate) trait OfJob {
     ghost job: { Job };
 }
 
-// An `impl` has to name some job. Each call of `build_of` puts its own in this one's place: that of `build` stands in
+// An `impl` has to name some job. Each call of `build_of` puts its own in this one's place. That of `build` is in
 // `proofs/pool/build/Invariants.antt`.
 impl OfJob for Brand {
     ghost job = { no_job };

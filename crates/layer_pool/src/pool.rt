@@ -15,15 +15,16 @@ use std::thread;
 use std::thread::Threads;
 use stripe_claims::{Claims, Pass};
 
-/// The complete build of a job, for 1 to `PASS_LIMIT` workers and every gate. What its layers are, and that there is one
-/// such build, says the law `headline` of `build_book`.
+/// The complete build of a job, for 1 to `PASS_LIMIT` workers and every gate. The law `headline` of `build_book` says what its
+/// layers are, and that there is one such build. `Err` only if an allocation failed on the caller's thread.
 ///
 /// A single worker is the caller's own thread; several have a thread each, and the caller waits for them. Each draws stripes
-/// from claims without a lock. It takes the lock on the book to file one piece, and for nothing else. A stripe for which a
-/// worker gets no memory is made at the end, on the caller's thread. Where a worker cannot be started, the others draw its
-/// share. `Err` comes only where an allocation failed on the caller's thread. No clause promises any of this, only that the
-/// build is complete: tests show that a worker goes on while a gate holds another, and that layers are made up at the end
-/// where workers had no memory; the rest is read in this file.
+/// from claims without a lock. It takes the lock on the book to file one piece, and for nothing else. If a worker gets no
+/// memory for a stripe, the stripe is made at the end, on the caller's thread. If a worker cannot be started, the others draw
+/// its share.
+///
+/// The clauses promise only that the build is complete. Tests show that a worker goes on while a gate holds another, and that
+/// layers are made up at the end if workers had no memory. The rest is read in this file.
 pub fn build<'m, R: Threads + Wait + Sync, A: Allocator + Copy + Send + Sync, G: Gate<A> + Sync>(
     rt: &R,
     alloc: A,
@@ -81,9 +82,9 @@ struct Shared<'a, 'm, J: OfJob, R, A: Allocator, G> {
     ghost of: { job.now ≡ J.job },
 }
 
-/// Runs a worker for each pass, a single one on the caller's thread and several on threads of their own, and returns when all
-/// have ended. A thread that begins may have to share a processor with the one that made it until that one waits, so where
-/// there are several workers the caller is none of them.
+/// Runs a worker for each pass, a single one on the caller's thread and several on threads of their own. It returns when all
+/// have ended. A thread that begins may have to share a processor with the one that made it until that one waits. So if there
+/// are several workers, the caller is none of them.
 fn run_workers<
     'm,
     J: OfJob + Send + Sync,
@@ -119,8 +120,8 @@ fn run_workers<
     );
 }
 
-/// Slices and files the stripes that one worker draws with its pass. Where the worker gets no memory for its slicer, it
-/// draws nothing, and the others draw its share.
+/// Slices and files the stripes that one worker draws with its pass. If the worker gets no memory for its slicer, it draws
+/// nothing, and the others draw its share.
 fn run_worker<'m, J: OfJob, R: Wait, A: Allocator + Copy + Send + Sync, G: Gate<A>>(
     shared: &Shared<'_, 'm, J, R, A, G>,
     worker: u32,
@@ -140,7 +141,7 @@ fn run_worker<'m, J: OfJob, R: Wait, A: Allocator + Copy + Send + Sync, G: Gate<
     }
 }
 
-/// Slices a stripe of the job and files its piece. Where there is no memory for the piece, `finish` makes its layers.
+/// Slices a stripe of the job and files its piece. If there is no memory for the piece, `finish` makes its layers.
 fn slice_and_file<'m, J: OfJob, R: Wait, A: Allocator + Copy + Send + Sync, G: Gate<A>>(
     shared: &Shared<'_, 'm, J, R, A, G>,
     worker: u32,

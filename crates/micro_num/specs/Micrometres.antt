@@ -1,7 +1,7 @@
 -- The value of a number, in whole micrometres.
---     magnitude m s              m times ten to the power s, as the nearest whole number, halves upward
---     micro unit n               the value of a number in a unit, in micrometres
---     coordinate_of unit word    the coordinate that a word stands for, or its fault
+-- - `magnitude m s`: m times ten to the power s, as the nearest whole number, halves upward
+-- - `micro unit n`: the value of a number in a unit, in micrometres
+-- - `coordinate_of unit word`: the coordinate that a word stands for, or its fault
 use Rattle.std.specs.Prelude.{ℕ, ◌+◌, ◌*◌, ◌/◌, ◌^◌, Bool, List, length, Option, Some, None, Result, Ok, Err, ℤ, pos, negsuc, ◌+ℤ◌, ◌-ℤ◌, neg_ℤ, nat_abs, nat_lt, nat_le, if◌then◌else◌, fold, ◌-◌, suc}
 use Rattle.micro_num.specs.declared.unit.Unit.{Unit as LengthUnit}
 use Rattle.micro_num.specs.declared.unit.Unit.TheVariants.{Millimetre, Inch}
@@ -20,7 +20,7 @@ with_sign unsigned n = pos n
 with_sign plus n = pos n
 with_sign minus n = neg_ℤ (pos n)
 
--- the value of an exponent, 0 where there is none
+-- the value of an exponent, 0 if there is none
 abbrev pub exponent_value : Option Exponent → ℤ
 exponent_value None = pos 0
 exponent_value (Some e) = with_sign e.sign (digits_value e.digits)
@@ -43,7 +43,7 @@ abbrev pub unit_power : LengthUnit → ℕ
 unit_power Millimetre = 3
 unit_power Inch = 2
 
--- the digits of the mantissa, times the factor of the unit, times ten to this power, are the value in micrometres
+-- the value in micrometres is the digits of the mantissa, times the factor of the unit, times ten to this power
 abbrev pub power_of : LengthUnit → Numeral → ℤ
 power_of unit n = (exponent_value n.exponent -ℤ pos (length (fraction_digits n.fraction))) +ℤ pos (unit_power unit)
 

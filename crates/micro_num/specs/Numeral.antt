@@ -1,8 +1,8 @@
--- The grammar of a number: an optional sign, then at least one digit and at most one point among, before or after the
--- digits, then an optional exponent: `e` or `E`, an optional sign, and at least one digit.
---     Numeral, numeral_text      a number by its parts, and how it is written
---     IsNumeral                  the parts are those of a number
---     numeral_of                 the parts of a word, if it is a number
+-- The grammar of a number. It is an optional sign, then at least one digit and at most one point among, before or after the
+-- digits, then an optional exponent. An exponent is `e` or `E`, an optional sign, and at least one digit.
+-- - `Numeral`, `numeral_text`: a number by its parts, and how it is written
+-- - `IsNumeral`: the parts are those of a number
+-- - `numeral_of`: the parts of a word, if it is a number
 use Rattle.std.specs.Prelude.{◌≡◌, ℕ, ◌≤◌, Bool, true, ◌&&◌, ◌||◌, List, [], ◌∷◌, ◌++◌, length, drop, Option, Some, None, ◌==◌, nat_lt, if◌then◌else◌}
 use Rattle.std.specs.Char.{is_ascii_digit}
 use Rattle.std.specs.List.{list_all, before_first, position_or_len}
@@ -50,7 +50,7 @@ exponent_text (Some e) = e.mark ∷ sign_text e.sign ++ e.digits
 abbrev pub numeral_text : Numeral → List ℕ
 numeral_text n = sign_text n.sign ++ n.whole ++ fraction_text n.fraction ++ exponent_text n.exponent
 
--- the digits after the point, none where there is no point
+-- the digits after the point, none if there is no point
 abbrev pub fraction_digits : Option (List ℕ) → List ℕ
 fraction_digits None = []
 fraction_digits (Some digits) = digits

@@ -1,15 +1,15 @@
--- The state of the reader of numbers between the parts of a word: what it has read, and what this says of the number.
---     scanned                   the parts of a text after its sign, read from the left
---     text_magnitude            the coordinate that such a text stands for, or its fault
---     IsLeading                 the value of the leading digits of a number, and how many digits were dropped
---     IsMantissa                the digits of a number, with their leading digits
---     IsCarry                   what dropped digits add to INCH_FACTOR times the leading ones
---     IsCapped                  the same number, or both are beyond the limit of coordinates
---     IsLeadingInUnit           the leading digits times the factor of a unit
---     IsNear                    the same exponent, or both far beyond those of coordinates, on the same side
---     IsExponentFront           a text begins with an exponent, or with none
---     IsNumberFront             a text begins with a number that has no sign
---     IsEnded                   a text that does not begin with a byte of a number
+-- What the reader of numbers has read between the parts of a word, and what this says of the number.
+-- - `scanned`: the parts of a text after its sign, read from the left
+-- - `text_magnitude`: the coordinate that such a text stands for, or its fault
+-- - `IsLeading`: the value of the leading digits of a number, and how many digits were dropped
+-- - `IsMantissa`: the digits of a number, with their leading digits
+-- - `IsCarry`: what dropped digits add to INCH_FACTOR times the leading ones
+-- - `IsCapped`: the same number, or both above the limit of coordinates
+-- - `IsLeadingInUnit`: the leading digits times the factor of a unit
+-- - `IsNear`: the same exponent, or both far beyond those of coordinates, on the same side
+-- - `IsExponentFront`: a text begins with an exponent, or with none
+-- - `IsNumberFront`: a text begins with a number that has no sign
+-- - `IsEnded`: a text that does not begin with a byte of a number
 use Rattle.std.specs.Prelude.{◌≡◌, ℕ, ◌+◌, ◌*◌, ◌^◌, ◌-◌, ◌<◌, ◌≤◌, ◌==◌, Bool, true, false, ◌&&◌, List, [], ◌∷◌, ◌++◌, length, Option, Some, None, Result, Ok, Err, not, fold, nat_le, if◌then◌else◌, ℤ, pos, neg_ℤ, ◌≤ℤ◌, ◌⊎◌}
 use Rattle.std.specs.Char.{is_ascii_digit}
 use Rattle.std.specs.List.{before_first, list_all}
@@ -24,7 +24,7 @@ use Rattle.micro_num.specs.declared.limits.TheConstants.{INCH_FACTOR, LEADING_LI
 abbrev pub is_other : ℕ → Bool
 is_other byte = not (is_ascii_digit byte)
 
--- the digits after the point, where a point comes first
+-- the digits after the point, if the text begins with a point
 abbrev pub digits_after_point : List ℕ → Option (List ℕ)
 digits_after_point [] = None
 digits_after_point (byte ∷ bytes) = if byte == 46 then Some (before_first is_other bytes) else None
@@ -34,7 +34,7 @@ abbrev pub rest_after_point : List ℕ → List ℕ
 rest_after_point [] = []
 rest_after_point (byte ∷ bytes) = if byte == 46 then from_first is_other bytes else byte ∷ bytes
 
--- The digits at the front are the whole part; a point after them begins the fraction; the rest is the exponent.
+-- The digits at the front are the whole part, a point after them begins the fraction, and the rest is the exponent.
 abbrev pub scanned : Sign → List ℕ → Numeral
 scanned s text = record {
   sign = s;
@@ -90,7 +90,7 @@ pub record IsLeadingInUnit (value dropped n : ℕ) : Type 0 where
   pub short : value < SCALE_LIMIT
   pub long : 0 < dropped → LEADING_ROOM ≤ value
 
--- the same exponent; or both so high that any number but 0 is out of range; or both so low that any number rounds to 0
+-- the same exponent, or both so high that any number but 0 is out of range, or both so low that any number rounds to 0
 abbrev pub IsNear : ℤ → ℤ → Type 0
 IsNear a b =
     (a ≡ b)
@@ -102,7 +102,7 @@ pub record IsCapped (a b : ℕ) : Type 0 where
   pub within : a ≤ COORDINATE_LIMIT → b ≡ a
   pub beyond : COORDINATE_LIMIT < a → COORDINATE_LIMIT < b
 
--- the text is an exponent near e, or none where e is near 0, and then `rest`
+-- the text is an exponent near e, or none if e is near 0, and then `rest`
 pub record IsExponentFront (text rest : List ℕ) (e : ℤ) : Type 0 where
   pub exponent : Option Exponent
   pub is : is_exponent exponent ≡ true

@@ -10,8 +10,8 @@ use crate::limits::{FEW_DIGITS, LEADING_ROOM, TEN_DIGITS_ROOM};
 /// The value of the leading digits of a number: any zeros in front, then at most 16 digits. Further digits are dropped
 /// and only counted.
 ///
-/// This is enough to round the number to whole micrometres. If one of the leading digits is after the point of the
-/// value in micrometres, it decides whether the fraction reaches a half; if none is, the number is far out of range.
+/// This is enough to round the number to whole micrometres. If one of the leading digits is after the point of the value in
+/// micrometres, it decides whether the fraction reaches a half. If none is, the number is far out of range.
 #[derive(Clone, Copy)]
 pub(crate) struct LeadingDigits {
     pub(crate) value: u64,
@@ -71,8 +71,8 @@ pub(crate) struct Digits {
 
 /// The value of a digit, or `None` for any other byte.
 ///
-/// A byte below `0` becomes a great number, so that one subtraction serves the test and the value. It is done in 64
-/// bits, since the value is wanted in as many.
+/// A byte below `0` becomes a great number, so one subtraction serves the test and the value. It is done in 64 bits, since
+/// callers compute with 64 bits.
 #[inline(always)]
 fn digit_value(byte: u8) -> Option<u64>
     ensures digit { MatchOption result (is_ascii_digit byte ≡ false) (λ _. is_ascii_digit byte ≡ true) }
@@ -100,7 +100,7 @@ pub(crate) fn read_digits(bytes: &[u8], before: LeadingDigits) -> Digits
     many_digits(bytes, before)
 }
 
-/// Like `read_digits`, where there are fewer than `FEW_DIGITS` digits and `FEW_DIGITS` of them fit. Else `None`.
+/// `read_digits` for fewer than `FEW_DIGITS` digits, if `FEW_DIGITS` of them still fit. Else `None`.
 #[inline(always)]
 pub(crate) fn few_digits(bytes: &[u8], before: LeadingDigits) -> Option<Digits>
     requires { FEW_DIGITS ≤ length bytes.now }
@@ -126,7 +126,7 @@ pub(crate) fn few_digits(bytes: &[u8], before: LeadingDigits) -> Option<Digits>
     None
 }
 
-/// Like `read_digits`, for any number of digits.
+/// `read_digits` for any number of digits.
 #[cold]
 #[inline(never)]
 fn many_digits(bytes: &[u8], before: LeadingDigits) -> Digits

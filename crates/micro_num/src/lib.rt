@@ -5,7 +5,7 @@
 //! - [`Unit`]: the unit of the text's numbers, millimetres or inches.
 //! - [`WORD_LIMIT`]: the greatest length of a number's text, in bytes.
 //! - [`one_spelling`]: the law that a number's text and its parts determine each other.
-//! - [`ceil_div`], handed on from `exact_int`.
+//! - [`ceil_div`], re-exported from `exact_int`.
 //!
 //! ```
 //! assert!(rt; read_micro(b"-1.5e1", Unit::Millimetre) == Ok(-15000));

@@ -16,11 +16,11 @@ pub(crate) const TEN_DIGITS_ROOM: u64 = 1_000_000;
 /// Fewer digits than this are read without testing whether each one still fits.
 pub(crate) const FEW_DIGITS: usize = 10;
 
-/// A number with fewer than `FEW_DIGITS` digits before its point, after it and in its exponent ends within a text that
-/// is at least this long.
+/// If a number has fewer than `FEW_DIGITS` digits before its point, after it and in its exponent, it ends within a text of this
+/// length or longer.
 pub(crate) const SHORT_ROOM: usize = 3 * FEW_DIGITS + 2;
 
-/// An inch is this many times 100 micrometres.
+/// The number of units of 100 micrometres in an inch.
 pub(crate) const INCH_FACTOR: u64 = 254;
 
 /// What the dropped digits add to `INCH_FACTOR` times the leading ones is below this.
@@ -29,11 +29,11 @@ pub(crate) const CARRY_LIMIT: u64 = 10_000;
 /// The leading digits times the factor of a unit, with what the dropped digits add, are below this.
 pub(crate) const SCALE_LIMIT: u64 = INCH_FACTOR * LEADING_LIMIT + CARRY_LIMIT;
 
-/// Ten to a power below this fits 64 bits.
+/// Each power of ten below this one fits 64 bits.
 pub(crate) const POWER_COUNT: u64 = 20;
 
 /// Numbers below this are divided by multiplying with a reciprocal.
 pub(crate) const DIVIDEND_LIMIT: u64 = 1 << 63;
 
-/// Ten to a higher power than this is above `COORDINATE_LIMIT`.
+/// Each higher power of ten than this one is above `COORDINATE_LIMIT`.
 pub(crate) const COORDINATE_POWER: u64 = 8;

@@ -34,7 +34,7 @@ pub(crate) struct Mantissa<'a> {
     pub(crate) after: &'a [u8],
 }
 
-/// Reads the digits at the front of a text, and the point among them where there is one.
+/// Reads the digits at the front of a text, and the point among them if there is one.
 #[inline(always)]
 pub(crate) fn read_mantissa(bytes: &[u8]) -> Mantissa<'_>
     requires { length bytes.now ≤ WORD_LIMIT }
@@ -66,9 +66,8 @@ pub(crate) fn read_mantissa(bytes: &[u8]) -> Mantissa<'_>
     }
 }
 
-/// Reads the exponent at the front of a text, and gives it with the text after it. The exponent is 0 where there is
-/// none, and one of more than 16 digits, besides zeros in front, is read by its first 16. `None` where a mark, `e` or
-/// `E`, has no digit after it.
+/// Reads the exponent at the front of a text. Returns it with the text after it. It is 0 if there is none. If it has more than
+/// 16 digits, besides zeros in front, the first 16 are its value. `None` if no digit follows a mark, `e` or `E`.
 #[inline(always)]
 pub(crate) fn exponent_front(bytes: &[u8]) -> Option<(i64, &[u8])>
     requires { length bytes.now ≤ WORD_LIMIT }

@@ -86,8 +86,8 @@ static SHIFTS: [u32; POWER_COUNT as usize - 1] = [
 
 /// `value` divided by ten to the power `power`, to the next lower whole number.
 ///
-/// It multiplies by a reciprocal and has no branch on the power: the exponents of a mesh follow no pattern, so the
-/// processor would often predict one wrongly, and a division by a number from a table takes much longer.
+/// It multiplies by a reciprocal, since a division by a number from a table takes much longer. It has no branch on the power:
+/// the exponents of a mesh follow no pattern, so the processor would often predict one wrongly.
 #[inline(always)]
 pub(crate) fn divided(value: u64, power: u64) -> u64
     requires some { 0 < power }

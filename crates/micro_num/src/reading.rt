@@ -1,4 +1,4 @@
-//! The two readers of numbers: of a whole word, and of the number at the front of a text.
+//! The two readers of numbers: one reads a whole word, the other the number at the front of a text.
 ghost use Rattle.std.specs.Prelude.{◌≡◌, ◌≤◌, ◌<◌, ◌↔◌, ◌≤ℤ◌, ◌++◌, Err, IfOk, IfSome, List, MatchOption, Ok, Some, length, ℕ, ℤ, pos, take, unsigned_abs};
 ghost use Rattle.micro_num.specs.Scan.{IsEnded, IsNumberFront, text_magnitude};
 ghost use Rattle.micro_num.specs.Numeral.{Numeral, IsNumeral, IsSpelled, numeral_text, unsigned};
@@ -17,14 +17,14 @@ use geometry::COORDINATE_LIMIT;
 
 /// The coordinate that a word stands for: whole micrometres, rounded to the nearest, halves away from zero.
 ///
-/// A word is a number where it is a sign or none, then digits with at most one point before, among or after them and
-/// at least one digit, then nothing, or `e` or `E`, a sign or none and at least one digit: the decimal form that C's
+/// A number is an optional sign, then at least one digit with at most one point before, among or after the digits, then an
+/// optional exponent. An exponent is `e` or `E`, an optional sign and at least one digit. This is the decimal form that C's
 /// `strtod` reads. A number in inches is multiplied by 25,400, one in millimetres by 1,000, before it is rounded.
 ///
 /// # Errors
-/// - `TooLong` where the word has more than [`WORD_LIMIT`] bytes,
-/// - else `NotNumber` where it is no number,
-/// - else `OutOfRange` where the rounded value is more than `COORDINATE_LIMIT` micrometres from 0.
+/// - `TooLong` if the word has more than [`WORD_LIMIT`] bytes,
+/// - else `NotNumber` if it is no number,
+/// - else `OutOfRange` if the rounded value is more than `COORDINATE_LIMIT` micrometres from 0.
 pub fn read_micro(word: &[u8], unit: Unit) -> Result<i32, NumFault>
     ensures exact { result ≡ coordinate_of unit word.now }
     ensures spelled { (n : Numeral) → IsNumeral n → word.now ≡ numeral_text n → length word.now ≤ WORD_LIMIT
@@ -37,7 +37,7 @@ pub fn read_micro(word: &[u8], unit: Unit) -> Result<i32, NumFault>
     read_word(word, unit)
 }
 
-/// Like `read_micro`, without the clauses on how numbers are spelled.
+/// `read_micro` without the clauses on how numbers are spelled.
 fn read_word(word: &[u8], unit: Unit) -> Result<i32, NumFault>
     ensures { result ≡ coordinate_of unit word.now }
 {
@@ -69,9 +69,8 @@ fn read_unsigned(text: &[u8], unit: Unit) -> Result<i32, NumFault>
 
 /// The coordinate of a word at the front of a text, as [`read_micro`] reads it, and the length of the word in bytes.
 ///
-/// A word in range is always found where the text ends after it, or continues with a byte that is no digit, no point
-/// and neither `e` nor `E`. A word that is found may also be followed by another byte. `None` does not say why there is
-/// no such word.
+/// A word in range is always found if the text ends after it, or continues with a byte that is no digit, no point and neither
+/// `e` nor `E`. A word may also be found if another byte follows it. `None` does not say why there is no such word.
 #[inline(always)]
 pub fn read_front(bytes: &[u8], unit: Unit) -> Option<(i32, usize)>
     ensures exact { IfSome result (λ found. coordinate_of unit (take found.1 bytes.now) ≡ Ok found.0) }
@@ -87,7 +86,7 @@ pub fn read_front(bytes: &[u8], unit: Unit) -> Option<(i32, usize)>
     long_front(bytes, unit)
 }
 
-/// Like `read_front`, of a number of any length.
+/// `read_front` for a number of any length.
 #[cold]
 #[inline(never)]
 fn long_front(bytes: &[u8], unit: Unit) -> Option<(i32, usize)>
@@ -103,8 +102,8 @@ fn long_front(bytes: &[u8], unit: Unit) -> Option<(i32, usize)>
     Some((coordinate, text.len() - after.len()))
 }
 
-/// The value of the number at the front of a text, which has no sign, in micrometres, and the text after the number. A
-/// value above `COORDINATE_LIMIT` may be given as any other such value.
+/// The value of the number at the front of a text, without a sign, in micrometres, and the text after the number. A value above
+/// `COORDINATE_LIMIT` may be returned as any other such value.
 #[inline(always)]
 fn magnitude_front(text: &[u8], unit: Unit) -> Option<(u64, &[u8])>
     requires { length text.now ≤ WORD_LIMIT }

@@ -27,8 +27,8 @@ fn shrunk(value: u64, power: u64) -> u64
     }
 }
 
-/// `value` times ten to the power `power`. Where the product is above `COORDINATE_LIMIT`, so is the
-/// result, which may be another number.
+/// `value` times ten to the power `power`. If the product is above `COORDINATE_LIMIT`, so is the result, which may be another
+/// number.
 #[inline(always)]
 fn grown(value: u64, power: u64) -> u64
     ensures { IsCapped (value * 10 ^ power) result }
@@ -42,8 +42,8 @@ fn grown(value: u64, power: u64) -> u64
     }
 }
 
-/// `value` times ten to the power `power`, to the nearest whole number, halves upward. Where that is
-/// above `COORDINATE_LIMIT`, so is the result, which may be another number.
+/// `value` times ten to the power `power`, to the nearest whole number, halves upward. If that is above `COORDINATE_LIMIT`, so
+/// is the result, which may be another number.
 #[inline(always)]
 fn scaled(value: u64, power: i64) -> u64
     requires { value < SCALE_LIMIT }
@@ -56,7 +56,7 @@ fn scaled(value: u64, power: i64) -> u64
     }
 }
 
-/// The whole part of `INCH_FACTOR` times the decimal fraction with these digits, to which the digits after them carry `after`.
+/// The whole part of `INCH_FACTOR` times the decimal fraction with these digits. The digits after them carry `after`.
 fn carried(digits: &[u8], after: u64) -> u64
     requires { after < CARRY_LIMIT }
     ensures carry { (count n : ℕ) → IsCarry after count n
@@ -102,7 +102,7 @@ fn in_unit(mantissa: &Mantissa<'_>, unit: Unit) -> u64
     }
 }
 
-/// A unit is its factor, times ten to this power, in micrometres.
+/// The power of ten in a unit: a unit is its factor times ten to this power, in micrometres.
 #[inline(always)]
 fn power_in(unit: Unit) -> i64
     ensures { result ≡ pos (unit_power unit) }
@@ -113,8 +113,8 @@ fn power_in(unit: Unit) -> i64
     }
 }
 
-/// The value of a number without its sign, in micrometres. Where it is above `COORDINATE_LIMIT`, so is the result, which
-/// may be another number.
+/// The value of a number without its sign, in micrometres. If it is above `COORDINATE_LIMIT`, so is the result, which may be
+/// another number.
 #[inline(always)]
 pub(crate) fn magnitude_in(mantissa: &Mantissa<'_>, exponent: i64, unit: Unit) -> u64
     requires mantissa { IsMantissa mantissa.now.leading.value mantissa.now.leading.dropped
@@ -131,7 +131,7 @@ pub(crate) fn magnitude_in(mantissa: &Mantissa<'_>, exponent: i64, unit: Unit) -
     scaled(in_unit(mantissa, unit), power)
 }
 
-/// The coordinate of a magnitude in micrometres with a sign, or `None` where it is out of range.
+/// The coordinate of a magnitude in micrometres with a sign, or `None` if it is out of range.
 #[inline(always)]
 pub(crate) fn signed_coordinate(negative: bool, magnitude: u64) -> Option<i32>
     ensures in_range { MatchOption result (COORDINATE_LIMIT < magnitude) (λ _. magnitude ≤ COORDINATE_LIMIT) }

@@ -1,5 +1,5 @@
-//! Short numbers: those with few digits in each part, at the front of a text that goes on after them. Almost all numbers of
-//! a mesh are short, and the end of the text is looked for once, not at each byte.
+//! Short numbers: those with few digits in each part, at the front of a text that goes on after them. Almost all numbers of a
+//! mesh are short. For them the end of the text is tested once, not at each byte.
 ghost use Rattle.std.specs.Prelude.{◌≡◌, ◌≤◌, ◌<◌, ◌+◌, ◌*◌, ◌++◌, ℕ, ℤ, Ok, Option, List, length, take, true, IfSome, unsigned_abs};
 ghost use Rattle.std.specs.List.{before_first};
 ghost use Rattle.micro_num.specs.Numeral.{Exponent, IsNumeral, Numeral, exponent_text, fraction_digits, from_first, is_exponent, numeral_text, unsigned};
@@ -12,7 +12,7 @@ use crate::mantissa::{Mantissa, split_sign};
 use crate::scaling::{magnitude_in, signed_coordinate};
 use crate::unit::Unit;
 
-/// Like `read_mantissa`, where there are fewer than `FEW_DIGITS` digits before the point and after it. Else `None`.
+/// `read_mantissa` for fewer than `FEW_DIGITS` digits before the point and after it. Else `None`.
 #[inline(always)]
 fn short_mantissa(bytes: &[u8]) -> Option<Mantissa<'_>>
     requires { 2 * FEW_DIGITS ≤ length bytes.now }
@@ -45,7 +45,7 @@ fn short_mantissa(bytes: &[u8]) -> Option<Mantissa<'_>>
     }
 }
 
-/// Like `exponent_front`, where there are fewer than `FEW_DIGITS` digits. Else `None`.
+/// `exponent_front` for fewer than `FEW_DIGITS` digits. Else `None`.
 #[inline(always)]
 fn short_exponent(bytes: &[u8]) -> Option<(i64, &[u8])>
     requires { FEW_DIGITS + 2 ≤ length bytes.now }
@@ -71,7 +71,7 @@ fn short_exponent(bytes: &[u8]) -> Option<(i64, &[u8])>
     Some((if negative { -magnitude } else { magnitude }, after))
 }
 
-/// Like `magnitude_front`, where the number is short. Else `None`.
+/// `magnitude_front` for a short number. Else `None`.
 #[inline(always)]
 fn short_magnitude(text: &[u8], unit: Unit) -> Option<(u64, &[u8])>
     requires { SHORT_ROOM ≤ length text.now + 1 }
@@ -88,7 +88,7 @@ fn short_magnitude(text: &[u8], unit: Unit) -> Option<(u64, &[u8])>
     Some((magnitude_in(&mantissa, exponent, unit), after))
 }
 
-/// Like `read_front`, where the number is short. Else `None`.
+/// `read_front` for a short number. Else `None`.
 #[inline(always)]
 pub(crate) fn short_front(bytes: &[u8], unit: Unit) -> Option<(i32, usize)>
     requires { SHORT_ROOM ≤ length bytes.now }

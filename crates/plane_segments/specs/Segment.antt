@@ -1,6 +1,6 @@
--- A segment is where a plane cuts a facet: it runs from the node of the facet's downward edge to that of its upward edge.
---     segments facets z     the segments at the height z, in order of facets
+-- A segment is where a plane cuts a facet. It runs from the node of the facet's downward edge to that of its upward edge.
 -- Heights are in half-micrometres.
+-- - `segments facets z`: the segments at the height z, in order of facets
 use Rattle.std.specs.Prelude.{◌≢◌, ℕ, ◌<◌, zero, suc, Bool, List, Option, Some, None, filter_map, find, slice_index_or, ℤ, pos, ◌*ℤ◌, ◌==◌}
 use Rattle.std.specs.List.{enumerate_from}
 use Rattle.geometry.specs.TieRule.{rises_through}
@@ -36,7 +36,7 @@ edge_node numbers zero = between (slice_index_or numbers 0 0) (slice_index_or nu
 edge_node numbers (suc zero) = between (slice_index_or numbers 1 0) (slice_index_or numbers 2 0)
 edge_node numbers (suc (suc n)) = between (slice_index_or numbers 2 0) (slice_index_or numbers 0 0)
 
--- three numbers of which no two are equal
+-- three numbers, no two of them equal
 abbrev pub AreThreeNumbers : List ℕ → Type 0
 AreThreeNumbers numbers = (slice_index_or numbers 0 0 ≢ slice_index_or numbers 1 0)
     × (slice_index_or numbers 1 0 ≢ slice_index_or numbers 2 0) × (slice_index_or numbers 2 0 ≢ slice_index_or numbers 0 0)
@@ -59,7 +59,7 @@ numbered_segment facets z n = segment_of (vertices facets) z (n, facet_at facets
 abbrev pub HasOrderedNodes : Segment → Type 0
 HasOrderedNodes s = (s.from.low < s.from.high) × (s.to.low < s.to.high)
 
--- what is read behind the end of a list of segments
+-- what is read past the end of a list of segments
 abbrev pub no_segment : Segment
 no_segment = record { facet = 0; from = record { low = 0; high = 0 }; to = record { low = 0; high = 0 } }
 

@@ -1,5 +1,5 @@
-//! A segment is where a plane cuts a facet. It runs between edges of the mesh and not between points, so that it is
-//! exact, and so that two segments meet exactly where they name the same edge.
+//! A segment is where a plane cuts a facet. It runs between edges of the mesh and not between points. So it is exact, and two
+//! segments meet exactly if they name the same edge.
 ghost use Rattle.std.specs.Prelude.{◌≡◌, ◌<◌, ◌↔◌, All, IfOk, IfSome, IsSome, length};
 ghost use Rattle.exact_int.specs.Bounds.{IsAtMost};
 ghost use Rattle.geometry.specs.Facet.{twice};
@@ -13,8 +13,8 @@ use exact_cut::cuts;
 use mesh_weld::Solid;
 use std::alloc::{AllocError, Allocator};
 
-/// Where a plane cuts a facet: from the node of its downward edge to that of its upward edge.
-/// `facet` is the facet's number among the kept ones, from 0.
+/// The cut of a facet by a plane: from the node of the facet's downward edge to that of its upward edge. The facet's number
+/// among the kept ones, from 0, is `facet`.
 #[derive(Clone, Copy, Debug, PartialEq, Eq)]
 pub struct Segment {
     pub facet: u32,
@@ -22,10 +22,10 @@ pub struct Segment {
     pub to: Node,
 }
 
-/// The segment of the kept facet with this number, at the height `z2` in half-micrometres; `None` where the plane
-/// does not cut the facet: no corner counts as below `z2`, by the tie rule, or none is above it. The number is below the
-/// solid's `count`, and `z2` at most `geometry::CENTRE_LIMIT` from 0. Of each node `low` is below `high`, since the corners
-/// are distinct.
+/// The segment of the kept facet with this number, at the height `z2` in half-micrometres. It is `None` if the plane does not
+/// cut the facet: no corner counts as below `z2`, by the tie rule, or none is above it. In each node `low` is below `high`,
+/// since the corners are distinct. The number is below the solid's `count`, and `z2` is at most `geometry::CENTRE_LIMIT` from
+/// 0.
 pub fn segment_at<A: Allocator>(s: &Solid<A>, facet: u32, z2: i64) -> Option<Segment>
     requires facet { facet < length s.now.facets }
     requires height { IsAtMost CENTRE_LIMIT z2 }
@@ -56,9 +56,8 @@ fn edge_node(corners: &[u32; 3], edge: usize) -> Node
     }
 }
 
-/// The segments at the height `z2` in half-micrometres, at most `geometry::CENTRE_LIMIT` from 0, in order of facets.
-/// It looks at every kept facet; a `Sweep` of `contour`, through many heights, does not. `Err` comes only where an
-/// allocation failed.
+/// The segments at the height `z2` in half-micrometres, at most `geometry::CENTRE_LIMIT` from 0, in order of facets. It looks
+/// at every kept facet; a `Sweep` of `contour`, through many heights, does not. `Err` only if an allocation failed.
 pub fn segments<A: Allocator + Copy + Send + Sync>(
     alloc: A,
     s: &Solid<A>,

@@ -1,7 +1,7 @@
 -- The crossings of the scanlines of a layer with a mesh, row by row.
---     crossings_in rows j      the crossings of row j
---     row_signs rows j         the sum of their signs
---     row_passed rows j i      the sum of the signs of those in column i or left of it
+-- - `crossings_in rows j`: the crossings of row j
+-- - `row_signs rows j`: the sum of their signs
+-- - `row_passed rows j i`: the sum of the signs of those in column i or left of it
 use Rattle.std.specs.Prelude.{◌≡◌, slice_index_or, ℕ, ◌+◌, Bool, true, List, [], ◌∷◌, ℤ, nat_le, ◌==◌, if◌then◌else◌}
 use Rattle.std.specs.List.{list_all}
 use Rattle.raster.specs.declared.crossings.RowCrossing.{RowCrossing}

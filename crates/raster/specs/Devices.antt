@@ -6,7 +6,7 @@ use Rattle.std.specs.Io.KnownBytes.{Appends}
 abbrev pub greatest_count : ℕ
 greatest_count = 2 ^ 64 - 1
 
--- just one call failed in between
+-- exactly one call failed in between
 abbrev pub Fails : ℕ → ℕ → Type 0
 Fails old new = new ≡ min (old + 1) greatest_count
 
@@ -14,7 +14,7 @@ Fails old new = new ≡ min (old + 1) greatest_count
 abbrev pub AppendsFirst : Option (List ℕ) → Option (List ℕ) → ℕ → List ℕ → Type 0
 AppendsFirst old new written text = Appends old new (take written text)
 
--- a device, how many of its calls have failed, and whether all that it took has been flushed
+-- a device, the number of its failed calls, and whether all that it took has been flushed
 pub record Counted (T : Type 0) : Type 0 where
   pub device : T
   pub count : ℕ

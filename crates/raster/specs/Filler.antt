@@ -1,8 +1,8 @@
 -- Which voxels are filled.
---     is_filled        whether the voxel with this centre is filled
---     area_of          the number of a layer's filled voxels
---     IsFillOf         spans that are the filled pixels of a layer
---     AreSpansBelow    spans that are the filled pixels of a layer's first rows, by the crossings of the rows
+-- - `is_filled`: whether the voxel with this centre is filled
+-- - `area_of`: the number of a layer's filled voxels
+-- - `IsFillOf`: spans that are the filled pixels of a layer
+-- - `AreSpansBelow`: spans that are the filled pixels of a layer's first rows, by the crossings of the rows
 use Rattle.std.specs.Prelude.{◌≡◌, ◌<◌, ℕ, Bool, true, List, count_by, neg_ℤ, nat_lt, sum_by}
 use Rattle.std.specs.List.{list_all, range_with_len}
 use Rattle.raster.specs.declared.crossings.RowCrossing.{RowCrossing}
@@ -32,7 +32,7 @@ area_of g rule facets k =
 -- the filled pixels of layer k
 pub record IsFillOf (g : Grid) (rule : Rule) (facets : List Facet) (k : ℕ) (spans : List Span) : Type 0 where
   pub form : AreSpans g.columns g.rows spans
-  -- a pixel lies in a span exactly where its voxel is filled
+  -- a pixel lies in a span exactly if its voxel is filled
   pub filled : (i j : ℕ) → i < g.columns → j < g.rows → covers spans i j ≡ is_filled rule facets (centre g i j k)
   -- the same, by the crossings that do not lie ahead
   pub swept : (i j : ℕ) → i < g.columns → j < g.rows → covers spans i j ≡ is_inside rule (neg_ray_back facets (centre g i j k))

@@ -1,7 +1,7 @@
 -- The voxels of a grid: their counts, and their centres in half-micrometres.
---     IsGrid            what every grid keeps: counts within their limits, and centres within the limit of centres
---     fitted_grid       the grid that a mesh fits in
---     given_grid        the grid with given parts, or why there is none
+-- - `IsGrid`: what every grid keeps: counts within their limits, and centres within the limit of centres
+-- - `fitted_grid`: the grid that a mesh fits in
+-- - `given_grid`: the grid with given parts, or why there is none
 use Rattle.std.specs.Prelude.{◌≤◌, ◌≤ℤ◌, ℕ, ◌+◌, ◌*◌, ◌-◌, max, Bool, ◌&&◌, ◌||◌, Option, Some, None, Result, Ok, Err, ℤ, pos, ◌+ℤ◌, ◌-ℤ◌, ◌*ℤ◌, nat_abs, nat_lt, ◌==◌, int_lt, if◌then◌else◌, List}
 use Rattle.std.specs.Int.{div_ceil}
 use Rattle.raster.specs.declared.grid.GridFault.{GridFault}

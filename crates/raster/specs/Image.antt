@@ -1,5 +1,5 @@
--- Images in raw PBM ("P4", pbm(5)): a header in plain decimal, then the rows from the greatest to the least, eight pixels a byte,
--- the leftmost in the highest bit, each row filled up with 0 bits.
+-- Images in raw PBM ("P4", pbm(5)): a header in plain decimal, then the rows from the greatest to the least. Each row has eight
+-- pixels a byte, the leftmost in the highest bit, and is filled up with 0 bits.
 use Rattle.std.specs.Prelude.{ℕ, ◌+◌, ◌*◌, ◌-◌, ◌/◌, ◌^◌, Bool, ◌&&◌, List, ◌++◌, nat_lt, if◌then◌else◌, codes, decimal, flat_map, map, reverse, sum_by}
 use Rattle.std.specs.Int.{div_ceil}
 use Rattle.raster.specs.declared.rule.Rule.{Rule}
@@ -24,8 +24,8 @@ abbrev pub image_of_pixels : ℕ → ℕ → (ℕ → ℕ → Bool) → List ℕ
 image_of_pixels width height pixel =
     header width height ++ flat_map (λ j. row_bytes width (λ i. pixel i j)) (reverse (below height))
 
--- More bytes than an image has: twice those of the pixels in as many columns and rows as there may be, of which the header
--- takes fewer.
+-- More bytes than an image has: twice those of the pixels in the greatest number of columns and rows. The header takes fewer
+-- than those pixels.
 abbrev pub image_limit : ℕ
 image_limit = 2 * (COLUMN_LIMIT * (COLUMN_LIMIT / 8))
 

@@ -1,12 +1,12 @@
 -- The crossings of one scanline with a mesh, each by the column that it falls into.
---     signs crossings              the sum of their signs
---     passed crossings i           the sum of the signs of those in column i or left of it
---     passed_before crossings i    the sum of the signs of those left of column i
+-- - `signs crossings`: the sum of their signs
+-- - `passed crossings i`: the sum of the signs of those in column i or left of it
+-- - `passed_before crossings i`: the sum of the signs of those left of column i
 use Rattle.std.specs.Prelude.{◌^◌, ℕ, List, ℤ, pos, negsuc, nat_le, nat_lt, if◌then◌else◌}
 use Rattle.geometry.specs.Winding.{total}
 use Rattle.raster.specs.declared.crossings.RowCrossing.{RowCrossing}
 
--- a bound for the crossings of one row: memory has no room for more, and a sum of their signs fits an `i64`
+-- a bound for the crossings of one row: no more fit in memory, and a sum of their signs fits an `i64`
 abbrev pub row_crossing_limit : ℕ
 row_crossing_limit = 2 ^ 62
 

@@ -4,7 +4,7 @@ use Rattle.std.specs.Ordering.{int_eq}
 use Rattle.raster.specs.declared.rule.Rule.{Rule}
 use Rattle.raster.specs.declared.rule.Rule.TheVariants.{EvenOdd, NonZero, Positive}
 
--- A pixel is filled where the signed crossings of its ray are odd, or not zero, or above zero, by the rule chosen.
+-- A pixel is filled if the signed crossings of its ray are odd, or not zero, or above zero, by the rule chosen.
 abbrev pub IsInside : Rule → ℤ → Type 0
 IsInside EvenOdd crossings = nat_abs crossings % 2 ≡ 1
 IsInside NonZero crossings = crossings ≢ pos 0

@@ -1,7 +1,7 @@
 -- Spans of filled pixels.
---     covers spans i j     whether the pixel of column i and row j lies in a span
---     AreSpans             spans in a grid, in order, not empty, not touching
---     span_area            the number of pixels in the spans of a layer
+-- - `covers spans i j`: whether the pixel of column i and row j lies in a span
+-- - `AreSpans`: spans in a grid, in order, not empty, not touching
+-- - `span_area`: the number of pixels in the spans of a layer
 use Rattle.std.specs.Prelude.{◌≡◌, ◌≤◌, ℕ, ◌-◌, Bool, true, ◌&&◌, ◌||◌, List, [], ◌∷◌, ◌==◌, nat_lt, nat_le, sum_by}
 use Rattle.std.specs.List.{list_all, list_any}
 use Rattle.raster.specs.declared.span.Span.{Span}

@@ -1,4 +1,4 @@
-//! The crossings of a layer's rows with the mesh: where each scanline crosses which facet, by column, and with which sign.
+//! The crossings of a layer's rows with the mesh, by column and sign.
 ghost use Rattle.std.specs.Prelude.{◌≡◌, ◌≢◌, ◌<◌, ◌≤◌, ◌++◌, ◌∷◌, ◌+◌, ◌+ℤ◌, ◌-ℤ◌, [], All, IsPermutation, OnErr, OnOk, drop, length, nat_le, pos, take, true, ℕ};
 ghost use Rattle.std.specs.List.{list_all};
 ghost use Rattle.std.specs.Mem.{FitsInMemory};
@@ -27,13 +27,13 @@ use std::alloc::{AllocError, Allocator};
 use std::marker::Model;
 use std::mem::{ManuallyDrop, size_of_val};
 
-/// The greatest capacity that a row keeps from one layer to the next, in crossings. A row with more gives its memory back.
+/// The greatest capacity that a row keeps from one layer to the next, in crossings. A row with more frees its memory.
 const KEPT_CAPACITY: usize = 512;
 
-/// The crossings that a row has room for without an allocation. Most rows of a layer have two.
+/// The number of crossings that fit a row without an allocation. Most rows of a layer have two.
 const IN_PLACE: usize = 4;
 
-/// Where a scanline crosses the mesh: the column of the crossing, and its sign.
+/// A crossing of the mesh by a scanline: its column and its sign.
 #[derive(Clone, Copy, Debug, Default, PartialEq, Eq)]
 pub(crate) struct RowCrossing {
     /// The least column whose centre is not left of the crossing; at most `COLUMN_LIMIT`.
@@ -54,7 +54,7 @@ pub(crate) fn with_sign(sum: i64, crossing: RowCrossing) -> i64
 /// The crossings of a row.
 type Row<A> = SmallVec<RowCrossing, IN_PLACE, A>;
 
-/// The crossings of a layer's rows, those of each row in the order in which they were added.
+/// The crossings of a layer's rows. Those of a row are in the order in which they were added.
 pub(crate) struct RowCrossings<A: Allocator> {
     rows: Vec<Row<A>, A>,
 }
@@ -143,14 +143,14 @@ impl<A: Allocator> RowCrossings<A> {
     }
 }
 
-/// Whether a value of a type takes less than half the address space. It does, whatever the type, and this is known when
-/// the program is compiled; but no proof knows it of the type of an allocator.
+/// Whether a value of a type takes less than half the address space. It does, whatever the type, and the compiler knows it. But
+/// no proof knows it of the type of an allocator.
 fn fits_in_memory<T>() -> bool
     ensures { result ≡ true → FitsInMemory T.row }
 {
     let none: Option<T> = None;
     let fits = size_of_val(&none) <= isize::MAX as usize;
-    // `none` holds no `T`, so nothing is lost where it is not dropped
+    // `none` holds no `T`, so nothing is lost if it is not dropped
     let _none = unsafe { ManuallyDrop::new_unchecked(none) };
     fits
 }
@@ -181,7 +181,7 @@ fn make_room<A: Allocator + Copy>(
     Ok(())
 }
 
-/// Removes the crossings of a row, and frees its memory where its capacity is above `KEPT_CAPACITY`.
+/// Removes the crossings of a row, and frees its memory if its capacity is above `KEPT_CAPACITY`.
 fn forget<A: Allocator + Copy>(alloc: A, crossings: &mut Row<A>)
     ensures { crossings.new.items ≡ [] }
 {
@@ -210,8 +210,8 @@ fn push<A: Allocator + Copy>(
     }
 }
 
-/// Adds the crossings of all facets with the rows of a lattice at the height `z2`, in half-micrometres, by the segments
-/// there: a facet without a segment crosses no row. On an error `out` may have some of them.
+/// Adds the crossings of all facets with the rows of a lattice at the height `z2`, in half-micrometres, by the segments there:
+/// a facet without a segment crosses no row. On an error `out` may have some of them.
 pub(crate) fn push_facets<A: Allocator + Copy>(
     s: &Solid<A>,
     z2: i64,

@@ -1,4 +1,4 @@
-//! The devices that a program reads and writes: traits of sources and sinks that count their failed calls, an adapter
+//! The devices that a program reads and writes. There are traits of sources and sinks that count their failed calls, an adapter
 //! over std's readers and writers, and `put_all`, which repeats a sink's short writes.
 ghost use Rattle.std.specs.Prelude.{◌≡◌, Bool, true, ◌≤◌, ◌<◌, IfErr, IfOk, List, OnErr, OnOk, Ok, Option, length, take, ℕ};
 ghost use Rattle.std.specs.Io.KnownBytes.{Appends, Consumes, IsAtEnd, Keeps};
@@ -8,7 +8,7 @@ use std::io::{Read, Write};
 use std::marker::Model;
 use thiserror::Error;
 
-/// A device answered an error.
+/// A call of a device failed.
 #[derive(Clone, Copy, Debug, PartialEq, Eq, Error)]
 #[error("a device failed")]
 pub struct Failed;
@@ -25,17 +25,17 @@ pub struct WriteFault {
 pub trait Failures {
     ghost failure_count: { Self → ℕ };
 
-    /// The number of calls of this device that answered an error. It stops counting at 2^64 - 1.
+    /// The number of failed calls of this device. It stops counting at 2^64 - 1.
     fn failures(&self) -> u64
         ensures { result ≡ failure_count self.now };
 }
 
 /// A device that bytes come from. Each call is tried once: an interruption is an error too.
 pub trait Source: Failures {
-    /// The bytes that are still to come, where they are known.
+    /// The bytes that are still to come, if they are known.
     ghost remaining: { Self → Option (List ℕ) };
 
-    /// Reads bytes into the front of `buf` and answers their number: 0 only at the end, or where `buf` is empty.
+    /// Reads bytes into the front of `buf` and returns their number: 0 only at the end, or if `buf` is empty.
     fn pull(&mut self, buf: &mut [u8]) -> Result<usize, Failed>
         ensures length { length buf.new ≡ length buf.old }
         ensures within { IfOk result (λ n. n ≤ length buf.old) }
@@ -47,14 +47,14 @@ pub trait Source: Failures {
 
 /// A device that bytes go to. Each call is tried once: an interruption is an error too.
 pub trait Sink: Failures {
-    /// The bytes that went out, where they are known.
+    /// The bytes that went out, if they are known.
     ghost contents: { Self → Option (List ℕ) };
 
     /// Whether all that was taken has been flushed.
     ghost is_settled: { Self → Bool };
 
-    /// Takes bytes from the front of `chunk` and answers their number: at least 1, unless `chunk` is empty. Where it answers
-    /// an error, it took none.
+    /// Takes bytes from the front of `chunk` and returns their number: at least 1, unless `chunk` is empty. On an error it took
+    /// none.
     fn put(&mut self, chunk: &[u8]) -> Result<usize, Failed>
         ensures within { IfOk result (λ n. n ≤ length chunk.now) }
         ensures some { IfOk result (λ n. 0 < length chunk.now → 0 < n) }
@@ -71,9 +71,9 @@ pub trait Sink: Failures {
         ensures err { OnErr result (Fails (Self.Failures.failure_count self.old) (Self.Failures.failure_count self.new)) };
 }
 
-/// A source over any reader, and a sink over any writer. It counts the calls that answered an error. A writer that takes
-/// 0 bytes of a chunk that is not empty counts as failed. That each call is tried once, and that just the failed ones are
-/// counted, no clause says; tests do.
+/// A source over any reader, and a sink over any writer. It counts the failed calls. A writer that takes 0 bytes of a chunk
+/// that is not empty counts as failed. No clause says that each call is tried once, and that exactly the failed ones are
+/// counted; tests do.
 #[derive(Drop)]
 pub struct Counted<T> {
     inner: T,
@@ -108,7 +108,7 @@ impl<T> Counted<T> {
         &self.inner
     }
 
-    /// Gives the reader or writer back.
+    /// Returns the reader or writer.
     pub fn into_inner(self) -> T
         ensures { result ≡ self.device }
     {
@@ -176,8 +176,8 @@ impl<T: Write> Sink for Counted<T> {
 
 /// Writes a whole chunk of bytes out, in as many calls of the sink as it takes.
 ///
-/// A call of the sink that fails is not tried again, so an error is one failed call: the first `written` bytes of the
-/// chunk went out, and no more; they are fewer than all. No memory is allocated.
+/// A call of the sink that fails is not tried again, so an error is one failed call. The first `written` bytes of the chunk
+/// went out, and no more; they are fewer than all. No memory is allocated.
 pub fn put_all<W: Sink>(w: &mut W, chunk: &[u8]) -> Result<(), WriteFault>
     ensures ok { OnOk result (Appends (W.contents w.old) (W.contents w.new) chunk.now) }
     ensures same { OnOk result (W.Failures.failure_count w.new ≡ W.Failures.failure_count w.old) }

@@ -1,4 +1,4 @@
-//! The voxels that a mesh is sliced into: how many there are, and where their centres lie.
+//! The voxels that a mesh is sliced into: their number, and their centres.
 ghost use Rattle.std.specs.Prelude.{◌≡◌, ◌<◌, ◌≤◌, ◌≤ℤ◌, Some, ◌-◌, int_lt, pos};
 ghost use Rattle.exact_int.specs.Bounds.{IsAtMost};
 ghost use Rattle.geometry.specs.BoundingBox.{IsBox};
@@ -13,14 +13,14 @@ use std::alloc::Allocator;
 use std::marker::Model;
 use thiserror::Error;
 
-/// Why [`Grid::fit`] or [`Grid::given`] answers no grid.
+/// Why [`Grid::fit`] or [`Grid::given`] returns no grid.
 #[derive(Clone, Copy, Debug, PartialEq, Eq, Error)]
 pub enum GridFault {
     /// The mesh that the grid is to fit has no facet with three distinct corners.
     #[error("no facet is left")]
     EmptyMesh,
-    /// There are more than `COLUMN_LIMIT` columns or rows, or more than `LAYER_LIMIT` layers. These are all three counts,
-    /// as asked for.
+    /// There are more than `COLUMN_LIMIT` columns or rows, or more than `LAYER_LIMIT` layers. These are all three counts of the
+    /// grid that was asked for.
     #[error("grid too large: {columns} columns, {rows} rows, {layers} layers")]
     TooLarge {
         columns: u32,
@@ -35,8 +35,8 @@ pub enum GridFault {
     FarCentre,
 }
 
-/// The voxels that a mesh is sliced into: columns along x, rows along y and layers along z, from an origin on. Lengths are
-/// in micrometres. Each coordinate of a voxel's centre lies within `CENTRE_LIMIT` half-micrometres of 0.
+/// The voxels that a mesh is sliced into: columns along x, rows along y and layers along z, from an origin on. Lengths are in
+/// micrometres. Each coordinate of a voxel's centre lies within `CENTRE_LIMIT` half-micrometres of 0.
 #[derive(Clone, Copy, Debug, PartialEq, Eq)]
 pub struct Grid {
     pitch: u32,
@@ -67,11 +67,12 @@ impl Model for Grid {
 }
 
 impl Grid {
-    /// The grid of this pitch and layer height (micrometres, 1 to `STEP_LIMIT`) that begins at the mesh's least x, y and z
-    /// and has the fewest columns, rows and layers that cover it, at least one of each.
+    /// The grid of this pitch and layer height (micrometres, 1 to `STEP_LIMIT`) that begins at the mesh's least x, y and z. It
+    /// has the fewest columns, rows and layers that cover the mesh, at least one of each.
     ///
-    /// `EmptyMesh` where the mesh has no facet; `TooLarge` where that takes more than `COLUMN_LIMIT` columns or rows, or
-    /// more than `LAYER_LIMIT` layers.
+    /// # Errors
+    /// - `EmptyMesh` if the mesh has no facet,
+    /// - `TooLarge` if that takes more than `COLUMN_LIMIT` columns or rows, or more than `LAYER_LIMIT` layers.
     pub fn fit<A: Allocator>(s: &Solid<A>, pitch: u32, layer_height: u32) -> Result<Grid, GridFault>
         requires pitch { IsStep pitch }
         requires height { IsStep layer_height }
@@ -85,9 +86,11 @@ impl Grid {
 
     /// The grid with this origin (micrometres), pitch and layer height (micrometres, 1 to `STEP_LIMIT`) and these counts.
     ///
-    /// In this order: `NoCells` where a count is 0; `TooLarge` where there are more than `COLUMN_LIMIT` columns or rows, or
-    /// more than `LAYER_LIMIT` layers; `FarCentre` where the centre of the last column, row or layer lies more than
-    /// `CENTRE_LIMIT` half-micrometres from 0.
+    /// # Errors
+    /// The first of these that applies:
+    /// - `NoCells` if a count is 0,
+    /// - `TooLarge` if there are more than `COLUMN_LIMIT` columns or rows, or more than `LAYER_LIMIT` layers,
+    /// - `FarCentre` if the centre of the last column, row or layer lies more than `CENTRE_LIMIT` half-micrometres from 0.
     pub fn given(
         origin: Point,
         pitch: u32,

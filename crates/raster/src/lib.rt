@@ -10,19 +10,19 @@
 //! ```
 //!
 //! - [`Grid`]: the voxels that a mesh is sliced into; [`GridFault`] says why there is none.
-//! - [`Placing`]: whether a grid fits the mesh, or lies where it is told to.
+//! - [`Placing`]: whether a grid fits the mesh, or is given by its place and counts.
 //! - [`Rule`]: which sums of signed crossings count as inside.
 //! - [`Span`]: filled pixels side by side in a row; [`area`]: the number of pixels in a layer's spans.
 //! - [`Filler`]: fills one layer after another, and keeps its memory; [`fill`] fills one.
 //! - [`ImageWriter`]: writes images one after another, by few calls of the sink; [`write_layer`] writes one; [`image_len`]:
 //!   the length of an image, in bytes.
 //! - [`Page`]: a few images that are drawn before they are written.
-//! - [`Source`], [`Sink`]: the devices that are read and written. A call of them that fails answers [`Failed`], and by
-//!   [`Failures`] a device tells how many have. [`Counted`] makes a device of any reader or writer.
+//! - [`Source`], [`Sink`]: the devices that are read and written. A call of them that fails returns [`Failed`], and
+//!   [`Failures`] counts these. [`Counted`] makes a device of any reader or writer.
 //! - [`put_all`]: writes a whole chunk of bytes; [`WriteFault`]: how many went out before a failure.
 //!
-//! Lengths are in micrometres, and coordinates of centres and planes in half-micrometres, so that they are whole. Columns,
-//! rows and layers count from 0 along x, y and z.
+//! Lengths are in micrometres. Coordinates of centres and planes are in half-micrometres, so that they are whole. Columns, rows
+//! and layers count from 0 along x, y and z.
 #![tactic(auto)]
 
 mod column_sums;

@@ -1,4 +1,4 @@
-//! Where a grid lies: where the mesh is, or where it is told to lie.
+//! The place of a grid: that of the mesh, or a given one.
 ghost use Rattle.std.specs.Prelude.{◌≡◌};
 ghost use Rattle.geometry.specs.Limits.{IsStep};
 ghost use Rattle.raster.specs.Placing.{placed_grid};
@@ -8,7 +8,7 @@ use geometry::Point;
 use mesh_weld::Solid;
 use std::alloc::Allocator;
 
-/// Where a grid lies.
+/// The place of a grid.
 #[derive(Clone, Copy, Debug, PartialEq, Eq)]
 pub enum Placing {
     /// It begins at the mesh's least x, y and z and has the fewest columns, rows and layers that cover the mesh.
@@ -24,8 +24,8 @@ pub enum Placing {
 }
 
 impl Placing {
-    /// The grid of this placing, with this pitch and layer height (micrometres, 1 to `STEP_LIMIT`), for a mesh: what
-    /// [`Grid::fit`] answers where it is fitted, and what [`Grid::given`] answers where it is given.
+    /// The grid of this placing, with this pitch and layer height (micrometres, 1 to `STEP_LIMIT`), for a mesh. It is what
+    /// [`Grid::fit`] returns for `Fitted`, and what [`Grid::given`] returns for `Given`.
     pub fn grid<A: Allocator>(
         self,
         s: &Solid<A>,

@@ -1,5 +1,5 @@
-//! The fill rules: which sums of signed crossings count as inside. To the code of this crate a new rule is one variant, and
-//! one arm of `is_inside`; `docs/ARCHITECTURE.md` lists what else it touches.
+//! The fill rules: which sums of signed crossings count as inside. In the code of this crate a new rule is one variant, and one
+//! arm of `is_inside`. `docs/ARCHITECTURE.md` lists what else it touches.
 ghost use Rattle.std.specs.Prelude.{◌≡◌, ◌↔◌, IsTrue};
 ghost use Rattle.raster.specs.Rule.{IsInside, is_inside};
 
@@ -7,11 +7,11 @@ ghost use Rattle.raster.specs.Rule.{IsInside, is_inside};
 /// the winding rules of two-dimensional filling.
 #[derive(Clone, Copy, Debug, PartialEq, Eq)]
 pub enum Rule {
-    /// Where the sum is odd.
+    /// Filled if the sum is odd.
     EvenOdd,
-    /// Where the sum is not 0.
+    /// Filled if the sum is not 0.
     NonZero,
-    /// Where the sum is above 0.
+    /// Filled if the sum is above 0.
     Positive,
 }
 

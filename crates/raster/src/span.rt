@@ -1,8 +1,8 @@
-//! Spans: filled pixels side by side in a row. A filled layer is handed on as a list of them.
+//! Spans: filled pixels side by side in a row. A filled layer is passed on as a list of them.
 ghost use Rattle.std.specs.Prelude.{◌≡◌};
 ghost use Rattle.raster.specs.Span.{IsLayerOfSpans, span_area};
 
-/// Filled pixels of one row of a layer: the columns from `from` up to and without `to`.
+/// Filled pixels of one row of a layer: the columns from `from` up to but not including `to`.
 #[derive(Clone, Copy, Debug, PartialEq, Eq)]
 pub struct Span {
     pub row: u32,

@@ -1,4 +1,4 @@
-//! A reader and a writer that move few bytes a call, and fail where a test wants it; and a device that is interrupted once.
+//! A reader and a writer that move few bytes a call, and fail when a test wants it, and a device that is interrupted once.
 ghost use Rattle.std.specs.Prelude.{◌≡◌, [], Some};
 
 use std::alloc::{Allocator, Global};
@@ -34,8 +34,8 @@ impl<'a> Read for OneByteReader<'a> {
     }
 }
 
-/// Takes at most `most_per_call` bytes a call while it has room. Once it has none, it fails with `fault`; where `fault` is
-/// `None`, it answers that it took 0 bytes, without an error.
+/// Takes at most `most_per_call` bytes a call while it has room. When it has none, it fails with `fault`. If `fault` is `None`,
+/// it returns that it took 0 bytes, without an error.
 #[derive(Drop)]
 pub struct SmallWriter {
     /// The bytes that it took.

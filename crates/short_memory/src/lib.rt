@@ -1,8 +1,11 @@
 //! An allocator, a reader and a writer that fail at a point that a test chooses.
 //!
-//! [`ShortMemory`] fails one allocation. A test repeats a call, and fails the first allocation, then the second, and so
-//! on, until the call has none left to fail. [`OneByteReader`] and [`SmallWriter`] move few bytes a call, and fail at a
-//! call, or after a byte, that the test chooses. [`InterruptedOnce`] fails one call of a reader or writer, and goes on.
+//! [`ShortMemory`] fails one allocation. A test repeats a call, and fails the first allocation, then the second, and so on,
+//! until the call has none left to fail. The functions [`first_free_turn`] and [`failures`] do that. It can also hold an
+//! allocation, so that a test sees what other threads do meanwhile.
+//!
+//! The devices [`OneByteReader`] and [`SmallWriter`] move few bytes a call. They fail at a call, or after a byte, that the test
+//! chooses. An [`InterruptedOnce`] fails one call of a reader or writer, and goes on.
 //!
 //! ```text
 //! for number in 1..200 {
@@ -16,11 +19,14 @@
 #![tactic(auto)]
 
 mod devices;
+mod turns;
 
 pub use devices::{InterruptedOnce, OneByteReader, SmallWriter};
 use std::alloc::{AllocError, Allocator};
 use std::sync::atomic::AtomicU64;
 use std::sync::atomic::Ordering::SeqCst;
+use std::thread;
+pub use turns::{Count, Retry, failures, first_free_turn};
 
 /// Takes memory from an inner allocator, except for one allocation, which it fails.
 ///
@@ -32,7 +38,8 @@ pub struct ShortMemory<B: Allocator> {
 }
 
 impl<B: Allocator> ShortMemory<B> {
-    /// An allocator that fails the allocation of this number, counted from 1, and no other of the first 2^63.
+    /// An allocator that fails the allocation of this number, counted from 1, and no other of the first 2^60. With the number 0
+    /// it fails none of them.
     pub fn new(inner: B, number: u64) -> ShortMemory<B> {
         ShortMemory {
             inner,
@@ -40,9 +47,25 @@ impl<B: Allocator> ShortMemory<B> {
         }
     }
 
-    /// Whether the allocation that fails was reached, where its number is 1 to 2^63.
+    /// Whether the allocation that fails was reached, if its number is 1 to 2^60 and none was held.
     pub fn has_failed(&self) -> bool {
         self.left.load(SeqCst).wrapping_sub(1) > u64::MAX / 2
+    }
+
+    /// Holds the next allocation, of whichever thread, until `let_go` is called, for at most ten million turns. Those after it
+    /// go on, and none fails any more.
+    pub fn hold_next(&self) {
+        self.left.store(HELD, SeqCst);
+    }
+
+    /// Whether an allocation is held now.
+    pub fn is_holding(&self) -> bool {
+        is_holding(&self.left)
+    }
+
+    /// Lets the allocation go that is held.
+    pub fn let_go(&self) {
+        self.left.store(LET_GO, SeqCst);
     }
 }
 
@@ -52,10 +75,39 @@ impl<B: Allocator> Drop for ShortMemory<B> {
     }
 }
 
-// Counts one allocation, and answers whether it is the one that fails. The count is atomic, so the answer is `true` once,
+// The count at the allocation that is held. The allocations after it count down from here.
+const HELD: u64 = 1 << 62;
+
+// The count once that one is let go.
+const LET_GO: u64 = 1 << 61;
+
+// How many turns an allocation is held at most.
+const TURNS: u32 = 10_000_000;
+
+fn is_holding(left: &AtomicU64) -> bool {
+    let count = left.load(SeqCst);
+    LET_GO < count && count < HELD
+}
+
+// Returns once the allocation is let go, which it is after the last turn.
+fn hold(left: &AtomicU64) {
+    for _ in 0..TURNS {
+        if !is_holding(left) {
+            return;
+        }
+        thread::yield_now();
+    }
+    left.store(LET_GO, SeqCst);
+}
+
+// Counts one allocation, and returns whether it is the one that fails. The count is atomic, so the answer is `true` once,
 // in one thread.
 fn fails(left: &AtomicU64) -> bool {
-    left.fetch_sub(1, SeqCst) == 1
+    let count = left.fetch_sub(1, SeqCst);
+    if count == HELD {
+        hold(left);
+    }
+    count == 1
 }
 
 unsafe impl<B: Allocator> Allocator for ShortMemory<B> {

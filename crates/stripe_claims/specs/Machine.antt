@@ -1,23 +1,25 @@
 -- The claims machine: several passes draw numbers from one word. A pass has the list of the numbers that it found there.
 -- A hand stands for one pass or for several: `open` cuts the first hand, which stands for all passes, into passes, and
 -- `close` joins hands again.
---     IsDraw       one pass draws: it finds the word, which grows by one
---     IsSplit      a hand that has found nothing is cut in two
---     IsJoin       one hand takes over all of another
---     IsReachable  a moment that any such steps lead to
---     IsKept       the rule of the table in which the claims lie: its word and its views are a moment that is reached
---     IsFair       what holds at every moment that is reached
-use Rattle.std.specs.Prelude.{◌≡◌, ◌≢◌, ℕ, ◌+◌, ◌-◌, ◌<◌, ◌≤◌, Bool, List, [], ◌∷◌, ◌++◌, length, filter, All, sum_by, flat_map, slice_set, ◌==◌, nat_lt, nat_le, if◌then◌else◌}
+-- - `IsDraw`: one pass draws: it finds the word, which grows by one
+-- - `IsSplit`: a hand that has found nothing is cut in two
+-- - `IsJoin`: one hand takes over all of another
+-- - `IsReachable`: a moment that any such steps lead to
+-- - `IsReached`: a word and a hand at such a moment
+-- - `IsKept`: the rule of the table in which the claims lie: its word and the hands of its seats are a moment that is reached
+-- - `IsFair`: what holds at every moment that is reached
+use Rattle.std.specs.Prelude.{◌≡◌, ◌≢◌, ℕ, ◌+◌, ◌-◌, ◌<◌, ◌≤◌, Bool, List, [], ◌∷◌, ◌++◌, length, filter, All, sum_by, flat_map, map, slice_set, ◌==◌, nat_lt, nat_le, if◌then◌else◌}
 use mathlib.Core.Option.{some}
 use lib.ListN.{get_elem?}
 use Rattle.atomic_table.specs.Table.{State, Step as TableStep, Me}
 use Rattle.stripe_claims.specs.declared.machine.Plan.{Plan}
 use Rattle.stripe_claims.specs.declared.machine.Hand.{Hand}
+use Rattle.stripe_claims.specs.declared.machine.View.{View}
 
 abbrev pub one_if : Bool → ℕ
 one_if b = if b then 1 else 0
 
--- how often x stands in the list
+-- how often x is in the list
 abbrev pub times : ℕ → List ℕ → ℕ
 times x xs = sum_by (λ y. one_if (y == x)) xs
 
@@ -92,29 +94,59 @@ pub data IsReachable : Plan → Moment → Type 0 where
   first : (plan : Plan) → IsReachable plan (first_moment plan)
   next : (plan : Plan) (before after : Moment) → IsReachable plan before → Step plan before after → IsReachable plan after
 
--- The rule of the table: its one word, and the views of its seats, are a moment that steps of the machine lead to.
-pub record IsKept (plan : Plan) (s : State (Unit {0}) Hand) : Type 0 where
+-- Steps of the machine lead to this word, with this hand among the hands.
+pub record IsReached (plan : Plan) (h : Hand) (word : ℕ) : Type 0 where
+  pub hands : List Hand
+  pub reached : IsReachable plan (moment word hands)
+  pub id : ℕ
+  pub there : get_elem? hands id ≡ some h
+
+-- what is known of a seat: the plan of its claims, and its hand
+abbrev pub view : Plan → Hand → View
+view plan h = record { plan = plan; stands_for = h.stands_for; found = h.found }
+
+abbrev pub hand_of : View → Hand
+hand_of v = hand v.stands_for v.found
+
+-- The rule of the table: its one word, and the hands of its seats, are a moment that steps of the machine lead to. A seat
+-- that stands for some pass has the plan.
+pub record IsKept (plan : Plan) (s : State (Unit {0}) View) : Type 0 where
   pub word : ℕ
   pub one_word : s.words ≡ word ∷ []
-  pub reached : IsReachable plan (moment word s.views)
+  pub reached : IsReachable plan (moment word (map hand_of s.views))
+  pub planned : (id : ℕ) (v : View) → get_elem? s.views id ≡ some v → 0 < v.stands_for → v.plan ≡ plan
 
--- What a draw tells the one who draws: the word was found, which is above all that the hand had found, and was appended.
-abbrev pub Appends : TableStep (Unit {0}) → Me (Unit {0}) Hand → ℕ → Me (Unit {0}) Hand → Type 0
-Appends st me x after = (after ≡ (hand me.0.stands_for (me.0.found ++ x ∷ []), me.1)) × All (λ y. y < x) me.0.found
+-- the hand appends a number to its list
+abbrev pub with_number : View → ℕ → Hand
+with_number v x = hand v.stands_for (v.found ++ x ∷ [])
+
+-- What a draw says to its caller: the word was found, which is above all that the hand had found, and was appended. So
+-- steps of the machine lead to the next word, with this hand.
+abbrev pub Appends : TableStep (Unit {0}) → Me (Unit {0}) View → ℕ → Me (Unit {0}) View → Type 0
+Appends st me x after =
+    (after ≡ (view me.0.plan (with_number me.0 x), me.1)) × All (λ y. y < x) me.0.found × IsReached me.0.plan (with_number me.0 x) (x + 1)
 
 -- one pass is cut off a hand
-abbrev pub one_less : Hand → Hand
-one_less h = hand (h.stands_for - 1) h.found
+abbrev pub one_less : View → View
+one_less v = view v.plan (hand (v.stands_for - 1) v.found)
 
-abbrev pub new_pass : Hand → Hand
-new_pass h = hand 1 []
+abbrev pub new_pass : View → View
+new_pass v = view v.plan (hand 1 [])
+
+-- one seat takes over the hand of another, which is spent
+abbrev pub both_views : View → View → View
+both_views v w = view v.plan (both_hands (hand_of v) (hand_of w))
+
+abbrev pub spent_view : View
+spent_view = view (record { stripes = 0; passes = 0 }) nobody
 
 -- What holds at every moment that is reached.
 pub record IsFair (plan : Plan) (m : Moment) : Type 0 where
   -- all lists together hold each number below the word once and nothing else, so they are as long as the word
   pub each_once : IsEachOnce m.word (all_found m.hands)
   pub as_long : length (all_found m.hands) ≡ m.word
-  -- a hand that stands for some passes holds at most as many numbers that are `stripes` or more; one that stands for none has found nothing
+  -- A hand that stands for some passes holds at most as many numbers that are `stripes` or more. One that stands for none has
+  -- found nothing.
   pub few_beyond : (id : ℕ) (h : Hand) → get_elem? m.hands id ≡ some h → beyond plan.stripes h.found ≤ h.stands_for
   pub spent : (id : ℕ) (h : Hand) → get_elem? m.hands id ≡ some h → h.stands_for ≡ 0 → h.found ≡ []
   -- all hands together stand for the passes that were opened

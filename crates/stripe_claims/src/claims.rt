@@ -1,18 +1,18 @@
 //! Claims and their passes. A draw is one `fetch_add` on the one word of a table.
 ghost use Rattle.std.specs.Prelude.{◌≡◌, ◌+◌, ◌<◌, ◌≤◌, ℕ, [], ◌∷◌, ◌++◌, length, All, Any, IfOk, IfSome, IfNone, None, Some, true, false, if◌then◌else◌, is_none, nat_lt};
-ghost use Rattle.stripe_claims.specs.Machine.{times, once_below, IsEachOnce, given, hand, one_less};
-ghost use Rattle.stripe_claims.specs.Claims.{found_by_all, IsOwned, IsFresh, HasGathered, HasReached};
+ghost use Rattle.stripe_claims.specs.Machine.{times, once_below, IsEachOnce, given, hand, hand_of, one_less, view};
+ghost use Rattle.stripe_claims.specs.Claims.{found_by_all, plan_of, IsOwned, IsFresh, HasGathered, HasReached};
 ghost use Rattle.stripe_claims.specs.declared.limits.TheConstants.{PASS_LIMIT, STRIPE_LIMIT};
 
-use crate::machine::{Cuts, Draws, Hand, Joins, Machine, Plan};
+use crate::machine::{Cuts, Draws, Joins, Machine, Plan, View};
 use atomic_table::{Seat, Table};
 use std::alloc::{AllocError, Allocator};
 use std::marker::Model;
 
-/// The numbers below `stripes`, which draws give out, each once. Threads share the claims by reference.
+/// The numbers below `stripes` that draws give out, none of them twice. Threads share the claims by reference.
 #[derive(Drop)]
 pub struct Claims<A: Allocator> {
-    table: Table<(), Hand, Plan, Machine, A>,
+    table: Table<(), View, Plan, Machine, A>,
     stripes: u64,
 }
 
@@ -31,7 +31,7 @@ impl<A: Allocator> Model for Claims<A> {
 /// What one thread draws with. It belongs to the claims that it was opened with.
 #[derive(Drop)]
 pub struct Pass {
-    seat: Seat<(), Hand>,
+    seat: Seat<(), View>,
     ended: bool,
 }
 
@@ -43,14 +43,14 @@ impl Model for Pass {
 
     ghost coded = { pass_code };
 
-    ghost view = { λ p. record { owner = p.seat.table_id; found = p.seat.me.0.found; has_ended = p.ended } };
+    ghost view = { λ p. record { owner = p.seat.table_id; plan = p.seat.me.0.plan; found = p.seat.me.0.found; has_ended = p.ended } };
 
     ghost invariant = { λ p. (p.seat.me.1 ≡ []) × (p.seat.me.0.stands_for ≡ 1) };
 }
 
 impl<A: Allocator + Copy> Claims<A> {
-    /// Claims to the numbers below `stripes`, which is at most `STRIPE_LIMIT`, and as many passes as `passes` says, 1 to
-    /// `PASS_LIMIT`, none of which has drawn. `Err` comes only where an allocation failed.
+    /// Claims to the numbers below `stripes`, which is at most `STRIPE_LIMIT`, and `passes` passes, 1 to `PASS_LIMIT`, none of
+    /// which has drawn. The result is `Err` only if an allocation failed.
     pub fn open(
         alloc: A,
         stripes: u64,
@@ -69,10 +69,10 @@ impl<A: Allocator + Copy> Claims<A> {
     }
 
     /// The claims, and the first hand: a seat that stands for all passes.
-    fn start(alloc: A, stripes: u64, passes: u64) -> Result<(Claims<A>, Seat<(), Hand>), AllocError>
+    fn start(alloc: A, stripes: u64, passes: u64) -> Result<(Claims<A>, Seat<(), View>), AllocError>
         requires { (stripes ≤ STRIPE_LIMIT) × (1 ≤ passes) × (passes ≤ PASS_LIMIT) }
         ensures plan { IfOk result (λ r. (r.0.stripes ≡ stripes) × (r.0.passes ≡ passes)) }
-        ensures seat { IfOk result (λ r. (r.1.table_id ≡ r.0.name) × (r.1.me ≡ (hand passes [], []))) }
+        ensures seat { IfOk result (λ r. (r.1.table_id ≡ r.0.name) × (r.1.me ≡ (view (plan_of r.0) (hand passes []), []))) }
     {
         let plan = Plan { stripes, passes };
         let (table, rest) = Table::of_words(alloc, &[0], &plan)?;
@@ -83,10 +83,10 @@ impl<A: Allocator + Copy> Claims<A> {
     fn deal(
         &self,
         alloc: A,
-        mut rest: Seat<(), Hand>,
+        mut rest: Seat<(), View>,
         passes: u32,
     ) -> Result<Vec<Pass, A>, AllocError>
-        requires seat { (rest.table_id ≡ self.now.name) × (rest.me ≡ (hand passes [], [])) }
+        requires seat { (rest.table_id ≡ self.now.name) × (rest.me ≡ (view (plan_of self.now) (hand passes []), [])) }
         requires some { 1 ≤ passes }
         ensures count { IfOk result (λ v. length v.items ≡ passes) }
         ensures owned { IfOk result (λ v. All (IsOwned self.now) v.items) }
@@ -104,8 +104,8 @@ impl<A: Allocator + Copy> Claims<A> {
     }
 
     /// Cuts one pass off the seat, which stands for several and has found nothing.
-    fn cut(&self, rest: &mut Seat<(), Hand>) -> Pass
-        requires seat { (rest.old.table_id ≡ self.now.name) × (1 < rest.old.me.0.stands_for) × (rest.old.me.0.found ≡ []) }
+    fn cut(&self, rest: &mut Seat<(), View>) -> Pass
+        requires seat { (rest.old.table_id ≡ self.now.name) × (rest.old.me.0.plan ≡ plan_of self.now) × (1 < rest.old.me.0.stands_for) × (rest.old.me.0.found ≡ []) }
         ensures rest { (rest.new.table_id ≡ rest.old.table_id) × (rest.new.me ≡ (one_less rest.old.me.0, rest.old.me.1)) }
         ensures owned { IsOwned self.now result }
         ensures fresh { IsFresh result }
@@ -116,14 +116,17 @@ impl<A: Allocator + Copy> Claims<A> {
         }
     }
 
-    /// A number below `stripes` that no other draw gives, or `None` where all of them have been drawn. After a `None`
-    /// the pass has ended, and further draws with it answer `None` without an atomic step. The pass must be of these
-    /// claims. A draw never waits for another thread, and allocates nothing.
+    /// The next number of the word if it is below `stripes`, else `None`. The draw appends the word to the pass's list and
+    /// raises it by 1. Steps of the claims machine lead to the moment after that. So there the lists of all passes hold each
+    /// number below the word once and nothing else (`claims_laws`).
+    ///
+    /// After a `None` the word is above `stripes`, and the pass has ended. Further draws with it return `None` without an
+    /// atomic step. The pass must be of these claims. A draw never waits for another thread, and allocates nothing.
     pub fn draw(&self, pass: &mut Pass) -> Option<u64>
         requires { IsOwned self.now pass.old }
         ensures owned { IsOwned self.now pass.new }
         ensures ended { pass.old.has_ended ≡ true → (result ≡ None) × (pass.new ≡ pass.old) }
-        ensures drawn { pass.old.has_ended ≡ false → (x : ℕ) × (pass.new.found ≡ pass.old.found ++ x ∷ []) × All (λ y. y < x) pass.old.found × (result ≡ (if nat_lt x self.now.stripes then Some x else None)) }
+        ensures drawn { pass.old.has_ended ≡ false → (x : ℕ) × (pass.new.found ≡ pass.old.found ++ x ∷ []) × All (λ y. y < x) pass.old.found × (result ≡ (if nat_lt x self.now.stripes then Some x else None)) × HasReached self.now (hand 1 pass.new.found) (x + 1) }
         ensures ends { pass.new.has_ended ≡ is_none result }
         ensures below { IfSome result (λ x. x < self.now.stripes) }
     {
@@ -139,9 +142,9 @@ impl<A: Allocator + Copy> Claims<A> {
         }
     }
 
-    /// Closes the claims and answers the last value of the word: how many draws made an atomic step. The passes must be of
-    /// these claims. Where all passes that were opened are handed in, they have found the numbers below that value, each
-    /// once; where all of them have ended too, they were given all numbers below `stripes`, each once.
+    /// Closes the claims and returns the last value of the word: how many draws made an atomic step. The passes must be of
+    /// these claims. If all passes that were opened are given, they have found the numbers below that value, each once. If all
+    /// of them have ended too, they were given all numbers below `stripes`, each once.
     pub fn close(self, passes: Vec<Pass, A>) -> u64
         requires { All (IsOwned self) passes.items }
         ensures machine { HasGathered self passes.items result }
@@ -159,8 +162,8 @@ impl<A: Allocator + Copy> Claims<A> {
         }
     }
 
-    /// Joins the passes: one seat that stands for all of them, or `None` where there are no passes.
-    fn gather(&self, mut passes: Vec<Pass, A>) -> Option<Seat<(), Hand>>
+    /// Joins the passes: one seat that stands for all of them, or `None` if there are no passes.
+    fn gather(&self, mut passes: Vec<Pass, A>) -> Option<Seat<(), View>>
         requires { All (IsOwned self.now) passes.items }
         ensures none { IfNone result (passes.items ≡ []) }
         ensures table { IfSome result (λ s. s.table_id ≡ self.now.name) }
@@ -178,11 +181,10 @@ impl<A: Allocator + Copy> Claims<A> {
         Some(all)
     }
 
-    /// Closes the claims with a seat of their table, and answers the last value of the word: the seat's numbers are below
-    /// it.
-    fn word_with(self, seat: Seat<(), Hand>) -> u64
+    /// Closes the claims with a seat of their table, and returns the last value of the word. The seat's numbers are below it.
+    fn word_with(self, seat: Seat<(), View>) -> u64
         requires { seat.table_id ≡ self.name }
-        ensures machine { HasReached self seat.me.0 result }
+        ensures machine { HasReached self (hand_of seat.me.0) result }
         ensures once { (x : ℕ) → times x seat.me.0.found ≤ once_below x result }
         ensures count { length seat.me.0.found ≤ result }
         ensures most { result ≤ self.stripes + self.passes }
@@ -196,7 +198,7 @@ impl<A: Allocator + Copy> Claims<A> {
         word
     }
 
-    /// Closes the claims without a seat, and answers the last value of the word.
+    /// Closes the claims without a seat, and returns the last value of the word.
     fn word(self) -> u64
         ensures machine { HasGathered self [] result }
         ensures most { result ≤ self.stripes + self.passes }
@@ -212,7 +214,7 @@ impl<A: Allocator + Copy> Claims<A> {
 
 impl Pass {
     /// Its seat.
-    fn into_seat(self) -> Seat<(), Hand>
+    fn into_seat(self) -> Seat<(), View>
         ensures seat { (result.table_id ≡ self.owner) × (result.me.1 ≡ []) }
         ensures hand { (result.me.0.stands_for ≡ 1) × (result.me.0.found ≡ self.found) }
     {

@@ -1,4 +1,4 @@
-//! Gives stripes out to several threads, each stripe once, without a lock.
+//! Stripes that several threads draw, without a lock: none is drawn twice, and each is drawn once all passes have ended.
 //!
 //! ```text
 //! let (claims, passes) = Claims::open(alloc, stripes, workers)?;

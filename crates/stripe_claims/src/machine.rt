@@ -10,29 +10,35 @@ pub(crate) struct Plan {
     pub(crate) passes: u64,
 }
 
-/// A hand: the number of passes for which a seat of the table stands, and the numbers that they found. It is what proofs
-/// know of a seat; no value of this type is ever made.
+/// A hand: a number of passes, and the numbers that they found. No value of this type is ever made.
 pub(crate) struct Hand {
     pub(crate) stands_for: u64,
     pub(crate) found: LinkedList<u64>,
 }
 
-/// The rule: the word and all hands together are a state of the machine (a `Moment`) that its steps can reach.
+/// What proofs know of a seat of the table: the plan of its claims, and its hand. No value of this type is ever made.
+pub(crate) struct View {
+    pub(crate) plan: Plan,
+    pub(crate) stands_for: u64,
+    pub(crate) found: LinkedList<u64>,
+}
+
+/// The rule: the word and the hands of all seats together are a state of the machine (a `Moment`) that its steps can reach.
 pub(crate) struct Machine;
 
-impl TableRule<(), Hand, Plan> for Machine {
+impl TableRule<(), View, Plan> for Machine {
     ghost use Rattle.std.specs.Prelude.{[]};
-    ghost use Rattle.stripe_claims.specs.Machine.{IsKept, hand};
+    ghost use Rattle.stripe_claims.specs.Machine.{IsKept, hand, view};
 
     ghost holds = { IsKept };
 
-    ghost first = { λ plan. hand plan.passes [] };
+    ghost first = { λ plan. view plan (hand plan.passes []) };
 }
 
 /// One pass draws: it finds the word, which grows by 1.
 pub(crate) struct Draws;
 
-impl Play<(), Hand> for Draws {
+impl Play<(), View> for Draws {
     ghost use Rattle.stripe_claims.specs.Machine.{Appends};
 
     ghost then = { Appends };
@@ -41,7 +47,7 @@ impl Play<(), Hand> for Draws {
 /// One pass is cut off a hand that has found nothing.
 pub(crate) struct Cuts;
 
-impl Split<Hand> for Cuts {
+impl Split<View> for Cuts {
     ghost use Rattle.stripe_claims.specs.Machine.{one_less, new_pass};
 
     ghost left = { one_less };
@@ -52,10 +58,10 @@ impl Split<Hand> for Cuts {
 /// One hand takes over all of another.
 pub(crate) struct Joins;
 
-impl Join<Hand> for Joins {
-    ghost use Rattle.stripe_claims.specs.Machine.{both_hands, nobody};
+impl Join<View> for Joins {
+    ghost use Rattle.stripe_claims.specs.Machine.{both_views, spent_view};
 
-    ghost both = { both_hands };
+    ghost both = { both_views };
 
-    ghost spent = { nobody };
+    ghost spent = { spent_view };
 }

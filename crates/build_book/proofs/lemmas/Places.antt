@@ -93,7 +93,7 @@ pub one_at_most : (v : Option Layer) → one_if_free v ≤ 1
 one_at_most None = omega arith
 one_at_most (Some x) = omega arith
 
--- where the places were free, the layers stand in them
+-- if the places were free, the layers are in them
 filled-is : (f n : ℕ) (ys : List Layer) (ps : List (Option Layer)) → n ≡ f + length ys → n ≤ length ps
     → ((k : ℕ) → f ≤ k → k < n → slice_get ps k ≡ Some None)
     → with_layers f ys ps ≡ take f ps ++ map Some ys ++ drop n ps
@@ -202,7 +202,7 @@ kept_lawful job at (p ∷ ps) lawful taken =
     p ps (taken zero (omega arith))
     (subst (λ j. IsLawfulPlace job j p) (omega arith) (lawful zero p refl))
 
--- of a lawful book all of whose places are taken the layers are complete
+-- if all places of a lawful book are taken, its layers are complete
 pub all_complete : (job : Job) (ps : List (Option Layer)) → IsLawfulBook (record { job = job; places = ps })
     → ((k : ℕ) → k < length ps → IsTaken ps k) → IsComplete job (flat_map option_to_list ps)
 unfolding AreLawfulPlaces
@@ -218,7 +218,7 @@ all_counted (p ∷ ps) taken =
     simp sum_by-cons
     (by_layer (λ q. cond (is_some q) 1 0 + filed_count ps ≡ suc (length ps)) (λ x. omega (arith, rest)) p ps (taken zero (omega arith)))
 
--- what a read of a place tells
+-- what a read of a place says
 
 pub taken_at : (ps : List (Option Layer)) (n : ℕ) (v : Option Layer) → n < length ps → v ≡ get_or ps n v → is_some v ≡ true → IsTaken ps n
 taken_at [] n v low read some = absurd (omega (arith, low))
@@ -246,7 +246,7 @@ one_further P first k all last n from below = by_order (leb_tells (suc n) k)
     by_order (inl x) = all n from x.1
     by_order (inr x) = let same : k ≡ n = omega (arith, x.1, below) in subst P same last
 
--- where the places from `first` up to `at` are free, none of them is a taken one
+-- if the places from `first` up to `at` are free, none of them is a taken one
 pub none_before : (ps : List (Option Layer)) (first at k : ℕ) → ((n : ℕ) → first ≤ n → n < at → slice_get ps n ≡ Some None)
     → first ≤ k → IsTaken ps k → at ≤ k
 none_before ps first at k free from taken = by_order (leb_tells at k)
@@ -299,7 +299,7 @@ stripe_free : (job : Job) (s first end : ℕ) (ys : List Layer) (ps qs : List (O
 stripe_free job s first end ys ps qs stripe at last same free k low high =
     subst (λ l. slice_get l k ≡ Some None) same (free k (omega (arith, low, at)) (omega (arith, high, last, stripe.whole)))
 
--- where a stripe's places were free, its layers stand in them
+-- if a stripe's places were free, its layers are in them
 pub stripe_filed : (job : Job) (s first end : ℕ) (ys zs : List Layer) (ps qs new : List (Option Layer))
     → IsLawfulBook (record { job = job; places = ps }) → IsStripe job s ys → first ≡ STRIPE_LAYERS * s → end ≡ STRIPE_LAYERS * s + stripe_length job.grid s
     → new ≡ with_layers first ys ps → AreFree ps first end → ys ≡ zs → ps ≡ qs

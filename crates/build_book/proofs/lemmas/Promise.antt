@@ -39,7 +39,7 @@ cycle-closed : (list loop : List Segment) → IsCycle list loop → IsClosed loo
 cycle-closed list [] h = h
 cycle-closed list (s ∷ rest) h = ends_at list s (s ∷ rest) h
 
-cycles-closed : (list : List Segment) (found : List (List Segment)) → AllByRecursion (IsCycle list) found → AllByRecursion IsClosed found
+pub cycles-closed : (list : List Segment) (found : List (List Segment)) → AllByRecursion (IsCycle list) found → AllByRecursion IsClosed found
 cycles-closed list [] h = tt
 cycles-closed list (loop ∷ found) h = (cycle-closed list loop h.0, cycles-closed list found h.1)
 

@@ -1,4 +1,4 @@
--- For any set of pixels of a grid there are spans that cover just these. They are built from the last row to the first,
+-- For any set of pixels of a grid there are spans that cover exactly these. They are built from the last row to the first,
 -- each row from the right.
 use Rattle.std.proofs.Common.{◌≡◌, ℕ, zero, suc, ◌+◌, ◌<◌, ◌≤◌, ◌⊎◌, inl, inr, Bool, true, false, ◌&&◌, ◌||◌, List, [], ◌∷◌, refl, sym, ◌∙◌, ap, subst, arith}
 use Rattle.std.specs.Prelude.{nat_lt, nat_le, ◌==◌}

@@ -1,4 +1,4 @@
--- Worked examples: loops of a box, alone and with a facet that stands twice, of an octahedron and of two boxes; a rising
+-- Worked examples: loops of a box, alone and with a facet that occurs twice, of an octahedron and of two boxes; a rising
 -- plane through two boxes.
 use Rattle.std.proofs.Common.{◌≡◌, ℕ, List, [], ◌∷◌, refl, map, length}
 use Rattle.std.specs.Prelude.{pos}

@@ -161,8 +161,8 @@ ends-run c d h = by_way (or_cases (runs d.from d.to c) (runs d.to d.from c) h)
     by_way (inl h) = let e = runs-is d.from d.to c h in inl (ap (λ (x : Edge). x.from) e, ap (λ (x : Edge). x.to) e)
     by_way (inr h) = let e = runs-is d.to d.from c h in inr (ap (λ (x : Edge). x.from) e, ap (λ (x : Edge). x.to) e)
 
--- of the edges of a direction, those with the ends of d: as many as run its way, if that has the direction, and as many as
--- run back, if back has it
+-- The edges of a direction that have the ends of d. If d has the direction, their number is that of the edges along d. If the
+-- edge back has it, their number is that of the edges back.
 module _ (q : Edge → Bool) (d : Edge) (one_way : q d ≡ true → q (edge d.to d.from) ≡ true → ⊥) where
   abbrev ahead : List Edge → ℕ
   ahead es = cond (q d) (count_by (runs d.from d.to) es) 0 + cond (q (edge d.to d.from)) (count_by (runs d.to d.from) es) 0

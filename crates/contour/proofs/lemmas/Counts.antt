@@ -1,4 +1,4 @@
--- How often a number stands in a list, and ascending lists: these have the same numbers as often only where they are equal.
+-- How often a number is in a list. Two ascending lists with the same numbers, each as often, are equal.
 use Rattle.std.proofs.Common.{◌≡◌, ℕ, zero, suc, ◌+◌, ◌<◌, ◌≤◌, Bool, true, false, cond, eqb, List, [], ◌∷◌, ◌++◌, refl, sym, ◌∙◌, ap, length, take, drop, get_or, arith, one-add}
 use Rattle.std.proofs.lemmas.List.{take-append-drop}
 use Rattle.std.specs.Prelude.{count_by, filter, IsPermutation, nat_lt, ◌==◌}

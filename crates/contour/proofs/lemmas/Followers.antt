@@ -95,7 +95,7 @@ times_past e i j xs l m h =
     let up = times_up e (i + 1) j xs (omega (arith, l)) in omega (arith, more, up)
 
 module _ (facets : List Facet) (numbers : List (List ℕ)) (count : ℕ) (numbered : AreEdgeNumbers facets numbers count) (z : ℤ) where
-  -- two nodes of edges are one where the edges have one number
+  -- two nodes of edges are one if the edges have one number
   same_numbers : (n k m j : ℕ) → n < length facets → k < 3 → m < length facets → j < 3
       → is_node (node_at facets n k) (node_at facets m j)
       ≡ eqb (edge_of_facet facets numbers n (node_at facets n k)) (edge_of_facet facets numbers m (node_at facets m j))

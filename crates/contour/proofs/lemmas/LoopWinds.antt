@@ -60,7 +60,7 @@ at_node list s t e =
     (All-from_recursion (λ u. is_node u.from s.to ≡ true) (filter (λ u. is_node u.from s.to) list) (kept_pass (λ u. is_node u.from s.to) list)
     (rank_at_end list s) t (slice_get_within (filter (λ u. is_node u.from s.to) list) (rank_at_end list s) t e))
 
--- ---- amounts that are opposite where an edge is taken back, and nothing where it is not cut
+-- ---- amounts that are opposite if an edge is taken back, and nothing if it is not cut
 module _ (facets : List Facet) (z : ℤ) (amount : Point → Point → ℤ) (opposite : IsOpposite amount)
     (level : (u v : Point) → low_at z u ≡ low_at z v → amount u v ≡ pos 0) where
   abbrev down_of : Segment → ℤ

@@ -8,6 +8,7 @@ use Rattle.std.proofs.lemmas.List.FromFn.{get_or-range_with_len, length-range_wi
 use Rattle.geometry.specs.Facet.{Facet}
 use Rattle.mesh_weld.specs.Balance.{IsBalanced}
 use Rattle.mesh_weld.specs.EdgeNumbers.{AreEdgeNumbers}
+use Rattle.mesh_weld.proofs.lemmas.SomeNumbers.{some_edge_numbers}
 use Rattle.plane_segments.specs.declared.segment.Segment.{Segment}
 use Rattle.plane_segments.specs.Segment.{segments}
 use Rattle.contour.specs.Loops.{AreLoops, loops, parts_from}
@@ -120,3 +121,9 @@ module _ (facets : List Facet) (numbers : List (List ℕ)) (count : ℕ) (number
       let these : (found : List (List Segment)) × AreLoops (segments facets z) found =
       found (segments facets z) next links (segments_rise facets (segments facets z) (z, refl)) in
       subst (AreLoops (segments facets z)) (loops-are facets (segments facets z) (z, refl) these.0 these.1) these.1
+
+-- so those of every closed mesh close, since its edges can be numbered
+pub closed_loops : (facets : List Facet) → IsBalanced facets → (z : ℤ) → AreLoops (segments facets z) (loops (segments facets z))
+closed_loops facets balanced z =
+    let n : (numbers : List (List ℕ)) × (count : ℕ) × AreEdgeNumbers facets numbers count = some_edge_numbers facets in
+    loops_close facets n.0 n.1 n.2 balanced z

@@ -109,7 +109,7 @@ parts-whole ends xs h = parts-all 0 ends xs (let same : length xs ≡ length xs 
 
 -- ---- the last part ends with the list, so its end may be left out
 
--- a part begins and ends where it does once the list's end is added
+-- a part begins and ends where it does after the list's end is added
 start_of-cut : (at count : ℕ) (ends tail : List ℕ) (k : ℕ) → k < count → k ≤ length ends
     → start_of at (take count (ends ++ tail)) k ≡ start_of at ends k
 start_of-cut at zero ends tail k l m = absurd (omega (arith, l))
@@ -203,7 +203,7 @@ cut_by : {X : Type 0} (parts : List (List X)) (flat : List X) (all ends : List �
 cut_by parts flat all ends count few e h is =
     record { few = few; ends_are = subst (λ es. AreEnds 0 es (length flat)) e h; is = ap (λ es. parts_from 0 es flat) (sym e) ∙ is }
 
--- with all ends at hand
+-- if all ends are given
 pub cut-by-all : {X : Type 0} (parts : List (List X)) (flat xs : List X) (ends all : List ℕ) → flat ≡ xs → ends ≡ all
     → AreEnds 0 all (length xs) → parts_from 0 all xs ≡ parts → IsCutInto parts flat ends (length ends)
 cut-by-all parts flat xs ends all e f h is =
@@ -232,7 +232,7 @@ cut-by-inner parts flat all ends inner count e f h is k =
     (cut_by parts all (all_ends inner (length all)) inner count (omega (arith, counted, few)) (inner_cut inner (length all) count counted)
     (inner-are inner (length all) h) is))
 
--- the last end given up: where no part is empty, the others tell all
+-- without the last end: if no part is empty, the others say all
 last_off : (at m n : ℕ) (ends : List ℕ) → m + 1 ≡ length ends → AreEnds at ends n → ends ≡ take m ends ++ n ∷ []
 last_off at m n [] e h = absurd (omega (arith, e))
 last_off at zero n (x ∷ []) e h = ap (λ y. y ∷ []) h.1

@@ -44,7 +44,7 @@ picked-none facets z xs i old new l e same before =
     ∙ ap (λ o. filter_map (numbered_segment facets z) (take i xs) ++ cons_option o []) (sym e)
     ∙ append-nil (filter_map (numbered_segment facets z) (take i xs)))
 
--- ---- facets in order of their least heights: a loop over them, where `height` is the value of the machine word that holds z
+-- ---- facets in order of their least heights: a loop over them; `height` is the value of the machine word that holds z
 pub starts_by-ends : (facets : List Facet) (z height : ℤ) (xs : List ℕ) (i : ℕ) → height ≡ z → i < length xs → starts_by facets height (get_or xs i 0) ≡ false
     → i + prefix_len (starts_by facets height) (drop i xs) ≡ prefix_len (starts_by facets height) xs → i ≡ prefix_len (starts_by facets z) xs
 starts_by-ends facets z height xs i same l e before =

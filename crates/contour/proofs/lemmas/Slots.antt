@@ -27,7 +27,7 @@ length-slots n e (x ∷ xs) = by_test (length-slots (n + 1) e xs) (cases_eq x e)
         let more : suc (length (slots (n + 1) e xs)) ≡ times e (x ∷ xs) = omega (arith, rest, count) in more)
     by_test rest (inr h) = ap length (slots-other n x e xs h) ∙ rest ∙ sym (times-other e x xs (ne_eqb x e h))
 
--- where the k-th of the slots stands, and what comes behind it
+-- the position of the k-th of the slots, and what comes after it
 pub record AtSlot (n e : ℕ) (xs found : List ℕ) (k : ℕ) : Type 0 where
   pub at : ℕ
   pub within : at < length xs

@@ -161,7 +161,7 @@ trace-ends list next first visited flat ends g l = record {
       let b : count_of n (unvisited visited list) ≡ 0 = ap (count_of n) (unvisited-all visited list g.size (λ j m. g.earlier j (omega (arith, m, l)))) in omega (arith, a, b));
 }
 
--- no loop is empty, so that the ends of all but the last one tell its end too
+-- no loop is empty, so the ends of all but the last one give its end too
 pub trace-others : (list : List Segment) (next : List ℕ) (first : ℕ) (visited : List Bool) (flat : List Segment) (ends inner : List ℕ) (m : ℕ)
     → AreTraced list next first visited flat ends → inner ≡ take m ends → m ≡ length ends - 1 → AreOthers ends inner (length flat)
 trace-others list next first visited flat ends inner m g told e =

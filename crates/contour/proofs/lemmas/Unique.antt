@@ -150,7 +150,7 @@ all-has p [] s h k = absurd k
 all-has p (x ∷ xs) s h (inl e) = ap p e ∙ (and_parts (p x) (list_all p xs) h).0
 all-has p (x ∷ xs) s h (inr k) = all-has p xs s (and_parts (p x) (list_all p xs) h).1 k
 
--- ---- what closes stands in the list
+-- ---- what closes is in the list
 get-has : (xs : List Segment) (k : ℕ) (t : Segment) → slice_get xs k ≡ Some t → Has t xs
 get-has [] k t e = absurd (cc)
 get-has (x ∷ xs) zero t e = inl (cc)

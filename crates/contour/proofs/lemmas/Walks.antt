@@ -1,4 +1,5 @@
--- Walking along a loop, as `trace_loop` does: from follower to follower, past segments that are not visited, until the first comes again.
+-- Walking along a loop, as `trace_loop` does: from follower to follower, past segments that are not visited, until the first
+-- comes again.
 use Rattle.std.proofs.Common.{◌≡◌, ℕ, zero, suc, ◌+◌, ◌<◌, ◌≤◌, Bool, true, false, cond, eqb, ◌&&◌, List, [], ◌∷◌, ◌++◌, ◌⊎◌, inl, inr, refl, sym, ◌∙◌, ap, subst, length, get_or, set, arith, Some, get_or-set_same, get_or-set_other}
 use Rattle.std.specs.Prelude.{nat_le, ◌==◌}
 use Rattle.std.specs.List.{list_all}
@@ -51,7 +52,7 @@ unvisited-pass n (false ∷ visited) (x ∷ list) (suc at) e l h =
     let b = count_by-cons (λ (s : Segment). s.facet == n) x (unvisited visited list) in
     omega (arith, rest, a, b)
 
--- where a walk stands: at its first slot, with no segment passed, or at the follower of the slot `prev`
+-- the position of a walk: at its first slot, with no segment passed, or at the follower of the slot `prev`
 abbrev Way : List Segment → List ℕ → ℕ → List Bool → ℕ → List Segment → Type 0
 Way list next first visited at part =
     ((at ≡ first) × (part ≡ []) × (is_visited visited at ≡ false))

@@ -1,4 +1,5 @@
--- A facet's winding has the sign of its normal's x part, and tells on which side of a point the line along x meets the facet's plane.
+-- A facet's winding has the sign of its normal's x part. It says on which side of a point the line along x meets the facet's
+-- plane.
 use Rattle.std.proofs.Common.{◌≡◌, ℕ, zero, suc, ◌⊎◌, ◌↔◌, [], ◌∷◌, ℤ, pos, negsuc, ◌+ℤ◌, ◌-ℤ◌, ◌*ℤ◌, neg_ℤ, ◌≤ℤ◌, ◌<ℤ◌, refl, sym, ◌∙◌, ap, subst, arith, inl, inr}
 use Rattle.std.proofs.lemmas.Int.{ints}
 use Rattle.exact_int.proofs.lemmas.Identity.{reads, identity}
@@ -58,7 +59,7 @@ signed_sum w up down d1 d2 p1 p2 (winds_not e) = inl e
 pub span_positive : (u v : Point) (z : ℤ) → Rises u v z → pos 0 <ℤ cut_d u v
 span_positive u v z h = let a = h.low in let b = h.high in omega (arith, ints)
 
--- where the wind is not 0, its product with the denominator is above 0
+-- if the wind is not 0, its product with the denominator is above 0
 wind-den : (t : Facet) (r s p q : Point) (y z : ℤ) → Passes t r s p q z → (wind t y z ≡ pos 0) ⊎ (pos 0 <ℤ (wind t y z *ℤ den_of r s p q z))
 wind-den t r s p q y z h =
     subst (λ d. (wind t y z ≡ pos 0) ⊎ (pos 0 <ℤ (wind t y z *ℤ d))) (sym (den-left r s p q y z))
@@ -67,7 +68,7 @@ wind-den t r s p q y z h =
 turned : (w h n : ℤ) → w *ℤ (h *ℤ n) ≡ h *ℤ (w *ℤ n)
 turned w h n = identity (w ∷ h ∷ n ∷ []) (search reads depth 40) refl
 
--- where the wind is not 0, its product with the normal's x part is above 0, and the lone corner is not at the height z
+-- if the wind is not 0, its product with the normal's x part is above 0, and the lone corner is not at the height z
 wind-normal : (t : Facet) (r s p q : Point) (y z : ℤ) → (h : Passes t r s p q z) → (wind t y z ≡ pos 0) ⊎ ((pos 0 <ℤ (wind t y z *ℤ normal_x t)) × (pos 0 <ℤ h.height))
 wind-normal t r s p q y z h = by (wind-den t r s p q y z h)
   where
@@ -104,7 +105,7 @@ pub wind-above : (t : Facet) (y z : ℤ) → IsAbove t.a.z z → IsAbove t.b.z z
 unfolding wind
 wind-above t y z a b c = three_zeros (turn t.a t.b y z) (turn t.b t.c y z) (turn t.c t.a y z) (turn_of-above t.a.z t.b.z z _ a b) (turn_of-above t.b.z t.c.z z _ b c) (turn_of-above t.c.z t.a.z z _ c a)
 
--- ---- wind is -1, 0 or 1; where it is not 0, its product with the normal's x part is above 0
+-- ---- wind is -1, 0 or 1; if it is not 0, its product with the normal's x part is above 0
 case_unit : (w up down : ℤ) → WindCase w up down → (w ≡ pos 0) ⊎ (w ≡ pos 1) ⊎ (w ≡ negsuc 0)
 case_unit w up down (winds_up e a b) = inr (inl e)
 case_unit w up down (winds_down e a b) = inr (inr e)
@@ -127,7 +128,7 @@ wind_values t y z = by (sides t z)
     by (between d u h k) = wind-winding t (finish t d) (start t d) (start t u) (finish t u) y z (passes t z d u h k)
 
 -- ---- ahead
--- 0 < k * v and 0 < l * d, where k and l are above 0 and k * v ≡ l * d, hold together
+-- 0 < k * v and 0 < l * d hold together, if k and l are above 0 and k * v ≡ l * d
 together : (k l v d : ℤ) → pos 0 <ℤ k → pos 0 <ℤ l → k *ℤ v ≡ l *ℤ d → pos 0 <ℤ v → pos 0 <ℤ d
 together k l v d hk hl e hv = right_of_positive l d (omega (arith, ints)) (subst (λ z. pos 0 <ℤ z) e (mul_positive k v hk hv))
 
@@ -181,7 +182,7 @@ meets-negated t num den y z h = record {
   in_plane = negated (normal_x t) (normal_y t) (normal_z t) num den t.a.x (y -ℤ t.a.y) (z -ℤ t.a.z) ∙ ap neg_ℤ h.in_plane;
 }
 
--- where the wind is not 0, the plane meets the line through (x, y, z) along x ahead of x exactly where wind * volume is above 0
+-- if the wind is not 0, the plane meets the line through (x, y, z) along x ahead of x exactly if wind * volume is above 0
 pub ahead : (t : Facet) (num den x y z : ℤ) → Winding t (wind t y z) → pos 0 <ℤ den → Meets t num den y z → ((x *ℤ den) <ℤ num) ↔ (pos 0 <ℤ (wind t y z *ℤ volume t (record { x = x; y = y; z = z })))
 ahead t num den x y z h p m = (λ k. together n den (num -ℤ x *ℤ den) (w *ℤ v) h.normal p e (difference_from_lt (x *ℤ den) num k), λ k. lt_from_difference (x *ℤ den) num (together den n (w *ℤ v) (num -ℤ x *ℤ den) p h.normal (sym e) k))
   where
@@ -323,7 +324,7 @@ start_among t P zero h = inl h
 start_among t P (suc zero) h = inr (inl h)
 start_among t P (suc (suc n)) h = inr (inr h)
 
--- where no edge passes the height
+-- if no edge passes the height
 pub wind-outside : (t : Facet) (y z : ℤ) → (IsBetween t z → ⊥) → wind t y z ≡ pos 0
 wind-outside t y z n = by (sides t z)
   where

@@ -10,7 +10,7 @@ use Rattle.exact_cut.specs.Column.{IsLeastColumn, clamp}
 abbrev IsCeiling : ℤ → ℤ → ℤ → ℤ → ℤ → Type 0
 IsCeiling i num den first step = IsCeilDiv i (num -ℤ first *ℤ den) (pos 2 *ℤ step *ℤ den)
 
--- centre k is not left of the crossing exactly where i is at most k
+-- centre k is not left of the crossing exactly if i is at most k
 moved : (first step k den : ℤ) → (first +ℤ pos 2 *ℤ step *ℤ k) *ℤ den ≡ first *ℤ den +ℤ k *ℤ (pos 2 *ℤ step *ℤ den)
 moved first step k den = identity (first ∷ step ∷ k ∷ den ∷ []) (search reads depth 40) refl
 

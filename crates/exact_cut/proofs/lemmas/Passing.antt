@@ -9,7 +9,7 @@ use Rattle.exact_cut.specs.Cut.{start, finish, Rises, IsBetween, IsCut}
 pub rises : (u v : Point) (z : ℤ) → IsBelow u.z z → IsAbove v.z z → Rises u v z
 rises u v z h k = record { low = h; high = k }
 
--- the tie rule's answer for a corner, where the code's plane z' is z
+-- the tie rule's result for a corner, if the code's plane z' is z
 pub below_by : {height z' z : ℤ} → z' ≡ z → IsTrue true ↔ IsBelow height z' → IsBelow height z
 below_by {height} e h = subst (IsBelow height) e (h.0 refl)
 

@@ -1,4 +1,5 @@
--- How the segment from (xd, yd) to (xu, yu) passes the half lines from the origin along x and along y, by the quadrants of its ends.
+-- How the segment from (xd, yd) to (xu, yu) passes the half lines from the origin along x and along y, by the quadrants of its
+-- ends.
 use Rattle.std.proofs.Common.{◌≡◌, [], ◌∷◌, ℤ, pos, negsuc, ◌+ℤ◌, ◌-ℤ◌, ◌*ℤ◌, neg_ℤ, ◌≤ℤ◌, ◌<ℤ◌, int_lt, if◌then◌else◌, refl, sym, ◌∙◌, ap, subst, arith}
 use Rattle.std.proofs.lemmas.Int.{ints}
 use lib.IntN.{*ℤ_comm}
@@ -21,7 +22,7 @@ pub data SameSign (k v : ℤ) : Type 0 where
   both_zero : k ≡ pos 0 → v ≡ pos 0 → SameSign k v
   both_below : k <ℤ pos 0 → v <ℤ pos 0 → SameSign k v
 
--- the winding w where it and the volume v say that the facet is ahead, else 0
+-- the winding w if it and the volume v say that the facet is ahead, else 0
 abbrev pub ahead_only : ℤ → ℤ → ℤ
 ahead_only w v = if int_lt (pos 0) (w *ℤ v) then w else pos 0
 
@@ -116,7 +117,7 @@ module _ (xu yu xd yd tu td su sd w wy v : ℤ) (w_is : w ≡ tu +ℤ td) (wy_is
   abbrev Claim : Type 0
   Claim = ahead_only w v -ℤ ahead_only wy v ≡ where_not_zero tu su +ℤ where_not_zero td sd
 
-  -- where neither ray is passed
+  -- if neither ray is passed
   pub quadrants-flat : w ≡ pos 0 → wy ≡ pos 0 → UpTurn tu yu → DownTurn td yd → UpTurn su xu → DownTurn sd xd → Claim
   quadrants-flat z1 z2 (up_yes e1 h1) (down_yes e2 h2) (up_yes e3 h3) (down_yes e4 h4) = collect (ahead_only w v) (ahead_only wy v) (where_not_zero tu su) (where_not_zero td sd) (pos 0) (pos 0) (pos 1) (negsuc 0) (taken_none w v z1) (taken_none wy v z2) (λ i. where_not_zero (e1 i) (e3 i)) (λ i. where_not_zero (e2 i) (e4 i)) refl
   quadrants-flat z1 z2 (up_yes e1 h1) (down_yes e2 h2) (up_yes e3 h3) (down_no e4 h4) = absurd (let z = sym (sum_neg wy su sd (pos 1) (pos 0) (negsuc 0) wy_is e3 e4 refl) ∙ z2 in omega (arith, ints))
@@ -135,7 +136,7 @@ module _ (xu yu xd yd tu td su sd w wy v : ℤ) (w_is : w ≡ tu +ℤ td) (wy_is
   quadrants-flat z1 z2 (up_no e1 h1) (down_no e2 h2) (up_no e3 h3) (down_yes e4 h4) = absurd (let z = sym (sum_neg wy su sd (pos 0) (negsuc 0) (pos 1) wy_is e3 e4 refl) ∙ z2 in omega (arith, ints))
   quadrants-flat z1 z2 (up_no e1 h1) (down_no e2 h2) (up_no e3 h3) (down_no e4 h4) = collect (ahead_only w v) (ahead_only wy v) (where_not_zero tu su) (where_not_zero td sd) (pos 0) (pos 0) (pos 0) (pos 0) (taken_none w v z1) (taken_none wy v z2) (λ i. where_not_zero (e1 i) (e3 i)) (λ i. where_not_zero (e2 i) (e4 i)) refl
 
-  -- where v has the sign of the cross product of the two cut points, and the step does not pass the origin
+  -- if v has the sign of the cross product of the two cut points, and the step does not pass the origin
   pub quadrants : SameSign (xd *ℤ yu -ℤ yd *ℤ xu) v
       → (xd *ℤ yu -ℤ yd *ℤ xu ≡ pos 0 → xd ≤ℤ pos 0 → yd ≤ℤ pos 0 → pos 0 <ℤ xu → pos 0 <ℤ yu → ⊥)
       → (xd *ℤ yu -ℤ yd *ℤ xu ≡ pos 0 → xu ≤ℤ pos 0 → yu ≤ℤ pos 0 → pos 0 <ℤ xd → pos 0 <ℤ yd → ⊥)

@@ -1,4 +1,4 @@
--- The rays along x and along y from one point: for a facet that does not touch the point, their hits differ by a sum over its edges.
+-- The rays along x and along y from one point. If a facet does not touch the point, their hits differ by a sum over its edges.
 use Rattle.std.proofs.Common.{◌≡◌, ◌⊎◌, inl, inr, zero, suc, [], ◌∷◌, ℤ, pos, negsuc, ◌+ℤ◌, ◌-ℤ◌, ◌*ℤ◌, neg_ℤ, ◌≤ℤ◌, ◌<ℤ◌, refl, sym, ◌∙◌, ap, subst, arith}
 use Rattle.std.proofs.lemmas.Int.{ints}
 use Rattle.exact_int.proofs.lemmas.Identity.{reads, identity}
@@ -56,7 +56,7 @@ corner-quiet p = record {
   above = λ u v h k. zero_where (turn u v p.y p.z) (turn_x u v p.x p.z) (turn_of-above u.z v.z p.z _ h k);
 }
 
--- ---- where both cut points are one, neither ray is passed
+-- ---- if both cut points are one, neither ray is passed
 same_turns : (d1 d2 u d : ℤ) (tu td : ℤ) → pos 0 <ℤ d1 → pos 0 <ℤ d2 → d1 *ℤ u ≡ d2 *ℤ d → UpTurn tu u → DownTurn td d → tu +ℤ td ≡ pos 0
 same_turns d1 d2 u d tu td h1 h2 e (up_yes f a) (down_yes g b) = (λ i. f i +ℤ g i)
 same_turns d1 d2 u d tu td h1 h2 e (up_no f a) (down_no g b) = (λ i. f i +ℤ g i)
@@ -117,7 +117,7 @@ pub record Apart (r s p q : Point) (x y z : ℤ) : Type 0 where
   pub second : (cut_x r s z -ℤ x *ℤ cut_d r s) *ℤ (cut_y p q z -ℤ y *ℤ cut_d p q) -ℤ (cut_y r s z -ℤ y *ℤ cut_d r s) *ℤ (cut_x p q z -ℤ x *ℤ cut_d p q) ≡ pos 0
       → (cut_x p q z -ℤ x *ℤ cut_d p q) ≤ℤ pos 0 → (cut_y p q z -ℤ y *ℤ cut_d p q) ≤ℤ pos 0 → pos 0 <ℤ (cut_x r s z -ℤ x *ℤ cut_d r s) → pos 0 <ℤ (cut_y r s z -ℤ y *ℤ cut_d r s) → ⊥
 
--- where the facet passes the height of the point
+-- if the facet passes the height of the point
 pub hits-differ : (t : Facet) (c : Point) (r s p q : Point) → Passes t r s p q c.z → Apart r s p q c.x c.y c.z
     → hit t c -ℤ hit_y t c ≡ corner_turn c t.a t.b +ℤ corner_turn c t.b t.c +ℤ corner_turn c t.c t.a
 hits-differ t c r s p q h apart =

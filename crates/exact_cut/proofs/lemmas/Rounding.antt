@@ -72,7 +72,7 @@ at_most num den m n h a b =
     by : (m n : ℤ) → (pos 2 *ℤ m -ℤ pos 1) <ℤ (pos 2 *ℤ n +ℤ pos 1) → m ≤ℤ n
     by m n h = omega (arith, ints, h)
 
--- just this number is nearest
+-- exactly this number is nearest
 pub nearest-is : (num den n : ℤ) → pos 0 <ℤ den → IsNearest num den n ↔ (n ≡ nearest num den)
 nearest-is num den n h = (
   λ a. antisym n (nearest num den) (at_most num den n (nearest num den) h a near) (at_most num den (nearest num den) n h near a),

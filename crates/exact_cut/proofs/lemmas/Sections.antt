@@ -1,4 +1,4 @@
--- Where a facet is crossed, from the ends of its section.
+-- The crossing of a facet, from the ends of its section.
 use Rattle.std.proofs.Common.{◌≡◌, ◌⊎◌, ◌↔◌, [], ◌∷◌, Bool, true, false, ℤ, pos, negsuc, ◌*ℤ◌, neg_ℤ, ◌≤ℤ◌, ◌<ℤ◌, IsTrue, refl, sym, ◌∙◌, subst, inl, inr, arith}
 use Rattle.std.proofs.lemmas.Int.{ints}
 use mathlib.Core.Bool.{beq}
@@ -106,6 +106,6 @@ crossed {t} {y} {z} c e = by_unit (wind t y z) c.winding.unit e
     by_unit w (inl f) e = omega (arith, ints)
     by_unit w (inr f) e = omega (arith, ints)
 
--- where no edge passes the height
+-- if no edge passes the height
 pub unpassed : (t : Facet) (z : ℤ) → (IsBetween t z → ⊥) → (y : ℤ) → wind t y z ≡ pos 0
 unpassed t z n y = wind-outside t y z n

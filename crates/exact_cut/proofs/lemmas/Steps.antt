@@ -1,4 +1,5 @@
--- Where no point of a facet lies between two points of a line along x, or along y, the rays along it from both hit the facet alike.
+-- Two points of a line along x, or along y. If no point of a facet lies between them, the rays along it from both hit the facet
+-- alike.
 use Rattle.std.proofs.Common.{◌+◌, ◌≡◌, ◌⊎◌, inl, inr, ℕ, [], ◌∷◌, ℤ, pos, negsuc, ◌+ℤ◌, ◌-ℤ◌, ◌*ℤ◌, neg_ℤ, ◌≤ℤ◌, ◌<ℤ◌, refl, sym, ◌∙◌, ap, subst, arith}
 use Rattle.std.proofs.lemmas.Int.{ints}
 use lib.IntN.{+ℤ_comm}
@@ -188,7 +189,7 @@ between-flip t p q b = record {
   mean_z = flipped b.of_p b.of_q (pos b.of_a *ℤ t.a.z +ℤ pos b.of_b *ℤ t.b.z +ℤ pos b.of_c *ℤ t.c.z) (pos (b.of_a + b.of_b + b.of_c)) (pos b.of_p *ℤ p.z) (pos b.of_q *ℤ q.z) b.mean_z;
 }
 
--- where no point of the facet lies between two points that differ in x alone, it has one hit at both
+-- if no point of the facet lies between two points that differ in x alone, it has one hit at both
 pub step-x : (t : Facet) (x1 x2 y z : ℤ) → (Between t (record { x = x1; y = y; z = z }) (record { x = x2; y = y; z = z }) → ⊥)
     → hit t (record { x = x1; y = y; z = z }) ≡ hit t (record { x = x2; y = y; z = z })
 step-x t x1 x2 y z n = by (sides t z)

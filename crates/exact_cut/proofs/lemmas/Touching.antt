@@ -1,4 +1,4 @@
--- Where the two cut points of a facet lie on opposite sides of a point, the facet touches the point.
+-- If the two cut points of a facet lie on opposite sides of a point, the facet touches the point.
 use Rattle.std.proofs.Common.{◌≡◌, ℕ, zero, suc, [], ◌∷◌, ℤ, pos, negsuc, ◌+ℤ◌, ◌-ℤ◌, ◌*ℤ◌, neg_ℤ, ◌≤ℤ◌, ◌<ℤ◌, refl, sym, ◌∙◌, ap, subst, arith}
 use Rattle.std.proofs.lemmas.Int.{ints}
 use Rattle.exact_int.proofs.lemmas.Identity.{reads, identity}
@@ -90,7 +90,8 @@ up-split k p1 q1 p q z g = identity (k ∷ p1 ∷ q1 ∷ p ∷ q ∷ z ∷ g ∷
 gathered : (a b g m n : ℤ) → (a *ℤ g +ℤ m) +ℤ (b *ℤ g +ℤ n) ≡ (a +ℤ b) *ℤ g +ℤ (m +ℤ n)
 gathered a b g m n = identity (a ∷ b ∷ g ∷ m ∷ n ∷ []) (search reads depth 40) refl
 
--- k1 times the cut point of the edge down and k2 times that of the edge up, along one axis, where they cancel from the point's coordinate g
+-- k1 times the cut point of the edge down and k2 times that of the edge up, along one axis, if they cancel from the point's
+-- coordinate g
 balanced : (k1 k2 s1 r1 s r p1 q1 p q z g : ℤ) → k1 *ℤ ((r *ℤ (s1 -ℤ z) +ℤ s *ℤ (z -ℤ r1)) -ℤ g *ℤ (s1 -ℤ r1)) +ℤ k2 *ℤ ((p *ℤ (q1 -ℤ z) +ℤ q *ℤ (z -ℤ p1)) -ℤ g *ℤ (q1 -ℤ p1)) ≡ pos 0
     → ((k1 *ℤ (z -ℤ r1)) *ℤ s +ℤ (k1 *ℤ (s1 -ℤ z)) *ℤ r) +ℤ ((k2 *ℤ (q1 -ℤ z)) *ℤ p +ℤ (k2 *ℤ (z -ℤ p1)) *ℤ q)
     ≡ (((k1 *ℤ (z -ℤ r1)) +ℤ (k1 *ℤ (s1 -ℤ z))) +ℤ ((k2 *ℤ (q1 -ℤ z)) +ℤ (k2 *ℤ (z -ℤ p1)))) *ℤ g
@@ -217,7 +218,7 @@ apart t c d u n falls rises = record {
     yd : ℤ
     yd = cut_y (finish t d) (start t d) c.z -ℤ c.y *ℤ cut_d (finish t d) (start t d)
 
--- where the facet has no segment at the point's height
+-- if the facet has no segment at the point's height
 outside : (t : Facet) (c : Point) → wind t c.y c.z ≡ pos 0 → wind_y t c.x c.z ≡ pos 0
     → corner_turn c t.a t.b ≡ pos 0 → corner_turn c t.b t.c ≡ pos 0 → corner_turn c t.c t.a ≡ pos 0
     → hit t c -ℤ hit_y t c ≡ corner_turn c t.a t.b +ℤ corner_turn c t.b t.c +ℤ corner_turn c t.c t.a

@@ -1,4 +1,4 @@
--- What `Walk` gives: its columns are those of the facet's crossings, row by row, and they tell which rays hit.
+-- What `Walk` gives: its columns are those of the facet's crossings, row by row, and they say which rays hit.
 use Rattle.std.proofs.Common.{◌≡◌, ◌⊎◌, inl, inr, Bool, true, false, ◌&&◌, nat_lt, nat_le, if◌then◌else◌, ℕ, zero, suc, ◌+◌, ◌-◌, ◌<◌, ◌≤◌, [], ◌∷◌, List, length, slice_index, ℤ, pos, negsuc, ◌+ℤ◌, ◌-ℤ◌, ◌*ℤ◌, refl, sym, ◌∙◌, subst, arith}
 use Rattle.exact_int.proofs.lemmas.Identity.{reads, identity}
 use Rattle.exact_int.proofs.lemmas.Signs.{not_both, at_most_from_not_above}

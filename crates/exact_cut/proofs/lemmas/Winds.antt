@@ -1,4 +1,5 @@
--- A facet's one edge down and one edge up at a height: they make up its winding, and the line through their cut points is in the facet's plane.
+-- A facet's one edge down and one edge up at a height. They make up its winding, and the line through their cut points is in
+-- the facet's plane.
 use Rattle.std.proofs.Common.{◌≡◌, ℕ, zero, suc, [], ◌∷◌, ℤ, pos, ◌+ℤ◌, ◌-ℤ◌, ◌*ℤ◌, neg_ℤ, ◌≤ℤ◌, refl, ◌∙◌, ap, arith}
 use Rattle.std.proofs.lemmas.Int.{ints}
 use Rattle.exact_int.proofs.lemmas.Identity.{reads, identity}
@@ -10,7 +11,7 @@ use Rattle.exact_cut.specs.Cut.{start, finish, Rises}
 use Rattle.exact_cut.specs.CutPoint.{cut_y, cut_x, cut_d}
 use Rattle.exact_cut.proofs.lemmas.Turns.{turn_of-below, turn_of-above}
 
--- the crossing of the line through the cut points of s down to r and of p up to q with the scanline y, before its sign is chosen
+-- the crossing of the scanline y by the line through the cut points of s down to r and of p up to q, before its sign is chosen
 abbrev pub den_of : Point → Point → Point → Point → ℤ → ℤ
 den_of r s p q z = cut_y p q z *ℤ cut_d r s -ℤ cut_y r s z *ℤ cut_d p q
 
@@ -23,8 +24,8 @@ pub record Quiet (f : Point → Point → ℤ) (z : ℤ) : Type 0 where
   pub below : (u v : Point) → IsBelow u.z z → IsBelow v.z z → f u v ≡ pos 0
   pub above : (u v : Point) → IsAbove u.z z → IsAbove v.z z → f u v ≡ pos 0
 
--- the facet's one edge down, from s to r, and its one edge up, from p to q, at the height z.
--- `height` is how far the corner that is alone on its side lies from z; it may be 0 where that corner is the lower one
+-- The facet's one edge down, from s to r, and its one edge up, from p to q, at the height z. One corner is alone on its side,
+-- and `height` is its distance from z. It may be 0 if that corner is the lower one.
 pub record Passes (t : Facet) (r s p q : Point) (z : ℤ) : Type 0 where
   pub up : Rises p q z
   pub down : Rises r s z

@@ -1,4 +1,4 @@
-//! The pixel centres of a layer: a walk follows its rows, and gives a column for each.
+//! The pixel centres of a layer: a walk follows its rows, and returns a column for each.
 ghost use Rattle.std.specs.Prelude.{◌≡◌, ◌*ℤ◌, ◌+ℤ◌, ◌<◌, ◌≤ℤ◌, ◌≤◌, pos, ℤ};
 ghost use Rattle.exact_int.specs.Bounds.{IsAtMost};
 ghost use Rattle.geometry.specs.declared.limits.TheConstants.{CENTRE_LIMIT, COLUMN_LIMIT, STEP_LIMIT};
@@ -7,8 +7,8 @@ use crate::scanline::clamped;
 use crate::scanline::cut_point::CutPoint;
 use exact_int::ceil_div_64;
 
-/// The pixel centres of a layer: column i has its centre at x = `x2 + 2 * step * i`, and row j at
-/// y = `y2 + 2 * step * j`, in half-micrometres.
+/// The pixel centres of a layer, in half-micrometres. Column i has its centre at x = `x2 + 2 * step * i`, and row j at y =
+/// `y2 + 2 * step * j`.
 #[derive(Clone, Copy, Debug, PartialEq, Eq)]
 pub struct Lattice {
     /// The x of the first column's centres in half-micrometres, within `CENTRE_LIMIT` of 0.
@@ -35,7 +35,7 @@ impl Lattice {
     ghost use Rattle.exact_cut.specs.Column.{IsLeastRow};
     ghost use Rattle.exact_cut.specs.Lattice.{row_y};
 
-    /// The first row whose y is not below that of a cut point, or the number of rows where there is none.
+    /// The first row whose y is not below that of a cut point, or the number of rows if there is none.
     #[inline(always)]
     pub(crate) fn first_row(&self, p: &CutPoint) -> u32
         ensures { IsLeastRow p.now.y p.now.d self.now.y2 self.now.step self.now.rows result }

@@ -1,4 +1,4 @@
-//! A facet's crossings with the rows of a lattice, one row after another, at a few additions a row.
+//! A facet's crossings with the rows of a lattice, one row after another, at the cost of a few additions a row.
 ghost use Rattle.std.specs.Prelude.{◌≡◌, ◌∷◌, ◌+◌, ◌-◌, ◌<◌, ◌≤◌, ◌<ℤ◌, MatchOption, length, pos, slice_index, ℕ};
 ghost use Rattle.exact_int.specs.Bounds.{IsAtMost};
 ghost use Rattle.geometry.specs.Facet.{twice};
@@ -39,8 +39,8 @@ impl Model for Walk {
 }
 
 impl Walk {
-    /// The crossings of a facet at the height `z2` with the rows of a lattice, or `None` where it crosses none of them.
-    /// `z2` is in half-micrometres, within `CENTRE_LIMIT` of 0.
+    /// The crossings of a facet at the height `z2` with the rows of a lattice, or `None` if it crosses none of them. The height
+    /// is in half-micrometres, within `CENTRE_LIMIT` of 0.
     #[inline(always)]
     pub fn start(f: &Facet, z2: i64, lattice: &Lattice) -> Option<Walk>
         requires { IsAtMost CENTRE_LIMIT z2 }
@@ -118,8 +118,8 @@ impl Walk {
         self.sign
     }
 
-    /// The column of the next crossing: the first one whose centre is not left of it, or the number of columns where
-    /// there is none. Steps to the next row. A crossing must be left: `row` is below `end`.
+    /// Returns the column of the next crossing, and steps to the next row. This is the first column whose centre is not left of
+    /// the crossing, or the number of columns if there is none. A crossing must be left: `row` is below `end`.
     #[inline(always)]
     pub fn next_column(&mut self) -> u32
         requires { 0 < length self.old.columns }

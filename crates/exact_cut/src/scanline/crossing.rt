@@ -1,4 +1,4 @@
-//! Where a scanline crosses a facet, as an exact fraction.
+//! The crossing of a facet by a scanline, as an exact fraction.
 ghost use Rattle.std.specs.Prelude.{◌≡◌, ℤ, pos, ◌<ℤ◌};
 ghost use Rattle.exact_int.specs.Bounds.{IsAtMost};
 ghost use Rattle.exact_cut.specs.Bounds.{denominator_limit, numerator_limit};
@@ -6,8 +6,8 @@ ghost use Rattle.exact_cut.specs.Crossing.{IsUnit};
 
 use std::marker::Model;
 
-/// Where a scanline crosses a facet: at x = `num / den`, in half-micrometres, with the facet's winding round the
-/// scanline as its sign.
+/// The crossing of a facet by a scanline: at x = `num / den`, in half-micrometres. Its sign is the facet's winding round the
+/// scanline.
 #[derive(Clone, Copy, Debug, PartialEq, Eq)]
 pub struct Crossing {
     sign: i32,

@@ -1,4 +1,5 @@
-//! Where an edge passes a height, as a fraction. The type has a file of its own because definitions in `specs/` cite it.
+//! The point at which an edge passes a height, as a fraction. The type has a file of its own because definitions in `specs/`
+//! cite it.
 ghost use Rattle.std.specs.Prelude.{◌≡◌, ℤ, pos, ◌*ℤ◌, ◌<ℤ◌, ◌↔◌, IsTrue};
 ghost use Rattle.exact_int.specs.Bounds.{IsAtMost};
 ghost use Rattle.exact_cut.specs.Bounds.{cut_denominator_limit, cut_numerator_limit};
@@ -9,7 +10,7 @@ ghost use Rattle.geometry.specs.declared.limits.TheConstants.{CENTRE_LIMIT};
 
 use crate::cut::half_point::HalfPoint;
 
-/// Where an edge passes a height: the point `(x / d, y / d)` in half-micrometres.
+/// The point `(x / d, y / d)` at which an edge passes a height, in half-micrometres.
 #[derive(Clone, Copy)]
 pub(crate) struct CutPoint {
     pub(crate) x: i64,
@@ -22,7 +23,7 @@ pub(crate) struct CutPoint {
 }
 
 impl CutPoint {
-    /// Where the edge between `low` and `high` passes the height `z2`.
+    /// The point at which the edge between `low` and `high` passes the height `z2`.
     #[inline(always)]
     pub(crate) fn between(low: HalfPoint, high: HalfPoint, z2: i64) -> CutPoint
         requires { Rises (point_of low) (point_of high) z2 }

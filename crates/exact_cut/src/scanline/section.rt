@@ -14,8 +14,8 @@ use crate::scanline::crossing::Crossing;
 use crate::scanline::cut_point::CutPoint;
 use geometry::Facet;
 
-/// The segment in which the plane at a height cuts a facet, by its ends: where the edge down and the edge up pass the
-/// height.
+/// The segment in which the plane at a height cuts a facet, by its ends: the points at which the edge down and the edge up pass
+/// the height.
 #[derive(Clone, Copy)]
 pub(crate) struct Section {
     pub(crate) down: CutPoint,
@@ -23,7 +23,7 @@ pub(crate) struct Section {
 }
 
 impl Section {
-    /// The segment in which the plane at the height `z2` cuts a facet, or `None` where it does not cut the facet.
+    /// The segment in which the plane at the height `z2` cuts a facet, or `None` if it does not cut the facet.
     #[inline(always)]
     pub(crate) fn at_height(f: &Facet, z2: i64) -> Option<Section>
         requires { IsAtMost CENTRE_LIMIT z2 }
@@ -38,11 +38,11 @@ impl Section {
     }
 }
 
-/// Where the line along x at the height `z2` and the scanline `y2` crosses the facet's plane, or `None` exactly where
-/// the facet's winding round that line is 0. Both are in half-micrometres, within `CENTRE_LIMIT` of 0.
+/// The crossing of the facet's plane by the line along x at the height `z2` and the scanline `y2`. `None` exactly if the
+/// facet's winding round that line is 0. Both are in half-micrometres, within `CENTRE_LIMIT` of 0.
 ///
-/// The fraction is exact: (`num / den`, `y2`, `z2`) lies in the facet's plane. For every whole X the crossing lies ahead of
-/// a centre at X exactly where `X * den < num`.
+/// The fraction is exact: (`num / den`, `y2`, `z2`) lies in the facet's plane. For every whole X, the crossing lies ahead of a
+/// centre at X exactly if `X * den < num`.
 pub fn crossing(f: &Facet, z2: i64, y2: i64) -> Option<Crossing>
     requires height_in { IsAtMost CENTRE_LIMIT z2 }
     requires scanline_in { IsAtMost CENTRE_LIMIT y2 }
@@ -66,7 +66,7 @@ pub fn crossing(f: &Facet, z2: i64, y2: i64) -> Option<Crossing>
     }
 }
 
-/// Where the line through two cut points passes the scanline `y2`: numerator and denominator of x in half-micrometres.
+/// Numerator and denominator of the x, in half-micrometres, at which the line through two cut points passes the scanline `y2`.
 #[inline(always)]
 pub(crate) fn meet(near: &CutPoint, far: &CutPoint, y2: i64) -> (i128, i128)
     requires { IsAtMost CENTRE_LIMIT y2 }

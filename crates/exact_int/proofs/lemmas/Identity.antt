@@ -1,5 +1,6 @@
--- Polynomial identities of integers: `search reads` reads both sides as polynomials in given variables, and `refl` shows that these are equal.
--- A number that the code stores in the bits of a width and reads back is read as the number itself, where a bound shows that it fits: list `sizes` and the bounds of the variables too.
+-- Polynomial identities of integers. `search reads` reads both sides as polynomials in given variables, and `refl` shows that
+-- these are equal. A number that the code stores in the bits of a width and reads back counts as the number itself, if a bound
+-- shows that it fits. So list `sizes` and the bounds of the variables too.
 use Rattle.std.proofs.Common.{◌≡◌, ℕ, suc, ◌^◌, ltb, List, ◌∷◌, ℤ, pos, negsuc, ◌+ℤ◌, ◌*ℤ◌, neg_ℤ, Bool, true, false, refl, sym, ◌∙◌, ap}
 use Rattle.std.proofs.lemmas.Int.{to_z-of_z}
 use mir.Syntax.{Width}
@@ -78,7 +79,8 @@ read_sides p q = record { left = p; right = q }
 
 pub ruleset reads = (read_sides, read_add, read_mul, read_neg, read_back, read_pos, read_negsuc, read_var, here, there)
 
--- the verdict on an identity: it holds; the two sides differ by these terms; or a number may not fit the width that it is stored in
+-- the verdict on an identity: it holds, the two sides differ by these terms, or a number may not fit the width that it is
+-- stored in
 pub data Verdict : Type 0 where
   holds : Verdict
   differs : Poly → Verdict
@@ -103,7 +105,7 @@ all_hold : (b : Bool) (p : Poly) → verdict_of b p ≡ holds → (b ≡ true) �
 all_hold true p e = (refl, no_terms p e)
 all_hold false p e = cc
 
--- `a ≡ b` in the variables ρ; a call is `identity (x ∷ y ∷ []) (search reads depth 40 fits 5000) refl`. The verdict stands
+-- `a ≡ b` in the variables ρ; a call is `identity (x ∷ y ∷ []) (search reads depth 40 fits 5000) refl`. The verdict is
 -- on the right of its equation: `refl` takes its term from the left, so this is the short `holds`, and not the verdict
 -- written out
 pub identity : (ρ : List ℤ) {a b : ℤ} → (s : Sides ρ a b) → holds ≡ verdict s → a ≡ b

@@ -1,5 +1,6 @@
 -- Polynomial identities over ℤ, by computation.
--- Each side of an identity in the variables of `ρ` is an `Ex`; `ring` proves the identity where the normal form of the difference has no terms, which `refl` checks.
+-- Each side of an identity in the variables of `ρ` is an `Ex`. `ring` proves the identity if the normal form of the difference
+-- has no terms, which `refl` checks.
 use Rattle.std.proofs.Common.{◌≡◌, ℕ, Bool, true, false, T, leb, List, [], ◌∷◌, ℤ, pos, negsuc, ◌+ℤ◌, ◌-ℤ◌, ◌*ℤ◌, neg_ℤ, refl, sym, ◌∙◌, ap, subst}
 use Prim.Native.Nat.{zero, suc, compare, Ordering}
 use lib.Dec.{eqb→eq, compare_is_eq}
@@ -198,6 +199,6 @@ left_over-poly ρ (term c m p) = by (is_nought c) refl (left_over-poly ρ p)
     by true d i = i ∙ sym (ap (λ z. z *ℤ word ρ m +ℤ poly ρ p) (nought-is c d) ∙ ap (λ z. z +ℤ poly ρ p) (zero-*ℤ (word ρ m)) ∙ +ℤ_idl (poly ρ p))
     by false d i = ap (λ z. c *ℤ word ρ m +ℤ z) i
 
--- the identity `l ≡ r` at the values of the variables, where no term of the difference is left: pass `refl`
+-- the identity `l ≡ r` at the values of the variables, if no term of the difference is left: pass `refl`
 pub ring : (ρ : List ℤ) (l r : Ex) → left_over (norm (l ⊖ r)) ≡ none → value ρ l ≡ value ρ r
 ring ρ l r e = same_from_difference (value ρ l) (value ρ r) (sym (norm-value ρ (l ⊖ r)) ∙ sym (left_over-poly ρ (norm (l ⊖ r))) ∙ ap (poly ρ) e)

@@ -1,4 +1,4 @@
--- Signs of products over ℤ. `≤ℤ` and `<ℤ` bind tighter than `*ℤ`, so a product beside them stands in parentheses.
+-- Signs of products over ℤ. `≤ℤ` and `<ℤ` bind tighter than `*ℤ`, so a product beside them is in parentheses.
 use Rattle.std.proofs.Common.{◌≡◌, zero, suc, ◌<◌, ◌⊎◌, [], ◌∷◌, ℤ, pos, negsuc, ◌+ℤ◌, ◌-ℤ◌, ◌*ℤ◌, neg_ℤ, ◌≤ℤ◌, ◌<ℤ◌, refl, sym, ◌∙◌, ap, subst, arith, inl, inr}
 use Rattle.std.proofs.Math.Nat.{mul-pos}
 use Rattle.std.proofs.lemmas.Int.{ints}

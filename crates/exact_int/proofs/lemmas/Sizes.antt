@@ -39,7 +39,7 @@ size_neg {a} p = record { bound = p.bound; ok = neg_of a p.bound p.ok }
 pub within : (a b c : ℕ) → a ≤ b → b ≤ c → a ≤ c
 within a b c h k = omega arith
 
--- z fits the width; a call is `fits w (search sizes) refl`. The test stands on the right of its equation: `refl` takes its
+-- z fits the width; a call is `fits w (search sizes) refl`. The test is on the right of its equation: `refl` takes its
 -- term from the left, so this is the short `true`, and not the test written out
 pub fits : (w : Width) {z : ℤ} (s : Size z) → true ≡ ltb s.bound (2 ^ hbits w) → FitsSigned w z
 fits w {z} s e = fits_signed_from_abs w z (below (unsigned_abs z) s.bound (2 ^ hbits w) s.ok (ltb→lt s.bound (2 ^ hbits w) (subst T e tt)))

@@ -88,53 +88,53 @@ many_nines_below_half : coordinate_of Millimetre (codes "0.00049" ++ replicate 2
 unfolding magnitude
 many_nines_below_half = refl
 
-inch_1 : coordinate_of Inch (codes "1") ≡ Ok (pos 25400)
+one_inch : coordinate_of Inch (codes "1") ≡ Ok (pos 25400)
 unfolding magnitude
-inch_1 = refl
+one_inch = refl
 
-inch_2 : coordinate_of Inch (codes "0.0001") ≡ Ok (pos 3)
+ten_thousandth_of_an_inch : coordinate_of Inch (codes "0.0001") ≡ Ok (pos 3)
 unfolding magnitude
-inch_2 = refl
+ten_thousandth_of_an_inch = refl
 
-inch_3 : coordinate_of Inch (codes "0.0025") ≡ Ok (pos 64)
+rounded_inches : coordinate_of Inch (codes "0.0025") ≡ Ok (pos 64)
 unfolding magnitude
-inch_3 = refl
+rounded_inches = refl
 
-inch_4 : coordinate_of Inch (codes "-0.0025") ≡ Ok (negsuc 63)
+negative_inches : coordinate_of Inch (codes "-0.0025") ≡ Ok (negsuc 63)
 unfolding magnitude
-inch_4 = refl
+negative_inches = refl
 
-inch_5 : coordinate_of Inch (codes "0.0025" ++ replicate 240 48) ≡ Ok (pos 64)
+rounded_inches_of_many_digits : coordinate_of Inch (codes "0.0025" ++ replicate 240 48) ≡ Ok (pos 64)
 unfolding magnitude
-inch_5 = refl
+rounded_inches_of_many_digits = refl
 
-inch_6 : coordinate_of Inch (codes "0.00249" ++ replicate 240 57) ≡ Ok (pos 63)
+inches_of_many_nines : coordinate_of Inch (codes "0.00249" ++ replicate 240 57) ≡ Ok (pos 63)
 unfolding magnitude
-inch_6 = refl
+inches_of_many_nines = refl
 
-inch_7 : coordinate_of Inch (codes "5039.37") ≡ Ok (pos 127999998)
+inches_near_the_limit : coordinate_of Inch (codes "5039.37") ≡ Ok (pos 127999998)
 unfolding magnitude
-inch_7 = refl
+inches_near_the_limit = refl
 
-inch_8 : coordinate_of Inch (codes "5039.37008") ≡ Ok (pos COORDINATE_LIMIT)
+inches_rounded_to_the_limit : coordinate_of Inch (codes "5039.37008") ≡ Ok (pos COORDINATE_LIMIT)
 unfolding magnitude
-inch_8 = refl
+inches_rounded_to_the_limit = refl
 
-inch_9 : coordinate_of Inch (codes "5039.3701") ≡ Err OutOfRange
+inches_beyond_the_limit : coordinate_of Inch (codes "5039.3701") ≡ Err OutOfRange
 unfolding magnitude
-inch_9 = refl
+inches_beyond_the_limit = refl
 
-huge_1 : coordinate_of Millimetre (codes "0e99999999999") ≡ Ok (pos 0)
-huge_1 = ap (λ n. coordinate_or_fault (pos n)) (magnitude-zero (pos 100000000002))
+zero_with_a_huge_exponent : coordinate_of Millimetre (codes "0e99999999999") ≡ Ok (pos 0)
+zero_with_a_huge_exponent = ap (λ n. coordinate_or_fault (pos n)) (magnitude-zero (pos 100000000002))
 
-huge_2 : coordinate_of Millimetre (codes "1e99999999999") ≡ Err OutOfRange
-huge_2 = magnitude_far 1 100000000002 (lit≤ tt) (lit≤ tt)
+one_with_a_huge_exponent : coordinate_of Millimetre (codes "1e99999999999") ≡ Err OutOfRange
+one_with_a_huge_exponent = magnitude_far 1 100000000002 (lit≤ tt) (lit≤ tt)
 
-huge_3 : coordinate_of Millimetre (codes "0e" ++ replicate 253 57) ≡ Ok (pos 0)
-huge_3 = ap (λ n. coordinate_or_fault (pos n)) (magnitude-zero (pos (10 ^ 253 + 2)))
+zero_with_an_exponent_of_many_digits : coordinate_of Millimetre (codes "0e" ++ replicate 253 57) ≡ Ok (pos 0)
+zero_with_an_exponent_of_many_digits = ap (λ n. coordinate_or_fault (pos n)) (magnitude-zero (pos (10 ^ 253 + 2)))
 
-huge_4 : coordinate_of Millimetre (codes "1e-" ++ replicate 252 57) ≡ Ok (pos 0)
-huge_4 = ap (λ n. coordinate_or_fault (pos n)) (magnitude-near 1 (10 ^ 252 - 5) (lit≤ tt) (lit≤ tt))
+one_with_a_low_exponent_of_many_digits : coordinate_of Millimetre (codes "1e-" ++ replicate 252 57) ≡ Ok (pos 0)
+one_with_a_low_exponent_of_many_digits = ap (λ n. coordinate_or_fault (pos n)) (magnitude-near 1 (10 ^ 252 - 5) (lit≤ tt) (lit≤ tt))
 
-huge_5 : coordinate_of Millimetre (codes "1e" ++ replicate 253 57) ≡ Err OutOfRange
-huge_5 = magnitude_far 1 (10 ^ 253 + 2) (lit≤ tt) (lit≤ tt)
+one_with_an_exponent_of_many_digits : coordinate_of Millimetre (codes "1e" ++ replicate 253 57) ≡ Err OutOfRange
+one_with_an_exponent_of_many_digits = magnitude_far 1 (10 ^ 253 + 2) (lit≤ tt) (lit≤ tt)

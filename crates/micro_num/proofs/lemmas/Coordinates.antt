@@ -18,7 +18,7 @@ use Rattle.micro_num.proofs.lemmas.Scanning.{numeral_of-scanned, scanned_digits,
 use Rattle.geometry.specs.declared.limits.TheConstants.{COORDINATE_LIMIT}
 use Rattle.micro_num.specs.declared.limits.TheConstants.{WORD_LIMIT}
 
--- the answer for a magnitude
+-- the result for a magnitude
 module _ (unit : LengthUnit) (text : List ℕ) (r : ℕ) (is : is_numeral (scanned unsigned text) ≡ true)
     (capped : IsCapped (magnitude_of unit (scanned unsigned text)) r) where
   m : ℕ

@@ -15,7 +15,7 @@ use Rattle.micro_num.specs.Scan.{IsLeading, IsCarry, digits_after}
 use Rattle.micro_num.proofs.lemmas.Powers.{power_suc}
 use Rattle.micro_num.proofs.lemmas.DigitRows.{digits_after-append, IsCarry-none, IsCarry-all}
 
--- The last j digits of w ++ f, of which b are in f.
+-- The last j digits of w ++ f; b of them are in f.
 module _ (w f : List ℕ) (j b : ℕ) (is : b ≡ min j (length f)) (few : j ≤ length w + length f) where
   last : List ℕ
   last = drop (length f - b) f

@@ -14,7 +14,7 @@ use Rattle.micro_num.specs.Scan.{is_other, digits_after, digits_after_point, res
 use Rattle.exact_int.proofs.lemmas.Lists.{all-weaker}
 use Rattle.micro_num.proofs.lemmas.Grammar.{Starts, before-is, from-is, sign-text, exponent-text, regrouped, IsUnsigned, sign-is, after_sign-is, exponent-is, numeral_digits, numeral_unsigned, numeral_of-is, numeral_of-text, front-text}
 
--- only digits stand before the first byte that is no digit
+-- only digits come before the first byte that is no digit
 pub front_digits : (xs : List ℕ) → list_all is_ascii_digit (before_first is_other xs) ≡ true
 front_digits [] = refl
 front_digits (x ∷ xs) = by_test (front_digits xs) (is_ascii_digit x) refl

@@ -1,4 +1,4 @@
--- The segments of a height stand in the order of their facets, which are of the mesh; so there are no more of them than
+-- The segments of a height are in the order of their facets, which are of the mesh; so there are no more of them than
 -- facets.
 use Rattle.std.proofs.Common.{◌≡◌, ℕ, zero, suc, ◌+◌, ◌<◌, ◌≤◌, List, [], ◌∷◌, refl, sym, subst, length, get_or, arith, Some, None}
 use Rattle.std.specs.Prelude.{Option, ℤ, filter_map, find, All}

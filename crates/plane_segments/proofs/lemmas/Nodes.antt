@@ -1,4 +1,4 @@
--- Two nodes are the same where their numbers are.
+-- Two nodes are the same if their numbers are.
 use Rattle.std.proofs.Common.{◌≡◌, true, ap, eqb, ◌&&◌}
 use Rattle.std.proofs.lemmas.Bool.{and_parts, eqb-true, eq-eqb}
 use Rattle.plane_segments.specs.Node.{Node, is_node}

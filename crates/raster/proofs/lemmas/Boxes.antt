@@ -29,7 +29,7 @@ bounds-box facets = list-box (flat_map corners facets)
 abbrev pub box_of : Point × Point → Bounds
 box_of c = record { low = c.0; high = c.1 }
 
--- a pair of corners tells what the bounds do
+-- a pair of corners says what the bounds do
 pub bounds-back : (o : Option Bounds) → option_map box_of (option_map corner_pair o) ≡ o
 bounds-back None = refl
 bounds-back (Some b) = refl

@@ -84,7 +84,7 @@ spans-below rule g l rows list spans copied same count kept inside below =
     (subst (λ (n : ℕ). AreSpansBelow rule g.columns n list spans) count
     (below g.columns (subst (λ (n : ℕ). AreCrossingsWithin n list) same.columns inside)))
 
--- where the sums of a row are those over all facets, its spans cover what is inside by the crossings that do not lie ahead
+-- if the sums of a row are those over all facets, its spans cover what is inside by the crossings that do not lie ahead
 pub spans-swept : (facets : List Facet) (g : Grid) (l : Lattice) (k : ℕ) (z : ℤ) (rule : Rule) (list : List (List RowCrossing)) (spans : List Span)
     → ArePixels g l → z ≡ plane g k
     → ((i j : ℕ) → i < l.columns → j < l.rows → row_passed list j i ≡ total (λ t. wind (twice t) (row_y l j) z -ℤ hit (twice t) (pixel l z i j)) facets)

@@ -1,4 +1,4 @@
--- What the test of a rule tells.
+-- What the test of a rule says.
 use Rattle.std.proofs.Common.{ℤ, Decides, arith}
 use Rattle.std.specs.Prelude.{pos, nat_abs, int_lt, ◌<ℤ◌, ◌%◌}
 use Rattle.std.specs.Ordering.{int_eq}

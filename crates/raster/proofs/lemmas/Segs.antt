@@ -1,4 +1,4 @@
--- Sums over all facets are those over the segments of a height, where facets that are not cut add nothing.
+-- Sums over all facets are those over the segments of a height, if facets that are not cut add nothing.
 use Rattle.std.proofs.Common.{◌≡◌, ℕ, zero, suc, ◌+◌, ◌<◌, ◌≤◌, ◌⊎◌, inl, inr, Bool, true, false, cond, List, [], ◌∷◌, Some, None, length, drop, refl, ap, sym, subst, ◌∙◌, arith}
 use Rattle.std.specs.Prelude.{Option, ℤ, pos, ◌+ℤ◌, ◌-ℤ◌, nat_le, slice_get, slice_index_or, ◌≤ℤ◌, ◌<ℤ◌, filter_map, find}
 use Rattle.std.specs.List.{enumerate_from, cons_option, list_all}
@@ -23,7 +23,7 @@ use Rattle.raster.specs.RowCrossing.{passed, signs}
 use Rattle.raster.specs.Crossings.{AreCrossingsWithin, crossings_in, row_passed, row_signs}
 use Rattle.exact_cut.proofs.lemmas.Steps.{no_hit}
 
--- where no edge of three goes through a height one way, no corner is on the other side of it
+-- if no edge of three goes through a height one way, no corner is on the other side of it
 no-rise : (a b c z : ℤ) → rises_through a b z ≡ false → rises_through b c z ≡ false → rises_through c a z ≡ false
     → (a ≤ℤ z) ⊎ (b ≤ℤ z) ⊎ (c ≤ℤ z) → (z <ℤ a) ⊎ (z <ℤ b) ⊎ (z <ℤ c) → ⊥
 no-rise a b c z f g h low high = grind (arith, ints)
@@ -59,7 +59,7 @@ not_down t z e between =
     turned (inr (inl b)) = inr (inr b)
     turned (inr (inr c)) = inr (inl c)
 
--- a facet has no segment where it is not cut, else one with its number
+-- a facet has no segment if it is not cut, else one with its number
 abbrev Says : ℕ → Facet → ℤ → Option Segment → Type 0
 Says n t z None = IsBetween (twice t) z → ⊥
 Says n t z (Some s) = s.facet ≡ n

@@ -186,7 +186,7 @@ columns-left n column columns rest first h =
     let all : All (λ c. c ≤ n) (column ∷ rest) = subst (λ (l : List ℕ). All (λ c. c ≤ n) l) first h in
     λ k d low. all (suc k) d (omega (arith, low))
 
--- where a line does not wind round a facet, nothing is added
+-- if a line does not wind round a facet, nothing is added
 pub nothing-more : (a w : ℤ) → w ≡ pos 0 → a ≡ a +ℤ w
 nothing-more a w h = omega (arith, ints)
 

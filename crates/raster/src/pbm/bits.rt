@@ -1,9 +1,9 @@
-//! Sets pixels in packed rows: eight pixels a byte, the leftmost in the highest bit, as pbm(5) has it.
+//! Sets pixels in packed rows: eight pixels a byte, the leftmost in the highest bit, as in pbm(5).
 ghost use Rattle.std.specs.Prelude.{◌≡◌, ◌<◌, ◌≤◌, ◌≢◌, ◌*◌, ◌+◌, ◌-◌, ◌/◌, ◌%◌, ℕ, length, max, slice_index};
 ghost use Rattle.std.specs.Int.{bit_at};
 ghost use Rattle.raster.specs.Bits.{pixel_bit};
 
-/// Sets the pixels of the columns from `from` up to and without `to`.
+/// Sets the pixels of the columns from `from` up to but not including `to`.
 pub(crate) fn set_pixels(row: &mut [u8], from: usize, to: usize)
     requires some { from < to }
     requires room { to ≤ 8 * length row.old }
@@ -36,7 +36,7 @@ fn mask_from(column: usize) -> u8
     0xff >> (column % 8)
 }
 
-/// The mask of the pixels of a byte up to and with this column.
+/// The mask of the pixels of a byte up to and including this column.
 fn mask_through(column: usize) -> u8
     ensures inside { (b : ℕ) → b ≤ column % 8 → bit_at result (7 - b) ≡ 1 }
     ensures outside { (b : ℕ) → b < 8 → column % 8 < b → bit_at result (7 - b) ≡ 0 }
@@ -44,7 +44,7 @@ fn mask_through(column: usize) -> u8
     0xff << (7 - column % 8)
 }
 
-/// The mask of those of 64 pixels in the columns from `from` up to and without `to`, the leftmost in the highest bit.
+/// The mask of those of 64 pixels in the columns from `from` up to but not including `to`, the leftmost in the highest bit.
 fn mask_between(from: usize, to: usize) -> u64
     requires some { from < to }
     requires few { to ≤ 64 }
@@ -83,7 +83,7 @@ fn set_bits(row: &mut [u8], index: usize, mask: u8)
     row[index] |= mask;
 }
 
-/// Sets all pixels of the bytes from `first` up to and without `last`.
+/// Sets all pixels of the bytes from `first` up to but not including `last`.
 fn set_bytes(row: &mut [u8], first: usize, last: usize)
     requires order { first ≤ last }
     requires room { last ≤ length row.old }

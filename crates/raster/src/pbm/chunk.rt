@@ -18,11 +18,11 @@ use crate::span::Span;
 use geometry::COLUMN_LIMIT;
 use std::marker::Model;
 
-/// The greatest number of bytes that one call of a sink is given: room for twelve rows of the greatest width.
+/// The greatest number of bytes that one call of a sink is given: twelve rows of the greatest width.
 const CHUNK_LEN: usize = 12 * (COLUMN_LIMIT as usize / 8);
 
-/// Bytes on their way to a sink. They lie on the stack, so that writing allocates no memory. All bytes of the free room
-/// after them are 0, so that a row is drawn by setting bits.
+/// Bytes on their way to a sink. They lie on the stack, so that writing allocates no memory. All bytes of the free room after
+/// them are 0, so a row is drawn by setting bits.
 #[derive(Drop)]
 pub(crate) struct Chunk {
     bytes: [u8; CHUNK_LEN],
@@ -51,7 +51,7 @@ impl Chunk {
         }
     }
 
-    /// The number of bytes that the chunk still has room for.
+    /// The number of bytes that still fit the chunk.
     pub(crate) fn free_room(&self) -> usize
         ensures { result + length self.now ≡ CHUNK_LEN }
     {
@@ -78,8 +78,8 @@ impl Chunk {
         self.push_all(Header::of(width, height).bytes());
     }
 
-    /// Appends row `number` of a layer. The first `end` spans are those of this row and of the rows below; answers how many
-    /// are in the rows below.
+    /// Appends row `number` of a layer. The first `end` spans are those of this row and of the rows below. Returns the number
+    /// of those in the rows below.
     #[inline(always)]
     pub(crate) fn push_row(&mut self, g: &Grid, spans: &[Span], number: u32, end: usize) -> usize
         requires form { AreSpans g.now.columns g.now.rows spans.now }
@@ -94,8 +94,8 @@ impl Chunk {
         start
     }
 
-    /// Makes room for `needed` more bytes: sends the chunk where it has less. `before` is the number of bytes that were sent
-    /// so far; answers how many were sent then.
+    /// Makes room for `needed` more bytes: sends the chunk if it has less. `before` is the number of bytes sent so far. Returns
+    /// the number of bytes sent then.
     #[inline(always)]
     pub(crate) fn make_room<W: Sink>(
         &mut self,
@@ -123,8 +123,8 @@ impl Chunk {
         }
     }
 
-    /// Sends the bytes to a sink, and empties the chunk. `before` is the number of bytes that were sent so far; answers how
-    /// many were sent then.
+    /// Sends the bytes to a sink, and empties the chunk. `before` is the number of bytes sent so far. Returns the number of
+    /// bytes sent then.
     pub(crate) fn send<W: Sink>(&mut self, w: &mut W, before: u64) -> Result<u64, WriteFault>
         requires { before + length self.old ≤ greatest_count }
         ensures emptied { OnOk result (self.new ≡ []) }

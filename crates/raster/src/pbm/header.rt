@@ -6,8 +6,8 @@ ghost use Rattle.geometry.specs.declared.limits.TheConstants.{COLUMN_LIMIT};
 
 use std::marker::Model;
 
-/// The greatest length of an image's header: `P4`, a line break, the width, a blank, the height and a line break, where each
-/// of the two numbers has at most five digits.
+/// The greatest length of an image's header: `P4`, a line break, the width, a blank, the height and a line break. Each of the
+/// two numbers has at most five digits.
 pub(crate) const HEADER_LIMIT: usize = 15;
 
 /// The bytes of a header.

@@ -1,4 +1,4 @@
-//! Writes the image of one layer; and how long an image is.
+//! Writes the image of one layer, and computes the length of an image.
 ghost use Rattle.std.specs.Prelude.{◌≡◌, ◌<◌, ◌≤◌, ℕ, Bool, decimal, length, IfErr, OnErr, OnOk};
 ghost use Rattle.std.specs.Io.KnownBytes.{Appends};
 ghost use Rattle.raster.specs.Devices.{AppendsFirst, Fails};
@@ -10,12 +10,12 @@ use crate::grid::Grid;
 use crate::pbm::image_writer::ImageWriter;
 use crate::span::Span;
 
-/// Writes the image of a layer in raw PBM ("P4", pbm(5)): the pixels in the spans are black, and the row of the greatest
-/// number stands at the top. The spans are those of one layer of the grid: in it, by ascending row, then column, not empty
-/// and not touching.
+/// Writes the image of a layer in raw PBM ("P4", pbm(5)). The pixels in the spans are black, and the row of the greatest number
+/// is at the top. The spans are those of one layer of the grid: in it, by ascending row, then column, not empty and not
+/// touching.
 ///
-/// A call of the sink that fails is not tried again: the first `written` bytes of the image went out, and no more. No
-/// memory is allocated.
+/// A call of the sink that fails is not tried again: the first `written` bytes of the image went out, and no more. No memory is
+/// allocated.
 pub fn write_layer<W: Sink>(g: &Grid, spans: &[Span], w: &mut W) -> Result<(), WriteFault>
     requires { AreSpans g.now.columns g.now.rows spans.now }
     ensures ok { OnOk result (Appends (W.contents w.old) (W.contents w.new) (image_of_pixels g.now.columns g.now.rows (covers spans.now))) }
@@ -41,7 +41,7 @@ pub fn image_len(grid: &Grid) -> u64
     header + u64::from(grid.rows()) * u64::from(grid.columns().div_ceil(8))
 }
 
-/// How many digits a number above 0 has in plain decimal.
+/// The number of digits of a number above 0 in plain decimal.
 fn digit_count(n: u32) -> u64
     requires { 1 ≤ n }
     ensures value { result ≡ length (decimal n) }

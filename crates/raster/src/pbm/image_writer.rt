@@ -1,5 +1,5 @@
-//! Writes the images of layers one after another, each row by row from the greatest row to the least, through one chunk on
-//! the stack.
+//! Writes the images of layers one after another, each row by row from the greatest row to the least, through one chunk on the
+//! stack.
 ghost use Rattle.std.specs.Prelude.{◌≡◌, ◌<◌, ◌≤◌, ◌+◌, ◌-◌, [], ◌++◌, drop, length, IfErr, IfOk, OnErr, OnOk};
 ghost use Rattle.std.specs.Io.KnownBytes.{Appends};
 ghost use Rattle.raster.specs.Devices.{AppendsFirst, Fails, greatest_count};
@@ -14,8 +14,8 @@ use crate::pbm::header::HEADER_LIMIT;
 use crate::span::Span;
 use std::marker::Model;
 
-/// Writes images of layers in raw PBM ("P4", pbm(5)) one after another. It gathers their bytes in a chunk, so that one call
-/// of the sink takes many rows of a large image, or many small images. It sends what it holds where the next row or header no
+/// Writes images of layers in raw PBM ("P4", pbm(5)) one after another. It gathers their bytes in a chunk. So one call of the
+/// sink takes many rows of a large image, or many small images. It sends the bytes that it holds if the next row or header no
 /// longer fits. [`ImageWriter::finish`] sends the rest, which is lost without that call.
 ///
 /// A call of the sink that fails is not tried again, and the writer is of no use after it. No memory is allocated.
@@ -44,13 +44,13 @@ impl ImageWriter {
         }
     }
 
-    /// Adds the image of a layer to those before it: the pixels in the spans are black, and the row of the greatest number
-    /// stands at the top. The spans are those of one layer of the grid: in it, by ascending row, then column, not empty and
-    /// not touching.
+    /// Adds the image of a layer to those before it. The pixels in the spans are black, and the row of the greatest number is
+    /// at the top. The spans are those of one layer of the grid: in it, by ascending row, then column, not empty and not
+    /// touching.
     ///
-    /// `count`: the bytes so far, those that are held and those of one image more can be counted in 64 bits. The bytes that
-    /// went out since the writer was made are the first ones of all images. On an error they are the first `written`, which
-    /// are fewer than all.
+    /// `count`: the bytes so far, those that are held and those of one more image can be counted in 64 bits. The bytes that
+    /// went out since the writer was made are the first ones of all images. On an error they are the first `written`, which are
+    /// fewer than all.
     pub fn add<W: Sink>(&mut self, g: &Grid, spans: &[Span], w: &mut W) -> Result<(), WriteFault>
         requires form { AreSpans g.now.columns g.now.rows spans.now }
         requires count { self.old.sent + length self.old.held + image_limit ≤ greatest_count }
@@ -72,7 +72,7 @@ impl ImageWriter {
         Ok(())
     }
 
-    /// Sends the bytes that the writer still holds, and answers how many it has sent in all.
+    /// Sends the bytes that the writer still holds, and returns the number of bytes that it has sent in all.
     pub fn finish<W: Sink>(self, w: &mut W) -> Result<u64, WriteFault>
         requires { self.sent + length self.held ≤ greatest_count }
         ensures ok { OnOk result (Appends (W.contents w.old) (W.contents w.new) self.held) }
@@ -88,8 +88,8 @@ impl ImageWriter {
     }
 }
 
-/// Adds an image to the chunk, which is sent whenever it has no room for the next row. `before` is the number of bytes that
-/// were sent so far; answers how many were sent then.
+/// Adds an image to the chunk, which is sent whenever the next row does not fit it. `before` is the number of bytes sent so
+/// far. Returns the number of bytes sent then.
 fn push_image<W: Sink>(
     chunk: &mut Chunk,
     g: &Grid,

@@ -13,8 +13,8 @@ use std::alloc::{AllocError, Allocator};
 use std::marker::Model;
 
 /// The images of a few layers, one after the other, in raw PBM ("P4", pbm(5)): the same bytes as an
-/// [`ImageWriter`](crate::ImageWriter) writes. Their memory is allocated when the page is made, and kept when it is cleared. All
-/// bytes of the free room after them are 0, so that a row is drawn by setting bits.
+/// [`ImageWriter`](crate::ImageWriter) writes. Their memory is allocated when the page is made, and kept when it is cleared.
+/// All bytes of the free room after them are 0, so a row is drawn by setting bits.
 #[derive(Drop)]
 pub struct Page<A: Allocator> {
     room: Vec<u8, A>,
@@ -33,7 +33,7 @@ impl<A: Allocator> Model for Page<A> {
 }
 
 impl<A: Allocator> Page<A> {
-    /// A page without images, which has room for `room` bytes.
+    /// A page without images, of `room` bytes.
     pub fn new(alloc: A, room: usize) -> Result<Page<A>, AllocError>
         ensures { IfOk result (λ page. page ≡ record { bytes = []; room = room }) }
     {
@@ -59,11 +59,11 @@ impl<A: Allocator> Page<A> {
         self.filled = 0;
     }
 
-    /// Draws the image of a layer after those before it: the pixels in the spans are black, and the row of the greatest
-    /// number stands at the top. The spans are those of one layer of the grid: in it, by ascending row, then column, not empty
-    /// and not touching.
+    /// Draws the image of a layer after those before it. The pixels in the spans are black, and the row of the greatest number
+    /// is at the top. The spans are those of one layer of the grid: in it, by ascending row, then column, not empty and not
+    /// touching.
     ///
-    /// `room`: the page has room for the image, of which [`image_len`](crate::image_len) tells the length.
+    /// `room`: the image fits the page. [`image_len`](crate::image_len) returns its length.
     pub fn draw(&mut self, g: &Grid, spans: &[Span])
         requires form { AreSpans g.now.columns g.now.rows spans.now }
         requires room { length self.old.bytes + length (image_of_pixels g.now.columns g.now.rows (covers spans.now)) ≤ self.old.room }
@@ -90,8 +90,8 @@ impl<A: Allocator> Page<A> {
         self.filled = end;
     }
 
-    /// Appends row `number` of a layer. The first `end` spans are those of this row and of the rows below; answers how many
-    /// are in the rows below.
+    /// Appends row `number` of a layer. The first `end` spans are those of this row and of the rows below. Returns the number
+    /// of those in the rows below.
     fn push_row(&mut self, g: &Grid, spans: &[Span], number: u32, end: usize) -> usize
         requires form { AreSpans g.now.columns g.now.rows spans.now }
         requires split { IsRowStart spans.now end (number + 1) }

@@ -9,7 +9,7 @@ use crate::grid::Grid;
 use crate::pbm::bits::set_pixels;
 use crate::span::Span;
 
-/// Sets the pixels of these spans in a packed row of this width, in which no pixel is set yet.
+/// Sets the pixels of these spans in a packed row of this width. No pixel is set in it yet.
 #[inline(always)]
 fn draw_row(row: &mut [u8], width: u32, spans: &[Span])
     requires size { length row.old ≡ div_ceil width 8 }
@@ -23,7 +23,7 @@ fn draw_row(row: &mut [u8], width: u32, spans: &[Span])
 }
 
 /// Draws row `number` of a layer into a packed row, in which no pixel is set yet. The first `end` spans are those of this row
-/// and of the rows below; answers how many are in the rows below.
+/// and of the rows below. Returns the number of those in the rows below.
 #[inline(always)]
 pub(crate) fn draw_layer_row(
     row: &mut [u8],

@@ -41,7 +41,7 @@ sum_by-all f hands = sum_by-flat f (λ (h : Hand). h.found) hands
 pub length-all : (hands : List Hand) → length (all_found hands) ≡ sum_by (λ (h : Hand). length h.found) hands
 length-all hands = length-flat (λ (h : Hand). h.found) hands
 
--- what stands at a place of the list is counted
+-- what is at a place of the list is counted
 times-at : (xs : List ℕ) (k d : ℕ) → k < length xs → 0 < times (get_or xs k d) xs
 times-at [] k d h = absurd (omega arith)
 times-at (x ∷ xs) zero d h =
@@ -68,7 +68,7 @@ sum_by-below f g [] h = omega arith
 sum_by-below f g (x ∷ xs) h =
     omega (arith, sum_by-cons f x xs, sum_by-cons g x xs, h zero x refl, sum_by-below f g xs (λ i. h (suc i)))
 
--- where p adds up to nothing, so does g
+-- if p adds up to nothing, so does g
 sum_by-none : {X : Type 0} (g p : X → ℕ) (xs : List X) → ((i : ℕ) (x : X) → get_elem? xs i ≡ some x → p x ≡ 0 → g x ≡ 0) → sum_by p xs ≡ 0 → sum_by g xs ≡ 0
 sum_by-none g p [] h none = refl
 sum_by-none g p (x ∷ xs) h none =
@@ -76,7 +76,7 @@ sum_by-none g p (x ∷ xs) h none =
     let here : g x ≡ 0 = h zero x refl (omega arith) in
     omega (arith, sum_by-cons g x xs, here, sum_by-none g p xs (λ i. h (suc i)) (omega arith))
 
--- where one element has all of p, it has all of g
+-- if one element has all of p, it has all of g
 pub sum_by-only : {X : Type 0} (g p : X → ℕ) (xs : List X) (i : ℕ) (x : X) → get_elem? xs i ≡ some x → ((j : ℕ) (y : X) → get_elem? xs j ≡ some y → p y ≡ 0 → g y ≡ 0) → sum_by p xs ≡ p x → sum_by g xs ≡ g x
 sum_by-only g p [] i x at h whole = absurd (some-ne-none x (sym at))
 sum_by-only g p (z ∷ zs) zero x at h whole =
@@ -91,7 +91,7 @@ sum_by-only g p (z ∷ zs) (suc i) x at h whole =
     let here : g z ≡ 0 = h zero z refl (omega arith) in
     omega (arith, sum_by-cons g z zs, here, sum_by-only g p zs i x at (λ j. h (suc j)) (omega arith))
 
--- where a list below w has a number that is n or more, w is above n
+-- if a list below w has a number that is n or more, w is above n
 pub beyond_below : (n w : ℕ) (xs : List ℕ) → All (λ y. y < w) xs → 0 < beyond n xs → n < w
 beyond_below n w [] h some_beyond = absurd (omega arith)
 beyond_below n w (x ∷ xs) h some_beyond = go (cases_Bool (nat_le n x)) (beyond_below n w xs (λ k d lt. h (suc k) d (omega arith)))
@@ -124,7 +124,7 @@ times-not_given n x (y ∷ ys) le = go (nat_lt y n) refl (times-not_given n x ys
         omega (arith, sum_by-cons (λ z. one_if (z == x)) y (given n ys), rest, far)
     go false is rest = rest
 
--- where the numbers below some w above n were found each once, those given out are the numbers below n, each once
+-- if the numbers below some w above n were found each once, those given out are the numbers below n, each once
 pub each-given : (n w : ℕ) (xs : List ℕ) → n < w → IsEachOnce w xs → IsEachOnce n (given n xs)
 each-given n w xs lt each x = go (cases_lt x n)
   where

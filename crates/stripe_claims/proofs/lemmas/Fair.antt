@@ -117,7 +117,7 @@ fair_split plan m after id left moved h fair d =
       past = subst (λ t. m.word ≤ n + t) (sym (split_sum (λ y. one_if (nat_le n y)) m.hands id left moved h at)) fair.past;
     })
 
--- the other hand still stands there after the first one took it in
+-- the other hand is still there after the first one took it in
 other_still : (hands : List Hand) (id other : ℕ) (both w : Hand) → other ≢ id → get_elem? hands other ≡ some w → get_elem? (set hands id both) other ≡ some w
 other_still [] id other both w apart at = at
 other_still (x ∷ xs) zero zero both w apart at = absurd (apart refl)

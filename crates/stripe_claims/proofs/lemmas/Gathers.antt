@@ -1,5 +1,5 @@
--- Passes are put at the end of a list and taken from there, one by one: what the lists of the passes taken so far add up to,
--- and what closing tells of them.
+-- Passes are put at the end of a list and taken from there, one by one. What the lists of the passes taken so far add up to,
+-- and what closing says of them.
 use Rattle.std.proofs.Common.{◌≡◌, ℕ, zero, suc, ◌+◌, ◌<◌, ◌≤◌, true, List, [], ◌∷◌, ◌++◌, length, sum_by, All, Any, nat_le, refl, sym, ap, ◌∙◌, subst, arith, length-append, ltb-true}
 use Rattle.std.specs.Prelude.{◌==◌}
 use Rattle.std.proofs.lemmas.List.{get_or_at, get_or_append_left}
@@ -62,7 +62,7 @@ times_none n passes none = ap (λ ps. times n (found_by_all ps)) none
 pub length_none : (passes : List Pass) → passes ≡ [] → length (found_by_all passes) ≡ 0
 length_none passes none = ap (λ ps. length (found_by_all ps)) none
 
--- where a pass has ended, the word is above `stripes`
+-- if a pass has ended, the word is above `stripes`
 ended_past : (claims : Claims) (passes : List Pass) (word : ℕ) → All (IsOwned claims) passes → ((x : ℕ) → times x (found_by_all passes) ≤ once_below x word) → Any (λ p. p.has_ended ≡ true) passes → claims.stripes < word
 ended_past claims passes word owned once (k, p, lt, at, ended) =
     let n = claims.stripes in
@@ -77,7 +77,7 @@ first_of : (P : Pass → Type 0) (passes : List Pass) → 0 < length passes → 
 first_of P [] lt all = absurd (omega arith)
 first_of P (p ∷ ps) lt all = (0, p, lt, refl, all 0 p lt)
 
--- What closing tells of the passes that are handed in.
+-- What closing says of the passes that it is given.
 pub record ClosedBy (claims : Claims) (passes : List Pass) (word : ℕ) : Type 0 where
   pub machine : HasGathered claims passes word
   pub once : (x : ℕ) → times x (found_by_all passes) ≤ once_below x word
@@ -87,7 +87,7 @@ pub record ClosedBy (claims : Claims) (passes : List Pass) (word : ℕ) : Type 0
   pub all : length passes ≡ claims.passes → length (found_by_all passes) ≡ word
   pub given : length passes ≡ claims.passes → All (λ p. p.has_ended ≡ true) passes → IsEachOnce claims.stripes (given claims.stripes (found_by_all passes))
 
--- where none is handed in, not all are, since claims have at least one
+-- if none is given, not all are, since claims have at least one
 pub closed_none : (claims : Claims) (passes : List Pass) (word : ℕ) → passes ≡ [] → HasGathered claims [] word → 0 < claims.passes → ClosedBy claims passes word
 closed_none claims passes word none last some =
     let zero = ap (λ (ps : List Pass). length ps) none in
@@ -101,7 +101,7 @@ closed_none claims passes word none last some =
       given = λ all. absurd (omega arith);
     }
 
--- a hand that has found what these passes have tells of them what it tells of itself
+-- a hand that has found what these passes have says of them what it says of itself
 pub closed_all : (claims : Claims) (passes : List Pass) (h : Hand) (word : ℕ) → All (IsOwned claims) passes → 0 < length passes → h.stands_for ≡ length passes
     → ((x : ℕ) → times x h.found ≡ times x (found_by_all passes)) → length h.found ≡ length (found_by_all passes) → HasReached claims h word → Closed (plan_of claims) h word → ClosedBy claims passes word
 closed_all claims passes h word owned some stands same long last told =

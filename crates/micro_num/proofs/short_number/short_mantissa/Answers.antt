@@ -5,7 +5,7 @@ use Rattle.micro_num.proofs.lemmas.LeadingDigits.{IsLeading-none}
 use Rattle.micro_num.proofs.lemmas.Scanning.{split_leads}
 use Rattle.micro_num.proofs.short_number.short_mantissa.Goals as goal
 
--- Where a part is too long, there is no mantissa, of which a clause would say something.
+-- If a part is too long, there is no mantissa, so no clause says anything.
 
 pub returns-in_err-digits : goal.returns-in_err-digits
 returns-in_err-digits c = rw c.from_residual.ensures (record { whole = tt; fraction = tt; after = tt; leads = tt; few = tt; short = tt; within = tt })

@@ -4,6 +4,6 @@ use denote.Param.Send.{Frees}
 use Rattle.std.specs.declared.alloc.Allocator.{Ghosts}
 use Rattle.short_memory.specs.contracts.ShortMemoryAllocator.TheImpl.{ghosts}
 
--- any thread may give a block back where the inner allocator lets it
+-- any thread may give a block back if the inner allocator lets it
 pub frees : (B : RattleType) (g : Ghosts B.Denot) (d e : Dict) → Frees g g.dealloc_token → Frees (ghosts B g d e) (ghosts B g d e).dealloc_token
 frees B g d e f = record { frees = λ a τ p. f.frees a.inner τ p }

@@ -1,4 +1,4 @@
--- It fails the one allocation, and otherwise answers what the inner allocator answers. Assumes `Logic`.
+-- It fails the one allocation, and otherwise returns what the inner allocator returns. Assumes `Logic`.
 use Rattle.std.proofs.Common.{◌≡◌, ℕ, ◌+◌, ◌^◌, ◌<◌, true, false, Bool, List, [], ◌∷◌, Ok, Err, refl, w64, Bor}
 use seplogic.Ra.Ura.{Ura}
 use mir.Syntax.{Ty, Args, Fn, a_type, dnil, dcons}

@@ -13,7 +13,7 @@ lawful_read : (job : Job) (k : ℕ) (found : Option (Bor Layer)) → IsLawfulPla
 lawful_read job k None h = tt
 lawful_read job k (Some layer) h = h
 
--- what is read of a place is its layer, or nothing where it has none
+-- what is read of a place is its layer, or nothing if it has none
 some_read : (places : List (Option Layer)) (k : ℕ) (place : Option Layer) (found : Option (Bor Layer)) → slice_get places k ≡ Some place
     → option_copied found ≡ place → IfSome found (λ layer. slice_get places k ≡ Some (Some layer.now))
 some_read places k place None h e = tt

@@ -26,7 +26,7 @@ whole_places g c =
     with_items_is c.self.inside.places c.fill_gaps.new.places
     (ap length (filed_places g c) ∙ length-filled c.layer_range-first.result.0 c.into_layers.result.items c.self.inside.places.items ∙ sym c.self.inside.places.ok.0)
 
--- the stripe of the piece, by the number and the layers that its calls answer
+-- the stripe of the piece, by the number and the layers that its calls return
 read_stripe : (g : _) (c : After-into_layers g) → IsStripe c.self.inside.job.now c.stripe.result c.into_layers.result.items
 read_stripe g c =
     moved_stripe _ _ _ _ _ _ (c.requires.job ∙ sym (ap (λ s. s.job) c.self.view_is)) (sym c.stripe.ensures) c.into_layers.ensures c.layers-layers.ensures.lawful

@@ -1,3 +1,4 @@
+use Rattle.stripe_claims.specs.Machine.{hand_of}
 use Rattle.stripe_claims.proofs.lemmas.Gathers.{closed_none, closed_all}
 use Rattle.stripe_claims.proofs.claims.Claims.close.Goals as goal
 
@@ -6,7 +7,7 @@ returns-in-Some g c =
     let joined = c.in-Some.ensures in
     let last = c.word_with.ensures in
     let told =
-    closed_all c.args.self c.args.passes.items c.in-Some.all.me.0 c.word_with.result c.requires joined.some joined.stands_for joined.times joined.length last.machine
+    closed_all c.args.self c.args.passes.items (hand_of c.in-Some.all.me.0) c.word_with.result c.requires joined.some joined.stands_for joined.times joined.length last.machine
     (record { once = last.once; count = last.count; most = last.most; whole = last.whole; all = last.all }) in
     record { machine = told.machine; once = told.once; count = told.count; ended = told.ended; most = last.most; whole = told.whole; all = told.all; given = told.given }
 

@@ -4,4 +4,4 @@ use Rattle.stripe_claims.proofs.claims.Claims.cut.Goals as goal
 
 pub split_seat-requires : goal.split_seat-requires
 split_seat-requires g c =
-    (search rules, search rules, cuts c.self.inside.table.shared.key _ c.args.rest.now.me.0 c.requires.seat.1 c.requires.seat.2)
+    (search rules, search rules, cuts c.self.inside.table.shared.key _ c.args.rest.now.me.0 c.requires.seat.2 c.requires.seat.3)

@@ -9,12 +9,13 @@ pub loop-init : goal.loop-init
 loop-init g c =
     let dealt = c.in_ok-dealt.dealt.items in
     let none = c.in_ok-dealt.ensures.items in
-    let seat = first_hand c.args.rest.me c.args.passes c.requires.seat.1 in
+    let seat = first_hand c.args.rest.me _ c.args.passes c.requires.seat.1 in
     record {
       table = c.requires.seat.0;
       home = seat.0;
       empty = seat.1;
       left = seat.2;
+      planned = seat.3;
       count = ap (λ (ps : List Pass). length ps) none;
       owned = all_none (IsOwned c.args.self.now) dealt none;
       fresh = all_none IsFresh dealt none;
@@ -25,7 +26,7 @@ cut-requires g c =
     let was = c.loop.invariant in
     let left = was.left in
     let more = c.loop-test.true in
-    record { seat = (was.table, omega arith, was.empty) }
+    record { seat = (was.table, was.planned, omega arith, was.empty) }
 
 pub loop-preserved : goal.loop-preserved
 loop-preserved g c =
@@ -39,6 +40,7 @@ loop-preserved g c =
       home = cut.0 ∙ was.home;
       empty = cut.1 ∙ was.empty;
       left = (let less = cut.2 in let left = was.left in let more = c.loop-test.true in omega arith);
+      planned = cut.3 ∙ was.planned;
       count = count_push dealt now c.cut.result c.loop.counter is was.count;
       owned = all_push (IsOwned c.args.self.now) dealt now c.cut.result is was.owned c.cut.ensures.owned;
       fresh = all_push IsFresh dealt now c.cut.result is was.fresh c.cut.ensures.fresh;
@@ -74,13 +76,13 @@ returns g c =
     let dealt = c.loop.dealt.items in
     let now = c.push-2.new.self.items in
     let is = c.in_ok-push-2.ensures.items in
-    let last : Pass = record { owner = c.loop.rest.table_id; found = c.loop.rest.me.0.found; has_ended = false } in
+    let last : Pass = record { owner = c.loop.rest.table_id; plan = c.loop.rest.me.0.plan; found = c.loop.rest.me.0.found; has_ended = false } in
     let end = c.loop-test.false in
     let within = c.loop.auto.counter-end in
     let some = c.requires.some in
     let all : c.loop.counter + 1 ≡ c.args.passes = omega arith in
     record {
       count = count_push dealt now last c.loop.counter is was.count ∙ all;
-      owned = all_push (IsOwned c.args.self.now) dealt now last is was.owned (owned_fresh c.args.self.now last was.table was.empty refl);
+      owned = all_push (IsOwned c.args.self.now) dealt now last is was.owned (owned_fresh c.args.self.now last was.table was.planned was.empty refl);
       fresh = all_push IsFresh dealt now last is was.fresh (was.empty, refl);
     }

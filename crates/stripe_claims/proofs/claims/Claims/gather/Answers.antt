@@ -16,7 +16,7 @@ join_seat-requires g c =
       c.into_seat.ensures.seat.0 ∙ mine.owner ∙ name,
       c.into_seat.ensures.seat.1,
       (let one = c.self.invariant.one_word in omega arith),
-      joins table.key all.id all.me.0 seat.id seat.me.0,
+      joins table.key all.id all.me.0 seat.id seat.me.0 c.loop-pass.invariant.some,
     )
 
 pub loop-pass-preserved : goal.loop-pass-preserved
@@ -33,6 +33,7 @@ loop-pass-preserved g c =
     let stands_now = taken_parts c.join_seat.new.seat.me c.loop-pass.all.me seat now in
     record {
       table = c.join_seat.ensures.0 ∙ was.table;
+      some = (let w = was.some in omega (arith, stands_now));
       parts = (let one = c.into_seat.ensures.hand.0 in let push = count_push rest passes pass (length rest) is refl in let w = was.parts in omega arith);
       each = λ x. (let t = taken_times x c.join_seat.new.seat.me.0.found all.found pass.found found_now in let p = times_pop x passes rest pass is in let w = was.each x in omega arith);
       long = (let t = taken_length c.join_seat.new.seat.me.0.found all.found pass.found found_now in let p = length_pop passes rest pass is in let w = was.long in omega arith);
@@ -56,6 +57,7 @@ loop-pass-init g c =
     let found = c.into_seat-all.ensures.hand.1 in
     record {
       table = c.into_seat-all.ensures.seat.0 ∙ (all_last (IsOwned claims) others all first is c.requires).owner;
+      some = (let one = c.into_seat-all.ensures.hand.0 in omega arith);
       parts = (let one = c.into_seat-all.ensures.hand.0 in let push = count_push others all first (length others) is refl in omega arith);
       each = λ x. (let t : times x hand.found ≡ times x first.found = ap (times x) found in let p = times_pop x all others first is in omega arith);
       long = (let t : length hand.found ≡ length first.found = ap (λ (l : List ℕ). length l) found in let p = length_pop all others first is in omega arith);

@@ -17,7 +17,7 @@ use Rattle.exact_cut.proofs.dda.walk.Walk.start.Goals.{then-down-up-2, else-down
 section_at : (t : Facet) (z : ℤ) (s : Section) → FitsSigned w64 z → IsSection t (to_z w64 (of_z w64 z)) s → IsSection t z s
 section_at t z s fits h = simp to_z-of_z at h
 
--- of two rows that differ, the second is lower where it is not higher
+-- if two rows differ, and the second is not higher, it is lower
 lower : (a b : ℕ) → (a ≡ b → ⊥) → b ≤ a → b < a
 lower a b h k = grind arith
 

@@ -14,7 +14,7 @@ row-added width m n pixel bytes new text next before is =
     ∙ ap (λ (l : List ℕ). bytes ++ l) (sym (next-row width m n pixel next))
     ∙ before
 
--- the next row has room
+-- the next row fits
 row-fits : (width m n room : ℕ) (pixel : ℕ → ℕ → Bool) (bytes text : List ℕ) → m ≡ suc n
     → bytes ++ lower_rows width pixel m ≡ text → length text ≤ room → length bytes + div_ceil width 8 ≤ room
 row-fits width m n room pixel bytes text next before fits =
