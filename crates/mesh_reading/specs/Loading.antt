@@ -1,4 +1,4 @@
--- What comes of reading an input to its end: what its text spells, or the fault that it ends with.
+-- The result of reading an input to its end: what its text spells, or the fault that it ends with.
 use Rattle.std.specs.Prelude.{◌≡◌, ◌≢◌, ◌≤◌, ◌⊎◌, ◌++◌, ℕ, Bool, Err, IfErr, IfOk, IfSome, List, Ok, OnOk, Option, Result, false, length, true}
 use Rattle.std.specs.Io.KnownBytes.{Consumes, IsAtEnd}
 use Rattle.geometry.specs.Facet.{Facet}
@@ -49,64 +49,64 @@ AreWelded taken welder = length taken ≤ FACET_LIMIT → welder ≡ welder_of t
 abbrev pub HasWelded : List Facet → Welder → Welder → Type 0
 HasWelded facets old new = (taken : List Facet) → AreWelded taken old → AreWelded (taken ++ facets) new
 
--- `says` holds of each text that the reader was fed, where the welder has just the facets that were taken off the reader.
+-- `says` holds of each text that the reader was fed, if the welder has exactly the facets that were taken off the reader.
 abbrev pub OfText : Welder → TextReader → (LengthUnit → List ℕ → Type 0) → Type 0
 OfText welder reader says = (unit : LengthUnit) (taken : List Facet) (fed : List ℕ) → AreWelded taken welder
     → IsAfter FACET_LIMIT unit taken reader fed → says unit fed
 
--- a reader was fed just the bytes that were taken from a source since the start, and these facets were taken off it
+-- a reader was fed exactly the bytes that were taken from a source since the start, and these facets were taken off it
 abbrev pub IsFedBySource : LengthUnit → List Facet → TextReader → Option (List ℕ) → Option (List ℕ) → Type 0
 IsFedBySource unit taken reader start now = (fed : List ℕ) × Consumes start now fed × IsAfter FACET_LIMIT unit taken reader fed
 
--- a welder has the facets that were taken off a reader, which was fed just the bytes that were taken from a source since
--- the start
+-- a welder has the facets that were taken off a reader, which was fed exactly the bytes that were taken from a source since the
+-- start
 abbrev pub IsWeldedAsFed : LengthUnit → TextReader → Welder → Option (List ℕ) → Option (List ℕ) → Type 0
 IsWeldedAsFed unit reader welder start now = (taken : List Facet) × AreWelded taken welder × IsFedBySource unit taken reader start now
 
--- these bytes are all of the input, where that is known
+-- these bytes are all of the input, if that is known
 abbrev pub IsInput : Option (List ℕ) → List ℕ → Type 0
 IsInput known bytes = IfSome known (λ input. bytes ≡ input)
 
--- a failed read, want of memory, or a fault of the input
+-- a failed read, out of memory, or a fault of the input
 abbrev pub IsInputFault : (List ℕ → ReadFault → Type 0) → Option (List ℕ) → ReadFault → Type 0
 IsInputFault is known f = (f ≡ fault.Read) ⊎ (f ≡ fault.Memory) ⊎ ((input : List ℕ) × IsInput known input × is input f)
 
 -- What a call that reads a source to its end promises, by what is made of an input, and by which faults are an input's own.
 pub record IsReadAs {T : Type 0} (is_made : List ℕ → T → Type 0) (is_own : List ℕ → ReadFault → Type 0) (result : Result T ReadFault)
     (source : Transcript) : Type 0 where
-  -- what it answers is made of the whole input
+  -- its result is made of the whole input
   pub ok : IfOk result (λ made. (input : List ℕ) × IsInput source.old input × is_made input made)
   pub err : IfErr result (IsInputFault is_own source.old)
   -- the source is at its end, also after a fault of the input
   pub whole : result ≢ Err fault.Read → result ≢ Err fault.Memory → IsAtEnd source.new
-  -- just one call of the source failed where a failed read is the answer, else none
+  -- exactly one call of the source failed if a failed read is the result, else none
   pub unread : result ≡ Err fault.Read → Fails source.failed_before source.failed
   pub sound : result ≢ Err fault.Read → source.failed ≡ source.failed_before
 
--- What a call promises of a round that it fills from a source where there is more, and leaves empty where there is none: it answers
+-- What a call promises of a round. It fills the round from a source if there is more, and leaves it empty otherwise. It returns
 -- whether there is more after it. `before` and `after` are the round.
 pub record IsFilled {S : Type 0} (remaining : S → Option (List ℕ)) (failure_count : S → ℕ) (old new : S) (is_more : Bool) (before after : Round)
     (result : Result Bool ReadFault) : Type 0 where
-  -- the round has what was taken off the source, just once and in its order
+  -- the round has what was taken off the source, exactly once and in its order
   pub taken : OnOk result (Consumes (remaining old) (remaining new) after.bytes)
-  -- where there is more, the round has all that it waits for
+  -- if there is more, the round has all that it waits for
   pub full : result ≡ Ok true → after.wanted ≤ length after.bytes
   pub waits : after.wanted ≡ before.wanted
   pub kept : is_more ≡ false → new ≡ old
   pub whole : result ≡ Ok false → is_more ≡ true → IsAtEnd (remaining new)
-  -- just one call of the source failed where a failed read is the answer, else none
+  -- exactly one call of the source failed if a failed read is the result, else none
   pub unread : result ≡ Err fault.Read → Fails (failure_count old) (failure_count new)
   pub sound : result ≢ Err fault.Read → failure_count new ≡ failure_count old
   pub only : IfErr result (λ f. (f ≡ fault.Read) ⊎ (f ≡ fault.Memory))
 
--- What a call promises that reads a source to its end, feeds a reader with it, and adds the facets that it takes off the reader to a
--- welder.
+-- What a call promises that reads a source to its end. It feeds a reader with the source, and adds the facets that it takes off
+-- the reader to a welder.
 pub record IsReadToEnd {S : Type 0} (remaining : S → Option (List ℕ)) (failure_count : S → ℕ) (old new : S) (reader_old reader : TextReader)
     (welder_old welder : Welder) (result : Result (Unit {0}) ReadFault) : Type 0 where
   pub fed : OnOk result ((unit : LengthUnit) (start : Option (List ℕ)) → IsWeldedAsFed unit reader_old welder_old start (remaining old)
       → IsWeldedAsFed unit reader welder start (remaining new))
   pub whole : OnOk result (IsAtEnd (remaining new))
-  -- just one call of the source failed where a failed read is the answer, else none
+  -- exactly one call of the source failed if a failed read is the result, else none
   pub unread : result ≡ Err fault.Read → Fails (failure_count old) (failure_count new)
   pub sound : result ≢ Err fault.Read → failure_count new ≡ failure_count old
   pub only : IfErr result (λ f. (f ≡ fault.Read) ⊎ (f ≡ fault.Memory))
@@ -115,12 +115,12 @@ pub record IsReadToEnd {S : Type 0} (remaining : S → Option (List ℕ)) (failu
 pub record IsLoaded (unit : LengthUnit) (bytes : List ℕ) (result : Result Solid ReadFault) : Type 0 where
   pub ok : IfOk result (IsSolidOf unit bytes)
   pub err : IfErr result (IsLoadFault unit bytes)
-  -- memory aside, a closed mesh is answered as such
+  -- memory aside, a closed mesh is returned as such
   pub only : (facets : List Facet) → Reads FACET_LIMIT unit bytes facets → IsBalanced facets → IfErr result (λ f. f ≡ fault.Memory)
 
 -- What a call promises that makes a welder of all facets of a whole text.
 pub record IsAllWelded (unit : LengthUnit) (bytes : List ℕ) (result : Result Welder ReadFault) : Type 0 where
   pub ok : IfOk result (λ welder. (facets : List Facet) × Reads FACET_LIMIT unit bytes facets × (welder ≡ welder_of facets))
   pub err : IfErr result (IsLoadFault unit bytes)
-  -- memory aside, a text that reads as facets is answered as such
+  -- memory aside, a text that reads as facets is returned as such
   pub only : (facets : List Facet) → Reads FACET_LIMIT unit bytes facets → IfErr result (λ f. f ≡ fault.Memory)

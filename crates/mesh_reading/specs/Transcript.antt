@@ -1,7 +1,7 @@
 -- What is known of a device before and after calls of it.
 use Rattle.std.specs.Prelude.{ℕ, List, Option}
 
--- the bytes that a sink holds or a source has left, where they are known, and the count of failed calls
+-- the bytes that a sink holds or a source has left, if they are known, and the count of failed calls
 pub record Transcript : Type 0 where
   pub old : Option (List ℕ)
   pub new : Option (List ℕ)

@@ -5,7 +5,7 @@ ghost use Rattle.mesh_reading.specs.Extent.{IsExtentOf, extent_of};
 
 use geometry::{Facet, Point, extent_with};
 
-/// The number of facets and, where there is one, their bounding box.
+/// The number of facets, and their bounding box if there is one.
 #[derive(Clone, Copy)]
 pub struct Extent {
     /// The number of facets.

@@ -1,4 +1,4 @@
-//! From bytes to a mesh: reads ASCII STL from a source, or as a text at hand, and welds its facets as they come.
+//! From bytes to a mesh: reads ASCII STL from a source, or as a text in memory, and welds its facets as they come.
 //!
 //! ```text
 //! let solid = read_solid_by(&rt, alloc, &mut source, unit, 4)?;  // the closed mesh, read by four workers
@@ -6,8 +6,8 @@
 //! ```
 //!
 //! - [`read_solid`]: the closed mesh that a source spells. [`read_solid_by`]: the same, read by several workers.
-//! - [`load`]: the closed mesh of a text at hand.
-//! - [`read_extent`]: how many facets a source spells, and their bounding box, an [`Extent`].
+//! - [`load`]: the closed mesh of a text in memory.
+//! - [`read_extent`]: the number of facets that a source spells, and their bounding box, an [`Extent`].
 //! - [`ReadFault`]: why there is no mesh, or no extent.
 //!
 //! A source is read to its end, also after a fault of its text, unless a read or an allocation fails. Coordinates are in

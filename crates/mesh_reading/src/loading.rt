@@ -1,5 +1,5 @@
 //! Reads a text to its end: the facets that it spells, and the closed mesh that they make.
-ghost use Rattle.std.specs.Prelude.{◌≡◌, ◌<◌, ◌++◌, IfErr, List, Ok, OnOk, Option, [], false, length, ℕ};
+ghost use Rattle.std.specs.Prelude.{◌≡◌, ◌≤◌, ◌++◌, IfErr, List, Ok, OnOk, Option, [], false, length, ℕ};
 ghost use Rattle.std.specs.Io.KnownBytes.{IsAtEnd};
 ghost use Rattle.geometry.specs.Facet.{Facet};
 ghost use Rattle.micro_num.specs.declared.unit.Unit.{Unit as LengthUnit};
@@ -12,7 +12,7 @@ use crate::extent::Extent;
 use crate::read_fault::ReadFault;
 use crate::round::Round;
 use crate::round_work::{read_and_weld, weld_next};
-use crate::window::{WINDOW_LEN, fill};
+use crate::window::{LEAST_READ, WINDOW_LEN, fill};
 use geometry::{FACET_LIMIT, Facet};
 use mesh_weld::{Solid, Welder};
 use micro_num::Unit;
@@ -22,7 +22,7 @@ use std::mem::swap;
 use std::thread::Threads;
 use stl_text::TextReader;
 
-/// The number of bytes for each worker, where several read at the same time.
+/// The number of bytes for each worker, if several read at the same time.
 const WORKER_LEN: usize = 1 << 20;
 
 /// The greatest number of bytes that a round waits for. It may have up to a window more. Two rounds and the program itself
@@ -31,8 +31,11 @@ const ROUND_LIMIT: usize = 7 << 20;
 
 /// The closed mesh of an ASCII STL text whose numbers are in `unit`. Facets with two equal corners are dropped.
 ///
-/// Memory aside, a text has one answer: `Stl` where it does not read as facets, else `Weld` where the edges of all its
-/// facets do not balance, else the mesh. `Memory` comes only where an allocation failed. No other fault comes.
+/// # Errors
+/// - `Stl` if the text does not read as facets,
+/// - else `Weld` if the edges of all its facets do not balance.
+///
+/// Memory aside, a text has one result. `Memory` comes only if an allocation failed. No other fault comes.
 pub fn load<A: Allocator + Copy + Send + Sync>(
     alloc: A,
     bytes: &[u8],
@@ -46,12 +49,11 @@ pub fn load<A: Allocator + Copy + Send + Sync>(
     weld_end(reader, welder)
 }
 
-/// The closed mesh that a source spells. The source is read to its end, and its facets are welded as they come. No more is
-/// held of the text than a window and the front of a word that it cuts, and of facets that are not welded yet those of a
-/// window.
+/// The closed mesh that a source spells. The source is read to its end, and its facets are welded as they come. A window of the
+/// text is held, with the front of a word that it cuts, and the facets of a window that are not welded yet.
 ///
 /// # Errors
-/// Those of [`load`], and `Read` where a call of the source failed, which is not tried again. The source is read to its end
+/// Those of [`load`], and `Read` if a call of the source failed, which is not tried again. The source is read to its end
 /// unless the fault is `Read` or `Memory`.
 pub fn read_solid<A: Allocator + Copy + Send + Sync, I: Source>(
     alloc: A,
@@ -68,9 +70,8 @@ pub fn read_solid<A: Allocator + Copy + Send + Sync, I: Source>(
     weld_end(reader, welder)
 }
 
-/// The same as [`read_solid`], read by up to `workers` workers at the same time. Where they are several, rounds stand
-/// in place of windows. Two rounds are held, the one that is read and the one that is filled, and the facets of two: those that
-/// are welded, and those that are read meanwhile.
+/// [`read_solid`] by up to `workers` workers at the same time. Several workers read rounds instead of windows. Two rounds are
+/// held: one is read, and the other is filled. The facets of two rounds are held: some are welded, and some are read meanwhile.
 ///
 /// # Errors
 /// Those of [`read_solid`].
@@ -93,8 +94,8 @@ pub fn read_solid_by<R: Threads + Sync, A: Allocator + Copy + Send + Sync, I: So
     weld_end_by(rt, reader, welder)
 }
 
-/// Reads a source to its end in windows: feeds a reader with it, and adds the facets that it takes off the reader to a
-/// welder. `fresh` is overwritten: it has the facets of one window after another.
+/// Reads a source to its end in windows. It feeds a reader with each window, and adds the facets that it takes off the reader
+/// to a welder. It overwrites `fresh`, which has the facets of one window after another.
 fn weld_windows<A: Allocator + Copy + Send + Sync, I: Source>(
     source: &mut I,
     reader: &mut TextReader<A>,
@@ -195,7 +196,7 @@ fn weld_end<A: Allocator + Copy + Send + Sync>(
     Ok(all.finish()?)
 }
 
-/// The same as [`weld_end`], where several threads work at the same time.
+/// [`weld_end`] by several threads at the same time.
 fn weld_end_by<R: Threads + Sync, A: Allocator + Copy + Send + Sync>(
     rt: &R,
     reader: TextReader<A>,
@@ -254,15 +255,15 @@ pub fn read_extent<A: Allocator + Copy + Send + Sync, I: Source>(
     Err(ReadFault::Memory)
 }
 
-/// Fills a window from a source, feeds a reader with it, and takes off the reader the facets that are whole then. The answer
-/// is `false` at the end of the source.
+/// Fills a window from a source, feeds a reader with it, and takes off the reader the facets that are whole then. Returns
+/// `false` at the end of the source.
 fn next_facets<A: Allocator, I: Source>(
     source: &mut I,
     window: &mut [u8],
     reader: &mut TextReader<A>,
     facets: &mut Vec<Facet, A>,
 ) -> Result<bool, ReadFault>
-    requires { 0 < length window.old }
+    requires { LEAST_READ ≤ length window.old }
     ensures len { length window.new ≡ length window.old }
     ensures fed { OnOk result ((unit : LengthUnit) (taken : List Facet) (start : Option (List ℕ))
         → IsFedBySource unit taken reader.old start (I.remaining source.old)

@@ -1,23 +1,24 @@
 //! A round: the bytes of a text that several workers read at the same time, filled straight from its source.
-ghost use Rattle.std.specs.Prelude.{◌≡◌, ◌≤◌, ◌<◌, ◌+◌, IfErr, IfOk, List, Ok, OnOk, Option, [], length, take, true, ℕ};
+ghost use Rattle.std.specs.Prelude.{◌≡◌, ◌≤◌, ◌+◌, IfErr, IfOk, List, Ok, OnOk, Option, [], length, take, true, ℕ};
 ghost use Rattle.std.specs.Io.KnownBytes.{Consumes, IsAtEnd};
 ghost use Rattle.raster.specs.Devices.{Fails};
 ghost use Rattle.mesh_reading.specs.Loading.{IsFilled};
 ghost use Rattle.mesh_reading.specs.declared.read_fault.ReadFault.TheVariants.{Read};
 
 use crate::read_fault::ReadFault;
-use crate::window::{WINDOW_LEN, fill};
+use crate::window::{LEAST_READ, WINDOW_LEN, fill};
 use raster::Source;
 use std::alloc::{AllocError, Allocator};
 use std::marker::Model;
 
-/// The bytes of a round, in room that is kept from one filling to the next. It grows by a window where the bytes fill it, so a
-/// short text touches no more memory than it needs. What stands after the first `len` bytes is not part of the round.
+/// The bytes of a round, in room that is kept from one filling to the next. It grows by a window if what is left of it is too
+/// little for a read. So a short text touches no more memory than it needs. What follows the first `len` bytes is not part of
+/// the round.
 #[derive(Drop)]
 pub(crate) struct Round<A: Allocator> {
     room: Vec<u8, A>,
     len: usize,
-    /// The number of bytes that the round waits for where the source has as many.
+    /// The number of bytes that the round waits for if the source has that much.
     wanted: usize,
 }
 
@@ -61,15 +62,13 @@ impl<A: Allocator> Round<A> {
         self.len = 0;
     }
 
-    /// Fills the round anew with what a source has next. The answer is `false` at the end of the source.
+    /// Fills the round anew with what a source has next. Returns `false` at the end of the source.
     pub(crate) fn fill<I: Source>(&mut self, source: &mut I) -> Result<bool, ReadFault>
         ensures { IsFilled I.remaining I.Failures.failure_count source.old source.new true self.old self.new result }
     {
         self.len = 0;
         'round: while self.len < self.wanted {
-            if self.len == self.room.len() {
-                grow(&mut self.room)?;
-            }
+            make_room(&mut self.room, self.len)?;
             let count = fill_after(source, self.room.as_mut_slice(), self.len)?;
             if count == 0 {
                 return Ok(false);
@@ -80,17 +79,28 @@ impl<A: Allocator> Round<A> {
     }
 }
 
+/// Makes room for a read after the first `len` bytes, if what is left there is too little.
+fn make_room<A: Allocator>(room: &mut Vec<u8, A>, len: usize) -> Result<(), AllocError>
+    ensures same { take (length room.old.items) room.new.items ≡ room.old.items }
+    ensures enough { OnOk result (len ≤ length room.old.items → len + LEAST_READ ≤ length room.new.items) }
+{
+    if room.len().saturating_sub(len) < LEAST_READ {
+        return grow(room);
+    }
+    Ok(())
+}
+
 /// Makes room for a window more.
 fn grow<A: Allocator>(room: &mut Vec<u8, A>) -> Result<(), AllocError>
     ensures same { take (length room.old.items) room.new.items ≡ room.old.items }
-    ensures more { OnOk result (length room.old.items < length room.new.items) }
+    ensures more { OnOk result (length room.new.items ≡ length room.old.items + WINDOW_LEN) }
 {
     room.extend_from_slice(&[0; WINDOW_LEN])
 }
 
-/// Fills the bytes after the first `len` from a source. The answer is how many came, which is 0 only at its end.
+/// Fills the bytes after the first `len` from a source. Returns how many came, which is 0 only at its end.
 fn fill_after<I: Source>(source: &mut I, bytes: &mut [u8], len: usize) -> Result<usize, ReadFault>
-    requires { len < length bytes.old }
+    requires { len + LEAST_READ ≤ length bytes.old }
     ensures len { length bytes.new ≡ length bytes.old }
     ensures within { IfOk result (λ count. len + count ≤ length bytes.old) }
     ensures taken { IfOk result (λ count. (start : Option (List ℕ)) → Consumes start (I.remaining source.old) (take len bytes.old)

@@ -1,5 +1,5 @@
-//! The work on a round of a text that several workers share: the facets of the round before are welded, the next round is
-//! filled, and runs of facets are looked for in parts of the round.
+//! The work on a round of a text that several workers share. They weld the facets of the round before, fill the next round, and
+//! look for runs of facets in parts of this round.
 ghost use Rattle.std.specs.Prelude.{◌≡◌, ◌⊎◌, ◌++◌, Err, IfErr, IfOk, IsOk, List, Ok, OnOk, ℕ};
 ghost use Rattle.geometry.specs.Facet.{Facet};
 ghost use Rattle.geometry.specs.declared.limits.TheConstants.{FACET_LIMIT};
@@ -17,9 +17,9 @@ use std::alloc::Allocator;
 use std::thread::{Threads, join_mut};
 use stl_text::{ChunkParts, FacetRuns, TextReader};
 
-/// Feeds a reader with a round. Meanwhile the facets of the round before are welded and, where the source has more
-/// (`is_more`), the next round is filled. Answers whether the source has more after the next round. The reader jumps over the
-/// runs of facets that up to `workers` workers find in parts of the round, and reads the rest by itself.
+/// Feeds a reader with a round. Meanwhile the facets of the round before are welded, and the next round is filled if the source
+/// has more (`is_more`). Returns whether the source has more after the next round. Up to `workers` workers find runs of facets
+/// in parts of the round. The reader jumps over these, and reads the rest by itself.
 pub(crate) fn read_and_weld<R: Threads + Sync, A: Allocator + Copy + Send + Sync, I: Source>(
     rt: &R,
     workers: u32,
@@ -43,11 +43,11 @@ pub(crate) fn read_and_weld<R: Threads + Sync, A: Allocator + Copy + Send + Sync
 }
 
 /// Adds facets to a welder, fills a round, and finds runs in the parts of a chunk, by up to `workers` workers at the same time.
-/// Where the source has no more (not `is_more`), the round is left empty. Answers the runs, and whether the source has more
-/// after the round.
+/// If the source has no more (not `is_more`), the round is left empty. Returns the runs, and whether the source has more after
+/// the round.
 ///
-/// A new thread may share the processor of the thread that made it, until that one waits. So the first new thread gets parts
-/// alone, of which others draw more meanwhile.
+/// A new thread may share the processor of the thread that made it, until that one waits. So the first new thread gets only
+/// parts, and others draw more of these meanwhile.
 fn weld_and_find<'t, R: Threads + Sync, A: Allocator + Copy + Send + Sync, I: Source>(
     rt: &R,
     workers: u32,
@@ -112,7 +112,7 @@ fn weld_and_fill<'t, R: Threads + Sync, A: Allocator + Copy + Send + Sync, I: So
     (found, read_before_memory(filled, welded))
 }
 
-/// The answer of filling a round, if the facets were welded too. Where both failed, the failed read is the fault.
+/// The result of filling a round, if the facets were welded too. If both failed, the failed read is the fault.
 fn read_before_memory(
     filled: Result<bool, ReadFault>,
     welded: Result<(), ReadFault>,
@@ -166,8 +166,8 @@ fn fill_beside<'t, R: Threads + Sync, A: Allocator + Copy + Send + Sync, I: Sour
     (found, filled)
 }
 
-/// Fills a round from a source, or leaves it empty where the source has no more (not `is_more`), and then finds runs in the
-/// parts that nobody has drawn yet. Answers these, and whether the source has more after the round.
+/// Fills a round from a source, or leaves it empty if the source has no more (not `is_more`). Then it finds runs in the parts
+/// that nobody has drawn yet. Returns these, and whether the source has more after the round.
 fn fill_first<'t, A: Allocator + Copy, I: Source>(
     source: &mut I,
     round: &mut Round<A>,

@@ -15,6 +15,7 @@ pub mod HeightGroups
 pub mod Transfer
 pub mod FacetNumbers
 pub mod EdgeNumbering
+pub mod SomeNumbers
 pub mod Naming
 pub mod Welds
 pub mod EdgeCount

@@ -16,8 +16,8 @@ edge_of facets facet index = slice_index_or (half_edges (facet_at facets facet))
 abbrev pub edge_number : List (List ℕ) → ℕ → ℕ → ℕ
 edge_number numbers facet index = slice_index (slice_index_or numbers facet []) index
 
--- each edge of each facet has a number below count, each such number is some edge's, and two edges have one number
--- exactly where their ends are the same two points
+-- Each edge of each facet has a number below count, and each such number is some edge's. Two edges have one number exactly if
+-- their ends are the same two points.
 pub record AreEdgeNumbers (facets : List Facet) (numbers : List (List ℕ)) (count : ℕ) : Type 0 where
   pub each_facet : length numbers ≡ length facets
   pub below : (facet index : ℕ) → facet < length facets → index < 3 → edge_number numbers facet index < count

@@ -1,10 +1,11 @@
 -- The laws of closed meshes. What changes its sign with an edge's direction sums to 0 over all half-edges, and so do the
--- windings along a line. A ray's crossings can then be summed ahead of its start, or behind it.
-use Rattle.std.specs.Prelude.{◌≡◌, ◌↔◌, ◌⊎◌, false, List, ℤ, pos, ◌+ℤ◌, neg_ℤ}
+-- windings along a line. So a ray's crossings can be summed ahead of its start, or behind it.
+use Rattle.std.specs.Prelude.{◌≡◌, ◌↔◌, ◌⊎◌, false, ℕ, List, [], ◌∷◌, ℤ, pos, ◌+ℤ◌, neg_ℤ}
 use Rattle.geometry.specs.Point.{Point}
 use Rattle.geometry.specs.Facet.{Facet, twice}
 use Rattle.geometry.specs.Winding.{total, wind, wind_y, hit, hit_y, ray, ray_y, neg_ray_back}
 use Rattle.mesh_weld.specs.Balance.{IsBalanced}
+use Rattle.mesh_weld.specs.EdgeNumbers.{AreEdgeNumbers}
 use Rattle.mesh_weld.specs.Solid.{is_kept, kept_facets}
 use Rattle.mesh_weld.specs.Probing.{NoneTouches, NoneBetween}
 
@@ -36,7 +37,15 @@ RayFromTheLeft = (facets : List Facet) → IsBalanced facets → (c : Point) →
 abbrev pub DegenerateFacetsAreMissed : Type 0
 DegenerateFacetsAreMissed = (t : Facet) → is_kept t ≡ false → (c : Point) → (hit (twice t) c ≡ pos 0) × (hit_y (twice t) c ≡ pos 0)
 
--- a mesh without its degenerate facets has the same rays, and is closed exactly where the whole mesh is
+-- the half-edges of a degenerate facet balance one another
+abbrev pub DegenerateFacetsAreClosed : Type 0
+DegenerateFacetsAreClosed = (t : Facet) → is_kept t ≡ false → IsBalanced (t ∷ [])
+
+-- the edges of all facets can be numbered
+abbrev pub EdgesHaveNumbers : Type 0
+EdgesHaveNumbers = (facets : List Facet) → (numbers : List (List ℕ)) × (count : ℕ) × AreEdgeNumbers facets numbers count
+
+-- a mesh without its degenerate facets has the same rays, and is closed exactly if the whole mesh is
 abbrev pub KeptRaysAreAll : Type 0
 KeptRaysAreAll = (facets : List Facet) (c : Point)
     → (ray (kept_facets facets) c ≡ ray facets c) × (ray_y (kept_facets facets) c ≡ ray_y facets c)
@@ -48,7 +57,7 @@ KeptAreClosed = (facets : List Facet) → IsBalanced (kept_facets facets) ↔ Is
 abbrev pub RaysAgree : Type 0
 RaysAgree = (facets : List Facet) → IsBalanced facets → (c : Point) → NoneTouches facets c → ray facets c ≡ ray_y facets c
 
--- centres that differ in x alone, or in y alone, have equal rays where no point of a closed mesh's facets is between them
+-- centres that differ in x alone, or in y alone, have equal rays if no point of a closed mesh's facets is between them
 abbrev pub StepsKeepRays : Type 0
 StepsKeepRays = (facets : List Facet) → IsBalanced facets → (c d : Point) → c.z ≡ d.z → (c.x ≡ d.x) ⊎ (c.y ≡ d.y)
     → NoneBetween facets c d → ray facets c ≡ ray facets d

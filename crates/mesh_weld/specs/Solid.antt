@@ -69,7 +69,7 @@ height_ranges facets = map height_range facets
 abbrev pub rise : Facet → ℤ
 rise t = greatest_z t -ℤ least_z t
 
--- the least number that no facet's rise is above
+-- the least number that is not below any facet's rise
 pub record IsGreatestRise (facets : List Facet) (n : ℕ) : Type 0 where
   pub within : All (λ t. rise t ≤ℤ pos n) facets
   pub least : (m : ℕ) → All (λ t. rise t ≤ℤ pos m) facets → n ≤ m
@@ -77,7 +77,7 @@ pub record IsGreatestRise (facets : List Facet) (n : ℕ) : Type 0 where
 abbrev pub facet_at : List Facet → ℕ → Facet
 facet_at facets n = slice_index_or facets n (facet_with origin origin origin)
 
--- whether facet m stands before facet n: by least z, and by number where these are equal
+-- whether facet m comes before facet n: by least z, and by number if these are equal
 abbrev pub is_lower : List Facet → ℕ → ℕ → Bool
 is_lower facets m n =
     int_lt (least_z (facet_at facets m)) (least_z (facet_at facets n))

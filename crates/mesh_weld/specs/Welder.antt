@@ -35,7 +35,7 @@ IsNamed old p new id = IsAppendedOrSame old p new × (id < length new) × (slice
 abbrev pub AreBelow : List Point → List (List ℕ) → Type 0
 AreBelow points numbers = All (All (λ n. n < length points)) numbers
 
--- the ids of a facet's corners, of which those that are new are appended to the points
+-- the ids of a facet's corners; those that are new are appended to the points
 pub record IsNamedFacet (old : List Point) (t : Facet) (new : List Point) (ids : List ℕ) : Type 0 where
   pub more : List Point
   pub appended : new ≡ old ++ more

@@ -1,4 +1,4 @@
--- What welding answers of facets, and what each of its faults says of them.
+-- The result of welding facets, and what each of its faults says of them.
 use Rattle.std.specs.Prelude.{◌≡◌, ◌+◌, IfErr, IfOk, List, Result}
 use Rattle.geometry.specs.Facet.{Facet}
 use Rattle.geometry.specs.Point.{Point}
@@ -22,7 +22,7 @@ IsKeptFault kept degenerate (fault.Open from to there back) =
     × (back ≡ half_edge_count kept to from + half_edge_count degenerate to from)
 IsKeptFault kept degenerate fault.Memory = Unit {0}
 
--- what a welder answers at its end, whichever facets were added
+-- the result of a welder at its end, whichever facets were added
 pub record IsWeldOf (welder : Welder) (result : Result Solid WeldFault) : Type 0 where
   -- the solid is that of the facets: the kept ones, and the number of those that were dropped
   pub kept : (facets : List Facet) → welder ≡ welder_of facets → IfOk result (λ solid. solid ≡ solid_of facets)
@@ -32,5 +32,5 @@ pub record IsWeldOf (welder : Welder) (result : Result Solid WeldFault) : Type 0
   pub ray : (facets : List Facet) → welder ≡ welder_of facets → IfOk result (λ solid. (c : Point) → ray solid.facets c ≡ ray facets c)
   -- an open edge is the least one
   pub «open» : (facets : List Facet) → welder ≡ welder_of facets → IfErr result (IsWeldFault facets)
-  -- where the facets are closed, the only fault is a failed allocation
+  -- if the facets are closed, the only fault is a failed allocation
   pub only : (facets : List Facet) → welder ≡ welder_of facets → IsBalanced facets → IfErr result (λ f. f ≡ fault.Memory)

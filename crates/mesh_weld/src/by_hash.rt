@@ -2,10 +2,11 @@
 //!
 //! A hash table gives each corner an id as the facets come, and compares it with the point of that id. Chains by lesser ends
 //! number the edges of each list of facets when its corners have their ids. At the end counting sorts bring the points into
-//! order by groups of x, and the facets by groups of height. No contract speaks of a hash or a group: that would take long
-//! proofs, and is not needed. The points, and the keys of the facets, are checked to ascend strictly; where a point has two
-//! ids, the check fails. `by_sort` does the work again where a check fails, where a chain of the table or of edges grows too
-//! long, and where the half-edges do not balance.
+//! order by groups of x, and the facets by groups of height.
+//!
+//! No contract speaks of a hash or a group: that would take long proofs, and is not needed. A check shows that the points and
+//! the keys of the facets ascend strictly; it fails if a point has two ids. The sorts do the work again if a check fails, a
+//! chain of the table or of edges grows too long, or the half-edges do not balance.
 ghost use Rattle.std.specs.Prelude.{◌≤◌, IfOk, IfSome, length};
 ghost use Rattle.mesh_weld.specs.EdgeChains.{AreInHalfWords};
 ghost use Rattle.mesh_weld.specs.Grouping.{AreEdgesOf, AreOrdersOf};
@@ -47,9 +48,9 @@ pub(crate) struct Orders<A: Allocator> {
     pub(crate) heights: HeightOrder<A>,
 }
 
-/// Puts the points and the facets in order, once the half-edges balance by the numbers of their edges (`numbering`). The facets
-/// are given by ids among the points. The answer is `None`, so that sorts have to serve, where there is no `numbering`, where
-/// the half-edges do not balance, and where the points cannot be put in order.
+/// Puts the points and the facets in order, if the half-edges balance by the numbers of their edges (`numbering`). The facets
+/// are given by ids among the points. `None` if there is no `numbering`, the half-edges do not balance, or the points cannot be
+/// put in order. Then sorts must serve.
 pub(crate) fn group_facets<A: Allocator + Copy>(
     alloc: A,
     points: &[Point],
@@ -75,7 +76,7 @@ pub(crate) fn group_facets<A: Allocator + Copy>(
     Ok(Some(Grouping { edges, orders }))
 }
 
-/// The same as [`group_facets`], by three threads at the same time. The one that calls tests the balance.
+/// [`group_facets`] by three threads at the same time. The caller's own thread tests the balance.
 pub(crate) fn group_facets_by<R: Threads + Sync, A: Allocator + Copy + Send + Sync>(
     rt: &R,
     alloc: A,
@@ -118,8 +119,8 @@ pub(crate) fn group_facets_by<R: Threads + Sync, A: Allocator + Copy + Send + Sy
     Ok(Some(Grouping { edges, orders }))
 }
 
-/// The points in their order, and the facets by height; `None` where the points get no order. The heights go first, since
-/// they leave less memory in use.
+/// The points in their order, and the facets by height; `None` if the points get no order. The heights go first, since they
+/// leave less memory in use.
 fn orders_of<A: Allocator + Copy>(
     alloc: A,
     points: &[Point],

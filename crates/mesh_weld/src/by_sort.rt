@@ -1,5 +1,5 @@
-//! The numbering of a solid by sorts of all corners and all half-edges. It serves meshes of every size, and finds the
-//! least open edge where the half-edges do not balance.
+//! The numbering of a solid by sorts of all corners and all half-edges. It serves meshes of every size, and finds the least
+//! open edge if the half-edges do not balance.
 ghost use Rattle.std.specs.Prelude.{◌≡◌, ◌≤◌, IfErr, IfOk, length};
 ghost use Rattle.mesh_weld.specs.Balance.{IsBalanced};
 ghost use Rattle.mesh_weld.specs.HalfEdge.{half_edges_from, ArePairNumbers};

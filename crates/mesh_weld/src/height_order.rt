@@ -1,5 +1,5 @@
-//! Facets in the order in which a sweep from below meets them; the height range of each, which the sweep asks for again
-//! and again; and their greatest rise, by which it finds those that have not ended yet.
+//! Facets in the order in which a sweep from below meets them, the height range of each, and their greatest rise. The sweep
+//! asks for the ranges again and again. By the greatest rise it finds the facets that have not ended yet.
 ghost use Rattle.std.specs.Prelude.{◌≡◌, ◌≤◌, ◌%◌, ◌/◌, ◌+ℤ◌, pos, IfOk, length, map};
 ghost use Rattle.std.specs.List.{range_with_len};
 ghost use Rattle.std.specs.List.Sorted.{IsPermutation, IsNonDecreasing};
@@ -24,8 +24,8 @@ pub struct HeightRange {
     pub high: i32,
 }
 
-/// The numbers of facets by ascending least height, and by number where least heights are equal; the facets' height ranges,
-/// by number; and their greatest rise.
+/// The numbers of facets by ascending least height, and by number if least heights are equal; the facets' height ranges, by
+/// number; and their greatest rise.
 #[derive(Drop)]
 pub(crate) struct HeightOrder<A: Allocator> {
     pub(crate) order: Vec<u32, A>,
@@ -72,8 +72,8 @@ struct Heights<A: Allocator> {
     greatest_rise: u32,
 }
 
-/// The keys of the facets whose corners have the numbers among the points, their height ranges, and their greatest rise, by
-/// one look at each facet.
+/// The keys of the facets whose corners have the numbers among the points, their height ranges, and their greatest rise. It
+/// looks at each facet once.
 fn list_heights<A: Allocator + Copy>(
     alloc: A,
     points: &[Point],
@@ -145,8 +145,8 @@ fn rise(facet: &Facet) -> u32
     highest(facet).abs_diff(lowest(facet))
 }
 
-/// The numbers of the facets that have the keys, the least key first. Comparisons sort the keys where a counting sort
-/// does not serve.
+/// The numbers of the facets that have the keys, the least key first. Comparisons sort the keys if a counting sort does not
+/// serve.
 fn order_of<A: Allocator + Copy>(
     alloc: A,
     mut keys: Vec<HeightKey, A>,

@@ -3,20 +3,23 @@ ghost use Rattle.std.specs.Prelude.{◌≡◌, ◌⊎◌, List, ℕ};
 ghost use Rattle.geometry.specs.Facet.{Facet};
 ghost use Rattle.geometry.specs.Point.{Point};
 ghost use Rattle.mesh_weld.specs.Balance.{HasOpenEdge, IsBalanced, IsLeastOpen};
-ghost use Rattle.mesh_weld.specs.Laws.{AmountsCancel, DegenerateFacetsAreMissed, KeptAreClosed, KeptRaysAreAll, RayFromTheLeft, RaysAgree, StepsKeepRays, WindsAlongYCancel, WindsCancel};
+ghost use Rattle.mesh_weld.specs.Laws.{AmountsCancel, DegenerateFacetsAreClosed, DegenerateFacetsAreMissed, EdgesHaveNumbers, KeptAreClosed, KeptRaysAreAll, RayFromTheLeft, RaysAgree, StepsKeepRays, WindsAlongYCancel, WindsCancel};
 
 /// States what holds of every mesh. Over closed facets an amount that changes its sign with the direction of an edge sums to
-/// 0, and so do the winds; the sum of the crossings from the left is minus the ray; rays along x and y agree where no facet
-/// touches the centre; a step past no facet keeps a ray. Degenerate facets change no ray, and without them a closed mesh is
-/// closed. A crate that calls it can use its clauses; it does nothing at run time.
+/// 0, and so do the winds. The sum of the crossings from the left is minus the ray. Rays along x and y agree if no facet
+/// touches the centre. A step past no facet keeps a ray. A degenerate facet changes no ray and is closed by itself, and without
+/// them a closed mesh is closed. The edges of all facets can be numbered. A crate that calls it can use its clauses; it does
+/// nothing at run time.
 pub fn hold_mesh_laws()
     ensures amounts { AmountsCancel }
     ensures winds { WindsCancel }
     ensures winds_along_y { WindsAlongYCancel }
     ensures from_the_left { RayFromTheLeft }
     ensures degenerate { DegenerateFacetsAreMissed }
+    ensures own { DegenerateFacetsAreClosed }
     ensures kept { KeptRaysAreAll }
     ensures closed { KeptAreClosed }
+    ensures numbered { EdgesHaveNumbers }
     ensures agree { RaysAgree }
     ensures steps { StepsKeepRays }
 {}

@@ -1,4 +1,4 @@
-//! Closed meshes: facets welded at equal corners, where as many half-edges run from any point to another as back.
+//! Closed meshes: facets welded at equal corners, with as many half-edges from any point to another as back.
 //!
 //! ```text
 //! let solid = weld(alloc, facets)?;
@@ -6,19 +6,20 @@
 //! let (along_x, along_y) = probe(&solid, &centre);
 //! ```
 //!
-//! A [`Welder`] takes facets as they come, drops the degenerate ones (two equal corners) and makes a [`Solid`] of the
-//! others: its vertices, the numbers of corners and edges of each facet, the [`HeightRange`] of each, and the order of the
-//! facets by height. Where the half-edges of a mesh do not balance it answers [`WeldFault::Open`] with the least pair of
-//! points between which they do not. [`weld`] is a welder that is fed once. [`lowest`] and [`highest`] tell the least and
-//! the greatest height of a facet's corners.
-//! [`probe`] and [`step`] count the signed crossings of a solid by rays. [`hold_mesh_laws`] states what holds of every
-//! closed mesh: for example, its signed crossings by a whole line sum to 0. [`closed_or_open`] states that each list of
-//! facets is closed or has one least open edge.
+//! A [`Welder`] takes facets as they come, drops the degenerate ones (two equal corners) and makes a [`Solid`] of the others. A
+//! solid has its vertices, the numbers of corners and edges of each facet, the [`HeightRange`] of each, and the order of the
+//! facets by height. If the half-edges of a mesh do not balance, the welder returns [`WeldFault::Open`] with the least pair of
+//! points between which they do not. A list of facets is welded at once by [`weld`]. The functions [`lowest`] and [`highest`]
+//! return the least and the greatest height of a facet's corners.
+//!
+//! The functions [`probe`] and [`step`] count the signed crossings of a solid by rays. The law [`hold_mesh_laws`] states what
+//! holds of every closed mesh: for example, its signed crossings by a whole line sum to 0. The law [`closed_or_open`] states
+//! that each list of facets is closed or has one least open edge.
 //!
 //! Points are in micrometres, centres of rays in half-micrometres.
 //!
 //! Corners are named by hashes as facets come. In large meshes the edges are numbered by chains meanwhile, and at the end
-//! the points are put in order by groups (`by_hash`); otherwise sorts do both (`by_sort`).
+//! groups put the points in order (`by_hash`). Otherwise sorts do both (`by_sort`).
 #![tactic(auto)]
 
 mod by_hash;

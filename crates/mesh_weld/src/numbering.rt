@@ -1,4 +1,4 @@
-//! The numbering of a solid: by hashes and chains where these serve, and otherwise by sorts.
+//! The numbering of a solid: by hashes and chains if these serve, otherwise by sorts.
 ghost use Rattle.std.specs.Prelude.{◌≡◌, ◌≤◌, ◌<◌, IfErr, IfOk, IfSome, length, map};
 ghost use Rattle.std.specs.List.{All};
 ghost use Rattle.mesh_weld.specs.CornerIds.{ranks_of};
@@ -18,7 +18,7 @@ use crate::weld_fault::WeldFault;
 use geometry::{Facet, Point};
 use std::alloc::Allocator;
 
-/// What both ways of numbering give: a solid's vertices, the numbers of its facets' corners and edges, and its facets'
+/// The result of both ways of numbering: a solid's vertices, the numbers of its facets' corners and edges, and its facets'
 /// order by height with what goes with it.
 #[derive(Drop)]
 pub(crate) struct Numbering<A: Allocator> {
@@ -29,8 +29,8 @@ pub(crate) struct Numbering<A: Allocator> {
     pub(crate) heights: HeightOrder<A>,
 }
 
-/// The numbering of the kept facets, which are given by ids, if their half-edges balance: from their grouping where there
-/// is one, else by sorts.
+/// The numbering of the kept facets, which are given by ids, if their half-edges balance. It comes from their grouping if there
+/// is one, else from sorts.
 pub(crate) fn named_numbering<A: Allocator + Copy>(
     alloc: A,
     points: Vec<Point, A>,
@@ -83,7 +83,7 @@ fn numbered<A: Allocator>(
     }
 }
 
-/// Puts the rank of each id in its place.
+/// Replaces each id by its rank.
 fn renumber<A: Allocator>(ids: &mut Vec<[u32; 3], A>, ranks: &[u32])
     requires { All (All (λ id. id < length ranks.now)) ids.old.items }
     ensures { ids.new.items ≡ map (ranks_of ranks.now) ids.old.items }

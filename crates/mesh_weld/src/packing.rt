@@ -1,4 +1,4 @@
-//! Two numbers packed into one word, by which lists are sorted.
+//! Two numbers packed into one word. Lists are sorted by such words.
 ghost use Rattle.std.specs.Prelude.{◌≡◌, ◌+◌, ◌*◌};
 ghost use Rattle.mesh_weld.specs.declared.packing.TheConstants.{HALF_WORD};
 

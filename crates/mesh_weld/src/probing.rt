@@ -8,8 +8,8 @@ use crate::solid::Solid;
 use exact_cut::{Centre, ray_hit, ray_hit_y};
 use std::alloc::Allocator;
 
-/// The signed crossings of the kept facets by the ray from a centre along x, and those by its ray along y. They are
-/// equal where no kept facet touches the centre. Centres are in half-micrometres.
+/// The signed crossings of the kept facets by the ray from a centre along x, and those by its ray along y. They are equal if no
+/// kept facet touches the centre. Centres are in half-micrometres.
 pub fn probe<A: Allocator>(solid: &Solid<A>, centre: &Centre) -> (i32, i32)
     ensures ray { result.0 ≡ ray solid.now.facets centre.now }
     ensures ray_y { result.1 ≡ ray_y solid.now.facets centre.now }
@@ -18,8 +18,8 @@ pub fn probe<A: Allocator>(solid: &Solid<A>, centre: &Centre) -> (i32, i32)
     (crossings(solid, centre), crossings_along_y(solid, centre))
 }
 
-/// The signed crossings of the kept facets by the rays along x from two centres that differ in x alone, or in y alone.
-/// They are equal where no point of a kept facet lies between the centres. Centres are in half-micrometres.
+/// The signed crossings of the kept facets by the rays along x from two centres that differ in x alone, or in y alone. They are
+/// equal if no point of a kept facet lies between the centres. Centres are in half-micrometres.
 pub fn step<A: Allocator>(solid: &Solid<A>, start: &Centre, end: &Centre) -> (i32, i32)
     requires level { start.now.z ≡ end.now.z }
     requires straight { (start.now.x ≡ end.now.x) ⊎ (start.now.y ≡ end.now.y) }

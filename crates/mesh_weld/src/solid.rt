@@ -16,8 +16,8 @@ use geometry::{Facet, Point, higher, lower};
 use std::alloc::Allocator;
 use std::marker::Model;
 
-/// The kept facets of a closed mesh, which are those with three distinct corners, by their numbering alone. Each facet is
-/// kept by the numbers of its corners among the points.
+/// The kept facets of a closed mesh, which are those with three distinct corners. Only their numbering is held: each facet by
+/// the numbers of its corners among the points.
 #[derive(Drop)]
 pub struct Solid<A: Allocator> {
     pub(crate) numbering: Numbering<A>,
@@ -62,7 +62,7 @@ impl<A: Allocator> Solid<A> {
         self.numbering.numbers.as_slice()
     }
 
-    /// For each kept facet the numbers of its edges 0, 1 and 2. Two edges have one number exactly where their ends are
+    /// For each kept facet the numbers of its edges 0, 1 and 2. Two edges have one number exactly if their ends are
     /// the same two points, in either order.
     pub fn edge_numbers(&self) -> &[[u32; 3]]
         ensures { (count : ℕ) × AreEdgeNumbers self.now.facets result.now count }
@@ -77,7 +77,7 @@ impl<A: Allocator> Solid<A> {
         self.numbering.edges.count
     }
 
-    /// The least and the greatest x, y and z of the kept facets' corners, in micrometres; `None` where none is kept.
+    /// The least and the greatest x, y and z of the kept facets' corners, in micrometres; `None` if none is kept.
     pub fn corners(&self) -> Option<(Point, Point)>
         ensures { result ≡ extent self.now.facets }
     {
@@ -107,15 +107,15 @@ impl<A: Allocator> Solid<A> {
             && self.numbering.numbers.as_slice() == other.numbering.numbers.as_slice()
     }
 
-    /// The numbers of the kept facets by ascending least height, and by number where least heights are equal.
+    /// The numbers of the kept facets by ascending least height, and by number if least heights are equal.
     pub fn by_height(&self) -> &[u32]
         ensures { IsByHeight self.now.facets result.now }
     {
         self.numbering.heights.order.as_slice()
     }
 
-    /// The greatest rise of a kept facet, in micrometres: how far it reaches from its lowest corner up to its highest.
-    /// Where no facet is kept it is 0.
+    /// The greatest rise of a kept facet, in micrometres: how far it reaches from its lowest corner up to its highest. It is 0
+    /// if no facet is kept.
     pub fn greatest_rise(&self) -> u32
         ensures { IsGreatestRise self.now.facets result }
     {
@@ -144,7 +144,7 @@ impl<A: Allocator> Solid<A> {
         )
     }
 
-    /// The height range of the kept facet with this number, below `count`: the same as `lowest` and `highest` of the facet,
+    /// The height range of the kept facet with this number, below `count`. It equals `lowest` and `highest` of the facet,
     /// without a look at its corners.
     pub fn height_range(&self, number: u32) -> HeightRange
         requires { number < length self.now.facets }

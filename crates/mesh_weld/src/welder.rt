@@ -1,5 +1,5 @@
-//! Welding as facets come: each is kept by the ids of its corners and its edges are numbered at once, so that the caller
-//! need not keep a list of facets.
+//! Welding as facets come: each is kept by the ids of its corners, and its edges are numbered at once. So the caller need not
+//! keep a list of facets.
 ghost use Rattle.std.specs.Prelude.{◌≡◌, ◌≤◌, ◌<◌, ◌+◌, ◌++◌, [], ◌∷◌, List, IfSome, OnErr, OnOk, length, true, vec_len};
 ghost use Rattle.geometry.specs.Facet.{Facet};
 ghost use Rattle.mesh_weld.specs.EdgeChains.{AreInHalfWords};
@@ -23,8 +23,8 @@ use std::alloc::{AllocError, Allocator};
 use std::marker::Model;
 use std::thread::Threads;
 
-/// The facets that are to be welded. Those with three distinct corners are kept by the ids of their corners and the numbers
-/// of their edges, 24 bytes a facet beside the points, the chains of edges and the table; the others are degenerate.
+/// The facets to be welded. Those with three distinct corners are kept by the ids of their corners and the numbers of their
+/// edges. They take 24 bytes a facet, in addition to the points, the chains of edges and the table. The others are degenerate.
 #[derive(Drop)]
 pub struct Welder<A: Allocator> {
     alloc: A,
@@ -73,7 +73,7 @@ impl<A: Allocator + Copy + Send + Sync> Welder<A> {
     /// Adds facets after those so far, at most `FACET_LIMIT` with these.
     ///
     /// # Errors
-    /// Where an allocation fails; the welder then has no facet any more.
+    /// If an allocation fails; the welder then has no facets any more.
     pub fn add(&mut self, facets: &[Facet]) -> Result<(), AllocError>
         requires { length self.old.kept + length self.old.degenerate + length facets.now ≤ FACET_LIMIT }
         ensures added { OnOk result (self.new ≡ with_facets self.old facets.now) }
@@ -98,7 +98,7 @@ impl<A: Allocator + Copy + Send + Sync> Welder<A> {
         numbered
     }
 
-    /// Adds a facet. Where an allocation fails some facets may be lost.
+    /// Adds a facet. If an allocation fails, some facets may be lost.
     fn add_facet(&mut self, facet: &Facet, guesses: [u32; 3]) -> Result<(), AllocError>
         requires { length self.old.kept + length self.old.degenerate < FACET_LIMIT }
         ensures { OnOk result (self.new ≡ with_facets self.old (facet.now ∷ [])) }
@@ -122,7 +122,7 @@ impl<A: Allocator + Copy + Send + Sync> Welder<A> {
         named
     }
 
-    /// Takes all facets away.
+    /// Removes all facets.
     fn clear(&mut self)
         ensures { self.new ≡ welder_of [] }
     {
@@ -131,12 +131,12 @@ impl<A: Allocator + Copy + Send + Sync> Welder<A> {
         self.degenerate.clear();
     }
 
-    /// The solid of all facets that were added. Unless an allocation fails, it succeeds exactly where their half-edges
-    /// balance. Degenerate facets, those with two equal corners, are dropped.
+    /// The solid of all facets that were added. Unless an allocation fails, it succeeds exactly if their half-edges balance.
+    /// Degenerate facets, those with two equal corners, are dropped.
     ///
     /// # Errors
-    /// `Open` with the least pair of points between which the half-edges do not balance, and the numbers of those there
-    /// and back; `Memory` only where an allocation failed.
+    /// `Open` with the least pair of points between which the half-edges do not balance, and the numbers of those there and
+    /// back. `Memory` only if an allocation failed.
     pub fn finish(self) -> Result<Solid<A>, WeldFault>
         ensures { IsWeldOf self result }
     {
@@ -150,7 +150,7 @@ impl<A: Allocator + Copy + Send + Sync> Welder<A> {
         named.into_solid(found)
     }
 
-    /// The same as [`Welder::finish`], where several threads work at the same time. It takes more memory while it does.
+    /// [`Welder::finish`] by several threads at the same time. It takes more memory meanwhile.
     pub fn finish_by<R: Threads + Sync>(self, rt: &R) -> Result<Solid<A>, WeldFault>
         ensures { IsWeldOf self result }
     {
@@ -160,7 +160,7 @@ impl<A: Allocator + Copy + Send + Sync> Welder<A> {
         named.into_solid(found)
     }
 
-    /// The facets, and the numbers of their edges where there are these. The table and the chains are freed.
+    /// The facets, and the numbers of their edges if there are any. The table and the chains are freed.
     fn without_table(self) -> (NamedFacets<A>, Option<EdgeNumbering<A>>)
         ensures value { welder_by result.0.points.items result.0.ids.items result.0.degenerate.items ≡ self }
         ensures named { AreNamed result.0.points.items result.0.ids.items }
@@ -186,8 +186,7 @@ impl<A: Allocator + Copy + Send + Sync> Welder<A> {
     }
 }
 
-/// The facets of a welder that gets no more of them: those that are kept, by the ids of their corners, and the degenerate
-/// ones.
+/// The facets of a welder that gets no more of them: the kept ones, by the ids of their corners, and the degenerate ones.
 #[derive(Drop)]
 struct NamedFacets<A: Allocator> {
     alloc: A,
@@ -197,7 +196,7 @@ struct NamedFacets<A: Allocator> {
 }
 
 impl<A: Allocator + Copy> NamedFacets<A> {
-    /// The solid of the facets, from the grouping of the kept ones where there is one.
+    /// The solid of the facets, from the grouping of the kept ones if there is one.
     fn into_solid(self, found: Option<Grouping<A>>) -> Result<Solid<A>, WeldFault>
         requires named { AreNamed self.points.items self.ids.items }
         requires few { length self.ids.items + length self.degenerate.items ≤ FACET_LIMIT }
@@ -217,7 +216,7 @@ impl<A: Allocator + Copy> NamedFacets<A> {
     }
 }
 
-/// Puts the ids of a facet's corners after those of the others.
+/// Appends the ids of a facet's corners to those of the others.
 fn name_facet<A: Allocator + Copy>(
     alloc: A,
     table: &mut CornerTable<A>,

@@ -14,13 +14,13 @@ use crate::welder::Welder;
 use geometry::Facet;
 use std::alloc::Allocator;
 
-/// The solid of closed facets, at most `FACET_LIMIT` of them. Unless an allocation fails, it succeeds exactly where the
-/// half-edges of all facets balance. Degenerate facets, those with two equal corners, are dropped. The list is consumed,
-/// also where welding fails.
+/// The solid of closed facets, at most `FACET_LIMIT` of them. Unless an allocation fails, it succeeds exactly if the
+/// half-edges of all facets balance. Degenerate facets, those with two equal corners, are dropped. The list is consumed, also
+/// if welding fails.
 ///
 /// # Errors
-/// `Open` with the least pair of points between which the half-edges do not balance, and the numbers of those there and
-/// back; `Memory` only where an allocation failed.
+/// `Open` with the least pair of points between which the half-edges do not balance, and the numbers of those there and back.
+/// `Memory` only if an allocation failed.
 pub fn weld<A: Allocator + Copy + Send + Sync>(
     alloc: A,
     facets: Vec<Facet, A>,

@@ -8,6 +8,7 @@ pub mod Either
 pub mod Steps
 pub mod Solids
 pub mod FacetRuns
+pub mod WordFronts
 pub mod Written
 pub mod ReadIsWritten
 pub mod Stages

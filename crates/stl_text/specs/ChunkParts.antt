@@ -1,4 +1,4 @@
--- A chunk of a text, of which there are parts, and in which runs of facets are found.
+-- A chunk of a text. It has parts, and runs of facets are found in it.
 use Rattle.std.specs.Prelude.{ℕ, List}
 use Rattle.micro_num.specs.declared.unit.Unit.{Unit as LengthUnit}
 

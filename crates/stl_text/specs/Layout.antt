@@ -1,8 +1,8 @@
 -- The layout of facets: the keywords between their numbers, each as the bytes with which one file writes it.
---     Skips              a reader goes on over tokens and the white space after them
---     IsSeparator        bytes that stand for tokens whatever follows them
---     separator_tokens   the keywords of each separator
---     IsLayout           the bytes of each separator
+-- - `Skips`: a reader goes on over tokens and the white space after them
+-- - `IsSeparator`: bytes that stand for tokens whatever follows them
+-- - `separator_tokens`: the keywords of each separator
+-- - `IsLayout`: the bytes of each separator
 use Rattle.std.specs.Prelude.{◌≡◌, ◌<◌, List, [], ◌∷◌, Some, drop, length, ℕ}
 use Rattle.micro_num.specs.declared.unit.Unit.{Unit as LengthUnit}
 use Rattle.stl_text.specs.Reader.{Reader}
@@ -11,7 +11,7 @@ use Rattle.stl_text.specs.declared.grammar.Separator.{Separator}
 use Rattle.stl_text.specs.declared.grammar.Separator.TheVariants as separator
 use Rattle.stl_text.specs.declared.word.Word.TheVariants.{EndFacet, EndLoop, Loop, Normal, Outer, Vertex}
 
--- the keywords that stand before, between and after the numbers of a facet
+-- the keywords before, between and after the numbers of a facet
 abbrev pub separator_tokens : Separator → List Token
 separator_tokens separator.Opening = facet_word ∷ keyword_of Normal ∷ []
 separator_tokens separator.First = keyword_of Outer ∷ keyword_of Loop ∷ keyword_of Vertex ∷ []

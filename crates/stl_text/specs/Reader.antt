@@ -1,6 +1,6 @@
 -- A text as it is read from the left: the rest of it, and the tokens that were read.
---     Reader        the rest of a text, and its unit
---     Spells        the text between two readers is these tokens
+-- - `Reader`: the rest of a text, and its unit
+-- - `Spells`: the text between two readers is these tokens
 use Rattle.std.specs.Prelude.{◌≡◌, List, ◌∷◌, [], ◌++◌, Some, ℕ}
 use Rattle.micro_num.specs.declared.unit.Unit.{Unit as LengthUnit}
 use Rattle.stl_text.specs.declared.word.Word.TheVariants.{EndFacet}

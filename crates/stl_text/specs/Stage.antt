@@ -1,15 +1,17 @@
--- Where in the grammar the reading of a text stands, between two words.
---     front            the tokens that were read
---     Stands           a text is read up to a stage
---     AtWord           it is, and this word comes next
---     IsStop           what a fault says of a text at its offset
---     StandsAfter      a word leads to this step
+-- Stages: how far the reading of a text has come in the grammar, between two words.
+-- - `front`: the tokens that were read
+-- - `Stands`: a text is read up to a stage
+-- - `word_front`: the front of a word
+-- - `AtWord`: a text is read up to a stage, and a word with the front of this one comes next
+-- - `IsStop`: what a fault says of a text at its offset
+-- - `StandsAfter`: a word leads to this step
 use Rattle.std.specs.Prelude.{◌≡◌, ◌≢◌, Err, ℕ, ◌+◌, ◌<◌, ◌≤◌, Bool, true, false, List, [], ◌∷◌, ◌++◌, take, drop, length, Some, ℤ, flat_map}
 use Rattle.micro_num.specs.declared.unit.Unit.{Unit as LengthUnit}
 use Rattle.micro_num.specs.Micrometres.{coordinate_of}
 use Rattle.geometry.specs.Point.{Point}
 use Rattle.geometry.specs.Facet.{Facet, facet_with}
 use Rattle.stl_text.specs.declared.word.Word.TheVariants.{Number, Solid}
+use Rattle.stl_text.specs.declared.word.TheConstants.{WORD_FRONT}
 use Rattle.stl_text.specs.declared.stl_fault.StlFault.{StlFault}
 use Rattle.stl_text.specs.declared.stl_fault.StlFault.TheVariants as faults
 use Rattle.stl_text.specs.declared.stage.Axis.{Axis}
@@ -62,8 +64,8 @@ pub record ReadInside (unit : LengthUnit) (words : ℕ) (t : Facet) (after : Lis
   pub begins : begins_with unit token after ≡ true
   pub one_word : after_token token after ≡ after_word after
 
--- What a fault says of a text at its offset, where `rest` is left: `token` is wanted there, and `facets_before` facets have
--- begun, of the `room` facets that may begin.
+-- What a fault says of a text at its offset, with `rest` left. `token` is wanted there, and `facets_before` of the `room`
+-- facets that may begin have begun.
 abbrev pub IsStop : ℕ → LengthUnit → List ℕ → Token → ℕ → List ℕ → StlFault → Type 0
 IsStop room unit text token facets_before rest (faults.Expected kind at) =
     (wanted_at token ≡ Some kind) × (kind ≢ Number) × (0 < length (first_word rest)) × (is_wanted kind (first_word rest) ≡ false)
@@ -120,10 +122,14 @@ pub record Stands (limit : ℕ) (unit : LengthUnit) (stage : Stage) (facets : Li
   pub form : IsForm limit stage solids added (length facets)
   pub spelled : rest_after unit (front stage solids added) text ≡ Some after
 
--- the text is read up to this stage, and this word comes next, at this byte offset
+-- the front of a word, or the whole of a short one
+abbrev pub word_front : List ℕ → List ℕ
+word_front word = take WORD_FRONT word
+
+-- the text is read up to this stage, and the word that comes next, at this byte offset, has the same front as this one
 pub record AtWord (limit : ℕ) (unit : LengthUnit) (stage : Stage) (facets : List Facet) (text after word : List ℕ) (at : ℕ) : Type 0 where
   pub stands : Stands limit unit stage facets text after
-  pub word_is : first_word after ≡ word
+  pub word_is : word_front (first_word after) ≡ word_front word
   pub some : 0 < length word
   pub at_is : at + length (after_space after) ≡ length text
 

@@ -1,11 +1,11 @@
 -- ASCII STL, as in 3D Systems' "StereoLithography Interface Specification": which facets a text reads as, and which
 -- fault it has otherwise.
---     keywords                the table of keywords
---     Token, solid_tokens     what a solid is written with: keywords, words of normals, coordinates, rests of lines
---     rest_after              the rest of a text after the tokens at its front
---     Reads                   the text is whole solids, and these are their facets
---     Wants                   up to a byte offset the text begins as solids do, and there it wants this token
---     IsFaultOf               the one fault of a text
+-- - `keywords`: the table of keywords
+-- - `Token`, `solid_tokens`: what a solid is written with: keywords, words of normals, coordinates, rests of lines
+-- - `rest_after`: the rest of a text after the tokens at its front
+-- - `Reads`: the text is whole solids, and these are their facets
+-- - `Wants`: up to a byte offset the text begins as solids do, and there it wants this token
+-- - `IsFaultOf`: the one fault of a text
 use Rattle.std.specs.Prelude.{◌≡◌, ◌≢◌, ℕ, ◌+◌, ◌<◌, ◌≤◌, Bool, true, false, ◌&&◌, ◌||◌, List, [], ◌∷◌, ◌++◌, drop, length, Option, Some, None, Ok, Err, ℤ, ◌==◌, nat_lt, nat_le, if◌then◌else◌, codes, flat_map, count_by}
 use Rattle.std.specs.Ordering.{int_eq}
 use Rattle.std.specs.Str.{bytes_eq, str_to_ascii_lowercase}
@@ -21,7 +21,7 @@ use Rattle.stl_text.specs.declared.stl_fault.StlFault.TheVariants as fault
 use Rattle.geometry.specs.Point.{Point}
 use Rattle.geometry.specs.Facet.{Facet}
 
--- Words. White space is the bytes 9 to 13 and 32, and a word is other bytes, as many as stand together.
+-- Words. White space is the bytes 9 to 13 and 32. A word is a stretch of other bytes, as long as possible.
 
 abbrev pub is_white : ℕ → Bool
 is_white byte = byte == 32 || (nat_le 9 byte && nat_le byte 13)
@@ -48,7 +48,7 @@ after_line bytes = from_first is_line_end bytes
 abbrev pub is_keyword : List ℕ → List ℕ → Bool
 is_keyword text word = bytes_eq (str_to_ascii_lowercase word) text
 
--- The table of keywords, in lower case. Each kind of word has the keywords that may stand where it is wanted.
+-- The table of keywords, in lower case. Each kind of word has the keywords that fit when it is wanted.
 
 abbrev pub facet_keyword : List ℕ
 facet_keyword = codes "facet"
@@ -77,11 +77,11 @@ only_one [] = []
 only_one (k ∷ []) = k
 only_one (k ∷ l ∷ ks) = []
 
--- the keyword of a kind that has just one
+-- the keyword of a kind that has exactly one
 abbrev pub keyword_text : Word → List ℕ
 keyword_text kind = only_one (keywords kind)
 
--- the kind has just one keyword
+-- the kind has exactly one keyword
 abbrev pub HasOneKeyword : Word → Type 0
 HasOneKeyword kind = length (keywords kind) ≡ 1
 
@@ -93,7 +93,7 @@ pub data Token : Type 0 where
   coordinate : ℤ → Token
   rest_of_line : Token
 
--- the keyword of a kind that has just one
+-- the keyword of a kind that has exactly one
 abbrev pub keyword_of : Word → Token
 keyword_of kind = keyword kind (keyword_text kind)
 
@@ -161,7 +161,7 @@ pub record Reads (limit : ℕ) (unit : LengthUnit) (bytes : List ℕ) (facets : 
   pub spelled : rest_after unit (flat_map solid_tokens solids) bytes ≡ Some rest
   pub whole : after_space rest ≡ []
 
--- What is wanted where a token has to come, as a fault names it. A word of a normal counts as a number.
+-- What is wanted when a token must come, as a fault names it. A word of a normal counts as a number.
 abbrev pub wanted : Token → Option Word
 wanted (keyword word text) = Some word
 wanted normal_word = Some Number
@@ -178,9 +178,9 @@ is_facet_word rest_of_line = false
 abbrev pub facet_count : List Token → ℕ
 facet_count tokens = count_by is_facet_word tokens
 
--- The text begins with the front of some solids, which is cut before a token: that token is wanted next. `facets_before`
--- is the number of facets that begin in the front. `word` is the next word, and `at` its byte offset; where the text
--- ends, `word` is empty and `at` is the length of the text.
+-- The text begins with the front of some solids, which is cut before a token. That token is wanted next. `facets_before` is the
+-- number of facets that begin in the front. `word` is the next word, and `at` its byte offset. If the text ends, `word` is
+-- empty and `at` is the length of the text.
 pub record Wants (limit : ℕ) (unit : LengthUnit) (bytes : List ℕ) (at : ℕ) (token : Token) (facets_before : ℕ) (word : List ℕ) : Type 0 where
   pub solids : List (List Facet)
   pub front : List Token
@@ -227,8 +227,7 @@ pub record IsTooMany (limit : ℕ) (unit : LengthUnit) (bytes : List ℕ) (at : 
   pub wants : Wants limit unit bytes at facet_word limit word
   pub facet : is_keyword facet_keyword word ≡ true
 
--- The text ends where a word is wanted. `solid` is wanted only in a text of white space: after a whole solid, a text
--- may end.
+-- The text ends when a word is wanted. `solid` is wanted only in a text of white space: after a whole solid, a text may end.
 pub record IsEndedBefore (limit : ℕ) (unit : LengthUnit) (bytes : List ℕ) (kind : Word) : Type 0 where
   pub token : Token
   pub facets_before : ℕ

@@ -1,13 +1,13 @@
 -- How facets may be written: in solids, with any white space between words, keywords in any case, any words for
 -- normals, any names, and anything after `endsolid` on its line.
---     Spaced            a stretch of a text, and the white space after it
---     AreWordsOf        these stretches are words that stand for these tokens, with white space after each
---     IsRemark          what may follow a word up to the end of its line: a name, or what is skipped
---     IsLineBreak       the end of a line, and more white space
---     IsAfterSolids     a line break, or nothing
---     WrittenSolid      a solid of these facets, up to the end of the line of `endsolid`
---     AreWrittenSolids  these stretches are solids of these facets, with a line break after each
---     Written           a text of these facets
+-- - `Spaced`: a stretch of a text, and the white space after it
+-- - `AreWordsOf`: these stretches are words that stand for these tokens, with white space after each
+-- - `IsRemark`: what may follow a word up to the end of its line: a name, or what is skipped
+-- - `IsLineBreak`: the end of a line, and more white space
+-- - `IsAfterSolids`: a line break, or nothing
+-- - `WrittenSolid`: a solid of these facets, up to the end of the line of `endsolid`
+-- - `AreWrittenSolids`: these stretches are solids of these facets, with a line break after each
+-- - `Written`: a text of these facets
 use Rattle.std.specs.Prelude.{◌≡◌, ℕ, Bool, true, ◌&&◌, not, List, [], ◌∷◌, ◌++◌, length, Ok, nat_lt, flat_map}
 use Rattle.std.specs.Str.{str_to_ascii_lowercase}
 use Rattle.std.specs.List.{list_all}
@@ -64,7 +64,7 @@ abbrev pub IsLineBreak : List ℕ → Type 0
 IsLineBreak [] = ⊥
 IsLineBreak (byte ∷ bytes) = (is_line_end byte ≡ true) × (are_white bytes ≡ true)
 
--- what may follow the last solid: a line break, or nothing where the text ends with the line of `endsolid`
+-- what may follow the last solid: a line break, or nothing if the text ends with the line of `endsolid`
 abbrev pub IsAfterSolids : List ℕ → Type 0
 IsAfterSolids [] = Unit {0}
 IsAfterSolids (byte ∷ bytes) = IsLineBreak (byte ∷ bytes)

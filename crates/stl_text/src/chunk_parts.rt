@@ -1,7 +1,7 @@
-//! A chunk of a text in parts, which workers draw and in which they look for runs of facets.
+//! A chunk of a text in parts. Workers draw the parts, and look in them for runs of facets.
 //!
-//! The workers share a count, from which each takes the number of the next part, until none is left. A worker that joins
-//! later takes fewer. No proof needs a fact about these numbers: what a run says holds of the text whichever worker found it,
+//! The workers share a count, from which each takes the number of the next part, until none is left. A worker that joins later
+//! takes fewer parts. No proof needs a fact about these numbers. What a run says holds of the text whichever worker found it,
 //! and the reader reads a part by itself if no worker did.
 ghost use Rattle.std.specs.Prelude.{◌≡◌, All, IfOk, IfSome};
 ghost use Rattle.stl_text.specs.FacetRun.{IsFacetRun};
@@ -20,7 +20,7 @@ const LEAST_PART: usize = 1 << 15;
 /// The number of parts for each worker, so that the workers end at about the same time.
 const PARTS_OF_A_WORKER: usize = 4;
 
-/// A chunk of a text in parts, of which each worker draws one after another. Workers share it by reference.
+/// A chunk of a text in parts. Workers share it by reference, and each draws one part after another.
 #[derive(Drop)]
 pub struct ChunkParts<'t, A: Allocator> {
     alloc: A,
@@ -63,7 +63,7 @@ impl<'t, A: Allocator> Model for FacetRuns<'t, A> {
 }
 
 impl<'t, A: Allocator> FacetRuns<'t, A> {
-    /// Adds a run, or drops it and answers `false` where an allocation fails.
+    /// Adds a run, or drops it and returns `false` if an allocation fails.
     fn push(&mut self, run: FacetRun<'t, A>) -> bool
         requires { IsFacetRun self.old.unit self.old.bytes run.facets.items run.from.now run.to.now }
         ensures { self.new ≡ self.old }
@@ -71,7 +71,7 @@ impl<'t, A: Allocator> FacetRuns<'t, A> {
         self.runs.push(run).is_ok()
     }
 
-    /// Takes over the runs that were found elsewhere in the chunk, or drops them where an allocation fails.
+    /// Takes over the runs that were found elsewhere in the chunk, or drops them if an allocation fails.
     pub fn add(&mut self, more: FacetRuns<'t, A>)
         requires { more ≡ self.old }
         ensures { self.new ≡ self.old }
@@ -87,7 +87,7 @@ impl<'t, A: Allocator> FacetRuns<'t, A> {
         self.unit
     }
 
-    /// The chunk, and its runs. They are put in the order in which they begin, so that the reader meets each in its turn.
+    /// The chunk, and its runs in the order in which they begin, so that the reader meets each in its turn.
     pub(crate) fn in_order(self) -> (&'t [u8], Vec<FacetRun<'t, A>, A>)
         ensures chunk { result.0.now ≡ self.entry.bytes }
         ensures runs { All (λ run. IsFacetRun self.entry.unit self.entry.bytes run.facets.items run.from.now run.to.now) result.1.items }
@@ -103,7 +103,7 @@ impl<'t, A: Allocator> FacetRuns<'t, A> {
 }
 
 impl<'t, A: Allocator + Copy> ChunkParts<'t, A> {
-    /// The parts of a chunk for up to `workers` workers. A single worker gets none: the reader itself is that worker.
+    /// The parts of a chunk for up to `workers` workers. There are none for a single worker: the reader itself is that worker.
     pub(crate) fn of(alloc: A, chunk: &'t [u8], unit: Unit, workers: u32) -> ChunkParts<'t, A>
         ensures unit { result.unit ≡ unit }
         ensures bytes { result.bytes ≡ chunk.now }
@@ -121,12 +121,12 @@ impl<'t, A: Allocator + Copy> ChunkParts<'t, A> {
         }
     }
 
-    /// The runs of the parts that nobody has drawn yet. It stops where an allocation fails.
+    /// The runs of the parts that nobody has drawn yet. It stops if an allocation fails.
     pub fn runs(&self) -> FacetRuns<'t, A>
         ensures { result ≡ self.now }
     {
         let mut found = self.none();
-        // the bound shows that the loop ends: after as many draws no part is left
+        // the bound shows that the loop ends: after this number of draws no part is left
         'draw: for _ in 0..self.count {
             if !self.find(&mut found) {
                 return found;
@@ -135,7 +135,7 @@ impl<'t, A: Allocator + Copy> ChunkParts<'t, A> {
         found
     }
 
-    /// Adds the run of the next part: `false` where no part is left, or an allocation fails.
+    /// Adds the run of the next part. Returns `false` if no part is left, or an allocation fails.
     fn find(&self, found: &mut FacetRuns<'t, A>) -> bool
         requires { found.old ≡ self.now }
         ensures { found.new ≡ found.old }
@@ -172,8 +172,8 @@ impl<'t, A: Allocator + Copy> ChunkParts<'t, A> {
 }
 
 impl<'t, A: Allocator + Copy + Send + Sync> ChunkParts<'t, A> {
-    /// The runs of the parts that nobody has drawn yet, by up to `workers` workers at the same time. Some of them are missing
-    /// where an allocation fails.
+    /// The runs of the parts that nobody has drawn yet, found by up to `workers` workers at the same time. Some of them are
+    /// missing if an allocation fails.
     pub fn runs_by<R: Threads + Sync>(&self, rt: &R, workers: u32) -> FacetRuns<'t, A>
         ensures { result ≡ self.now }
     {

@@ -1,8 +1,8 @@
-//! Runs of facets, which workers find in parts of a text, and over which its reader jumps.
+//! Runs of facets. Workers find them in parts of a text, and its reader jumps over them.
 //!
-//! A run says that its facets stand one after another from some byte of the text on. It does not say that the reader wants
-//! a facet at that byte. So a worker may guess where the facets of its part begin: after a wrong guess the reader never
-//! stands where the run begins, and does not use it.
+//! A run says that its facets come one after another from some byte of the text on. It does not say that the reader wants a
+//! facet at that byte. So a worker may guess where the facets of its part begin. After a wrong guess the reader never comes to
+//! the byte where the run begins, and does not use it.
 ghost use Rattle.std.specs.Prelude.{◌≡◌, ◌≤◌, ◌<◌, ◌+◌, ℕ, IfSome, List, None, length};
 ghost use Rattle.stl_text.specs.FacetRun.{IsFacetRun, IsRestOf};
 
@@ -17,7 +17,7 @@ use std::alloc::Allocator;
 /// The keyword that ends a facet, in capitals.
 const END_FACET_IN_CAPITALS: &[u8] = b"ENDFACET";
 
-/// Facets that stand one after another in a text, in one solid or in several.
+/// Facets that come one after another in a text, in one solid or in several.
 #[derive(Drop)]
 pub(crate) struct FacetRun<'t, A: Allocator> {
     /// The text from where the run begins.
@@ -27,7 +27,7 @@ pub(crate) struct FacetRun<'t, A: Allocator> {
     pub(crate) to: &'t [u8],
 }
 
-/// The text after the first `endfacet`, or else `ENDFACET`, that begins in a part of it, or its end if none does.
+/// The text after the first `endfacet`, or else `ENDFACET`, that begins in a part of it. The end of the text if none does.
 fn after_end_facet<'t>(text: &'t [u8], start: usize, len: usize) -> &'t [u8]
     requires { start + len ≤ length text.now }
     ensures { IsRestOf text.now result.now }
@@ -45,13 +45,13 @@ fn after_end_facet<'t>(text: &'t [u8], start: usize, len: usize) -> &'t [u8]
     }
 }
 
-/// The layout of the facet that stands after the first `endfacet` of a text, if one does.
+/// The layout of the facet after the first `endfacet` of a text, if there is one.
 pub(crate) fn layout_within(text: &[u8]) -> Option<Layout<'_>> {
     Layout::of(after_end_facet(text, 0, text.len()))
 }
 
-/// Adds the facet at the front of a text to those of a run, or passes the end of a solid and the beginning of the next:
-/// answers the text after it. `None` where there is neither, no memory, or at most `left` bytes after it.
+/// Adds the facet at the front of a text to those of a run, or passes the end of a solid and the beginning of the next. Returns
+/// the text after it. `None` if the front is neither, memory runs out, or at most `left` bytes follow.
 fn run_on<'t, A: Allocator>(
     facets: &mut Vec<Facet, A>,
     to: &'t [u8],
@@ -82,8 +82,8 @@ fn run_on<'t, A: Allocator>(
     Some(rest)
 }
 
-/// The run of a part of a text, from after the first `endfacet` that begins in the part. The facet that ends after the
-/// part is left to the reader of the text, which then stands where the next part's run begins.
+/// The run of a part of a text, from after the first `endfacet` that begins in the part. The facet that ends after the part is
+/// left to the reader of the text, which is then at the beginning of the next part's run.
 pub(crate) fn run_of<'t, A: Allocator>(
     alloc: A,
     text: &'t [u8],

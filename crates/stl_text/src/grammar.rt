@@ -1,5 +1,5 @@
-//! The grammar of a facet, each rule a method of the reader. It also reads what stands whole at the front of a text: a facet,
-//! or the end of one solid and the beginning of the next.
+//! The grammar of a facet; each rule is a method of the reader. It also reads what is whole at the front of a text: a facet, or
+//! the end of one solid and the beginning of the next.
 ghost use Rattle.std.specs.Prelude.{◌≡◌, ◌<◌, ℕ, [], ◌∷◌, IfSome, List, None, Some, length};
 ghost use Rattle.micro_num.specs.declared.unit.Unit.{Unit as LengthUnit};
 ghost use Rattle.stl_text.specs.Layout.{separator_tokens};
@@ -13,7 +13,7 @@ use crate::word::{END_SOLID, FACET, Word};
 use geometry::{Facet, Point};
 use micro_num::Unit;
 
-/// The keywords that stand together before, between or after the numbers of a facet.
+/// The keywords before, between or after the numbers of a facet.
 #[derive(Clone, Copy)]
 pub(crate) enum Separator {
     /// `facet normal`
@@ -27,7 +27,7 @@ pub(crate) enum Separator {
 }
 
 impl<'t> Reader<'t> {
-    /// Reads the keywords of a separator, if they stand here. Where they do not, the reader may be left anywhere.
+    /// Reads the keywords of a separator, if they come next. If they do not, the reader may be left anywhere.
     #[inline(always)]
     pub(crate) fn separator(&mut self, separator: Separator) -> Option<()>
         ensures some { IfSome result (λ _. Spells (separator_tokens separator) self.old self.new) }
@@ -51,7 +51,7 @@ impl<'t> Reader<'t> {
         }
     }
 
-    /// Reads the three words of a normal, if they stand here.
+    /// Reads the three words of a normal, if they come next.
     #[inline(always)]
     pub(crate) fn normal_words(&mut self) -> Option<()>
         ensures some { IfSome result (λ _. Spells (normal_word ∷ normal_word ∷ normal_word ∷ []) self.old self.new) }
@@ -62,7 +62,7 @@ impl<'t> Reader<'t> {
         self.normal_word()
     }
 
-    /// Reads the three coordinates of a vertex, if they stand here.
+    /// Reads the three coordinates of a vertex, if they come next.
     #[inline(always)]
     pub(crate) fn point(&mut self) -> Option<Point>
         ensures { IfSome result (λ p. Spells (coordinate p.x ∷ coordinate p.y ∷ coordinate p.z ∷ []) self.old self.new) }
@@ -76,7 +76,7 @@ impl<'t> Reader<'t> {
         Some(point)
     }
 
-    /// Reads a facet word by word, if one stands here. Where none does, the reader may be left anywhere.
+    /// Reads a facet word by word, if one comes next. If none does, the reader may be left anywhere.
     fn facet(&mut self) -> Option<Facet>
         ensures { IfSome result (λ t. Spells (facet_tokens t) self.old self.new) }
     {
@@ -109,8 +109,8 @@ pub(crate) fn facet_by_words(bytes: &[u8], unit: Unit) -> Option<(Facet, &[u8])>
     Some((facet, rest))
 }
 
-/// The text after the end of a solid and the beginning of the next, if these are at the front of a text and the text
-/// after them is not empty.
+/// The text after the end of a solid and the beginning of the next. `None` if these are not at the front of the text, or
+/// nothing follows them.
 pub(crate) fn after_solid(bytes: &[u8]) -> Option<&[u8]>
     ensures read { IfSome result (λ rest. (unit : LengthUnit) → rest_after unit next_solid bytes.now ≡ Some rest.now) }
     ensures some { IfSome result (λ rest. 0 < length rest.now) }

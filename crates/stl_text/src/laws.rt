@@ -1,4 +1,4 @@
-//! Laws of the format, which relate the definitions that the contract of the reader cites.
+//! Laws of the format, which relate the definitions that the reader's contract cites.
 ghost use Rattle.std.specs.Prelude.{◌≡◌, ◌≤◌, ◌↔◌, ◌⊎◌, List, length, ℕ};
 ghost use Rattle.micro_num.specs.declared.unit.Unit.{Unit as LengthUnit};
 ghost use Rattle.stl_text.specs.declared.stl_fault.StlFault.{StlFault};
@@ -18,9 +18,9 @@ pub fn one_outcome()
         → ((facets : List Facet) × Reads limit unit bytes facets) ⊎ ((fault : StlFault) × IsFaultOf limit unit bytes fault) }
 {}
 
-/// A text reads as facets, at most `limit` of them, exactly where it is these facets written as STL: with any white
-/// space between words, any case of keywords, any words of normals and any names of solids, and with or without a line
-/// end after the last solid.
+/// A text reads as facets, at most `limit` of them, exactly if it is these facets written as STL. It may have any white space
+/// between words, any case of keywords, any words of normals and any names of solids. A line end after the last solid may be
+/// there or not.
 pub fn reads_as_written()
     ensures { (limit : ℕ) (unit : LengthUnit) (bytes : List ℕ) (facets : List Facet)
         → Reads limit unit bytes facets ↔ (Written unit facets bytes × (length facets ≤ limit)) }

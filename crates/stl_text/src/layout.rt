@@ -1,5 +1,5 @@
-//! The layout of facets: what a file writes before, between and after the numbers of a facet. Most files write it with the
-//! same bytes in each facet, so that these are compared as a whole, and not read word by word.
+//! The layout of facets: what a file writes before, between and after the numbers of a facet. Most files write it with the same
+//! bytes in each facet. So these are compared as a whole, and not read word by word.
 ghost use Rattle.std.specs.Prelude.{◌≡◌, ◌≢◌, ◌≤◌, ◌<◌, ℕ, [], ◌∷◌, ◌++◌, IfSome, List, None, Ok, Some, length, nat_le, not, take, true, ℤ};
 ghost use Rattle.std.specs.List.{list_all, prefix_len};
 ghost use Rattle.micro_num.specs.Micrometres.{coordinate_of};
@@ -64,7 +64,7 @@ impl<'t> Reader<'t> {
         Some(())
     }
 
-    /// Like `normal_words`; tries first whether the words stand one blank apart.
+    /// `normal_words`, which first tries words one blank apart.
     #[inline(always)]
     fn near_normal(&mut self) -> Option<()>
         ensures some { IfSome result (λ _. Spells (normal_word ∷ normal_word ∷ normal_word ∷ []) self.old self.new) }
@@ -75,7 +75,7 @@ impl<'t> Reader<'t> {
         self.near_word()
     }
 
-    /// Like `normal_word`; tries first a short word with at most one blank before it.
+    /// `normal_word`, which first tries a short word with at most one blank before it.
     #[inline(always)]
     fn near_word(&mut self) -> Option<()>
         ensures some { IfSome result (λ _. Spells (normal_word ∷ []) self.old self.new) }
@@ -88,7 +88,7 @@ impl<'t> Reader<'t> {
         Some(())
     }
 
-    /// Like `point`; tries first whether the coordinates stand one blank apart.
+    /// `point`, which first tries coordinates one blank apart.
     #[inline(always)]
     fn near_point(&mut self) -> Option<Point>
         ensures { IfSome result (λ p. Spells (coordinate p.x ∷ coordinate p.y ∷ coordinate p.z ∷ []) self.old self.new) }
@@ -102,7 +102,7 @@ impl<'t> Reader<'t> {
         Some(point)
     }
 
-    /// Like `coordinate`; tries first at most one blank before it.
+    /// `coordinate`, which first tries at most one blank before it.
     #[inline(always)]
     fn near_coordinate(&mut self) -> Option<i32>
         ensures some { IfSome result (λ z. Spells (coordinate z ∷ []) self.old self.new) }
@@ -130,8 +130,8 @@ fn after_bytes<'t>(text: &'t [u8], bytes: &[u8]) -> Option<&'t [u8]>
     if front == bytes { Some(rest) } else { None }
 }
 
-/// The text after its first word, if it has one. It is out of line: few words of a normal are longer than 16 bytes, or have
-/// more than one blank before them.
+/// The text after its first word, if it has one. It is out of line: few words of a normal are longer than 16 bytes or have more
+/// than one blank before them.
 #[cold]
 #[inline(never)]
 fn after_any_word(bytes: &[u8]) -> Option<&[u8]>
@@ -143,7 +143,7 @@ fn after_any_word(bytes: &[u8]) -> Option<&[u8]>
     if word.is_empty() { None } else { Some(rest) }
 }
 
-/// The same as `after_coordinate`, out of line: few coordinates have more than one blank before them.
+/// `after_coordinate`, out of line: few coordinates have more than one blank before them.
 #[cold]
 #[inline(never)]
 fn after_any_coordinate(bytes: &[u8], unit: Unit) -> Option<(i32, &[u8])>
@@ -154,7 +154,7 @@ fn after_any_coordinate(bytes: &[u8], unit: Unit) -> Option<(i32, &[u8])>
     after_coordinate(bytes, unit)
 }
 
-/// The number of bytes at the front of a text that are above a blank (32), so not white space, or `LANES` if there are more.
+/// The number of bytes at the front of a text that are above a blank (32), so not white space. `LANES` if there are more.
 #[inline(always)]
 fn front_len(bytes: &[u8]) -> usize
     requires { LANES ≤ length bytes.now }
@@ -190,8 +190,7 @@ fn after_short_word(bytes: &[u8]) -> Option<&[u8]>
     }
 }
 
-/// The bytes at the front of a text that stand for a separator, with the white space after them, of which there has to be
-/// some.
+/// The bytes of a separator at the front of a text, with the white space after them, which is at least one byte.
 fn separator_at(text: &[u8], separator: Separator) -> Option<&[u8]>
     ensures { IfSome result (λ bytes. IsSeparator (separator_tokens separator) bytes.now) }
 {
@@ -207,8 +206,8 @@ fn separator_at(text: &[u8], separator: Separator) -> Option<&[u8]>
     Some(bytes)
 }
 
-/// The number of bytes of a closing up to the end of its last word, if its keywords stand there, and there is more
-/// after it.
+/// The number of bytes of a closing up to the end of its last word, if its keywords are at the front and something follows
+/// them.
 fn words_len(closing: &[u8]) -> Option<usize>
     ensures { IfSome result (λ n. IsClosing n closing.now) }
 {
@@ -221,7 +220,7 @@ fn words_len(closing: &[u8]) -> Option<usize>
 }
 
 impl<'t> Layout<'t> {
-    /// The layout of the facet at the front of a text, if one stands there. The unit of its numbers does not matter.
+    /// The layout of the facet at the front of a text, if there is one. The unit of its numbers does not matter.
     pub(crate) fn of(text: &'t [u8]) -> Option<Layout<'t>> {
         let opening = separator_at(text, Separator::Opening)?;
         let mut reader = Reader::new(text, Unit::Millimetre);
@@ -259,21 +258,21 @@ fn facet_by_layout<'t>(
     ensures some { IfSome result (λ found. 0 < length found.1.now) }
     ensures shorter { IfSome result (λ found. length found.1.now < length bytes.now) }
 {
-    // Each arm is compiled for its unit, so that none of a facet's nine numbers tests it.
+    // Each arm is compiled for its unit, so none of a facet's nine numbers tests it.
     match unit {
         Unit::Millimetre => facet_in_unit(bytes, Unit::Millimetre, layout),
         Unit::Inch => facet_in_unit(bytes, Unit::Inch, layout),
     }
 }
 
-/// The same as `facet_by_layout`, compiled anew for each unit that it is called with.
+/// `facet_by_layout`, compiled anew for each unit that it is called with.
 #[inline(always)]
 fn facet_in_unit<'t>(bytes: &'t [u8], unit: Unit, layout: &Layout<'_>) -> Option<(Facet, &'t [u8])>
     ensures read { IfSome result (λ found. rest_after unit (facet_tokens found.0) bytes.now ≡ Some found.1.now) }
     ensures some { IfSome result (λ found. 0 < length found.1.now) }
     ensures shorter { IfSome result (λ found. length found.1.now < length bytes.now) }
 {
-    // No call takes this reader by reference, unless it is inlined, so that the rest of its text stays in registers.
+    // No call that is not inlined takes this reader by reference, so the rest of its text stays in registers.
     let mut reader = Reader::new(bytes, unit);
     reader.skip(layout.opening)?;
     reader.near_normal()?;
@@ -291,8 +290,8 @@ fn facet_in_unit<'t>(bytes: &'t [u8], unit: Unit, layout: &Layout<'_>) -> Option
     Some((Facet::of(a, b, c), rest))
 }
 
-/// The whole facet at the front of a text, from `facet` to `endfacet`, and the text after it, which is not empty. It is
-/// read by a layout, where it has it, and else word by word. `None` says nothing about the text.
+/// The whole facet at the front of a text, from `facet` to `endfacet`, and the text after it, which is not empty. It is read by
+/// the layout if it has it, else word by word. `None` says nothing about the text.
 #[inline(always)]
 pub(crate) fn front_facet<'t>(
     bytes: &'t [u8],

@@ -2,12 +2,12 @@
 //!
 //! - [`read_stl`], [`read_stl_at_most`]: the facets of a text in file order, or its one fault.
 //! - [`read_stl_by`]: the same, read in parts by several workers.
-//! - [`TextReader`]: the same of a text that arrives in chunks, and is not held; several workers may read each chunk.
+//! - [`TextReader`]: the same for a text that arrives in chunks, and is not kept; several workers may read each chunk.
 //! - [`ChunkParts`], [`FacetRuns`]: such a chunk in parts that workers draw, and what they find in them.
 //! - [`StlFault`]: why a text does not read as facets, with the byte offset of the fault; [`Word`]: what is wanted there.
-//! - [`one_outcome`], [`reads_as_written`]: laws. Each text has one outcome, and it reads as facets exactly where it is
-//!   these facets written as STL.
-//! - [`Point`], [`Facet`], [`extent`], [`points_in_order`] and [`FACET_LIMIT`], handed on from `geometry`.
+//! - [`one_outcome`], [`reads_as_written`]: laws. Each text has one outcome, and it reads as facets exactly if it is these
+//!   facets written as STL.
+//! - [`Point`], [`Facet`], [`extent`], [`points_in_order`] and [`FACET_LIMIT`], re-exported from `geometry`.
 //!
 //! ```
 //! let text = b"solid part\nfacet normal 0 0 1 outer loop\n\
@@ -18,8 +18,8 @@
 //! assert!(rt; fault == Err(StlFault::Expected { word: Word::FacetOrEnd, at: 6 }));
 //! ```
 //!
-//! Units: a text's numbers are in millimetres or inches, as its caller says; points are in whole micrometres. Offsets are
-//! in bytes, from 0.
+//! Units: a text's numbers are in millimetres or inches, as the caller says. Points are in whole micrometres. Offsets are in
+//! bytes, from 0.
 #![tactic(auto)]
 
 mod chunk_parts;

@@ -9,7 +9,7 @@ use crate::word::Word;
 use micro_num::Unit;
 use std::marker::Model;
 
-/// A text that is read from left to right, word by word. Where another word stands than the one that is wanted, it says no
+/// A text that is read from left to right, word by word. If another word comes than the one that is wanted, the reader says no
 /// more than that; [`TextReader`](crate::TextReader) finds what is wrong there.
 #[derive(Drop)]
 pub(crate) struct Reader<'t> {
@@ -42,7 +42,7 @@ impl<'t> Reader<'t> {
         skip_space(self.rest).is_empty()
     }
 
-    /// Reads the keyword of `wanted`, which has only one, if it stands here.
+    /// Reads the keyword of `wanted`, which has only one, if it comes next.
     #[inline(always)]
     pub(crate) fn keyword(&mut self, wanted: Word) -> Option<()>
         requires { HasOneKeyword wanted }
@@ -66,7 +66,7 @@ impl<'t> Reader<'t> {
         Some(())
     }
 
-    /// Reads a coordinate, in whole micrometres, if one stands here.
+    /// Reads a coordinate, in whole micrometres, if one comes next.
     #[inline(always)]
     pub(crate) fn coordinate(&mut self) -> Option<i32>
         ensures some { IfSome result (λ z. Spells (coordinate z ∷ []) self.old self.new) }

@@ -1,4 +1,4 @@
-//! The facets of a text that is at hand as a whole: a [`TextReader`] that is fed once.
+//! The facets of a text that is in memory as a whole: a [`TextReader`] that is fed once.
 ghost use Rattle.std.specs.Prelude.{◌≤◌};
 ghost use Rattle.stl_text.specs.Reading.{IsAnswerTo};
 ghost use Rattle.geometry.specs.declared.limits.TheConstants.{FACET_LIMIT};
@@ -12,17 +12,17 @@ use std::thread::Threads;
 
 /// The facets of an ASCII STL text in file order, at most `limit` of them.
 ///
-/// A text is one or more solids: `solid` and a name up to the end of its line, any number of facets, `endsolid` and
-/// the rest of its line. Keywords are read in any case, and a normal is any three words. The text's numbers are in
-/// `unit`; points are in whole micrometres. `limit` is at most [`FACET_LIMIT`].
+/// A text is one or more solids: `solid` and a name up to the end of its line, any number of facets, `endsolid` and the rest of
+/// its line. Keywords are read in any case, and a normal is any three words. The text's numbers are in `unit`; points are in
+/// whole micrometres. `limit` is at most [`FACET_LIMIT`].
 ///
 /// # Errors
-/// A text that does not read as facets has exactly one fault, which is the answer unless memory runs out. It is at the first
-/// word that does not fit:
-/// - `Expected` where a keyword is wanted there,
-/// - `Number` where a coordinate of a vertex is wanted there,
-/// - `TooMany` where the word is the `facet` of one facet more than `limit`, over all solids,
-/// - `Ended` where the text ends and a word is wanted.
+/// A text that does not read as facets has exactly one fault, which is returned unless memory runs out. It is at the first word
+/// that does not fit:
+/// - `Expected` if a keyword is wanted there,
+/// - `Number` if a coordinate of a vertex is wanted there,
+/// - `TooMany` if the word is the `facet` of one facet more than `limit`, over all solids,
+/// - `Ended` if the text ends and a word is wanted.
 ///
 /// `Memory` comes only if an allocation failed.
 pub fn read_stl_at_most<A: Allocator + Copy + Send + Sync>(
@@ -51,8 +51,8 @@ pub fn read_stl<A: Allocator + Copy + Send + Sync>(
     read_stl_at_most(alloc, bytes, FACET_LIMIT, unit)
 }
 
-/// The facets of an ASCII STL text in file order, at most `limit` of them, read by up to `workers` workers at the same
-/// time. It answers what [`read_stl_at_most`] answers, for every number of workers.
+/// The facets of an ASCII STL text in file order, at most `limit` of them, read by up to `workers` workers at the same time. It
+/// returns what [`read_stl_at_most`] returns, for every number of workers.
 pub fn read_stl_by<R: Threads + Sync, A: Allocator + Copy + Send + Sync>(
     rt: &R,
     alloc: A,

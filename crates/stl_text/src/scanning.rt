@@ -98,7 +98,7 @@ pub(crate) fn is_keyword(word: &[u8], text: &[u8]) -> bool
     word == text || word.eq_ignore_ascii_case(text)
 }
 
-/// Whether a word that is followed by this text ends there: the text is empty, or begins with white space.
+/// Whether a word ends before this text: the text is empty, or begins with white space.
 #[inline(always)]
 pub(crate) fn ends_word(bytes: &[u8]) -> bool
     ensures { IsTrue result ↔ IsApart bytes.now }

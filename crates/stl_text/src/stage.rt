@@ -1,4 +1,4 @@
-//! Where in the grammar the reading of a text stands, and what the next word does there.
+//! Stages: how far the reading of a text has come in the grammar, and what the next word does there.
 ghost use Rattle.std.specs.Prelude.{◌≡◌, ◌-◌, ◌<◌, [], ◌≤◌, ℕ, Bool, List, IfErr, IfOk, length};
 ghost use Rattle.exact_int.specs.Bounds.{IsAtMost};
 ghost use Rattle.geometry.specs.Facet.{Facet};
@@ -6,7 +6,7 @@ ghost use Rattle.geometry.specs.Point.{IsMeshPoint};
 ghost use Rattle.geometry.specs.declared.limits.TheConstants.{COORDINATE_LIMIT};
 ghost use Rattle.micro_num.specs.declared.unit.Unit.{Unit as LengthUnit};
 ghost use Rattle.stl_text.specs.Text.{IsFaultOf, Reads, after_space, first_word};
-ghost use Rattle.stl_text.specs.Stage.{AtWord, IsPlain, IsWantedAt, ReadInside, StandsAfter, Stands, StopsInside, between_solids, in_facets, inside, with_axis, with_number};
+ghost use Rattle.stl_text.specs.Stage.{AtWord, IsPlain, IsWantedAt, ReadInside, StandsAfter, Stands, StopsInside, between_solids, in_facets, inside, with_axis, with_number, word_front};
 
 use crate::scanning::is_keyword;
 use crate::stl_fault::StlFault;
@@ -41,10 +41,10 @@ pub(crate) enum InnerWord {
     Number(FacetCorner, Axis),
 }
 
-/// Where in the grammar the reading of a text stands, between two words: what the next word may be.
+/// How far the reading of a text has come in the grammar, between two words: what the next word may be.
 #[derive(Clone, Copy, Debug, PartialEq, Eq)]
 pub(crate) enum Stage {
-    /// `solid` is wanted. `some` tells whether a whole solid was read.
+    /// `solid` is wanted. `some` says whether a whole solid was read.
     Between { some: bool },
     /// `facet` or `endsolid` is wanted.
     Facets,
@@ -56,15 +56,15 @@ pub(crate) enum Stage {
 /// What a word does.
 #[derive(Clone, Copy, Debug, PartialEq, Eq)]
 pub(crate) enum Step {
-    /// The reading stands there after the word.
+    /// The reading is at this stage after the word.
     To(Stage),
-    /// It stands there after the rest of the word's line.
+    /// The reading is at this stage after the rest of the word's line.
     Line(Stage),
     /// The word ends this facet.
     Whole(Facet),
 }
 
-/// Where a `TextReader` stands. It adds to a stage the rest of a line, in which no word counts, and the end at a fault.
+/// The state of a `TextReader`: a stage, the rest of a line, in which no word counts, or the end at a fault.
 #[derive(Clone, Copy, Debug, PartialEq, Eq)]
 pub(crate) enum ReaderState {
     /// Between two words, or in one.
@@ -75,7 +75,7 @@ pub(crate) enum ReaderState {
     Stopped(StlFault),
 }
 
-/// The number of words that stand between a facet's `facet` and its last word, `endfacet`.
+/// The number of words between a facet's `facet` and its last word, `endfacet`.
 pub(crate) const LAST_WORD: usize = 19;
 
 /// The point with these coordinates.
@@ -154,7 +154,7 @@ fn wanted_after(words: usize) -> InnerWord
     }
 }
 
-/// Reads a word of a facet after `words` of the words that follow `facet`: the facet with this word's coordinate.
+/// Reads a word of a facet after `words` of the words that follow `facet`. Returns the facet with this word's coordinate.
 fn read_inside(
     words: usize,
     facet: Facet,
@@ -162,9 +162,9 @@ fn read_inside(
     at: usize,
     unit: Unit,
 ) -> Result<Facet, StlFault>
-    ensures read { words ≤ LAST_WORD → (after : List ℕ) → first_word after ≡ word.now → 0 < length word.now
+    ensures read { words ≤ LAST_WORD → (after : List ℕ) → word_front (first_word after) ≡ word_front word.now → 0 < length word.now
         → IfOk result (ReadInside unit words facet after) }
-    ensures fault { words ≤ LAST_WORD → (after : List ℕ) → first_word after ≡ word.now → 0 < length word.now
+    ensures fault { words ≤ LAST_WORD → (after : List ℕ) → word_front (first_word after) ≡ word_front word.now → 0 < length word.now
         → IfErr result (StopsInside unit words facet after at) }
 {
     match wanted_after(words) {
@@ -183,7 +183,7 @@ fn read_inside(
     }
 }
 
-/// Reads a word where `solid` is wanted.
+/// Reads a word when `solid` is wanted.
 fn step_between(word: &[u8], at: usize) -> Result<Step, StlFault>
     ensures read { (limit : ℕ) (unit : LengthUnit) (some : Bool) (facets : List Facet) (text after : List ℕ)
         → AtWord limit unit (between_solids some) facets text after word.now at
@@ -202,7 +202,7 @@ fn step_between(word: &[u8], at: usize) -> Result<Step, StlFault>
     }
 }
 
-/// Reads a word where `facet` or `endsolid` is wanted, and `room` more facets may begin.
+/// Reads a word when `facet` or `endsolid` is wanted. `room` more facets may begin.
 fn step_facets(word: &[u8], at: usize, room: usize) -> Result<Step, StlFault>
     ensures read { (limit : ℕ) (unit : LengthUnit) (facets : List Facet) (text after : List ℕ)
         → AtWord limit unit in_facets facets text after word.now at → room ≡ limit - length facets

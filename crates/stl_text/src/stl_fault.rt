@@ -1,4 +1,4 @@
-//! The fault of a text: what is wrong at the first word that does not fit, and where that is.
+//! The fault of a text: what is wrong at the first word that does not fit, and where that word is.
 ghost use Rattle.std.specs.Prelude.{◌≡◌};
 ghost use Rattle.stl_text.specs.declared.stl_fault.StlFault.TheVariants.{Memory};
 
@@ -10,10 +10,10 @@ use thiserror::Error;
 /// Why a text does not read as facets. `at` is a byte offset, from 0.
 #[derive(Clone, Copy, Debug, PartialEq, Eq, Error)]
 pub enum StlFault {
-    /// `word` is wanted, and the word at `at` is another one.
+    /// `word` is wanted, but another word is at `at`.
     #[error("expected {word} at byte {at}")]
     Expected { word: Word, at: usize },
-    /// `word` is wanted, and the text ends.
+    /// `word` is wanted, but the text ends.
     #[error("input ended before {word}")]
     Ended { word: Word },
     /// The word at `at` stands for no coordinate, for the reason that `cause` gives.

@@ -1,12 +1,12 @@
 //! The reader of a text that is fed in chunks. The bytes *ahead* are those of a chunk that it has not read yet.
-ghost use Rattle.std.specs.Prelude.{◌≡◌, ◌≢◌, ◌↔◌, ◌<◌, ◌≤◌, ◌+◌, ◌-◌, ℕ, [], ◌∷◌, ◌++◌, All, List, IfErr, IfOk, IfSome, IsTrue, MatchResult, None, length};
+ghost use Rattle.std.specs.Prelude.{◌≡◌, ◌≢◌, ◌↔◌, ◌<◌, ◌≤◌, ◌+◌, ℕ, [], ◌∷◌, ◌++◌, All, List, IfErr, IfOk, IfSome, IsTrue, MatchResult, None, length};
 ghost use Rattle.geometry.specs.Facet.{Facet};
 ghost use Rattle.geometry.specs.declared.limits.TheConstants.{FACET_LIMIT};
 ghost use Rattle.micro_num.specs.declared.unit.Unit.{Unit as LengthUnit};
 ghost use Rattle.stl_text.specs.declared.stl_fault.StlFault.TheVariants.{Memory};
 ghost use Rattle.stl_text.specs.Text.{IsFaultOf, Reads};
 ghost use Rattle.stl_text.specs.FacetRun.{IsFacetRun};
-ghost use Rattle.stl_text.specs.Stage.{AtWord, in_facets};
+ghost use Rattle.stl_text.specs.Stage.{AtWord, in_facets, word_front};
 ghost use Rattle.stl_text.specs.TextReader.{EndsAt, IsAfter, IsReading, ReadsOn, StandsAt, at_line, at_word};
 
 use crate::chunk_parts::{ChunkParts, FacetRuns};
@@ -15,6 +15,7 @@ use crate::layout::{Layout, front_facet};
 use crate::scanning::{skip_line, skip_space, word_len};
 use crate::stage::{ReaderState, Stage, Step};
 use crate::stl_fault::StlFault;
+use crate::word::WORD_FRONT;
 use geometry::{FACET_LIMIT, Facet};
 use micro_num::Unit;
 use std::alloc::Allocator;
@@ -29,7 +30,7 @@ fn is_among_facets(state: ReaderState) -> bool
     matches!(state, ReaderState::Word(Stage::Facets))
 }
 
-/// Adds a facet, where memory suffices.
+/// Adds a facet, if memory suffices.
 #[inline(always)]
 fn add<A: Allocator>(facets: &mut Vec<Facet, A>, facet: Facet) -> Result<(), StlFault>
     ensures added { IfOk result (λ _. facets.new.items ≡ facets.old.items ++ facet ∷ []) }
@@ -39,7 +40,7 @@ fn add<A: Allocator>(facets: &mut Vec<Facet, A>, facet: Facet) -> Result<(), Stl
     Ok(())
 }
 
-/// Adds the facets of a run, where memory suffices.
+/// Adds the facets of a run, if memory suffices.
 fn add_all<A: Allocator>(facets: &mut Vec<Facet, A>, run: &[Facet]) -> Result<(), StlFault>
     ensures added { IfOk result (λ _. facets.new.items ≡ facets.old.items ++ run.now) }
     ensures fault { IfErr result (λ fault. fault ≡ Memory) }
@@ -48,18 +49,22 @@ fn add_all<A: Allocator>(facets: &mut Vec<Facet, A>, run: &[Facet]) -> Result<()
     Ok(())
 }
 
-/// Keeps the bytes of a word, where memory suffices.
+/// Keeps the front of a word that goes on with these bytes, if memory suffices.
 fn hold<A: Allocator>(held: &mut Vec<u8, A>, bytes: &[u8]) -> Result<(), StlFault>
-    ensures held { IfOk result (λ _. held.new.items ≡ held.old.items ++ bytes.now) }
+    ensures held { IfOk result (λ _. (word : List ℕ) → held.old.items ≡ word_front word
+        → held.new.items ≡ word_front (word ++ bytes.now)) }
     ensures fault { IfErr result (λ fault. fault ≡ Memory) }
 {
-    match held.extend_from_slice(bytes) {
+    let room = WORD_FRONT.saturating_sub(held.len());
+    let (front, _) = bytes.split_at(room.min(bytes.len()));
+    match held.extend_from_slice(front) {
         Ok(()) => Ok(()),
         Err(_) => Err(StlFault::Memory),
     }
 }
 
-/// Reads a whole word that begins at the byte offset `at`, and adds the facet that it ends.
+/// Reads a whole word that begins at the byte offset `at`, and adds the facet that it ends. A long word may be given by its
+/// front.
 fn read_word<A: Allocator>(
     stage: Stage,
     word: &[u8],
@@ -87,22 +92,23 @@ fn read_word<A: Allocator>(
     }
 }
 
-/// A reader of an ASCII STL text that arrives in chunks, cut anywhere: also in a word, a number, a name or a line break.
-/// It keeps the facets until they are taken and, between two chunks, no more of the text than the front of a word that
-/// is not whole yet. Names, rests of lines and white space take nothing, and nor does what follows a fault. A word is kept
-/// whole, however long it is.
+/// A reader of an ASCII STL text that arrives in chunks. They may be cut anywhere, also in a word, a number, a name or a line
+/// break. Until a fault stops it, it keeps the facets until they are taken. Between two chunks, it then keeps no more of the
+/// text than the first 256 bytes of a word that is not whole yet. No clause says how much memory it takes.
 #[derive(Drop)]
 pub struct TextReader<A: Allocator> {
-    /// The number of facets that the text may have beside those that were taken.
+    /// The number of facets that the text may have in addition to those that were taken.
     limit: usize,
     /// The unit of its numbers.
     unit: Unit,
     /// The number of bytes so far.
     count: usize,
-    /// Where the reading stands.
+    /// The stage of the reading.
     state: ReaderState,
-    /// The front of a word that is not whole yet.
+    /// The front of a word that is not whole yet, at most `WORD_FRONT` bytes.
     held: Vec<u8, A>,
+    /// The byte offset at which that word begins.
+    held_at: usize,
     /// The facets so far that were not taken.
     facets: Vec<Facet, A>,
 }
@@ -112,7 +118,7 @@ impl<A: Allocator> Model for TextReader<A> {
 
     ghost Value = { TextReader };
 
-    ghost view = { λ r. record { limit = r.limit; unit = r.unit; count = r.count; state = r.state; held = r.held.items; facets = r.facets.items } };
+    ghost view = { λ r. record { limit = r.limit; unit = r.unit; count = r.count; state = r.state; held = r.held.items; held_at = r.held_at; facets = r.facets.items } };
 }
 
 impl<A: Allocator + Copy> TextReader<A> {
@@ -127,13 +133,14 @@ impl<A: Allocator + Copy> TextReader<A> {
             count: 0,
             state: ReaderState::Word(Stage::Between { some: false }),
             held: Vec::new(alloc),
+            held_at: 0,
             facets: Vec::new(alloc),
         }
     }
 }
 
 impl<A: Allocator> TextReader<A> {
-    /// Reads the next chunk of the text. Where it is cut from the next does not matter.
+    /// Reads the next chunk of the text. Chunks may be cut anywhere.
     pub fn feed(&mut self, chunk: &[u8])
         ensures { (limit : ℕ) (unit : LengthUnit) (taken : List Facet) (fed : List ℕ) → IsAfter limit unit taken self.old fed
             → IsAfter limit unit taken self.new (fed ++ chunk.now) }
@@ -143,7 +150,7 @@ impl<A: Allocator> TextReader<A> {
         self.read_to(rest, &layout_within(chunk), 0);
     }
 
-    /// Reads the next chunk of the text, in which runs of facets were found. The answer is that of [`TextReader::feed`] with
+    /// Reads the next chunk of the text, in which runs of facets were found. The result is that of [`TextReader::feed`] with
     /// this chunk, whichever runs they are.
     pub fn feed_runs(&mut self, found: FacetRuns<'_, A>)
         ensures { (limit : ℕ) (unit : LengthUnit) (taken : List Facet) (fed : List ℕ) → IsAfter limit unit taken self.old fed
@@ -158,7 +165,7 @@ impl<A: Allocator> TextReader<A> {
         self.read_by_runs(chunk, &runs);
     }
 
-    /// Reads the next chunk of the text, of which some runs are known, in the order in which they begin.
+    /// Reads the next chunk of the text. Some of its runs are known, in the order in which they begin.
     fn read_by_runs<'p>(&mut self, chunk: &'p [u8], runs: &[FacetRun<'p, A>])
         ensures { (limit : ℕ) (unit : LengthUnit) (taken : List Facet) (fed : List ℕ)
             → IsAfter limit unit taken self.old fed
@@ -175,8 +182,8 @@ impl<A: Allocator> TextReader<A> {
         self.read_to(rest, &layout, 0);
     }
 
-    /// Jumps over a run, if the bytes ahead begin with it, `facet` or `endsolid` is wanted there and the limit has room for
-    /// its facets: answers the bytes after it. Else it answers those ahead.
+    /// Jumps over a run and returns the bytes after it. It does so only if the bytes ahead begin with the run, `facet` or
+    /// `endsolid` is wanted there, and the facets stay within the limit. Otherwise it returns the bytes ahead.
     fn jump<'p>(&mut self, ahead: &'p [u8], run: &FacetRun<'p, A>) -> &'p [u8]
         requires free { 0 < length ahead.now → self.old.held ≡ [] }
         ensures read { (limit : ℕ) (unit : LengthUnit) (taken : List Facet) (fed chunk : List ℕ)
@@ -202,7 +209,7 @@ impl<A: Allocator> TextReader<A> {
         rest
     }
 
-    /// Reads the bytes ahead until at most `left` of them are left: answers these.
+    /// Reads the bytes ahead until at most `left` of them are left, and returns these.
     fn read_to<'p>(&mut self, ahead: &'p [u8], layout: &Option<Layout<'_>>, left: usize) -> &'p [u8]
         requires free { 0 < length ahead.now → self.old.held ≡ [] }
         ensures read { ReadsOn self.old ahead.now self.new result.now }
@@ -216,9 +223,9 @@ impl<A: Allocator> TextReader<A> {
         rest
     }
 
-    /// Hands over the facets that were read since the last call, in file order, in exchange for an empty list: `list` is
-    /// emptied first, and its room serves the facets to come. Those that were handed over still count for the limit. They
-    /// are facets of the text only if its end has no fault either.
+    /// Exchanges `list` for the facets that were read since the last call, in file order. `list` is emptied first, and its room
+    /// serves the facets to come. Facets that were taken still count for the limit. They are facets of the text only if
+    /// [`TextReader::finish`] reports no fault either.
     pub fn take_facets(&mut self, list: &mut Vec<Facet, A>)
         ensures after { (limit : ℕ) (unit : LengthUnit) (taken : List Facet) (fed : List ℕ) → IsAfter limit unit taken self.old fed
             → IsAfter limit unit (taken ++ self.old.facets) self.new fed }
@@ -233,9 +240,8 @@ impl<A: Allocator> TextReader<A> {
     /// The facets of the text that was fed, in file order, without those that were taken.
     ///
     /// # Errors
-    /// A text that does not read as facets has exactly one fault, which is the answer unless memory runs out, as of
-    /// [`read_stl_at_most`](crate::read_stl_at_most). `Memory` comes only if an allocation failed, or after
-    /// `usize::MAX` bytes.
+    /// A text that does not read as facets has exactly one fault, that of [`read_stl_at_most`](crate::read_stl_at_most). It is
+    /// returned unless memory runs out. The fault `Memory` comes only if an allocation failed, or after `usize::MAX` bytes.
     pub fn finish(self) -> Result<Vec<Facet, A>, StlFault>
         ensures found { (limit : ℕ) (unit : LengthUnit) (taken : List Facet) (fed : List ℕ) → IsAfter limit unit taken self fed
             → IfOk result (λ facets. Reads limit unit fed (taken ++ facets.items)) }
@@ -267,7 +273,7 @@ impl<A: Allocator> TextReader<A> {
         }
     }
 
-    /// Goes on with a word that the last chunk cut: answers the bytes after it.
+    /// Goes on with a word that the last chunk cut. Returns the bytes after it.
     fn resume<'p>(&mut self, chunk: &'p [u8]) -> &'p [u8]
         ensures read { ReadsOn self.old chunk.now self.new result.now }
         ensures free { 0 < length result.now → self.new.held ≡ [] }
@@ -286,11 +292,11 @@ impl<A: Allocator> TextReader<A> {
         if rest.is_empty() {
             return rest;
         }
-        self.read_held(stage, rest.len());
+        self.read_held(stage);
         rest
     }
 
-    /// Reads what is at the front of the bytes ahead, of which there is at least one, and answers the bytes after it.
+    /// Reads what is at the front of the bytes ahead, at least one, and returns the bytes after it.
     fn advance<'p>(&mut self, ahead: &'p [u8], layout: &Option<Layout<'_>>) -> &'p [u8]
         requires free { self.old.held ≡ [] }
         requires some { 0 < length ahead.now }
@@ -330,7 +336,7 @@ impl<A: Allocator> TextReader<A> {
         after
     }
 
-    /// Reads a whole facet at the front, if there is one and the limit has room for it: answers the bytes after it.
+    /// Reads a whole facet at the front, if there is one and it is within the limit. Returns the bytes after it.
     #[inline(always)]
     fn facet<'p>(&mut self, ahead: &'p [u8], layout: &Option<Layout<'_>>) -> Option<&'p [u8]>
         requires free { self.old.held ≡ [] }
@@ -354,7 +360,7 @@ impl<A: Allocator> TextReader<A> {
         Some(rest)
     }
 
-    /// Reads the word at the front, or keeps it where the chunk ends in it: answers the bytes after it.
+    /// Reads the word at the front, or keeps its front if the chunk ends in it. Returns the bytes after it.
     fn word<'p>(&mut self, stage: Stage, ahead: &'p [u8]) -> &'p [u8]
         requires free { self.old.held ≡ [] }
         requires some { 0 < length ahead.now }
@@ -368,49 +374,46 @@ impl<A: Allocator> TextReader<A> {
             return front;
         }
         let (word, rest) = front.split_at(word_len(front));
+        let at = self.count.saturating_sub(front.len());
         if rest.is_empty() {
+            self.held_at = at;
             if let Err(fault) = hold(&mut self.held, word) {
                 self.state = ReaderState::Stopped(fault);
             }
             return rest;
         }
-        let at = self.count.saturating_sub(front.len());
         self.state = read_word(stage, word, at, self.limit, self.unit, &mut self.facets);
         rest
     }
 
-    /// Reads the last word of the text: answers where the text ends.
+    /// Reads the last word of the text. Returns the state at the end of the text.
     fn close(&mut self) -> ReaderState
         ensures { (limit : ℕ) (unit : LengthUnit) (taken : List Facet) (fed : List ℕ) → IsAfter limit unit taken self.old fed
             → EndsAt limit unit result (taken ++ self.new.facets) fed }
     {
-        let ReaderState::Word(stage) = self.state else {
+        let ReaderState::Word(last) = self.state else {
             return self.state;
         };
         if self.held.is_empty() {
             return self.state;
         }
-        self.read_held(stage, 0);
+        self.read_held(last);
         self.state
     }
 
-    /// Reads the word that is held, after which the text so far has `left` bytes.
-    fn read_held(&mut self, stage: Stage, left: usize)
+    /// Reads the held word, which is whole now.
+    fn read_held(&mut self, stage: Stage)
         ensures read { (taken : List Facet) (text after : List ℕ)
             → AtWord (length taken + self.old.limit) self.old.unit stage (taken ++ self.old.facets) text after self.old.held
-            (self.old.count - left - length self.old.held)
+            self.old.held_at
             → StandsAt (length taken + self.old.limit) self.old.unit self.new.state (taken ++ self.new.facets) text after }
         ensures same { (self.new.limit ≡ self.old.limit) × (self.new.unit ≡ self.old.unit) × (self.new.count ≡ self.old.count) }
         ensures free { self.new.held ≡ [] }
     {
-        let at = self
-            .count
-            .saturating_sub(left)
-            .saturating_sub(self.held.len());
         self.state = read_word(
             stage,
             self.held.as_slice(),
-            at,
+            self.held_at,
             self.limit,
             self.unit,
             &mut self.facets,
@@ -420,8 +423,8 @@ impl<A: Allocator> TextReader<A> {
 }
 
 impl<A: Allocator + Copy + Send + Sync> TextReader<A> {
-    /// The parts of the next chunk of the text, in which up to `workers` workers look for runs of facets. There are none where
-    /// the reader stopped at a fault.
+    /// The parts of the next chunk of the text, in which up to `workers` workers look for runs of facets. There are none if the
+    /// reader stopped at a fault.
     pub fn parts<'t>(&self, chunk: &'t [u8], workers: u32) -> ChunkParts<'t, A>
         ensures unit { result.unit ≡ self.now.unit }
         ensures bytes { result.bytes ≡ chunk.now }
@@ -434,7 +437,7 @@ impl<A: Allocator + Copy + Send + Sync> TextReader<A> {
         ChunkParts::of(*self.facets.allocator(), chunk, self.unit, workers)
     }
 
-    /// Reads the next chunk of the text, a long one in parts by up to `workers` workers at the same time. The answer is
+    /// Reads the next chunk of the text. A long one is read in parts by up to `workers` workers at the same time. The result is
     /// that of [`TextReader::feed`], for every number of workers.
     pub fn feed_by<R: Threads + Sync>(&mut self, rt: &R, chunk: &[u8], workers: u32)
         ensures { (limit : ℕ) (unit : LengthUnit) (taken : List Facet) (fed : List ℕ)

@@ -2,13 +2,18 @@
 ghost use Rattle.std.specs.Prelude.{◌≡◌};
 ghost use Rattle.stl_text.specs.Text.{HasOneKeyword, keyword_text};
 
+use micro_num::WORD_LIMIT;
 use std::fmt::{Display, Error, Formatter, Write};
 
-/// The keyword that begins a facet, in lower case. It and the next are those of `Word::FacetOrEnd`, whose text names both.
+/// The keyword that begins a facet, in lower case. It and the next one are those of `Word::FacetOrEnd`, whose text names both.
 pub(crate) const FACET: &[u8] = b"facet";
 
 /// The keyword that ends a solid, in lower case.
 pub(crate) const END_SOLID: &[u8] = b"endsolid";
+
+/// The number of bytes at the front of a word that decide what it stands for, if anything. No keyword and no number is that
+/// long.
+pub(crate) const WORD_FRONT: usize = WORD_LIMIT + 1;
 
 /// What is wanted at a byte offset of a text: a keyword, one of two keywords, or a number.
 #[derive(Clone, Copy, Debug, PartialEq, Eq)]

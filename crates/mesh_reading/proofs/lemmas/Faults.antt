@@ -1,4 +1,4 @@
--- Which faults of reading come of the text.
+-- Which faults of reading are faults of the text.
 use Rattle.std.proofs.Common.{◌≡◌, ◌≢◌, ◌⊎◌, ℕ, List, inl, inr, refl}
 use Rattle.std.specs.Prelude.{Err, Result, IsErrAnd, IfErr, Ok}
 use Rattle.micro_num.specs.declared.unit.Unit.{Unit as LengthUnit}
@@ -17,7 +17,7 @@ use Rattle.mesh_reading.specs.Loading.{IsLoadFault, IsMisread}
 abbrev pub IsReadingFault : LengthUnit → List ℕ → ReadFault → Type 0
 IsReadingFault unit input f = (f ≡ fault.Memory) ⊎ IsMisread unit input f
 
--- what is answered for a fault of the text
+-- what is returned for a fault of the text
 pub told : (unit : LengthUnit) (input : List ℕ) (cause : StlFault) (f : ReadFault)
     → ((cause ≡ stl.Memory → f ≡ fault.Memory) × (cause ≢ stl.Memory → f ≡ fault.Stl cause))
     → (cause ≢ stl.Memory → IsFaultOf FACET_LIMIT unit input cause) → IsReadingFault unit input f
@@ -27,7 +27,7 @@ told unit input (stl.Number cause at) f gives known = inr (stl.Number cause at, 
 told unit input (stl.Ended word) f gives known = inr (stl.Ended word, gives.1 (λ e. cc), known (λ e. cc))
 told unit input (stl.TooMany at) f gives known = inr (stl.TooMany at, gives.1 (λ e. cc), known (λ e. cc))
 
--- where a text does not read as facets, there is no closed mesh
+-- if a text does not read as facets, there is no closed mesh
 unread_mesh : (unit : LengthUnit) (input : List ℕ) (f : ReadFault) → IsMisread unit input f → IsLoadFault unit input f
 unread_mesh unit input f h = rw h.1 h.2
 

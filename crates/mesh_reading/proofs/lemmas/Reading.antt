@@ -37,7 +37,7 @@ pub none_made : {T : Type 0} (r : Result T ReadFault) (P : ReadFault → Type 0)
 none_made (Ok x) P Q h = absurd h
 none_made (Err f) P Q h = tt
 
--- where no welder was made of a text, no mesh is
+-- if no welder was made of a text, no mesh is
 pub not_welded : (unit : LengthUnit) (fed : List ℕ) (r : Result Solid ReadFault) (f : ReadFault) → IsErrAnd r (λ own. own ≡ f) → IsLoadFault unit fed f
     → ((facets : List Facet) → Reads FACET_LIMIT unit fed facets → f ≡ fault.Memory) → IsLoaded unit fed r
 not_welded unit fed r f gives err only = record {
@@ -46,7 +46,7 @@ not_welded unit fed r f gives err only = record {
   only = λ facets reads closed. passed_on r _ _ (λ own is. is ∙ only facets reads) gives;
 }
 
--- where no mesh was made of the facets of a text, they are not closed or memory is short
+-- if no mesh was made of the facets of a text, they are not closed or memory is short
 pub not_closed : (unit : LengthUnit) (fed : List ℕ) (taken : List Facet) (r : Result Solid ReadFault) (cause : WeldFault)
     → IsErrAnd r (λ f. (cause ≡ weld.Memory → f ≡ fault.Memory) × (cause ≢ weld.Memory → f ≡ fault.Weld cause))
     → Reads FACET_LIMIT unit fed taken → IsWeldFault taken cause → (IsBalanced taken → cause ≡ weld.Memory) → IsLoaded unit fed r
@@ -73,7 +73,7 @@ no_read : (P : Type 0) → (P → ⊥) → (fault.Read ≡ fault.Memory) ⊎ P �
 no_read P none (inl e) = cc
 no_read P none (inr h) = none h
 
--- where all was read, the answer is made of the input, or a fault of it, or memory is short
+-- if all was read, the result is made of the input, or a fault of it, or memory is short
 read_as : {T : Type 0} (r : Result T ReadFault) (is_made : List ℕ → T → Type 0) (is_own : List ℕ → ReadFault → Type 0) (source : Transcript)
     (input : List ℕ) → IsInput source.old input → IsAtEnd source.new → source.failed ≡ source.failed_before → (is_own input fault.Read → ⊥)
     → IfOk r (is_made input) → IfErr r (λ f. (f ≡ fault.Memory) ⊎ is_own input f) → IsReadAs is_made is_own r source
@@ -121,7 +121,7 @@ extent_read r source unit taken reader fed end sound comes =
     read_whole r (IsTextExtent unit) (IsMisread unit) source unit taken reader fed end sound
     (λ input h. let no : fault.Read ≡ fault.Stl h.0 = h.1 in cc) comes
 
--- where reading stopped, a read failed or memory is short
+-- if reading stopped, a read failed or memory is short
 pub stopped_as : {T : Type 0} (r : Result T ReadFault) (is_made : List ℕ → T → Type 0) (is_own : List ℕ → ReadFault → Type 0) (source : Transcript)
     (f : ReadFault) → IsErrAnd r (λ x. x ≡ f) → (f ≡ fault.Read) ⊎ (f ≡ fault.Memory)
     → (f ≡ fault.Read → Fails source.failed_before source.failed) → (f ≢ fault.Read → source.failed ≡ source.failed_before)
@@ -143,7 +143,7 @@ stopped_as (Err x) is_made is_own source f is why unread sound = record {
     neither (inl e) other short = other (is ∙ e)
     neither (inr e) other short = short (is ∙ e)
 
--- all was read, and the facets that are left are welded, where memory serves
+-- all was read, and the facets that are left are welded, if memory suffices
 pub read_to_end : {S : Type 0} (remaining : S → Option (List ℕ)) (failure_count : S → ℕ) (old new : S) (reader_old reader : TextReader)
     (welder_old welder : Welder) (r : Result (Unit {0}) ReadFault) (P : Type 0) → OnOk r P → IfErr r (λ f. f ≡ fault.Memory)
     → (P → (unit : LengthUnit) (start : Option (List ℕ)) → IsWeldedAsFed unit reader_old welder_old start (remaining old)

@@ -1,5 +1,5 @@
 -- A round that is filled while facets are welded.
-use Rattle.std.proofs.Common.{◌≡◌, ◌⊎◌, ◌∙◌, ◌+◌, ◌-◌, ◌<◌, ◌≤◌, ◌++◌, Bool, ℕ, List, Option, ap, arith, drop, false, inl, inr, length, subst, sym, take, true}
+use Rattle.std.proofs.Common.{◌≡◌, ◌⊎◌, ◌∙◌, ◌+◌, ◌≤◌, ◌++◌, Bool, ℕ, List, Option, ap, arith, drop, false, inl, inr, length, subst, sym, take, true}
 use Rattle.std.specs.Prelude.{Err, IfErr, IfOk, IsErrAnd, IsOk, Ok, OnOk, Result}
 use Rattle.std.specs.Io.KnownBytes.{Consumes, IsAtEnd}
 use Rattle.std.proofs.Math.Seq.{take-append_seam, take-take}
@@ -10,12 +10,12 @@ use Rattle.mesh_reading.specs.Round.{Round}
 use Rattle.mesh_reading.specs.declared.read_fault.ReadFault.{ReadFault}
 use Rattle.mesh_reading.specs.declared.read_fault.ReadFault.TheVariants as fault
 
--- what is answered where both were done: the fault of filling, if there is one, else that of welding
+-- what is returned if both were done: the fault of filling, if there is one, else that of welding
 abbrev IsFirstFault : Result Bool ReadFault → Result (Unit {0}) ReadFault → Result Bool ReadFault → Type 0
 IsFirstFault filled welded r = IfOk r (λ is_more. (filled ≡ Ok is_more) × (welded ≡ Ok tt))
     × IfErr r (λ f. (filled ≡ Err f) ⊎ (IsOk filled × (welded ≡ Err f)))
 
--- welding fails only for want of memory, so what filling says of the source holds of the answer to both
+-- welding fails only if memory runs out, so what filling says of the source holds of the result of both
 pub filled_anyway : {S : Type 0} (remaining : S → Option (List ℕ)) (failure_count : S → ℕ) (old new : S) (is_more : Bool) (before after : Round)
     (filled : Result Bool ReadFault) (welded : Result (Unit {0}) ReadFault) (r : Result Bool ReadFault) → IsFirstFault filled welded r
     → IfErr welded (λ f. f ≡ fault.Memory) → IsFilled remaining failure_count old new is_more before after filled
@@ -41,7 +41,7 @@ filled_anyway remaining failure_count old new is_more before after filled welded
         }
     told (Err x) welded h only (inr (is, e)) = cc
 
--- where the answer is no fault, the facets were welded
+-- if the result is no fault, the facets were welded
 pub welded_too : (filled : Result Bool ReadFault) (welded : Result (Unit {0}) ReadFault) (r : Result Bool ReadFault) (H : Type 0)
     → IsFirstFault filled welded r → OnOk welded H → OnOk r H
 welded_too filled welded (Ok more) H is h = subst (λ w. OnOk w H) is.0.1 h
@@ -66,11 +66,6 @@ taken_on start mid new len count n had given bytes items size more same before =
 
 pub within_on : (k n : ℕ) (bytes items : List ℕ) → length bytes ≡ n → k ≤ length bytes → k ≤ length (take n (bytes ++ drop (length bytes) items))
 within_on k n bytes items size within = subst (λ b. k ≤ length b) (sym (written_over bytes items n size)) within
-
--- fewer bytes are left to be filled
-pub fewer_left : (wanted wanted_new len len_new count : ℕ) → len < wanted → wanted_new ≡ wanted → len_new ≡ len → (count ≡ 0 → ⊥)
-    → wanted_new - (len_new + count) < wanted - len
-fewer_left wanted wanted_new len len_new count room same_wanted same_len some = omega arith
 
 pub enough : (wanted len : ℕ) (items : List ℕ) → len ≤ length items → wanted ≤ len → wanted ≤ length (take len items)
 enough wanted len items within h = omega (arith, length-take-le len items within)

@@ -1,4 +1,4 @@
--- Balances of edges: each half-edge counts in that of its number, and where all are even, so are the half-edges.
+-- Balances of edges: each half-edge counts in that of its number, and if all are even, so are the half-edges.
 use Rattle.std.proofs.Common.{◌≡◌, ℕ, zero, suc, ◌≤◌, ◌<◌, ◌+◌, ◌*◌, ◌^◌, ◌%◌, min, max, Bool, true, false, cond, ltb, ◌==◌, ◌&&◌, List, [], ◌∷◌, length, get_or, set, take, count_by, refl, sym, ap, ◌∙◌, subst, inl, inr, ◌⊎◌, arith}
 use Rattle.std.specs.List.{All, Contains}
 use Rattle.std.proofs.lemmas.Bool.{cases_eq, cases_order}
@@ -12,7 +12,7 @@ use Rattle.mesh_weld.specs.HalfEdge.{half_edges_from, count_between, IsEven, Are
 use Rattle.mesh_weld.proofs.lemmas.Edges.{count_by-cons}
 use Rattle.mesh_weld.proofs.lemmas.HalfEdges.{half_edges_from-length, halves}
 
--- in slot 3 * f + c stands half-edge c of facet f
+-- half-edge c of facet f is in slot 3 * f + c
 ends_from : (n : ℕ) (ts : List (List ℕ)) (f c : ℕ) (d : HalfEdge) (t : List ℕ) → f < length ts → c < 3
     → ((get_or (half_edges_from n ts) (3 * f + c) d).from ≡ get_or (get_or ts f t) c 0) × ((get_or (half_edges_from n ts) (3 * f + c) d).to ≡ get_or (get_or ts f t) ((c + 1) % 3) 0)
 ends_from n [] f c d t l m = absurd (omega (arith, l))
@@ -53,7 +53,7 @@ counted_elsewhere from to low high l other = (first, second)
     second : (from == low && to == high) ≡ false
     second = grind (arith, nat_tests)
 
--- keys tell the ends
+-- keys determine the ends
 pub key_ends : (a b p q : ℕ) → a < 2 ^ 32 → b < 2 ^ 32 → p < 2 ^ 32 → q < 2 ^ 32 → min a b * 2 ^ 32 + max a b ≡ min p q * 2 ^ 32 + max p q → (min a b ≡ min p q) × (max a b ≡ max p q)
 key_ends a b p q k l m n e = halves (min a b) (max a b) (min p q) (max p q) (omega (arith, k, l)) (omega (arith, m, n)) e
 

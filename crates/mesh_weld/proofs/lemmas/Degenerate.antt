@@ -1,5 +1,5 @@
 -- Degenerate facets: their edges balance one another, and no ray crosses them. So a mesh without them has the same rays,
--- and is closed exactly where the whole mesh is.
+-- and is closed exactly if the whole mesh is.
 use Rattle.std.proofs.Common.{◌≡◌, ◌≢◌, ℕ, ◌+◌, Bool, true, false, cond, not, ◌&&◌, ◌||◌, List, [], ◌∷◌, ◌⊎◌, ℤ, pos, ◌+ℤ◌, ◌*ℤ◌, neg_ℤ, refl, sym, ◌∙◌, ap, inl, inr, arith}
 use Rattle.std.specs.Prelude.{count_by, int_lt}
 use Rattle.std.proofs.lemmas.List.Sums.{sum_by-append}
@@ -185,6 +185,11 @@ dropped (t ∷ ts) u v = by_test (dropped ts u v) (is_kept t) refl
               ∙ ap (λ n. half_edge_count (kept_facets ts) v u + (n + rest.many)) (sym (degenerate_balance t (dropped-is t h) u v))
               ∙ ap (λ list. half_edge_count list v u + (own_count t u v + rest.many)) (sym same_list);
         }
+
+-- a degenerate facet by itself is closed
+pub degenerate_closed : (t : Facet) → HasEqualCorners t → IsBalanced (t ∷ [])
+degenerate_closed t h u v =
+    half_edge_count-cons t [] u v ∙ ap (λ n. n + 0) (degenerate_balance t h u v) ∙ sym (half_edge_count-cons t [] v u)
 
 pub same_without : (k l m n o : ℕ) → k ≡ m + o → l ≡ n + o → k ≡ l → m ≡ n
 same_without k l m n o e f h = omega arith

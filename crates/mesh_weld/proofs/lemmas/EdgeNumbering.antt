@@ -21,7 +21,7 @@ triples-by_number f [] = refl
 triples-by_number f (t ∷ ts) = ap (λ l. (f t.a ∷ f t.b ∷ f t.c ∷ []) ∷ l) (triples-by_number f ts)
 
 -- a part of three holds three in turn
-threes-at : (xs : List ℕ) (n k s : ℕ) → length xs ≡ 3 * n → k < n → s < 3 → get_or (get_or (threes xs) k []) s 0 ≡ get_or xs (3 * k + s) 0
+pub threes-at : (xs : List ℕ) (n k s : ℕ) → length xs ≡ 3 * n → k < n → s < 3 → get_or (get_or (threes xs) k []) s 0 ≡ get_or xs (3 * k + s) 0
 threes-at [] n k s e l m = absurd (omega (arith, e, l))
 threes-at (a ∷ []) n k s e l m = absurd (omega (arith, e))
 threes-at (a ∷ b ∷ []) n k s e l m = absurd (omega (arith, e))
@@ -34,7 +34,7 @@ threes-at (a ∷ b ∷ c ∷ xs) (suc n) (suc k) s e l m =
     threes-at xs n k s (omega (arith, e)) (omega (arith, l)) m
     ∙ (let at : suc (suc (suc (3 * k + s))) ≡ 3 * suc k + s = omega arith in ap (λ i. get_or (a ∷ b ∷ c ∷ xs) i 0) at)
 
-threes-length : (xs : List ℕ) (n : ℕ) → length xs ≡ 3 * n → length (threes xs) ≡ n
+pub threes-length : (xs : List ℕ) (n : ℕ) → length xs ≡ 3 * n → length (threes xs) ≡ n
 threes-length [] n e = omega (arith, e)
 threes-length (a ∷ []) n e = absurd (omega (arith, e))
 threes-length (a ∷ b ∷ []) n e = absurd (omega (arith, e))

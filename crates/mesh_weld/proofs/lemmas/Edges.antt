@@ -24,7 +24,7 @@ same-is p q h =
       z = (Decides-int_eq p.z q.z).0 inner.1 i;
     }
 
--- where all elements of a list pass q, none passes p, or some element passes both
+-- if all elements of a list pass q, none passes p, or some element passes both
 none-or_some : {X : Type 0} (p q : X → Bool) (xs : List X) → list_all q xs ≡ true
     → (count_by p xs ≡ 0) ⊎ ((x : X) × (p x ≡ true) × (q x ≡ true))
 none-or_some p q [] h = inl refl

@@ -1,4 +1,4 @@
--- Facets by the numbers of their corners are the facets themselves, where the numbers lead to the corners.
+-- Facets by the numbers of their corners are the facets themselves, if the numbers lead to the corners.
 use Rattle.std.proofs.Common.{◌≡◌, ℕ, ◌<◌, ◌∷◌, [], true, List, length, get_or, map, refl, sym, ◌∙◌, subst, arith}
 use Rattle.std.specs.List.{All, flat_map}
 use Rattle.std.proofs.lemmas.List.{get_or_default}

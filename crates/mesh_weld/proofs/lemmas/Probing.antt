@@ -1,4 +1,4 @@
--- Rays of a closed mesh: those along x and y agree where no facet touches, and a step that passes no facet keeps them.
+-- Rays of a closed mesh: those along x and y agree if no facet touches, and a step that passes no facet keeps them.
 use Rattle.std.proofs.Common.{◌≡◌, ◌⊎◌, List, [], ◌∷◌, length, take, get_or, ◌<◌, ◌≤◌, ◌+◌, ◌^◌, ℕ, ℤ, unsigned_abs, w32, to_z, of_z, pos, ◌+ℤ◌, ◌-ℤ◌, ◌*ℤ◌, refl, sym, ◌∙◌, ap, subst, inl, inr, arith}
 use Rattle.std.specs.Prelude.{All, Some, slice_get}
 use Rattle.std.proofs.lemmas.Int.{ints, to_z-of_z, fits_signed_from_abs}

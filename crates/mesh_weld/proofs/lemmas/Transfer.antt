@@ -63,7 +63,7 @@ module _ (ps : List Point) (up : Ascends ps) where
       (λ k less. same-sym p (get_or ps k origin) ∙ before-not_same (get_or ps k origin) p (up k i origin less l))
       (λ _. same-self p)
 
-  -- a point has number i exactly where it equals the point at index i
+  -- a point has number i exactly if it equals the point at index i
   number_tells : (p : Point) (i : ℕ) → is_in p ps ≡ true → i < length ps → (number_of ps p == i) ≡ same p (get_or ps i origin)
   number_tells p i h l = by_test (cases_Bool (same p (get_or ps i origin)))
     where

@@ -88,7 +88,7 @@ weld_fault fs kept degenerate (fault.Open from to there back) k l h =
     open_of_all fs from to there back at_both.0 at_both.1 at_both.2
 weld_fault fs kept degenerate fault.Memory k l h = tt
 
--- where the edges balance, the one fault is a failed allocation
+-- if the edges balance, the only fault is a failed allocation
 only_memory : (fs : List Facet) (f : WeldFault) → IsWeldFault fs f → IsBalanced fs → f ≡ fault.Memory
 only_memory fs (fault.Open from to there back) h balanced = absurd (h.differ (h.there_is ∙ balanced from to ∙ sym h.back_is))
 only_memory fs fault.Memory h balanced = refl

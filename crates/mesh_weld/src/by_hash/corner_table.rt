@@ -1,5 +1,5 @@
-//! The corners of facets by a table of hashes. Each gets an id: its number by first appearance, which serves until the
-//! points stand in order.
+//! The corners of facets by a table of hashes. Each gets an id: its number by first appearance, which serves until the points
+//! are in order.
 ghost use Rattle.std.specs.Prelude.{◌≡◌, ◌↔◌, ◌≤◌, ◌<◌, ◌+◌, IfOk, IfSome, IsTrue, length, slice_index, slice_index_or, vec_len};
 ghost use Rattle.geometry.specs.Point.{origin};
 ghost use Rattle.mesh_weld.specs.Welder.{IsNamed, IsNamedFacet};
@@ -9,8 +9,8 @@ use crate::by_hash::histogram::NONE;
 use geometry::{Facet, Point};
 use std::alloc::{AllocError, Allocator};
 
-/// The number of slots of the table that are looked at for a point. A point for which none of them serves gets a new id
-/// each time it comes, and the table holds none of these ids.
+/// The number of slots of the table that are looked at for a point. A point for which none of them serves gets a new id each
+/// time it comes, and the table holds none of these ids.
 const CHAIN_LIMIT: usize = 64;
 
 /// The table has at least this many slots for each point, so that chains stay far below `CHAIN_LIMIT`.
@@ -20,7 +20,7 @@ const SLOTS_A_POINT: usize = 3;
 const LEAST_BITS: u32 = 10;
 
 /// The number of facets whose ids are guessed at once. The table is far larger than a cache, so each look into it waits for
-/// memory; the waits of one block overlap.
+/// memory. The waits of one block overlap.
 pub(crate) const BLOCK: usize = 32;
 
 /// Multiplies x and y in a hash: 2⁶⁴ divided by the golden ratio.
@@ -86,7 +86,7 @@ fn guess_of(ids: &[u32], point: Point, shift: u32) -> u32 {
     ids.get(hash(point, shift)).copied().unwrap_or(NONE)
 }
 
-/// Puts the ids of points into an empty table.
+/// Enters the ids of points into an empty table.
 fn enter_points(ids: &mut [u32], points: &[Point], shift: u32) {
     let mut id = 0u32;
     for point in points {
@@ -123,8 +123,8 @@ fn hash(point: Point, shift: u32) -> usize {
         .unbounded_shr(shift) as usize
 }
 
-/// The slot of a point's id among the `CHAIN_LIMIT` slots from `from` on, or else the first of them that holds no point's id:
-/// there the id belongs.
+/// The slot of a point's id among the `CHAIN_LIMIT` slots from `from` on. If there is none, the first of them that holds no
+/// point's id, since the id belongs there.
 fn slot_of(ids: &[u32], points: &[Point], point: Point, from: usize) -> Option<usize>
     ensures inside { IfSome result (λ slot. slot < length ids.now) }
     ensures named { IfSome result (λ slot. slice_index ids.now slot < length points.now → slice_index_or points.now (slice_index ids.now slot) origin ≡ point) }
@@ -178,7 +178,7 @@ fn id_of<A: Allocator + Copy>(
     Ok(new)
 }
 
-/// The ids of a facet's corners, of which guesses may be right.
+/// The ids of a facet's corners. Some of the guesses may be right.
 pub(crate) fn facet_ids<A: Allocator + Copy>(
     alloc: A,
     table: &mut CornerTable<A>,

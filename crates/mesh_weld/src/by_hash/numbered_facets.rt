@@ -1,6 +1,6 @@
-//! Facets by the ids of their corners, whose half-edges get the numbers of their edges while further facets come. In each
-//! list all corners are named first and all edges numbered then. Naming waits for memory, and numbering in between would
-//! hold it up.
+//! Facets by the ids of their corners, whose half-edges get the numbers of their edges while further facets come. In each list,
+//! all corners are named first, and all edges are numbered then. Naming waits for memory, and numbering in between would hold
+//! it up.
 ghost use Rattle.std.specs.Prelude.{◌≡◌, ◌≤◌, ◌++◌, [], ◌∷◌, ℕ, List, IfOk, IfSome, IsTrue, OnOk, length, take};
 ghost use Rattle.mesh_weld.specs.EdgeChains.{AreInHalfWords, AreNumbered};
 ghost use Rattle.mesh_weld.specs.HalfEdge.{half_edges_from, ArePairNumbers};
@@ -10,7 +10,7 @@ use crate::half_edge::EdgeNumbering;
 use std::alloc::{AllocError, Allocator};
 use std::marker::Model;
 
-/// Meshes with fewer kept facets are numbered by sorts, which are as fast there.
+/// Meshes with fewer kept facets are numbered by sorts, which are as fast for them.
 const LEAST_CHAINED: usize = 4096;
 
 /// The numbers of the edges of the first facets of a list, three a facet.
@@ -23,8 +23,8 @@ struct FirstNumbers<A: Allocator> {
 }
 
 impl<A: Allocator + Copy> FirstNumbers<A> {
-    /// Numbers the half-edges of the further facets, between `count` vertices. The answer is whether the chains gave all
-    /// their numbers.
+    /// Numbers the half-edges of the further facets, between `count` vertices. Returns whether the chains gave all their
+    /// numbers.
     fn number(&mut self, ids: &[[u32; 3]], count: usize) -> Result<bool, AllocError>
         requires few { self.old.facets ≤ length ids.now }
         requires first { AreNumbered (half_edges_from 0 (take self.old.facets ids.now)) self.old.chains.heads.items self.old.chains.edges.items self.old.numbers.items }
@@ -68,7 +68,7 @@ impl<A: Allocator + Copy> FirstNumbers<A> {
 pub(crate) struct NumberedFacets<A: Allocator> {
     alloc: A,
     ids: Vec<[u32; 3], A>,
-    /// `None` where the chains did not give all numbers.
+    /// `None` if the chains did not give all numbers.
     first: Option<FirstNumbers<A>>,
 }
 
@@ -107,7 +107,7 @@ impl<A: Allocator + Copy> NumberedFacets<A> {
         self.ids.len()
     }
 
-    /// Puts a facet after the others.
+    /// Appends a facet.
     pub(crate) fn push(&mut self, own: [u32; 3]) -> Result<(), AllocError>
         ensures { OnOk result (self.new ≡ self.old ++ own ∷ []) }
     {
@@ -115,8 +115,8 @@ impl<A: Allocator + Copy> NumberedFacets<A> {
         Ok(())
     }
 
-    /// Numbers the half-edges of facets that have no numbers yet, between `count` vertices. Where chains do not serve, all
-    /// numbers are dropped, and none are made any more.
+    /// Numbers the half-edges of facets that have no numbers yet, between `count` vertices. If chains do not serve, all numbers
+    /// are dropped, and no more are made.
     pub(crate) fn number(&mut self, count: usize) -> Result<(), AllocError>
         ensures { self.new ≡ self.old }
     {
@@ -134,14 +134,14 @@ impl<A: Allocator + Copy> NumberedFacets<A> {
         Ok(())
     }
 
-    /// Takes all facets away.
+    /// Removes all facets.
     pub(crate) fn clear(&mut self)
         ensures { self.new ≡ [] }
     {
         *self = NumberedFacets::new(self.alloc);
     }
 
-    /// The ids, and the numbers of the edges of all facets where there are these.
+    /// The ids, and the numbers of the edges if all facets have them.
     pub(crate) fn into_parts(self) -> (Vec<[u32; 3], A>, Option<EdgeNumbering<A>>)
         ensures ids { result.0.items ≡ self }
         ensures numbering { IfSome result.1 (λ own. ArePairNumbers (half_edges_from 0 self) own.numbers.items own.count) }

@@ -34,7 +34,7 @@ fn list_corners<A: Allocator + Copy>(
     Ok(list)
 }
 
-/// Puts a corner after the others, with the next slot.
+/// Appends a corner, with the next slot.
 fn push_corner<A: Allocator>(list: &mut Vec<CornerEntry, A>, point: Point) -> Result<(), AllocError>
     requires { vec_len list.old ≤ CORNER_LIMIT }
     ensures { OnOk result (list.new.items ≡ list.old.items ++ (record { point = point; slot = vec_len list.old }) ∷ []) }
@@ -80,7 +80,7 @@ fn number_sorted<A: Allocator + Copy>(
     Ok(CornerNumbers { points, numbers })
 }
 
-/// Puts a point after the others, unless it is the last of them.
+/// Appends a point, unless it is the last of them already.
 fn add_point<A: Allocator>(points: &mut Vec<Point, A>, point: Point) -> Result<(), AllocError>
     ensures { OnOk result (IsAdded points.old.items point points.new.items) }
 {

@@ -1,5 +1,5 @@
-//! Half-edges sorted by their two ends: those with the same ends stand side by side, so that going through them
-//! once finds the least open edge, and once more numbers the edges.
+//! Half-edges sorted by their two ends. Those with the same ends are side by side, so one pass finds the least open edge, and
+//! one more numbers the edges.
 ghost use Rattle.std.specs.Prelude.{◌≡◌, ◌≤◌, IfOk, OnOk, MatchOption, ◌++◌, ◌∷◌, [], length, vec_len};
 ghost use Rattle.std.specs.List.Sorted.{IsPermutation, IsNonDecreasingBy};
 ghost use Rattle.mesh_weld.specs.HalfEdge.{half_edges_from, pair_key, IsEven, IsLeastUneven, ArePairNumbers};
@@ -26,7 +26,7 @@ fn list_half_edges<A: Allocator + Copy>(
     Ok(list)
 }
 
-/// Puts a half-edge after the others, with the next slot.
+/// Appends a half-edge, with the next slot.
 fn push_half_edge<A: Allocator>(
     list: &mut Vec<HalfEdge, A>,
     from: u32,

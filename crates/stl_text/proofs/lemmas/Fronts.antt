@@ -90,7 +90,7 @@ word_apart front = apart (from_first is_white front) (from_starts is_white front
     apart [] h = h
     apart (x ∷ xs) h = h
 
--- where a text does not begin with a keyword, or the word goes on after it, the first word is another one
+-- if a text does not begin with a keyword, or the word goes on after it, the first word is another one
 pub no_keyword : (text front : List ℕ) → (is_keyword text (take (length text) front) ≡ true → IsApart (drop (length text) front) → ⊥)
     → is_keyword text (before_first is_white front) ≡ false
 no_keyword text front other = by_test (is_keyword text (before_first is_white front)) refl

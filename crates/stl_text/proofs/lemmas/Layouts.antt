@@ -1,4 +1,4 @@
--- A facet in a layout: separators and what stands between them.
+-- A facet in a layout: separators and what comes between them.
 use Rattle.std.proofs.Common.{◌≡◌, ℕ, ◌-◌, ◌<◌, ◌≤◌, Bool, true, false, List, [], ◌∷◌, ◌++◌, length, drop, refl, sym, ◌∙◌, ap, subst, arith, length-drop}
 use Rattle.std.specs.Prelude.{Option, Some, None, nat_lt, if◌then◌else◌}
 use Rattle.std.proofs.lemmas.List.{drop-append-le}

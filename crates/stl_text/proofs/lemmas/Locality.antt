@@ -1,4 +1,4 @@
--- What stands at the front of a text with something after it stands there too where the text goes on.
+-- What is at the front of a text with something after it is there too if the text goes on.
 use Rattle.std.proofs.Common.{◌≡◌, ℕ, ◌+◌, ◌-◌, ◌<◌, Bool, true, false, cond, not, List, [], ◌∷◌, ◌++◌, length, take, drop, refl, sym, ◌∙◌, ap, arith, length-drop}
 use Rattle.std.specs.Prelude.{Option, Some, None, nat_lt, if◌then◌else◌}
 use Rattle.std.specs.List.{list_all, before_first, position_or_len, prefix_len}
@@ -28,7 +28,7 @@ module _ (p : ℕ → Bool) (xs ys : List ℕ) where
   pub take-on : 0 < length (drop (prefix_len p xs) xs) → take (prefix_len p (xs ++ ys)) (xs ++ ys) ≡ take (prefix_len p xs) xs
   take-on some = ap (λ n. take n (xs ++ ys)) (stays some) ∙ take-append-le (prefix_len p xs) xs ys (prefix_len-le-length p xs)
 
-  -- where the whole front passes
+  -- if the whole front passes
   pub drop-over : drop (prefix_len p xs) xs ≡ [] → drop (prefix_len p (xs ++ ys)) (xs ++ ys) ≡ drop (prefix_len p ys) ys
   drop-over none =
       let left : length (drop (prefix_len p xs) xs) ≡ length xs - prefix_len p xs = length-drop (prefix_len p xs) xs in

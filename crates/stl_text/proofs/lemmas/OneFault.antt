@@ -1,4 +1,4 @@
--- A text has one fault at most, and none where it reads as facets.
+-- A text has at most one fault, and none if it reads as facets.
 use Rattle.std.proofs.Common.{◌≡◌, ◌≢◌, ℕ, ◌+◌, ◌<◌, ◌≤◌, Bool, true, false, cond, ◌&&◌, List, [], ◌∷◌, ◌++◌, length, refl, sym, ◌∙◌, ap, subst, inl, inr, arith, ◌⊎◌, append-nil, lit≤, length-append}
 use Rattle.std.specs.Prelude.{Option, Some, None, Ok, Err, Result, ℤ, if◌then◌else◌, flat_map, nat_lt}
 use Rattle.std.specs.Str.{bytes_eq, str_to_ascii_lowercase}
@@ -187,7 +187,7 @@ module _ (limit : ℕ) (unit : LengthUnit) (bytes : List ℕ) where
       then-some _ _ outside first.2 in
       (first.0, first.1, second.0, second.1)
 
-  -- no token follows where a fault is
+  -- no token follows at a fault
   no_more : (h : Halt limit unit bytes) → Refuses limit unit bytes h → (p : Token) (more : List Token) (end : State) (last : List ℕ)
       → list_all is_sound (h.wants.front ++ p ∷ more) ≡ true → facet_count (h.wants.front ++ p ∷ more) ≤ limit
       → run outside (h.wants.front ++ p ∷ more) ≡ Some end → rest_after unit (h.wants.front ++ p ∷ more) bytes ≡ Some last → ⊥

@@ -48,7 +48,7 @@ goes_on unit bytes front p more state end rest last ran spelled ran_on spelled_o
     tested true o e = refl
     tested false o e = cc
 
--- where only white space is left, there is no word
+-- if only white space is left, there is no word
 pub ended_word : (after : List ℕ) → after_space after ≡ [] → first_word after ≡ []
 ended_word after e = ap (before_first is_white) e
 

@@ -1,4 +1,4 @@
--- The stages of a reading: how a token leads from one to the next, and the fault where a word does not fit.
+-- The stages of a reading: how a token leads from one to the next, and the fault if a word does not fit.
 use Rattle.std.proofs.Common.{◌≡◌, ℕ, ◌+◌, ◌<◌, ◌≤◌, Bool, true, false, cond, List, [], ◌∷◌, ◌++◌, length, take, drop, refl, sym, ◌∙◌, ap, subst, arith, append_assoc, append-nil, length-append, lit≤}
 use Rattle.std.specs.Prelude.{Option, Some, Ok, Err, ℤ, nat_lt, flat_map}
 use Rattle.std.specs.Ordering.{int_eq}
@@ -16,7 +16,7 @@ use Rattle.stl_text.specs.declared.stage.Stage.TheVariants as stage
 use Rattle.stl_text.specs.declared.stage.TheConstants.{LAST_WORD}
 use Rattle.stl_text.specs.Text.{Token, keyword_of, keyword_text, rest_of_line, facet_word, end_word, facet_keyword, end_keyword, facet_tokens, solid_tokens, is_keyword, is_facet_word, is_read_as, begins_with, after_token, rest_after, first_word, after_space, after_word, after_line, facets_of, facet_count, IsFaultOf, Wants}
 use Rattle.stl_text.specs.Reader.{facet_tail}
-use Rattle.stl_text.specs.Stage.{Goes, IsForm, IsStop, Stands, ReadInside, front, open_solid}
+use Rattle.stl_text.specs.Stage.{Goes, IsForm, IsStop, Stands, ReadInside, front, open_solid, word_front}
 use Rattle.stl_text.specs.FacetRun.{next_solid}
 use Rattle.stl_text.proofs.lemmas.OneFault.{facet_count-solids}
 use Rattle.stl_text.proofs.lemmas.Either.{cut_facet, facet_count-open, no_word-space, end_tokens}
@@ -24,6 +24,7 @@ use Rattle.stl_text.proofs.lemmas.Solids.{facets-more, open-more, tokens-more}
 use Rattle.stl_text.proofs.lemmas.Steps.{spelled-append}
 use Rattle.stl_text.proofs.lemmas.Options.{some-is}
 use Rattle.stl_text.proofs.lemmas.OneReading.{ended_word}
+use Rattle.stl_text.proofs.lemmas.WordFronts.{same_number, same_some}
 
 abbrev zero_facet : Facet
 zero_facet = facet_with origin origin origin
@@ -223,7 +224,7 @@ form_few : (limit : ℕ) (some : Bool) (solids : List (List Facet)) (added : Lis
 form_few limit true solids added count h = (h.0, h.2)
 form_few limit false solids added count h = (h.0, h.2)
 
--- where `solid` is wanted
+-- if `solid` is wanted
 pub stuck_between : (limit : ℕ) (unit : LengthUnit) (some : Bool) (facets : List Facet) (text after : List ℕ) (f : StlFault)
     → Stands limit unit (stage.Between some) facets text after
     → ((before : ℕ) → IsStop limit unit text (keyword_of Solid) before after f)
@@ -241,7 +242,7 @@ facets_count : (limit : ℕ) (unit : LengthUnit) (facets : List Facet) (solids :
 facets_count limit unit facets solids added items =
     facet_count-open solids added ∙ sym (length-append (facets_of solids) added) ∙ ap length (sym items)
 
--- where `facet` or `endsolid` is wanted
+-- if `facet` or `endsolid` is wanted
 pub stuck_facets : (limit : ℕ) (unit : LengthUnit) (facets : List Facet) (text after : List ℕ) (f : StlFault)
     → Stands limit unit stage.Facets facets text after → IsStop limit unit text end_word (length facets) after f
     → (f ≡ fault.Ended Solid → after_space text ≡ []) → IsFaultOf limit unit text f
@@ -252,7 +253,7 @@ stuck_facets limit unit facets text after f s stop no_solid =
     (tokens-more s.solids s.added ∙ sym (append_assoc P (open_solid s.added) end_tokens)) s.spelled (omega (arith, count, s.form))
     (subst (λ n. IsStop limit unit text end_word n after f) (sym count) stop) no_solid
 
--- where one facet too many begins
+-- if one facet too many begins
 pub too_many : (limit : ℕ) (unit : LengthUnit) (facets : List Facet) (text after : List ℕ) (f : StlFault)
     → Stands limit unit stage.Facets facets text after → IsStop limit unit text facet_word (length facets) after f
     → (f ≡ fault.Ended Solid → after_space text ≡ []) → IsFaultOf limit unit text f
@@ -298,15 +299,13 @@ ended_first limit unit facets text after s e =
 
 -- Words.
 
-pub some_word : (bytes word : List ℕ) → first_word bytes ≡ word → 0 < length word → 0 < length (first_word bytes)
-some_word bytes word is some = subst (λ w. 0 < length w) (sym is) some
-
 -- a word of a normal
-pub reads_as : (bytes word : List ℕ) → first_word bytes ≡ word → 0 < length word → nat_lt 0 (length (first_word bytes)) ≡ true
-reads_as bytes word is some = lt-ltb 0 (length (first_word bytes)) (some_word bytes word is some)
+pub reads_as : (bytes word : List ℕ) → word_front (first_word bytes) ≡ word_front word → 0 < length word
+    → nat_lt 0 (length (first_word bytes)) ≡ true
+reads_as bytes word is some = lt-ltb 0 (length (first_word bytes)) (same_some (first_word bytes) word is some)
 
 -- a coordinate
-pub reads_number : (unit : LengthUnit) (bytes word : List ℕ) (z : ℤ) → first_word bytes ≡ word → coordinate_of unit word ≡ Ok z
+pub reads_number : (unit : LengthUnit) (bytes word : List ℕ) (z : ℤ) → word_front (first_word bytes) ≡ word_front word → coordinate_of unit word ≡ Ok z
     → is_read_as z (first_word bytes) unit ≡ true
 reads_number unit bytes word z is read =
-    ap (λ o. elim o [ Ok x ↦ int_eq x z | Err cause ↦ false ]) (ap (coordinate_of unit) is ∙ read) ∙ (Decides-int_eq z z).1 refl
+    ap (λ o. elim o [ Ok x ↦ int_eq x z | Err cause ↦ false ]) (same_number unit (first_word bytes) word is ∙ read) ∙ (Decides-int_eq z z).1 refl

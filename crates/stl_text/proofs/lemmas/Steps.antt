@@ -1,5 +1,5 @@
 -- Reading tokens one after another: a whole reading, or its fault, from those of the parts.
-use Rattle.std.proofs.Common.{◌≡◌, ◌≢◌, ℕ, Bool, true, false, List, [], ◌∷◌, ◌++◌, length, refl, ◌∙◌, ap, subst, arith}
+use Rattle.std.proofs.Common.{◌≡◌, ◌≢◌, ℕ, Bool, true, false, ◌<◌, List, [], ◌∷◌, ◌++◌, length, refl, ◌∙◌, ap, subst, arith}
 use Rattle.std.specs.Prelude.{FitsSigned, Option, Some, None, Ok, Err, Result, ℤ, nat_lt, ◌==◌, if◌then◌else◌}
 use Rattle.micro_num.specs.declared.unit.Unit.{Unit as LengthUnit}
 use Rattle.micro_num.specs.declared.num_fault.NumFault.{NumFault}
@@ -10,6 +10,7 @@ use Rattle.exact_int.proofs.lemmas.Sizes.{back_of}
 use Rattle.micro_num.specs.Numeral.{Numeral, numeral_of}
 use Rattle.micro_num.specs.Micrometres.{coordinate_of, numeral_coordinate, is_coordinate, micro}
 use Rattle.stl_text.specs.declared.word.Word.{Word}
+use Rattle.stl_text.specs.declared.word.TheConstants.{WORD_FRONT}
 use Rattle.stl_text.specs.declared.word.Word.TheVariants.{Solid, FacetOrEnd, Normal, Outer, Loop, Vertex, Number, EndLoop, EndFacet}
 use Rattle.stl_text.specs.Text.{Token, coordinate, is_keyword, is_wanted, keyword_text, HasOneKeyword, rest_after}
 use Rattle.stl_text.specs.Reader.{Reader, Spells}
@@ -43,21 +44,22 @@ point_spelled x y z at_x at_y at_z x_fits y_fits z_fits is =
     (simp to_z-of_z
     (spells_then (coordinate x ∷ coordinate y ∷ []) (coordinate z ∷ []) (spells_then (coordinate x ∷ []) (coordinate y ∷ []) at_x at_y) at_z))
 
--- only one keyword fits this kind of word
+-- only one keyword fits this kind of word, and it is short
 pub record NamesKeyword (kind : Word) : Type 0 where
   pub no_number : kind ≢ Number
+  pub short : length (keyword_text kind) < WORD_FRONT
   pub only : (word : List ℕ) → is_wanted kind word ≡ is_keyword (keyword_text kind) word
 
 pub names_keyword : (kind : Word) → HasOneKeyword kind → NamesKeyword kind
-names_keyword Solid one = record { no_number = λ h. cc; only = λ word. refl }
+names_keyword Solid one = record { no_number = λ h. cc; short = omega arith; only = λ word. refl }
 names_keyword FacetOrEnd one = absurd (omega (arith, one))
-names_keyword Normal one = record { no_number = λ h. cc; only = λ word. refl }
-names_keyword Outer one = record { no_number = λ h. cc; only = λ word. refl }
-names_keyword Loop one = record { no_number = λ h. cc; only = λ word. refl }
-names_keyword Vertex one = record { no_number = λ h. cc; only = λ word. refl }
+names_keyword Normal one = record { no_number = λ h. cc; short = omega arith; only = λ word. refl }
+names_keyword Outer one = record { no_number = λ h. cc; short = omega arith; only = λ word. refl }
+names_keyword Loop one = record { no_number = λ h. cc; short = omega arith; only = λ word. refl }
+names_keyword Vertex one = record { no_number = λ h. cc; short = omega arith; only = λ word. refl }
 names_keyword Number one = absurd (omega (arith, one))
-names_keyword EndLoop one = record { no_number = λ h. cc; only = λ word. refl }
-names_keyword EndFacet one = record { no_number = λ h. cc; only = λ word. refl }
+names_keyword EndLoop one = record { no_number = λ h. cc; short = omega arith; only = λ word. refl }
+names_keyword EndFacet one = record { no_number = λ h. cc; short = omega arith; only = λ word. refl }
 
 -- a coordinate is in range
 coordinate-within : (unit : LengthUnit) (word : List ℕ) (z : ℤ) → coordinate_of unit word ≡ Ok z → IsAtMost COORDINATE_LIMIT z

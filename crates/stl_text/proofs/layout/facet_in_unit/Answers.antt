@@ -21,7 +21,7 @@ returns-clause-read c =
 pub returns-clause-shorter : goal.returns-clause-shorter
 returns-clause-shorter c = facet-some c.of.result c.args.unit c.args.bytes.now c.reader.inside.rest.now (returns-clause-read c)
 
--- Where a part is missing, there is no facet, of which a clause would say something.
+-- If a part is missing, there is no facet, so no clause says anything.
 
 pub returns-in_err-skip : goal.returns-in_err-skip
 returns-in_err-skip c = rw c.from_residual.ensures (record { read = tt; some = tt; shorter = tt })

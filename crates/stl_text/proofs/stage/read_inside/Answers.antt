@@ -5,18 +5,20 @@ use Rattle.micro_num.specs.Micrometres.{coordinate_of}
 use Rattle.stl_text.specs.Text.{coordinate, first_word, is_keyword, is_wanted, keyword_of, keyword_text, normal_word}
 use Rattle.stl_text.specs.Stage.{with_number}
 use Rattle.stl_text.proofs.lemmas.Steps.{NamesKeyword, coordinate-within-bits, names_keyword}
-use Rattle.stl_text.proofs.lemmas.Stages.{some_word, reads_as, reads_number}
+use Rattle.stl_text.proofs.lemmas.Stages.{reads_as, reads_number}
+use Rattle.stl_text.proofs.lemmas.WordFronts.{same_keyword, same_number, same_some}
 use Rattle.stl_text.proofs.stage.read_inside.Goals as goal
 
 pub returns-then-is_keyword-clause-read : goal.returns-then-is_keyword-clause-read
 returns-then-is_keyword-clause-read c = λ few after word_is some.
     let kind = c.in-Keyword.kind in
     let word = c.args.word.now in
+    let names : NamesKeyword kind = names_keyword kind c.in-Keyword.ensures.plain in
     let text : c.as_bytes.result.now ≡ keyword_text kind = c.as_bytes.ensures.value ∙ c.text.ensures c.in-Keyword.ensures.plain in
     record {
       token = keyword_of kind;
       goes = (c.in-Keyword.ensures.wanted few).1 c.args.facet;
-      begins = ap (is_keyword (keyword_text kind)) word_is ∙ ap (λ t. is_keyword t word) (sym text) ∙ sym c.is_keyword.ensures ∙ c.if-is_keyword.true;
+      begins = same_keyword (keyword_text kind) (first_word after) word names.short word_is ∙ ap (λ t. is_keyword t word) (sym text) ∙ sym c.is_keyword.ensures ∙ c.if-is_keyword.true;
       one_word = refl;
     }
 
@@ -27,7 +29,7 @@ returns-else-is_keyword-clause-fault c = λ few after word_is some.
     let names : NamesKeyword kind = names_keyword kind c.in-Keyword.ensures.plain in
     let text : c.as_bytes.result.now ≡ keyword_text kind = c.as_bytes.ensures.value ∙ c.text.ensures c.in-Keyword.ensures.plain in
     let other : is_wanted kind (first_word after) ≡ false =
-    names.only (first_word after) ∙ ap (is_keyword (keyword_text kind)) word_is ∙ ap (λ t. is_keyword t word) (sym text) ∙ sym c.is_keyword.ensures
+    names.only (first_word after) ∙ same_keyword (keyword_text kind) (first_word after) word names.short word_is ∙ ap (λ t. is_keyword t word) (sym text) ∙ sym c.is_keyword.ensures
     ∙ c.if-is_keyword.false in
     record {
       token = keyword_of kind;
@@ -36,7 +38,7 @@ returns-else-is_keyword-clause-fault c = λ few after word_is some.
       stop = λ room before text offset. (
         refl,
         names.no_number,
-        some_word after c.args.word.now word_is some,
+        same_some (first_word after) word word_is some,
         other,
         offset,
       );
@@ -65,14 +67,14 @@ returns-in-Ok-clause-read c = λ few after word_is some.
 pub returns-in-Err-clause-fault : goal.returns-in-Err-clause-fault
 returns-in-Err-clause-fault c = λ few after word_is some.
     let refused : coordinate_of c.args.unit (first_word after) ≡ Err c.in-Err.cause =
-    ap (coordinate_of c.args.unit) word_is ∙ sym c.read_micro.ensures.exact ∙ c.in-Err.is in
+    same_number c.args.unit (first_word after) c.args.word.now word_is ∙ sym c.read_micro.ensures.exact ∙ c.in-Err.is in
     record {
       token = coordinate (pos 0);
       u = with_number c.in-Number.corner c.in-Number.axis (pos 0) c.args.facet;
       goes = c.in-Number.ensures.wanted few c.args.facet (pos 0);
       stop = λ room before text offset. (
         (pos 0, refl),
-        some_word after c.args.word.now word_is some,
+        same_some (first_word after) c.args.word.now word_is some,
         refused,
         offset,
       );

@@ -11,7 +11,7 @@ points_decided g c =
     let d : Decides c.eq.result (c.as_slice.result.now ≡ c.as_slice-2.result.now) = slice_eq-Decides points_decide _ _ c.eq.result c.eq.ensures in
     (λ t. sym c.as_slice.ensures.value ∙ d.0 t ∙ c.as_slice-2.ensures.value, λ e. d.1 (c.as_slice.ensures.value ∙ e ∙ sym c.as_slice-2.ensures.value))
 
--- what is stored, where the facets are equal
+-- what is stored, if the facets are equal
 stored : (g : Over) (c : After-eq g) → c.args.self.now.facets ≡ c.args.other.now.facets
     → facets_by c.self.inside.numbering.points.items c.self.inside.numbering.numbers.items ≡ facets_by c.other.inside.numbering.points.items c.other.inside.numbering.numbers.items
 stored g c e = ap (λ (s : Solid). s.facets) c.self.view_is ∙ e ∙ sym (ap (λ (s : Solid). s.facets) c.other.view_is)

@@ -12,8 +12,8 @@ returns-in-Err-clause-read g c = λ limit unit taken text is no more. absurd (no
 pub returns-clause-read : goal.returns-clause-read
 returns-clause-read g c = λ limit unit taken text is.
     let i = c.self.inside in
-    let p : TextReader = record { limit = length taken + i.limit; unit = i.unit; count = i.count; state = i.state; held = i.held.items; facets = taken ++ i.facets.items } in
-    let q : TextReader = record { limit = length taken + i.limit; unit = i.unit; count = i.count; state = i.state; held = i.held.items; facets = taken ++ c.add.new.facets.items } in
+    let p : TextReader = record { limit = length taken + i.limit; unit = i.unit; count = i.count; state = i.state; held = i.held.items; held_at = i.held_at; facets = taken ++ i.facets.items } in
+    let q : TextReader = record { limit = length taken + i.limit; unit = i.unit; count = i.count; state = i.state; held = i.held.items; held_at = i.held_at; facets = taken ++ c.add.new.facets.items } in
     let ahead = c.args.ahead.now in
     let rest = c.in-Some.found.1.now in
     let at_state : i.state ≡ at_word in_facets = ap (λ r. r.state) c.self.view_is ∙ c.requires.state in
@@ -25,4 +25,4 @@ returns-clause-read g c = λ limit unit taken text is.
     subst (λ pl. IsReadingAt limit unit q pl text rest) (sym at_state)
     (facet_passed limit unit p q c.in-Some.found.0 text ahead rest w free
     (subst (λ u. rest_after u (facet_tokens c.in-Some.found.0) ahead ≡ Some rest) w.unit_is c.in-Some.ensures.read) c.in-Some.ensures.some
-    c.in-Some.ensures.shorter room refl refl refl refl (ap (λ fs. taken ++ fs) c.in_default-add.ensures.added ∙ sym (append_assoc taken i.facets.items (c.in-Some.found.0 ∷ []))))
+    room refl refl refl refl (ap (λ fs. taken ++ fs) c.in_default-add.ensures.added ∙ sym (append_assoc taken i.facets.items (c.in-Some.found.0 ∷ []))))

@@ -19,7 +19,7 @@ same_unit Inch Inch e = refl
 pub returns : goal.returns
 returns g c = λ limit unit taken fed is.
     let i = c.self.inside in
-    let p : TextReader = record { limit = length taken + i.limit; unit = i.unit; count = i.count; state = i.state; held = i.held.items; facets = taken ++ i.facets.items } in
+    let p : TextReader = record { limit = length taken + i.limit; unit = i.unit; count = i.count; state = i.state; held = i.held.items; held_at = i.held_at; facets = taken ++ i.facets.items } in
     let here : IsReadingAt limit unit p i.state fed [] = subst (λ r. IsAfter limit unit taken r fed) (sym c.self.view_is) is in
     let known : i.unit ≡ unit =
     elim c.match-matches.branch [

@@ -11,8 +11,8 @@ returns-in-Err-clause-read g c = λ limit unit taken fed chunk run is no more. a
 pub returns-clause-read : goal.returns-clause-read
 returns-clause-read g c = λ limit unit taken fed chunk run is.
     let i = c.self.inside in
-    let p : TextReader = record { limit = length taken + i.limit; unit = i.unit; count = i.count; state = i.state; held = i.held.items; facets = taken ++ i.facets.items } in
-    let q : TextReader = record { limit = length taken + i.limit; unit = i.unit; count = i.count; state = i.state; held = i.held.items; facets = taken ++ c.add_all.new.facets.items } in
+    let p : TextReader = record { limit = length taken + i.limit; unit = i.unit; count = i.count; state = i.state; held = i.held.items; held_at = i.held_at; facets = taken ++ i.facets.items } in
+    let q : TextReader = record { limit = length taken + i.limit; unit = i.unit; count = i.count; state = i.state; held = i.held.items; held_at = i.held_at; facets = taken ++ c.add_all.new.facets.items } in
     let text = fed ++ chunk in
     let ahead = c.args.ahead.now in
     let facets = c.args.run.now.facets in

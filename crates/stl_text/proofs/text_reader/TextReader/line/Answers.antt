@@ -17,8 +17,8 @@ returns-then-is_empty-clause-read g c = λ limit unit taken text is.
 pub returns-clause-read : goal.returns-clause-read
 returns-clause-read g c = λ limit unit taken text is.
     let i = c.self.inside in
-    let p : TextReader = record { limit = length taken + i.limit; unit = i.unit; count = i.count; state = i.state; held = i.held.items; facets = taken ++ i.facets.items } in
-    let q : TextReader = record { limit = length taken + i.limit; unit = i.unit; count = i.count; state = at_word c.args.stage; held = i.held.items; facets = taken ++ i.facets.items } in
+    let p : TextReader = record { limit = length taken + i.limit; unit = i.unit; count = i.count; state = i.state; held = i.held.items; held_at = i.held_at; facets = taken ++ i.facets.items } in
+    let q : TextReader = record { limit = length taken + i.limit; unit = i.unit; count = i.count; state = at_word c.args.stage; held = i.held.items; held_at = i.held_at; facets = taken ++ i.facets.items } in
     let ahead = c.args.ahead.now in
     let rest = c.skip_line-rest.result.now in
     let at_state : i.state ≡ at_line c.args.stage = ap (λ r. r.state) c.self.view_is ∙ c.requires.state in
@@ -27,5 +27,5 @@ returns-clause-read g c = λ limit unit taken text is.
     let some : 0 < length rest = omega (arith, eqb-false (length rest) 0 (sym c.is_empty.ensures ∙ c.if-is_empty.false)) in
     let w : Waits limit unit q c.args.stage false text rest =
     line_ended limit unit p q c.args.stage text ahead rest (subst (λ pl. IsReadingAt limit unit p pl text ahead) at_state here)
-    refl refl refl refl refl c.skip_line-rest.ensures.line some c.skip_line-rest.ensures.within in
+    refl refl refl refl refl c.skip_line-rest.ensures.line some in
     break_passed limit unit q c.args.stage text ahead rest c.split_at.result.1.now w free c.skip_line-rest.ensures.line some c.split_at.ensures.back

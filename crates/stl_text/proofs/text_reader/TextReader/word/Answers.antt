@@ -4,7 +4,7 @@ use Rattle.std.specs.List.{prefix_len}
 use Rattle.stl_text.specs.Text.{is_white}
 use Rattle.stl_text.specs.TextReader.{IsReading, IsReadingAt, TextReader, Waits, whole, at_word}
 use Rattle.stl_text.proofs.lemmas.Steps.{empty-list}
-use Rattle.stl_text.proofs.lemmas.TextReaders.{front_held, front_le, front_word, moved_by, space_passed, word_some}
+use Rattle.stl_text.proofs.lemmas.TextReaders.{front_held, front_le, front_word, moved_by, space_passed, first_some}
 use Rattle.stl_text.proofs.lemmas.FacetRuns.{drop_rest, rest_then}
 use Rattle.stl_text.proofs.text_reader.TextReader.word.Goals as goal
 
@@ -21,8 +21,8 @@ returns-then-is_empty-clause-read g c = λ limit unit taken text is.
 pub returns-in_default-clause-read : goal.returns-in_default-clause-read
 returns-in_default-clause-read g c = λ limit unit taken text is.
     let i = c.self.inside in
-    let p : TextReader = record { limit = length taken + i.limit; unit = i.unit; count = i.count; state = i.state; held = i.held.items; facets = taken ++ i.facets.items } in
-    let q : TextReader = record { limit = length taken + i.limit; unit = i.unit; count = i.count; state = i.state; held = c.hold.new.held.items; facets = taken ++ i.facets.items } in
+    let p : TextReader = record { limit = length taken + i.limit; unit = i.unit; count = i.count; state = i.state; held = i.held.items; held_at = i.held_at; facets = taken ++ i.facets.items } in
+    let q : TextReader = record { limit = length taken + i.limit; unit = i.unit; count = i.count; state = i.state; held = c.hold.new.held.items; held_at = c.saturating_sub-at.result; facets = taken ++ i.facets.items } in
     let ahead = c.args.ahead.now in
     let front = c.skip_space-front.result.now in
     let rest = c.split_at.result.1.now in
@@ -34,18 +34,19 @@ returns-in_default-clause-read g c = λ limit unit taken text is.
     subst (λ pl. IsReadingAt limit unit q pl text rest) (sym at_state)
     (front_held limit unit p q c.args.stage text ahead front c.split_at.result.0.now rest c.word_len.result w free c.skip_space-front.ensures some
     c.word_len.ensures.len c.split_at.ensures.front c.split_at.ensures.back (empty-list rest (sym c.is_empty-2.ensures ∙ c.if-is_empty-2.true))
-    refl refl refl refl c.in_default.ensures.held)
+    refl refl refl refl (c.in_default.ensures.held [] free) c.saturating_sub-at.ensures)
 
 pub returns-clause-read : goal.returns-clause-read
 returns-clause-read g c = λ limit unit taken text is.
     let i = c.self.inside in
-    let p : TextReader = record { limit = length taken + i.limit; unit = i.unit; count = i.count; state = i.state; held = i.held.items; facets = taken ++ i.facets.items } in
+    let p : TextReader = record { limit = length taken + i.limit; unit = i.unit; count = i.count; state = i.state; held = i.held.items; held_at = i.held_at; facets = taken ++ i.facets.items } in
     let q : TextReader = record {
       limit = length taken + i.limit;
       unit = i.unit;
       count = i.count;
       state = c.read_word-self-inside.result;
       held = i.held.items;
+      held_at = i.held_at;
       facets = taken ++ c.read_word-self-inside.new.facets.items;
     } in
     let ahead = c.args.ahead.now in
@@ -71,5 +72,5 @@ returns-clause-shorter g c =
     let front = c.skip_space-front.result.now in
     let some : 0 < length front = omega (arith, eqb-false (length front) 0 (sym c.is_empty.ensures ∙ c.if-is_empty.false)) in
     let word : 0 < length c.split_at.result.0.now =
-    word_some c.args.ahead.now front c.split_at.result.0.now c.word_len.result c.skip_space-front.ensures some c.word_len.ensures.len c.split_at.ensures.front in
+    first_some c.args.ahead.now front c.split_at.result.0.now c.word_len.result c.skip_space-front.ensures some c.word_len.ensures.len c.split_at.ensures.front in
     omega (arith, word, front_le c.args.ahead.now front c.skip_space-front.ensures, c.split_at.ensures.front_len, c.split_at.ensures.back_len, c.word_len.ensures.within)

@@ -1,0 +1,18 @@
+use Rattle.std.proofs.Common.{◌∙◌, ◌++◌, ◌∷◌, [], List, ℤ, sym, arith}
+use Rattle.std.specs.Prelude.{All}
+use Rattle.std.proofs.lemmas.List.{map_more}
+use Rattle.std.proofs.lemmas.List.Elements.{All-more}
+use Rattle.mesh_arrays.specs.Arrays.{IsCorner, facet_of}
+use Rattle.mesh_arrays.proofs.reading.read_arrays.Goals as goal
+
+pub loop-triangle-preserved : goal.loop-triangle-preserved
+loop-triangle-preserved g c =
+    let points : List (List ℤ) = c.args.points.now in
+    record {
+      few = omega (arith, c.if-triangle.false);
+      corners = All-more (All (IsCorner points)) c.args.triangles.now c.loop-triangle.triangle [] c.loop-triangle-test.true c.loop-triangle.invariant.corners
+          c.in_ok-facet.ensures.corners;
+      each = c.in_ok-push.ensures.items
+          ∙ (λ i. c.loop-triangle.invariant.each i ++ c.in_ok-facet.ensures.facet i ∷ [])
+          ∙ sym (map_more (facet_of points) c.args.triangles.now c.loop-triangle.triangle [] c.loop-triangle-test.true);
+    }
