@@ -1,0 +1,15 @@
+pub mod Adler
+pub mod Crc
+pub mod Bits
+pub mod Packing
+pub mod Joining
+pub mod Writer
+pub mod Codes
+pub mod Sizes
+pub mod Words
+pub mod Steps
+pub mod Text
+pub mod Room
+pub mod Reads
+pub mod Zlib
+pub mod Most

@@ -1,0 +1,10 @@
+pub mod Bits
+pub mod Reading
+pub mod Huffman
+pub mod Inflate
+pub mod Adler
+pub mod Zlib
+pub mod Crc
+pub mod Writing
+pub mod Runs
+pub mod Writer
