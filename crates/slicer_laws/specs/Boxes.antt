@@ -53,7 +53,7 @@ BoxRays = (low high c : Point) → IsBox low high → ray (box low high) c ≡ (
 abbrev pub BoxRaysAlongY : Type 0
 BoxRaysAlongY = (low high c : Point) → IsBox low high → ray_y (box low high) c ≡ (if holds low high c then pos 1 else pos 0)
 
--- by each rule a voxel of any grid is filled exactly where the box holds its centre
+-- by each rule a voxel of any grid is filled exactly if the box holds its centre
 abbrev pub BoxesAreFilled : Type 0
 BoxesAreFilled = (low high : Point) → IsBox low high → (g : Grid) (rule : Rule) (i j k : ℕ)
     → is_filled rule (box low high) (centre g i j k) ≡ holds low high (centre g i j k)

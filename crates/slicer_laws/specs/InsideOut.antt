@@ -15,7 +15,7 @@ turned t = facet_with t.a t.c t.b
 abbrev pub inside_out : List Facet → List Facet
 inside_out facets = map turned facets
 
--- where a ray of the mesh leaves, the same ray of the turned mesh enters
+-- if a ray of the mesh leaves, the same ray of the turned mesh enters
 abbrev pub RaysAreNegated : Type 0
 RaysAreNegated = (facets : List Facet) (c : Point) → ray (inside_out facets) c ≡ neg_ℤ (ray facets c)
 

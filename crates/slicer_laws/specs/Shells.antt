@@ -14,7 +14,7 @@ RaysAdd = (a b : List Facet) (c : Point) → ray (a ++ b) c ≡ ray a c +ℤ ray
 abbrev pub RaysAlongYAdd : Type 0
 RaysAlongYAdd = (a b : List Facet) (c : Point) → ray_y (a ++ b) c ≡ ray_y a c +ℤ ray_y b c
 
--- where a voxel is not filled by both meshes, both together fill it exactly where one of them does
+-- if a voxel is not filled by both meshes, both together fill it exactly if one of them does
 abbrev pub VoxelsJoin : Rule → Type 0
 VoxelsJoin rule = (a b : List Facet) (c : Point) → (is_filled rule a c && is_filled rule b c) ≡ false
     → is_filled rule (a ++ b) c ≡ (is_filled rule a c || is_filled rule b c)
@@ -34,7 +34,7 @@ AreApart g rule k a b = (i j : ℕ) → i < g.columns → j < g.rows
 abbrev pub HasNoNegativeRay : Grid → ℕ → List Facet → Type 0
 HasNoNegativeRay g k facets = (i j : ℕ) → i < g.columns → j < g.rows → pos 0 ≤ℤ ray facets (centre g i j k)
 
--- where no voxel is filled by both, the area of both together is the sum of their areas
+-- if no voxel is filled by both, the area of both together is the sum of their areas
 abbrev pub AreasAdd : Rule → Type 0
 AreasAdd rule = (g : Grid) (k : ℕ) (a b : List Facet) → AreApart g rule k a b
     → area_of g rule (a ++ b) k ≡ area_of g rule a k + area_of g rule b k

@@ -44,9 +44,9 @@ pub fn moved_together()
     ensures areas { AreasMoveAlong }
 {}
 
-/// A ray of two meshes together is the sum of their rays. A voxel that is not filled by both meshes is filled by both
-/// together exactly where one of them fills it; where that holds for all voxels of a layer, the areas add. By
-/// `positive` neither mesh may have a negative ray there.
+/// A ray of two meshes together is the sum of their rays. Take a voxel that is not filled by both meshes. Both together fill it
+/// exactly if one of them does. If no voxel of a layer is filled by both, the areas add. By `positive` neither mesh may have
+/// a negative ray there.
 pub fn shells_add()
     ensures rays { RaysAdd }
     ensures rays_along_y { RaysAlongYAdd }

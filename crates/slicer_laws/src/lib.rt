@@ -10,8 +10,8 @@
 //! - [`box_is_half_open`]: a box holds its near faces and not its far ones, so two boxes side by side share no voxel and
 //!   leave none out between them.
 //!
-//! For example, by `slabs_join` the images of layers 0 to 9, sliced alone, and after them those of a grid that begins ten
-//! layer heights higher, are the images of the whole.
+//! For example, slice layers 0 to 9 alone, and then a grid that begins ten layer heights higher. By `slabs_join` their images,
+//! one after the other, are the images of the whole.
 //!
 //! Meshes and origins are in micrometres, centres of voxels in half-micrometres.
 #![tactic(auto)]

@@ -3,6 +3,8 @@ pub mod Ends
 pub mod Faults
 pub mod OneAnswer
 pub mod Pages
+pub mod Pngs
+pub mod Slicing
 pub mod Stream
 pub mod Unwritten
 pub mod WrittenPixels

@@ -6,3 +6,4 @@ pub mod Loading
 pub mod Run
 pub mod WrittenPixels
 pub mod Pages
+pub mod Pngs

@@ -1,4 +1,4 @@
--- Why a text at hand is no closed mesh.
+-- Why a text in memory is no closed mesh.
 use Rattle.std.specs.Prelude.{ℕ, List}
 use Rattle.geometry.specs.Facet.{Facet}
 use Rattle.geometry.specs.declared.limits.TheConstants.{FACET_LIMIT}

@@ -17,6 +17,8 @@ use Rattle.raster.specs.declared.placing.Placing.{Placing}
 use Rattle.raster.specs.declared.placing.Placing.TheVariants as placing
 use Rattle.raster.specs.declared.rule.Rule.{Rule}
 use Rattle.stlslice.specs.SlicedText.{output_of, sliced_text}
+use Rattle.stlslice.specs.declared.write.Output.{Output}
+use Rattle.stlslice.specs.declared.write.Output.TheVariants as output
 use Rattle.task_words.specs.declared.task.Given.{Given}
 use Rattle.task_words.specs.declared.task.Task.{Task}
 use Rattle.task_words.specs.declared.task.Task.TheVariants as task
@@ -41,11 +43,13 @@ box_text facets = line_text (length facets) (extent facets)
 abbrev pub unit_of : Task → LengthUnit
 unit_of (task.Box unit) = unit
 unit_of (task.Slice unit pitch layer rule workers report grid) = unit
+unit_of (task.Png unit pitch layer rule workers grid depth mirrors) = unit
 unit_of (task.Probe unit pitch layer grid i j k) = unit
 
 abbrev pub is_box : Task → Bool
 is_box (task.Box unit) = true
 is_box (task.Slice unit pitch layer rule workers report grid) = false
+is_box (task.Png unit pitch layer rule workers grid depth mirrors) = false
 is_box (task.Probe unit pitch layer grid i j k) = false
 
 -- the two rays at a voxel
@@ -55,7 +59,7 @@ probe_text g facets i j k =
     ++ (codes " x " ++ (signed_decimal (ray facets (centre g i j k))
     ++ (codes " y " ++ (signed_decimal (ray_y facets (centre g i j k)) ++ codes "\n")))))))))
 
--- where the grid lies by the words
+-- the place of the grid by the words
 abbrev pub placing_of : Option Given → Placing
 placing_of None = placing.Fitted
 placing_of (Some given) = placing.Given given.columns given.rows given.layers given.origin
@@ -74,24 +78,31 @@ with_grid f (Err cause) = Err (fault.Grid cause)
 abbrev pub probed_text : ℕ → ℕ → ℕ → List Facet → Grid → Result (List ℕ) RunFault
 probed_text i j k facets g = if is_voxel g i j k then Ok (probe_text g facets i j k) else Err (outside g)
 
--- what a probe answers for the kept facets of a closed mesh
+-- the result of a probe for the kept facets of a closed mesh
 abbrev pub probed : Option Given → ℕ → ℕ → ℕ → ℕ → ℕ → List Facet → Result (List ℕ) RunFault
 probed grid pitch layer i j k facets = with_grid (probed_text i j k facets) (grid_for grid pitch layer facets)
 
--- what slicing answers for the kept facets of a closed mesh: the images of all layers, or the report
-abbrev pub sliced : Option Given → ℕ → ℕ → Rule → Bool → List Facet → Result (List ℕ) RunFault
-sliced grid pitch layer rule report facets =
-    with_grid (λ g. Ok (sliced_text (output_of report) g rule facets)) (grid_for grid pitch layer facets)
+-- the task of slicing that has this output
+abbrev pub slicing : LengthUnit → ℕ → ℕ → Rule → ℕ → Option Given → Output → Task
+slicing unit pitch layer rule workers grid output.Images = task.Slice unit pitch layer rule workers false grid
+slicing unit pitch layer rule workers grid output.Report = task.Slice unit pitch layer rule workers true grid
+slicing unit pitch layer rule workers grid (output.Pngs depth mirrors) = task.Png unit pitch layer rule workers grid depth mirrors
 
--- what comes of the kept facets of a closed mesh
+-- the result of slicing for the kept facets of a closed mesh: an output of all layers
+abbrev pub sliced : Option Given → ℕ → ℕ → Rule → Output → List Facet → Result (List ℕ) RunFault
+sliced grid pitch layer rule out facets = with_grid (λ g. Ok (sliced_text out g rule facets)) (grid_for grid pitch layer facets)
+
+-- the outcome of a task for the kept facets of a closed mesh
 abbrev pub IsMade : Task → Solid → Result (List ℕ) RunFault → Type 0
 IsMade (task.Box unit) solid answer = ⊥
 IsMade (task.Slice unit pitch layer rule workers report grid) solid answer =
-    answer ≡ sliced grid pitch layer rule report solid.facets
+    answer ≡ sliced grid pitch layer rule (output_of report) solid.facets
+IsMade (task.Png unit pitch layer rule workers grid depth mirrors) solid answer =
+    answer ≡ sliced grid pitch layer rule (output.Pngs depth mirrors) solid.facets
 IsMade (task.Probe unit pitch layer grid i j k) solid answer = answer ≡ probed grid pitch layer i j k solid.facets
 
--- The program's answer to a task and an input, by the order of its checks: the text has to read as facets, and for a
--- box that is all; else the mesh has to be closed, and then the grid and the voxel decide.
+-- The program's outcome for a task and an input, by the order of its checks. The text has to read as facets, and for a box that
+-- is all. Else the mesh has to be closed, and then the grid and the voxel decide.
 pub data IsOutcome (t : Task) (bytes : List ℕ) (answer : Result (List ℕ) RunFault) : Type 0 where
   misread : (cause : StlFault) → IsFaultOf FACET_LIMIT (unit_of t) bytes cause → answer ≡ Err (fault.Stl cause)
       → IsOutcome t bytes answer

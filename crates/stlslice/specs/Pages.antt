@@ -22,7 +22,7 @@ pages_text pages = flat_map (λ page. page.bytes) pages
 unfoldable pub image_size : Grid → ℕ
 image_size g = length (image_of_pixels g.columns g.rows (λ i j. false))
 
--- two sets of pages: each page has room for `per` images of a grid, and those of the first set have none
+-- two sets of pages: `per` images of a grid fit each page, and the pages of the first set have none
 pub record ArePageSets (grid : Grid) (per : ℕ) (drawn free : List Page) : Type 0 where
   pub blank : All (λ page. page.bytes ≡ []) drawn
   pub room_drawn : All (λ page. per * image_size grid ≤ page.room) drawn

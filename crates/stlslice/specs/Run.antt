@@ -19,17 +19,17 @@ IsRunFault t input (cause.Write written) = Unit {0}
 IsRunFault t input (cause.Outside columns rows layers) = IsOutcome t input (Err (cause.Outside columns rows layers))
 
 pub record IsRun {T : Type 0} (t : Task) (result : Result T RunFault) (source sink : Transcript) (is_settled : Bool) : Type 0 where
-  -- all was read, also where the run ends with a fault of its text, unless reading or memory failed
+  -- all was read, also if the run ends with a fault of its text, unless reading or memory failed
   pub whole : result ≢ Err cause.Read → result ≢ Err cause.Memory → IsAtEnd source.new
-  -- it succeeds only where just the text of the outcome was written and flushed
+  -- it succeeds only if exactly the text of the outcome was written and flushed
   pub flushed : OnOk result (is_settled ≡ true)
   pub ok : OnOk result (IfSome source.old (λ input. (text : List ℕ) × IsOutcome t input (Ok text) × Appends sink.old sink.new text))
-  -- a fault of the input is its outcome, and the others come of a device or of memory
+  -- a fault of the input is its outcome, and the others come from a device or from memory
   pub fault : IfErr result (λ f. IfSome source.old (λ input. IsRunFault t input f))
-  -- where the outcome is a fault, it is just that one which comes of the input, and the run does not succeed
+  -- if the outcome is a fault, no other fault of the input comes, and the run does not succeed
   pub only : IfSome source.old (λ input. (own : RunFault) → IsOutcome t input (Err own)
       → MatchResult result (λ _. ⊥) (λ f. (f ≡ own) ⊎ (f ≡ cause.Read) ⊎ (f ≡ cause.Memory)))
-  -- a device's count of failed calls stays, unless the run ends with this device's fault: then just one call failed
+  -- a device's count of failed calls stays, unless the run ends with this device's fault: then exactly one call failed
   pub source_sound : result ≢ Err cause.Read → source.failed ≡ source.failed_before
   pub sink_sound : ((written : ℕ) → result ≢ Err (cause.Write written)) → sink.failed ≡ sink.failed_before
   pub unread : result ≡ Err cause.Read → Fails source.failed_before source.failed

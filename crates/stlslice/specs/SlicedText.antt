@@ -1,14 +1,19 @@
--- The outputs of slicing: the images of all layers, or a report with a line for each.
+-- The outputs of slicing: the images of all layers, a report with a line for each, or PNGs of all.
 use Rattle.std.specs.Prelude.{ℕ, Bool, List, ◌++◌, codes, decimal, flat_map, length, sum_by, if◌then◌else◌}
 use Rattle.geometry.specs.Facet.{Facet}
 use Rattle.plane_segments.specs.Segment.{segments}
 use Rattle.contour.specs.Loops.{loops}
 use Rattle.raster.specs.declared.rule.Rule.{Rule}
 use Rattle.raster.specs.declared.span.Span.{Span}
-use Rattle.raster.specs.Filler.{area_of, below}
+use Rattle.raster.specs.Filler.{area_of, below, is_filled}
 use Rattle.raster.specs.Span.{covers}
-use Rattle.raster.specs.Grid.{Grid, plane}
+use Rattle.raster.specs.Grid.{Grid, centre, plane}
 use Rattle.raster.specs.Image.{image_of_pixels, images}
+use Rattle.layer_png.specs.Depth.{bits}
+use Rattle.layer_png.specs.Layer.{column_at, row_at}
+use Rattle.layer_png.specs.Text.{png_text}
+use Rattle.layer_png.specs.declared.depth.Depth.{Depth}
+use Rattle.layer_png.specs.declared.mirrors.Mirrors.{Mirrors}
 use Rattle.stlslice.specs.declared.write.Output.{Output}
 use Rattle.stlslice.specs.declared.write.Output.TheVariants as output
 
@@ -32,6 +37,19 @@ abbrev pub report_text : Grid → Rule → List Facet → List ℕ
 report_text g rule facets =
     flat_map (layer_line g rule facets) (below g.layers) ++ total_line (sum_by (area_of g rule facets) (below g.layers))
 
+-- the PNG of a layer's pixels, each by its column and row in the layer
+abbrev pub png_of_pixels : Grid → Depth → Mirrors → (ℕ → ℕ → Bool) → List ℕ
+png_of_pixels g depth mirrors pixel =
+    png_text (bits depth) g.columns g.rows (λ x y. pixel (column_at mirrors g.columns x) (row_at mirrors g.rows y))
+
+-- the PNG of layer k: its filled voxels
+abbrev pub layer_png : Grid → Rule → List Facet → Depth → Mirrors → ℕ → List ℕ
+layer_png g rule facets depth mirrors k = png_of_pixels g depth mirrors (λ i j. is_filled rule facets (centre g i j k))
+
+-- the PNGs of all layers, from 0 up
+abbrev pub pngs : Grid → Rule → List Facet → Depth → Mirrors → List ℕ
+pngs g rule facets depth mirrors = flat_map (layer_png g rule facets depth mirrors) (below g.layers)
+
 -- what a task that asks for a report, or does not, writes
 abbrev pub output_of : Bool → Output
 output_of report = if report then output.Report else output.Images
@@ -40,3 +58,4 @@ output_of report = if report then output.Report else output.Images
 abbrev pub sliced_text : Output → Grid → Rule → List Facet → List ℕ
 sliced_text output.Images g rule facets = images g rule facets
 sliced_text output.Report g rule facets = report_text g rule facets
+sliced_text (output.Pngs depth mirrors) g rule facets = pngs g rule facets depth mirrors

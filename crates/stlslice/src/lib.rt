@@ -6,18 +6,20 @@
 //! ```
 //!
 //! - [`read_words`]: turns the command's words into a [`Task`], whose grid may be a [`Given`] one. A [`WordFault`] says why
-//!   words are no task, and by [`Wanted`] which option is missing. [`wants_progress`]: whether the words ask for the
-//!   progress of the run to be shown.
-//! - [`run`]: does a task: it reads ASCII STL to its end, and writes the images of all layers, a report, the box of the
-//!   mesh, or the two rays of a voxel. A [`RunFault`] says why a run wrote nothing, or not all; its `Display` is the line
-//!   on standard error, and its `status` the exit status.
+//!   words are no task: by [`Wanted`] which option is missing, and by [`PngOption`] which one goes with PNGs alone.
+//! - [`wants_progress`]: whether the words ask for the progress of the run to be shown.
+//! - [`Depth`], [`Mirrors`]: how PNGs show a layer.
+//! - [`run`]: does a task. It reads ASCII STL to its end. It writes the images of all layers, as P4 or as PNGs, a report, the
+//!   box of the mesh, or the two rays of a voxel.
+//! - [`RunFault`]: why a run wrote nothing, or not all. Its `Display` is the line on standard error, and its `status` the exit
+//!   status.
 //! - [`run_watched`]: does a task, and tells a [`Gate`] of each [`Piece`], the layers of a stripe, as it is made.
-//! - [`Source`], [`Sink`]: the devices that a run reads and writes. A call of them that fails answers [`Failed`], and by
-//!   [`Failures`] a device tells how many have. [`Counted`] makes a device of any reader or writer.
+//! - [`Source`], [`Sink`]: the devices that a run reads and writes. A call of them that fails returns [`Failed`], and
+//!   [`Failures`] counts those. [`Counted`] makes a device of any reader or writer.
 //! - [`image_len`]: the length of the image of a layer, in bytes.
-//! - [`load`]: the closed mesh of a text at hand.
-//! - [`one_answer`]: a law. A task and an input have one outcome, whatever the number of workers. [`written_pixels`]:
-//!   another. A pixel that slicing writes follows the ray of all facets that were read.
+//! - [`load`]: the closed mesh of a text in memory.
+//! - [`one_answer`]: a law. A task and an input have one outcome, whatever the number of workers.
+//! - [`written_pixels`]: a law. A pixel that slicing writes follows the ray of all facets that were read.
 //!
 //! Pitch, layer height and the box are in micrometres.
 #![tactic(auto)]
@@ -35,4 +37,6 @@ pub use loading::load;
 pub use raster::{Counted, Failed, Failures, Sink, Source, image_len};
 pub use run_fault::RunFault;
 pub use running::{run, run_watched};
-pub use task_words::{Given, Task, Wanted, WordFault, read_words, wants_progress};
+pub use task_words::{
+    Depth, Given, Mirrors, PngOption, Task, Wanted, WordFault, read_words, wants_progress,
+};

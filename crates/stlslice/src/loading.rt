@@ -1,4 +1,4 @@
-//! The closed mesh of a text at hand.
+//! The closed mesh of a text in memory.
 ghost use Rattle.std.specs.Prelude.{◌≡◌, IfErr, IfOk, List};
 ghost use Rattle.geometry.specs.Facet.{Facet};
 ghost use Rattle.geometry.specs.declared.limits.TheConstants.{FACET_LIMIT};
@@ -15,8 +15,12 @@ use std::alloc::Allocator;
 
 /// The closed mesh of an ASCII STL text whose numbers are in `unit`. Facets with two equal corners are dropped.
 ///
-/// Memory aside, a text has one answer: `Stl` where it does not read as facets, else `Open` where the edges of all its
-/// facets do not balance, else the mesh. `Memory` comes only where an allocation failed. No other fault comes.
+/// # Errors
+/// In this order:
+/// - `Stl` if the text does not read as facets,
+/// - `Open` if the edges of all its facets do not balance.
+///
+/// `Memory` comes only if an allocation failed. No other fault comes.
 pub fn load<A: Allocator + Copy + Send + Sync>(
     alloc: A,
     bytes: &[u8],

@@ -1,11 +1,11 @@
 //! A run: reads the whole input, does the task, writes its outcome.
 ghost use Rattle.std.specs.Prelude.{◌≡◌, Err, IfErr, IfOk, Ok};
 ghost use Rattle.mesh_reading.specs.Transcript.{transcript};
-ghost use Rattle.stlslice.specs.Outcome.{grid_for, placing_of};
+ghost use Rattle.stlslice.specs.Outcome.{grid_for, placing_of, slicing};
 ghost use Rattle.stlslice.specs.Run.{IsRun};
 ghost use Rattle.stlslice.specs.declared.run_fault.RunFault.TheVariants as run_fault;
 ghost use Rattle.raster.specs.declared.grid.GridFault.{GridFault};
-ghost use Rattle.task_words.specs.Task.{IsInRange};
+ghost use Rattle.task_words.specs.Task.{AreInRange, IsInRange};
 ghost use Rattle.task_words.specs.declared.task.Task.TheVariants as task;
 ghost use Rattle.geometry.specs.Limits.{IsStep};
 
@@ -25,15 +25,24 @@ use std::sync::Wait;
 use std::thread::Threads;
 use task_words::{Given, Task};
 
-/// Reads the whole input, does the task, and writes and flushes what it answers.
+/// Reads the whole input, does the task, and writes and flushes the text that results.
 ///
-/// Unless it ends with a failed read or for want of memory, all was read. Where it succeeds, just the text of the outcome
-/// was written and flushed. A fault of the input is its outcome, and where the outcome is a fault, no other fault of the
-/// input comes; the other faults come from a device or from memory. After a fault of the output the first `written` bytes of
-/// the outcome went out, after any other fault nothing did. Each call of a device is tried once, so an interruption is a
-/// fault too. No call has failed unless the run ends with that device's fault, and then just one has. An allocation can fail
-/// at each step before the first byte is written. The law [`written_pixels`](crate::written_pixels) says what the text of
-/// slicing is in pixels and rays.
+/// Unless it ends with a failed read or out of memory, all was read. If it succeeds, exactly the text of the outcome was
+/// written and flushed. The law [`written_pixels`](crate::written_pixels) says what the text of slicing is in pixels and rays.
+///
+/// # Errors
+/// A fault of the input is its outcome, and the run does not succeed then. It is the first of these, and for the box only
+/// `Stl` can come:
+/// - `Stl` if the text does not read as facets,
+/// - `Open` if the mesh is not closed,
+/// - `Grid` if there is no grid,
+/// - `Outside` if the grid does not have the voxel of a probe.
+///
+/// The other faults come from a device or from memory: `Read`, `Write` and `Memory`. After `Write` the first `written` bytes of
+/// the outcome went out; after any other fault nothing did.
+///
+/// Each call of a device is tried once, so an interruption is a fault too. No call has failed unless the run ends with that
+/// device's fault, and then exactly one has. An allocation can fail at each step before the first byte is written.
 pub fn run<R: Threads + Wait + Sync, A: Allocator + Copy + Send + Sync, I: Source, O: Sink>(
     rt: &R,
     alloc: A,
@@ -50,7 +59,7 @@ pub fn run<R: Threads + Wait + Sync, A: Allocator + Copy + Send + Sync, I: Sourc
     run_watched(rt, alloc, task, source, sink, &OpenGate)
 }
 
-/// The same as [`run`], and tells a gate of the workers that slice. What a run answers is the same for every gate.
+/// The same as [`run`], and tells a gate of the workers that slice. What a run returns is the same for every gate.
 pub fn run_watched<
     R: Threads + Wait + Sync,
     A: Allocator + Copy + Send + Sync,
@@ -92,14 +101,44 @@ pub fn run_watched<
             workers,
             report,
             grid,
-        } => run_slice(
-            rt, alloc, *unit, *pitch, *layer, *grid, *rule, *report, *workers, source, sink, gate,
+        } => run_slicing(
+            rt,
+            alloc,
+            *unit,
+            *pitch,
+            *layer,
+            *grid,
+            *rule,
+            Output::of(*report),
+            *workers,
+            source,
+            sink,
+            gate,
         ),
+        Task::Png {
+            unit,
+            pitch,
+            layer,
+            rule,
+            workers,
+            grid,
+            depth,
+            mirrors,
+        } => {
+            let output = Output::Pngs {
+                depth: *depth,
+                mirrors: *mirrors,
+            };
+            run_slicing(
+                rt, alloc, *unit, *pitch, *layer, *grid, *rule, output, *workers, source, sink,
+                gate,
+            )
+        }
     }
 }
 
-/// Writes and flushes the images of all layers, or their report, and tells a gate of the workers that slice.
-fn run_slice<
+/// Writes and flushes an output of slicing, and tells a gate of the workers that slice.
+fn run_slicing<
     R: Threads + Wait + Sync,
     A: Allocator + Copy + Send + Sync,
     I: Source,
@@ -113,14 +152,14 @@ fn run_slice<
     layer: u32,
     given: Option<Given>,
     rule: Rule,
-    report: bool,
+    output: Output,
     workers: u32,
     source: &mut I,
     sink: &mut O,
     gate: &G,
 ) -> Result<(), RunFault>
-    requires { IsInRange (task.Slice unit pitch layer rule workers report given) }
-    ensures { IsRun (task.Slice unit pitch layer rule workers report given) result
+    requires { AreInRange pitch layer workers }
+    ensures { IsRun (slicing unit pitch layer rule workers given output) result
         (transcript (I.remaining source.old) (I.remaining source.new) (I.Failures.failure_count source.old) (I.Failures.failure_count source.new))
         (transcript (O.contents sink.old) (O.contents sink.new) (O.Failures.failure_count sink.old) (O.Failures.failure_count sink.new))
         (O.is_settled sink.new) }
@@ -129,7 +168,7 @@ fn run_slice<
     let grid = grid_for(&solid, given, pitch, layer)?;
     let job = Job::new(solid, grid, rule);
     let build = build(rt, alloc, &job, workers, gate)?;
-    write_build(rt, alloc, &build, Output::of(report), workers, sink)
+    write_build(rt, alloc, &build, output, workers, sink)
 }
 
 /// Writes and flushes the box line of the input. It takes no handle, so it is proved to return.
@@ -174,7 +213,7 @@ fn run_probe<A: Allocator + Copy + Send + Sync, I: Source, O: Sink>(
     write_all(sink, line.as_bytes())
 }
 
-/// The grid that was handed in, or else the one that the solid fits in.
+/// The given grid, or else the one that the solid fits in.
 fn grid_for<A: Allocator>(
     solid: &Solid<A>,
     given: Option<Given>,
@@ -190,7 +229,7 @@ fn grid_for<A: Allocator>(
     Ok(placing_of(given).grid(solid, pitch, layer)?)
 }
 
-/// Where the grid lies, by the command's words.
+/// The place of the grid, by the command's words.
 fn placing_of(given: Option<Given>) -> Placing
     ensures { result ≡ placing_of given }
 {

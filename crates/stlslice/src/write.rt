@@ -1,4 +1,4 @@
-//! What a run writes: each output has a module of its own (`images`; for several workers `images_by` and `pages`), and all are
+//! What a run writes. Each output has a module of its own (`images`; for several workers `images_by` and `pages`), and all are
 //! flushed by [`flush`]. This module chooses among the outputs of slicing.
 ghost use Rattle.std.specs.Prelude.{◌≡◌, ◌⊎◌, IfErr, OnOk, true};
 ghost use Rattle.std.specs.Io.KnownBytes.{Appends};
@@ -12,14 +12,17 @@ pub(crate) mod flush;
 pub(crate) mod images;
 pub(crate) mod images_by;
 pub(crate) mod pages;
+pub(crate) mod pngs;
 pub(crate) mod probe_line;
 pub(crate) mod report;
 
 use crate::run_fault::RunFault;
 use crate::write::flush::write_all;
 use crate::write::images_by::write_images_by;
+use crate::write::pngs::write_pngs;
 use crate::write::report::report;
 use build_book::Build;
+use layer_png::{Depth, Mirrors};
 use raster::Sink;
 use std::alloc::Allocator;
 use std::thread::Threads;
@@ -31,6 +34,8 @@ pub(crate) enum Output {
     Images,
     /// The loops and the area of each layer, and the area of all.
     Report,
+    /// The PNGs of all layers, one after the other.
+    Pngs { depth: Depth, mirrors: Mirrors },
 }
 
 impl Output {
@@ -47,7 +52,8 @@ impl Output {
 }
 
 /// Writes and flushes an output of a build, by up to `workers` workers. A report is made as a whole before its first byte is
-/// written; images are written one after another where there is no memory to draw them first.
+/// written. Images are written one after another if there is no memory to draw them first. PNGs are made one after another, in
+/// memory that is allocated before the first byte is written.
 pub(crate) fn write_build<R: Threads + Sync, A: Allocator + Copy + Send + Sync, O: Sink>(
     rt: &R,
     alloc: A,
@@ -72,5 +78,6 @@ pub(crate) fn write_build<R: Threads + Sync, A: Allocator + Copy + Send + Sync, 
             let text = report(alloc, build)?;
             write_all(sink, text.as_bytes())
         }
+        Output::Pngs { depth, mirrors } => write_pngs(alloc, build, depth, mirrors, sink),
     }
 }

@@ -23,6 +23,14 @@ pub(crate) const GRID: &str = "grid";
 
 pub(crate) const PROBE: &str = "probe";
 
+pub(crate) const PNG: &str = "png";
+
+pub(crate) const DEPTH: &str = "depth";
+
+pub(crate) const MIRROR_X: &str = "mirror-x";
+
+pub(crate) const MIRROR_Y: &str = "mirror-y";
+
 pub(crate) const PROGRESS: &str = "progress";
 
 /// What `--version` prints after the program's name: the version, and the toolchain that proved it.
@@ -34,13 +42,16 @@ Reads ASCII STL on standard input and writes P4 images (raw PBM) on standard
 output, from the lowest layer up, with nothing between them. A pixel is 1 where
 its centre is inside the mesh. The first row of an image is that of the greatest
 y, the first pixel of a row that of the least x. Lengths in options and output
-are whole micrometres.";
+are whole micrometres. With --png the images are PNGs. Binary STL is refused;
+stlslice-sl1 and stlslice-pngs read it.";
 
 const EXAMPLES: &str = "Examples:
   stlslice --pitch 50 --layer 100 < part.stl > layers.pbm
           images with pixels of 0.05 mm, every 0.1 mm
   stlslice --pitch 50 --layer 100 --report < part.stl
           loops and area of each layer
+  stlslice --pitch 50 --layer 50 --png --mirror-x < part.stl > layers.png
+          PNGs, one after another, for a printer that wants them mirrored
   stlslice --pitch 50 --layer 50 --grid=400,300,120,-9500,-7500,0 < part.stl
           a printer's canvas; --grid= with an equals sign takes negative values
   stlslice --box < part.stl
@@ -60,7 +71,7 @@ Exit status:
 /// The command. It takes the words after the program's name. It requires no option, and no option excludes another: `words`
 /// looks for what is missing.
 pub(crate) fn command<'a>(alloc: Global) -> Result<Command<'a>, AllocError> {
-    Command::new(alloc, "stlslice")
+    let command = Command::new(alloc, "stlslice")
         .version(VERSION)
         .no_binary_name(true)
         .about(ABOUT)
@@ -70,7 +81,8 @@ pub(crate) fn command<'a>(alloc: Global) -> Result<Command<'a>, AllocError> {
         .arg(rule(alloc))?
         .arg(unit(alloc))?
         .arg(grid(alloc))?
-        .arg(workers(alloc))?
+        .arg(workers(alloc))?;
+    with_pngs(alloc, command)?
         .arg(flag(
             alloc,
             REPORT,
@@ -86,6 +98,27 @@ pub(crate) fn command<'a>(alloc: Global) -> Result<Command<'a>, AllocError> {
             alloc,
             PROGRESS,
             "Show on standard error how far slicing is: layers made,\nbytes of images written, and the time left",
+        ))
+}
+
+/// The command with the options of PNGs.
+fn with_pngs<'a>(alloc: Global, command: Command<'a>) -> Result<Command<'a>, AllocError> {
+    command
+        .arg(flag(
+            alloc,
+            PNG,
+            "Write PNGs in place of P4 images: greyscale, a filled pixel\nwhite",
+        ))?
+        .arg(depth(alloc))?
+        .arg(flag(
+            alloc,
+            MIRROR_X,
+            "Mirror each PNG: the greatest x stands at the left",
+        ))?
+        .arg(flag(
+            alloc,
+            MIRROR_Y,
+            "Mirror each PNG: the least y stands at the top",
         ))
 }
 
@@ -145,6 +178,14 @@ fn workers<'a>(alloc: Global) -> Arg<'a> {
         .default_value("1")
         .value_parser(value_parser!(u32).range(1..=i64::from(PASS_LIMIT)))
         .help("Number of threads, 1 to 64, as in --workers 4;\nthe output is the same for each")
+}
+
+fn depth<'a>(alloc: Global) -> Arg<'a> {
+    Arg::new(alloc, DEPTH)
+        .long(DEPTH)
+        .value_name("D")
+        .default_value("8")
+        .help("Bits of a pixel of a PNG: 8 or 1")
 }
 
 fn probe<'a>(alloc: Global) -> Arg<'a> {

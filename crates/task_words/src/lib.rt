@@ -7,14 +7,15 @@
 //! }
 //! ```
 //!
-//! [`read_words`] takes the words after the program's name, as `--pitch 50 --layer 100 --rule positive`, and answers a
-//! [`Task`], or a [`WordFault`] whose `Display` is the line on standard error and whose `status` the exit status. An option
-//! that is missing is told by [`Wanted`].
-//! `--help` and `--version` come as the fault `Refused` with status 0. [`wants_progress`] says whether such words ask
-//! for the progress of the run to be shown, which is no part of the task.
+//! [`read_words`] takes the words after the program's name, as `--pitch 50 --layer 100 --rule positive`, and returns a [`Task`]
+//! or a [`WordFault`]. The `Display` of a fault is the line on standard error, and its `status` the exit status. A [`Wanted`]
+//! is an option that is missing, and a [`PngOption`] one that goes with `--png` alone. For `--help` and `--version` the fault
+//! is `Refused`, with status 0.
 //!
-//! Pitch, layer height and the origin of a [`Given`] grid are in micrometres. [`PASS_LIMIT`] is the greatest count of
-//! workers; it is handed on from `stripe_claims`.
+//! [`wants_progress`] says whether such words ask for the progress of the run to be shown, which is no part of the task.
+//!
+//! Pitch, layer height and the origin of a [`Given`] grid are in micrometres. The greatest count of workers, [`PASS_LIMIT`], is
+//! re-exported from `stripe_claims`; [`Depth`] and [`Mirrors`] are re-exported from `layer_png`.
 #![tactic(auto)]
 
 mod command;
@@ -23,7 +24,8 @@ mod texts;
 mod word_fault;
 mod words;
 
+pub use layer_png::{Depth, Mirrors};
 pub use stripe_claims::PASS_LIMIT;
 pub use task::{Given, Task};
-pub use word_fault::{Wanted, WordFault};
+pub use word_fault::{PngOption, Wanted, WordFault};
 pub use words::{read_words, wants_progress};

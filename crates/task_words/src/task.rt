@@ -1,10 +1,11 @@
 //! What the program is asked to do.
 use geometry::Point;
+use layer_png::{Depth, Mirrors};
 use micro_num::Unit;
 use raster::Rule;
 
-/// A grid that was handed in, in place of one that fits the mesh: the counts of its columns, rows and layers, and where it
-/// begins. The texts of `--grid` may give any counts; whether there is such a grid is judged later.
+/// A given grid, in place of one that fits the mesh: the counts of its columns, rows and layers, and its origin. The texts of
+/// `--grid` may give any counts; whether there is such a grid is judged later.
 #[derive(Clone, Copy, Debug, PartialEq, Eq)]
 pub struct Given {
     pub columns: u32,
@@ -32,6 +33,17 @@ pub enum Task {
         workers: u32,
         report: bool,
         grid: Option<Given>,
+    },
+    /// Write the images of all layers as PNGs, one after the other.
+    Png {
+        unit: Unit,
+        pitch: u32,
+        layer: u32,
+        rule: Rule,
+        workers: u32,
+        grid: Option<Given>,
+        depth: Depth,
+        mirrors: Mirrors,
     },
     /// Write the sums of signed crossings at column `i`, row `j` and layer `k`, by a ray along x and one along y.
     Probe {

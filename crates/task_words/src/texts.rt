@@ -1,6 +1,7 @@
-//! The texts of option values: rules, units, grids and voxels.
+//! The texts of option values: rules, units, depths, grids and voxels.
 use crate::task::Given;
 use geometry::Point;
+use layer_png::Depth;
 use micro_num::Unit;
 use raster::Rule;
 use std::str::Split;
@@ -20,6 +21,15 @@ pub(crate) fn read_unit(text: &str) -> Option<Unit> {
     match text {
         "mm" => Some(Unit::Millimetre),
         "inch" => Some(Unit::Inch),
+        _ => None,
+    }
+}
+
+/// The depth of this many bits.
+pub(crate) fn read_depth(text: &str) -> Option<Depth> {
+    match text {
+        "8" => Some(Depth::Eight),
+        "1" => Some(Depth::One),
         _ => None,
     }
 }

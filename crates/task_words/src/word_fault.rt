@@ -28,6 +28,25 @@ impl Display for Wanted {
     }
 }
 
+/// An option that says how PNGs are written. [`WordFault::WithoutPng`] names the first one that is given without `--png`.
+#[derive(Clone, Copy, Debug, PartialEq, Eq)]
+pub enum PngOption {
+    Depth,
+    MirrorX,
+    MirrorY,
+}
+
+impl Display for PngOption {
+    /// The option as it is written in the command.
+    fn fmt<W: Write>(&self, f: &mut Formatter<W>) -> fmt::Result {
+        f.write_str(match self {
+            PngOption::Depth => "--depth",
+            PngOption::MirrorX => "--mirror-x",
+            PngOption::MirrorY => "--mirror-y",
+        })
+    }
+}
+
 /// Why words are no task. Its `Display` is the program's line on standard error; that of `Refused` is a text of several
 /// lines.
 #[derive(Debug, Drop, Error)]
@@ -53,10 +72,16 @@ pub enum WordFault {
     /// The text of `--probe` is no voxel.
     #[error("stlslice: --probe takes I,J,K")]
     BadProbe,
+    /// The text of `--depth` is no depth.
+    #[error("stlslice: --depth takes 8 or 1")]
+    BadDepth,
+    /// This option is given without `--png`.
+    #[error("stlslice: {option} goes with --png")]
+    WithoutPng { option: PngOption },
 }
 
 impl WordFault {
-    /// The exit status of a program that ends with this fault; 0 where the words ask for help or for the version.
+    /// The exit status of a program that ends with this fault; 0 if the words ask for help or for the version.
     pub fn status(&self) -> u8
         ensures { IsWordStatus self.now result }
     {
@@ -67,7 +92,9 @@ impl WordFault {
             | WordFault::BadRule
             | WordFault::BadUnit
             | WordFault::BadGrid
-            | WordFault::BadProbe => 2,
+            | WordFault::BadProbe
+            | WordFault::BadDepth
+            | WordFault::WithoutPng { .. } => 2,
         }
     }
 }

@@ -124,7 +124,7 @@ cubes_are_apart (suc zero) zero h l = refl
 cubes_are_apart (suc (suc i)) j h l = absurd (omega arith)
 cubes_are_apart i (suc j) h l = absurd (omega arith)
 
--- a cube that stands twice fills its voxel twice, which is not filled by evenodd, and filled once by nonzero
+-- a cube that occurs twice fills its voxel twice, which is not filled by evenodd, and filled once by nonzero
 twice_evenodd : area_of pair EvenOdd (cube ++ cube) 0 ≡ 0
 unfolding turn_of wind hit
 twice_evenodd = refl

@@ -39,7 +39,7 @@ hit_edge_on t c e = by (wind_values t c.y c.z)
     by (inl none) = cond-zero (int_lt (pos 0) (wind t c.y c.z *ℤ volume t c)) (wind t c.y c.z) none
     by (inr w) = absurd (no_normal (wind t c.y c.z) (normal_x t) e w.normal)
 
--- ---- a facet in a plane across x is hit from where it lies ahead
+-- ---- a facet in a plane across x is hit from centres that it lies ahead of
 tests_agree : (a b c d : ℤ) → (a <ℤ b) ↔ (c <ℤ d) → int_lt c d ≡ int_lt a b
 tests_agree a b c d h = by (at_most_or_above b a) (at_most_or_above d c)
   where
@@ -182,7 +182,7 @@ module _ (x y1 y2 z1 z2 py pz : ℤ) (order : z1 ≤ℤ z2) where
   abbrev low_high : Point
   low_high = at x y1 z2
 
-  -- 1 where the line passes the rectangle, else 0
+  -- 1 if the line passes the rectangle, else 0
   abbrev width : ℤ
   width = one_if (passes z1 z2 pz && int_lt py y2) -ℤ one_if (passes z1 z2 pz && int_lt py y1)
 

@@ -65,7 +65,7 @@ zero-skips rule a b first second =
       right = λ h. ap (is_inside rule) (swapped a b ∙ no_more b a (second h));
     }
 
--- where not both rays are inside, their sum is inside exactly where one of them is
+-- if not both rays are inside, their sum is inside exactly if one of them is
 joined : (rule : Rule) (a b : ℤ) → IsSkipped rule a b → (is_inside rule a && is_inside rule b) ≡ false
     → is_inside rule (a +ℤ b) ≡ (is_inside rule a || is_inside rule b)
 joined rule a b skips apart = by (and_cases (is_inside rule a) (is_inside rule b) apart)

@@ -10,19 +10,20 @@ use Rattle.raster.specs.declared.rule.Rule.{Rule}
 use Rattle.build_book.specs.Job.{Job}
 use Rattle.task_words.specs.declared.task.Given.{Given}
 use Rattle.task_words.specs.declared.task.Task.{Task}
-use Rattle.task_words.specs.declared.task.Task.TheVariants as task
 use Rattle.mesh_reading.specs.Loading.{IsInput, IsInputFault, IsReadAs, IsSolidOf}
 use Rattle.mesh_reading.specs.Transcript.{Transcript}
 use Rattle.mesh_reading.specs.declared.read_fault.ReadFault.{ReadFault}
 use Rattle.mesh_reading.specs.declared.read_fault.ReadFault.TheVariants as read
 use Rattle.stlslice.specs.declared.run_fault.RunFault.{RunFault}
 use Rattle.stlslice.specs.declared.run_fault.RunFault.TheVariants as fault
-use Rattle.stlslice.specs.Outcome.{IsOutcome, grid_for}
+use Rattle.stlslice.specs.Outcome.{IsOutcome, grid_for, slicing}
 use Rattle.stlslice.specs.Run.{IsRun, IsRunFault}
 use Rattle.stlslice.specs.RunFault.{of_read}
 use Rattle.stlslice.specs.Unwritten.{IsUntouched, IsUnwritten}
-use Rattle.stlslice.proofs.lemmas.Faults.{IsReadingFault, IsWorkFault, by_input, failed_read, made_there, not_written}
-use Rattle.stlslice.specs.SlicedText.{output_of, sliced_text}
+use Rattle.stlslice.proofs.lemmas.Faults.{IsReadingFault, IsWorkFault, by_input, failed_read, not_written}
+use Rattle.stlslice.proofs.lemmas.Slicing.{slicing_there}
+use Rattle.stlslice.specs.SlicedText.{sliced_text}
+use Rattle.stlslice.specs.declared.write.Output.{Output}
 use Rattle.std.proofs.lemmas.Result.{IfErr-at_err, IfErr-weaker, on_ok_weaker}
 use Rattle.stlslice.proofs.lemmas.Bytes.{each, of_input}
 use Rattle.stlslice.proofs.lemmas.OneAnswer.{one_outcome}
@@ -45,15 +46,14 @@ stopped : {T : Type 0} (r : Result T RunFault) (t : Task) (input : List ℕ) (tr
 stopped (Ok x) t input transcript f kept known is = tt
 stopped (Err x) t input transcript f kept known is = inl (rw is known, kept)
 
--- the images or the report of the job are the outcome
-pub sliced_there : (unit : LengthUnit) (pitch layer : ℕ) (rule : Rule) (workers : ℕ) (report : Bool) (given : Option Given) (input : List ℕ)
+-- an output of the job is the outcome
+pub sliced_there : (unit : LengthUnit) (pitch layer : ℕ) (rule : Rule) (workers : ℕ) (given : Option Given) (out : Output) (input : List ℕ)
     (solid : Solid) (g : Grid) (job : Job) → IsSolidOf unit input solid → grid_for given pitch layer solid.facets ≡ Ok g
     → job ≡ record { solid = solid; grid = g; rule = rule }
-    → IsOutcome (task.Slice unit pitch layer rule workers report given) input (Ok (sliced_text (output_of report) job.grid job.rule job.solid.facets))
-sliced_there unit pitch layer rule workers report given input solid g job s placed is =
-    made_there (task.Slice unit pitch layer rule workers report given) input solid
-    (Ok (sliced_text (output_of report) job.grid job.rule job.solid.facets)) refl s
-    (rw placed (ap (λ (w : Job). Ok (sliced_text (output_of report) w.grid w.rule w.solid.facets)) is))
+    → IsOutcome (slicing unit pitch layer rule workers given out) input (Ok (sliced_text out job.grid job.rule job.solid.facets))
+sliced_there unit pitch layer rule workers given out input solid g job s placed is =
+    slicing_there unit pitch layer rule workers given out input solid (Ok (sliced_text out job.grid job.rule job.solid.facets)) s
+    (rw placed (ap (λ (w : Job). Ok (sliced_text out w.grid w.rule w.solid.facets)) is))
 
 -- where writing an outcome failed, a part of it was written, or nothing for want of memory
 ended : (t : Task) (input : List ℕ) (transcript : Transcript) (text : List ℕ) (f : RunFault) → IsOutcome t input (Ok text)

@@ -1,7 +1,6 @@
 -- A task and an input have one outcome.
-use Rattle.std.proofs.Common.{◌≡◌, ◌∙◌, ◌⊎◌, ℕ, Bool, true, false, List, Option, ap, inl, inr, refl, subst, sym}
+use Rattle.std.proofs.Common.{◌≡◌, ◌∙◌, ◌⊎◌, ℕ, Bool, true, false, List, ap, inl, inr, refl, subst, sym}
 use Rattle.std.specs.Prelude.{Err, Ok, Result}
-use Rattle.micro_num.specs.declared.unit.Unit.{Unit as LengthUnit}
 use Rattle.stl_text.specs.declared.stl_fault.StlFault.{StlFault}
 use Rattle.stl_text.specs.Text.{IsFaultOf, Reads}
 use Rattle.stl_text.proofs.lemmas.OneReading.{one_reading}
@@ -12,17 +11,18 @@ use Rattle.geometry.specs.declared.limits.TheConstants.{FACET_LIMIT}
 use Rattle.mesh_weld.specs.Balance.{HasOpenEdge, IsBalanced, IsLeastOpen}
 use Rattle.mesh_weld.specs.Solid.{Solid, solid_of}
 use Rattle.mesh_weld.proofs.lemmas.LeastOpen.{closed_not_open, closed_or_open, one_open}
-use Rattle.raster.specs.declared.rule.Rule.{Rule}
-use Rattle.task_words.specs.declared.task.Given.{Given}
 use Rattle.task_words.specs.declared.task.Task.{Task}
 use Rattle.task_words.specs.declared.task.Task.TheVariants as task
 use Rattle.stlslice.specs.declared.run_fault.RunFault.{RunFault}
 use Rattle.stlslice.specs.declared.run_fault.RunFault.TheVariants as fault
+use Rattle.stlslice.specs.SlicedText.{output_of}
+use Rattle.stlslice.specs.declared.write.Output.TheVariants as output
 use Rattle.stlslice.specs.Outcome.{IsMade, IsOutcome, box_text, boxed, closed, is_box, misread, open_mesh, probed, sliced, unit_of}
 
 one_made : (t : Task) (solid : Solid) (answer other : Result (List ℕ) RunFault) → IsMade t solid answer → IsMade t solid other → answer ≡ other
 one_made (task.Box unit) solid answer other h k = absurd h
 one_made (task.Slice unit pitch layer rule workers report grid) solid answer other h k = h ∙ sym k
+one_made (task.Png unit pitch layer rule workers grid depth mirrors) solid answer other h k = h ∙ sym k
 one_made (task.Probe unit pitch layer grid i j k) solid answer other h l = h ∙ sym l
 
 -- the same reading, where two are known
@@ -74,7 +74,9 @@ one_outcome t bytes answer other (closed fs r b e m) (closed gs q c f n) =
 
 a_made : (t : Task) (solid : Solid) → is_box t ≡ false → (answer : Result (List ℕ) RunFault) × IsMade t solid answer
 a_made (task.Box unit) solid h = cc
-a_made (task.Slice unit pitch layer rule workers report grid) solid h = (sliced grid pitch layer rule report solid.facets, refl)
+a_made (task.Slice unit pitch layer rule workers report grid) solid h = (sliced grid pitch layer rule (output_of report) solid.facets, refl)
+a_made (task.Png unit pitch layer rule workers grid depth mirrors) solid h =
+    (sliced grid pitch layer rule (output.Pngs depth mirrors) solid.facets, refl)
 a_made (task.Probe unit pitch layer grid i j k) solid h = (probed grid pitch layer i j k solid.facets, refl)
 
 pub an_outcome : (t : Task) (bytes : List ℕ) → (answer : Result (List ℕ) RunFault) × IsOutcome t bytes answer
@@ -99,13 +101,3 @@ an_outcome t bytes = by_text (outcome FACET_LIMIT (unit_of t) bytes)
         ⊎ ((cause : StlFault) × IsFaultOf FACET_LIMIT (unit_of t) bytes cause) → An
     by_text (inl h) = by_task h.0 h.1 (is_box t) refl
     by_text (inr h) = (Err (fault.Stl h.0), misread h.0 h.1 refl)
-
--- the number of workers does not count
-pub other_workers : (unit : LengthUnit) (pitch layer : ℕ) (rule : Rule) (workers others : ℕ) (report : Bool) (grid : Option Given)
-    (bytes : List ℕ) (answer : Result (List ℕ) RunFault) → IsOutcome (task.Slice unit pitch layer rule workers report grid) bytes answer
-    → IsOutcome (task.Slice unit pitch layer rule others report grid) bytes answer
-other_workers unit pitch layer rule workers others report grid bytes answer (misread c f is) = misread c f is
-other_workers unit pitch layer rule workers others report grid bytes answer (boxed fs r b is) = cc
-other_workers unit pitch layer rule workers others report grid bytes answer (open_mesh fs r b from to there back o is) =
-    open_mesh fs r refl from to there back o is
-other_workers unit pitch layer rule workers others report grid bytes answer (closed fs r b e m) = closed fs r refl e m

@@ -11,8 +11,8 @@ use build_book::Build;
 use raster::{ImageWriter, Sink};
 use std::alloc::Allocator;
 
-/// Writes the images of all layers of a build, by one writer, and flushes them. On a fault just the first `written` bytes
-/// of all went out; all of them where it was the flush that failed.
+/// Writes the images of all layers of a build, by one writer, and flushes them. On a fault exactly the first `written` bytes of
+/// all went out; these are all if the flush failed.
 pub(crate) fn write_images<A: Allocator, O: Sink>(
     build: &Build<'_, A>,
     sink: &mut O,

@@ -1,4 +1,4 @@
-//! Writes the images of all layers where a build has several workers, and decides whether these draw at the same time.
+//! Writes the images of all layers of a build by several workers, and decides whether these draw at the same time.
 ghost use Rattle.std.specs.Prelude.{◌≡◌, ◌<◌, IfErr, OnOk, true, vec_len};
 ghost use Rattle.std.specs.Io.KnownBytes.{Appends};
 ghost use Rattle.mesh_reading.specs.Transcript.{transcript};
@@ -20,12 +20,12 @@ const SET_LEN: usize = 1 << 24;
 /// The greatest length of an image that is drawn into a page.
 const DRAWN_LIMIT: u64 = 1 << 20;
 
-/// Where a row has more spans than this on average, drawing images takes longer than writing them.
+/// If a row has more spans than this on average, drawing images takes longer than writing them.
 const FEW_SPANS: u64 = 8;
 
-/// The same as [`write_images`], for a build by several workers. Where the layers have many spans, so that drawing takes longer
-/// than writing, up to `workers` workers draw images at the same time, beside the thread that writes those drawn before. The
-/// memory for that is allocated before the first byte is written; where there is none, one worker does all.
+/// The same as [`write_images`], for a build by several workers. If the layers have many spans, drawing takes longer than
+/// writing. Then up to `workers` workers draw images at the same time, beside the thread that writes those drawn before. The
+/// memory for that is allocated before the first byte is written; if there is none, one worker does all.
 pub(crate) fn write_images_by<R: Threads + Sync, A: Allocator + Copy + Send + Sync, O: Sink>(
     rt: &R,
     alloc: A,
@@ -46,8 +46,8 @@ pub(crate) fn write_images_by<R: Threads + Sync, A: Allocator + Copy + Send + Sy
     }
 }
 
-/// How many images a page has where workers draw before they write. It is 0 where they do not: where there is one worker, an
-/// image is too long for a page, or rows have few spans.
+/// The number of images of a page, if workers draw before they write. It is 0 if they do not: if there is one worker, an image
+/// is too long for a page, or rows have few spans.
 fn drawn_a_page<A: Allocator>(build: &Build<'_, A>, workers: u32) -> usize {
     let per = images_a_page(build.job().grid(), workers);
     if workers > 1 && per > 0 && has_many_spans(build) {
@@ -57,8 +57,8 @@ fn drawn_a_page<A: Allocator>(build: &Build<'_, A>, workers: u32) -> usize {
     }
 }
 
-/// Writes the images of all layers of a build, drawn into pages by up to `workers` workers, `per` a page. Where there is no
-/// memory for the pages, one writer does all.
+/// Writes the images of all layers of a build, drawn into pages by up to `workers` workers, `per` a page. If there is no memory
+/// for the pages, one writer does all.
 fn write_drawn_images<R: Threads + Sync, A: Allocator + Copy + Send + Sync, O: Sink>(
     rt: &R,
     alloc: A,
@@ -107,7 +107,7 @@ fn write_by_pages<R: Threads + Sync, A: Allocator + Copy + Send + Sync, O: Sink>
     settle(sink, written)
 }
 
-/// How many images of this grid a page has, where a set has a page for each of these workers. It is 0 where an image is too
+/// The number of images of this grid that a page has, if a set has a page for each of these workers. It is 0 if an image is too
 /// long for a page.
 fn images_a_page(grid: &Grid, workers: u32) -> usize {
     let len = image_len(grid);

@@ -4,13 +4,14 @@ ghost use Rattle.std.specs.Io.KnownBytes.{Appends};
 ghost use Rattle.raster.specs.Devices.{AppendsFirst, Fails, greatest_count};
 ghost use Rattle.stlslice.specs.Pages.{ArePageSets, image_size, images_between, images_of, pages_text};
 
+use crate::write::flush::put_more;
 use build_book::Build;
-use raster::{Grid, Page, Sink, WriteFault, image_len, put_all};
+use raster::{Grid, Page, Sink, WriteFault, image_len};
 use std::alloc::{AllocError, Allocator};
 use std::mem::swap;
 use std::thread::{Threads, for_each_mut, join_mut};
 
-/// Two sets of `count` pages without images. Each page has room for just `per` images of this grid.
+/// Two sets of `count` pages without images. Exactly `per` images of this grid fit each page.
 pub(crate) fn page_sets<A: Allocator + Copy>(
     alloc: A,
     grid: &Grid,
@@ -29,7 +30,7 @@ pub(crate) fn page_sets<A: Allocator + Copy>(
     Ok((drawn, free))
 }
 
-/// Pages without images, which have room for just `per` images of this grid each.
+/// Pages without images. Exactly `per` images of this grid fit each.
 fn blank_pages<A: Allocator + Copy>(
     alloc: A,
     grid: &Grid,
@@ -48,7 +49,7 @@ fn blank_pages<A: Allocator + Copy>(
     Ok(pages)
 }
 
-/// A page without images, which has room for just `per` images of this grid.
+/// A page without images. Exactly `per` images of this grid fit it.
 fn blank_page<A: Allocator>(alloc: A, grid: &Grid, per: usize) -> Result<Page<A>, AllocError>
     ensures blank { IfOk result (λ page. page.bytes ≡ []) }
     ensures room { IfOk result (λ page. page.room ≡ per * image_size grid.now) }
@@ -60,8 +61,8 @@ fn blank_page<A: Allocator>(alloc: A, grid: &Grid, per: usize) -> Result<Page<A>
     }
 }
 
-/// Writes the images of all layers of a build. They are drawn into the pages `free`, `per` a page, by as many workers as there
-/// are pages, while those in the pages `drawn`, which have none at first, are written. Answers how many bytes were written.
+/// Writes the images of all layers of a build, and returns the number of bytes written. They are drawn into the pages `free`,
+/// `per` a page, by one worker a page. Meanwhile those in the pages `drawn`, which have none at first, are written.
 pub(crate) fn put_by_pages<R: Threads + Sync, A: Allocator + Copy + Send + Sync, O: Sink>(
     rt: &R,
     build: &Build<'_, A>,
@@ -110,7 +111,7 @@ pub(crate) fn put_by_pages<R: Threads + Sync, A: Allocator + Copy + Send + Sync,
 }
 
 /// Draws the images of the layers from `first` on into the pages `free`, `per` a page, while the pages `drawn` are written.
-/// `before` is the number of bytes that were written so far; answers how many were written then.
+/// The number of bytes that were written so far is `before`. Returns the number afterwards.
 fn draw_and_put<R: Threads + Sync, A: Allocator + Copy + Send + Sync, O: Sink>(
     rt: &R,
     build: &Build<'_, A>,
@@ -213,8 +214,8 @@ fn draw_page<A: Allocator>(
     }
 }
 
-/// The layer with which page `i` begins, where page 0 begins with layer `first`, and each has `per` layers. There are `count`
-/// layers: a page for which none is left begins at `count`.
+/// The first layer of page `i`. Page 0 begins with layer `first`, and each page has `per` layers. There are `count` layers: a
+/// page for which none is left begins at `count`.
 fn start_of_page(first: usize, per: usize, i: usize, count: usize) -> usize
     ensures { result ≡ min (first + i * per) count }
 {
@@ -228,8 +229,7 @@ fn end_of_set<A: Allocator>(set: &Vec<Page<A>, A>, first: usize, per: usize, cou
     start_of_page(first, per, set.len(), count)
 }
 
-/// Writes pages one after another. `before` is the number of bytes that were written so far; answers how many were written
-/// then.
+/// Writes pages one after another. `before` is the number of bytes that were written so far. Returns the number afterwards.
 fn put_pages<A: Allocator, O: Sink>(
     pages: &[Page<A>],
     sink: &mut O,
@@ -251,7 +251,7 @@ fn put_pages<A: Allocator, O: Sink>(
     Ok(written)
 }
 
-/// Writes a page. `before` is the number of bytes that were written so far; answers how many were written then.
+/// Writes a page. `before` is the number of bytes that were written so far. Returns the number afterwards.
 fn put_page<A: Allocator, O: Sink>(
     page: &Page<A>,
     sink: &mut O,
@@ -266,11 +266,5 @@ fn put_page<A: Allocator, O: Sink>(
     ensures within { IfErr result (λ fault. fault.written < before + length page.now.bytes) }
     ensures failed { OnErr result (Fails (O.Failures.failure_count sink.old) (O.Failures.failure_count sink.new)) }
 {
-    let bytes = page.bytes();
-    match put_all(sink, bytes) {
-        Ok(()) => Ok(before + bytes.len() as u64),
-        Err(fault) => Err(WriteFault {
-            written: before + fault.written,
-        }),
-    }
+    put_more(page.bytes(), sink, before)
 }

@@ -8,8 +8,8 @@ use mesh_weld::{Solid, probe};
 use raster::Grid;
 use std::alloc::Allocator;
 
-/// The line on the signed crossings along x and y from the centre of a voxel. The fault is `Outside` where the grid has no
-/// such voxel.
+/// The line on the signed crossings along x and y from the centre of a voxel. The fault is `Outside` if the grid has no such
+/// voxel.
 pub(crate) fn probe_line<A: Allocator + Copy + Send + Sync>(
     alloc: A,
     solid: &Solid<A>,

@@ -1,0 +1,109 @@
+//! The output of `--png`: the PNGs of all layers, one after the other.
+ghost use Rattle.std.specs.Prelude.{◌≡◌, ◌<◌, ◌≤◌, ◌⊎◌, All, IfErr, IfOk, OnErr, OnOk, length, max, true, vec_capacity};
+ghost use Rattle.std.specs.Io.KnownBytes.{Appends};
+ghost use Rattle.layer_png.specs.Depth.{bits};
+ghost use Rattle.layer_png.specs.Layer.{shown};
+ghost use Rattle.layer_png.specs.Text.{most_png_bytes, png_text};
+ghost use Rattle.mesh_reading.specs.Transcript.{transcript};
+ghost use Rattle.raster.specs.Devices.{AppendsFirst, Fails};
+ghost use Rattle.raster.specs.Span.{AreSpans};
+ghost use Rattle.stlslice.specs.Pngs.{HasRoom, pngs_of};
+ghost use Rattle.stlslice.specs.Unwritten.{IsUntouched, IsUnwritten};
+ghost use Rattle.stlslice.specs.declared.run_fault.RunFault.TheVariants.{Memory};
+
+use crate::run_fault::RunFault;
+use crate::write::flush::{put_more, settle};
+use build_book::Build;
+use layer_png::{Depth, Mirrors, most_png_bytes, write_png};
+use raster::{Grid, Sink, Span, WriteFault};
+use std::alloc::Allocator;
+
+/// Writes the PNGs of all layers of a build, one after another, and flushes them. The memory for the longest is allocated
+/// before the first byte is written. If there is none, the fault is `Memory`, and nothing was written. On another fault exactly
+/// the first `written` bytes of all went out; these are all if the flush failed.
+pub(crate) fn write_pngs<A: Allocator + Copy + Send + Sync, O: Sink>(
+    alloc: A,
+    build: &Build<'_, A>,
+    depth: Depth,
+    mirrors: Mirrors,
+    sink: &mut O,
+) -> Result<(), RunFault>
+    ensures flushed { OnOk result (O.is_settled sink.new ≡ true) }
+    ensures ok { OnOk result (Appends (O.contents sink.old) (O.contents sink.new) (pngs_of build.now.job depth mirrors)) }
+    ensures same { OnOk result (O.Failures.failure_count sink.new ≡ O.Failures.failure_count sink.old) }
+    ensures err { IfErr result (λ fault. ((fault ≡ Memory) × IsUntouched
+        (transcript (O.contents sink.old) (O.contents sink.new) (O.Failures.failure_count sink.old) (O.Failures.failure_count sink.new)))
+        ⊎ IsUnwritten
+        (transcript (O.contents sink.old) (O.contents sink.new) (O.Failures.failure_count sink.old) (O.Failures.failure_count sink.new))
+        (pngs_of build.now.job depth mirrors) fault) }
+{
+    let room = room_for_png(build, depth);
+    let buffer = Vec::with_capacity(alloc, room)?;
+    let written = put_pngs(build, depth, mirrors, buffer, sink)?;
+    settle(sink, written)
+}
+
+/// A number of bytes that is enough for the PNG of each layer of a build.
+fn room_for_png<A: Allocator>(build: &Build<'_, A>, depth: Depth) -> usize
+    ensures { HasRoom build.now.job.grid depth build.now.layers result }
+{
+    let grid = build.job().grid();
+    let mut room = 0;
+    for layer in build.layers() {
+        room = greater(room, most_png_bytes(grid, layer.spans().len(), depth));
+    }
+    room as usize
+}
+
+/// The greater of two counts.
+fn greater(a: u64, b: u64) -> u64
+    ensures { result ≡ max a b }
+{
+    if a < b { b } else { a }
+}
+
+/// Writes the PNGs of all layers of a build, each made in a buffer that it fits. Returns the number of bytes written.
+fn put_pngs<A: Allocator, O: Sink>(
+    build: &Build<'_, A>,
+    depth: Depth,
+    mirrors: Mirrors,
+    mut buffer: Vec<u8, A>,
+    sink: &mut O,
+) -> Result<u64, WriteFault>
+    requires { HasRoom build.now.job.grid depth build.now.layers (vec_capacity buffer) }
+    ensures ok { OnOk result (Appends (O.contents sink.old) (O.contents sink.new) (pngs_of build.now.job depth mirrors)) }
+    ensures total { IfOk result (λ total. total ≡ length (pngs_of build.now.job depth mirrors)) }
+    ensures same { OnOk result (O.Failures.failure_count sink.new ≡ O.Failures.failure_count sink.old) }
+    ensures written { IfErr result (λ fault. AppendsFirst (O.contents sink.old) (O.contents sink.new) fault.written (pngs_of build.now.job depth mirrors)) }
+    ensures within { IfErr result (λ fault. fault.written < length (pngs_of build.now.job depth mirrors)) }
+    ensures failed { OnErr result (Fails (O.Failures.failure_count sink.old) (O.Failures.failure_count sink.new)) }
+{
+    let grid = build.job().grid();
+    // wakes the invariant: the counts of columns, rows and layers bound the count of the bytes
+    let _columns = grid.columns();
+    let _rows = grid.rows();
+    let _layers = grid.layers();
+    let mut written = 0;
+    for layer in build.layers() {
+        buffer = png_in(buffer, grid, layer.spans(), depth, mirrors);
+        written = put_more(buffer.as_slice(), sink, written)?;
+    }
+    Ok(written)
+}
+
+/// The PNG of a layer, in place of what the buffer holds. It fits the buffer, so that no memory is allocated.
+fn png_in<A: Allocator>(
+    mut buffer: Vec<u8, A>,
+    grid: &Grid,
+    spans: &[Span],
+    depth: Depth,
+    mirrors: Mirrors,
+) -> Vec<u8, A>
+    requires form { AreSpans grid.now.columns grid.now.rows spans.now }
+    requires room { most_png_bytes (bits depth) grid.now.columns grid.now.rows (length spans.now) ≤ vec_capacity buffer }
+    ensures text { result.items ≡ png_text (bits depth) grid.now.columns grid.now.rows (shown mirrors grid.now.columns grid.now.rows spans.now) }
+    ensures capacity { vec_capacity buffer ≤ vec_capacity result }
+{
+    buffer.clear();
+    write_png(buffer, grid, spans, depth, mirrors).unwrap()
+}
