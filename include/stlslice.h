@@ -4,7 +4,8 @@
  *     stlslice_mesh mesh = STLSLICE_CLOSED;
  *     stlslice_shape shape;
  *     char line[STLSLICE_LINE];
- *     if (stlslice_open(text, text_size, &options, &mesh, &shape, line, sizeof line) != STLSLICE_DONE)
+ *     if (stlslice_open_mesh(points, point_count, triangles, triangle_count, &options, &mesh, &shape, line, sizeof line)
+ *         != STLSLICE_DONE)           // or stlslice_open of an ASCII STL text
  *         puts(line);
  *     stlslice_mask(&mesh, k, image, image_room, &image_size);
  *     stlslice_close(&mesh);
@@ -15,10 +16,10 @@
  *
  * Buffers. A call with a buffer writes into its front and leaves the rest as it was, and tells how much it wrote. Where
  * the buffer is too small nothing is written, the size that is wanted is told, and the status is STLSLICE_NO_ROOM; so a
- * call with a null buffer of size 0 asks for the size, at once for images. At any other status buffer and size are as
- * they were.
+ * call with a null buffer of size 0 asks for the size, at once for stlslice_mask and stlslice_stripe. At any other status
+ * buffer and size are as they were.
  *
- * Pointers. A text or a buffer may be null where its size is 0. Any other pointer that is null makes the status
+ * Pointers. A text, an array or a buffer may be null where its size is 0. Any other pointer that is null makes the status
  * STLSLICE_OUT_OF_RANGE. A pointer that is not null has to be valid for its type. The places that one call
  * writes to overlap neither each other nor what it reads.
  *
@@ -39,7 +40,7 @@ extern "C" {
 /* Statuses. 3 to 6 are the program's. */
 typedef uint32_t stlslice_status;
 #define STLSLICE_DONE 0u
-#define STLSLICE_OUT_OF_RANGE 1u /* a number, layer, stripe or voxel is out of its range; a pointer is null */
+#define STLSLICE_OUT_OF_RANGE 1u /* a number, triangle, layer, stripe or voxel is out of its range; a pointer is null */
 #define STLSLICE_TEXT 3u         /* the text is no ASCII STL */
 #define STLSLICE_OPEN_MESH 4u    /* the mesh has an open edge */
 #define STLSLICE_GRID 5u         /* there is no such grid */
@@ -55,18 +56,21 @@ enum { STLSLICE_EVENODD = 0, STLSLICE_NONZERO = 1, STLSLICE_POSITIVE = 2 };
 enum { STLSLICE_MILLIMETRE = 0, STLSLICE_INCH = 1 };
 enum { STLSLICE_FITTED = 0, STLSLICE_GIVEN = 1 };
 
-/* How a text is read, and how its mesh is cut into voxels. */
+/* Mirrors of a PNG: 0, one of these, or their sum. */
+enum { STLSLICE_MIRROR_X = 1, STLSLICE_MIRROR_Y = 2 };
+
+/* How a text is read, and how a mesh is cut into voxels. */
 typedef struct {
     uint32_t pitch;                 /* a voxel's length along x and y, 1 to 100000 */
     uint32_t layer;                 /* a voxel's length along z, 1 to 100000 */
     uint32_t rule;                  /* STLSLICE_EVENODD, .. */
-    uint32_t unit;                  /* of the text's numbers: STLSLICE_MILLIMETRE, .. */
+    uint32_t unit;                  /* of a text's numbers: STLSLICE_MILLIMETRE, ..; of no effect on arrays */
     uint32_t placing;               /* STLSLICE_FITTED: the rest is not read; STLSLICE_GIVEN: it is the grid */
     uint32_t columns, rows, layers; /* at most 16384, 16384 and 65535 */
     int32_t origin[3];              /* the corner of least x, y and z, each at most 128000000 from 0 */
 } stlslice_options;
 
-/* The facets of a text: how many, and their least and greatest x, y and z. All are 0 where there is none. */
+/* The facets of a text or of arrays: how many, and their least and greatest x, y and z. All are 0 where there is none. */
 typedef struct {
     uint64_t facets;
     int32_t low[3], high[3];
@@ -111,12 +115,32 @@ stlslice_status stlslice_box(const uint8_t *text, size_t text_size, uint32_t uni
 stlslice_status stlslice_open(const uint8_t *text, size_t text_size, const stlslice_options *options, stlslice_mesh *mesh,
                               stlslice_shape *shape, char *line, size_t line_room);
 
+/* Opens a mesh from arrays, as stlslice_open does a text. A point is three coordinates, x, y and z in micrometres, each at most
+ * 128000000 from 0; a triangle is the indices of its three corners among the points, from 0, counterclockwise as seen from
+ * outside. The counts are of points and of triangles, so the arrays have three numbers for each; there are at most 1048576
+ * triangles. The unit of the options has to be one, and has no effect. A point that no triangle has is not looked at. Nothing of
+ * the arrays is kept: they are no longer needed.
+ * Where a triangle is wrong, the status is STLSLICE_OUT_OF_RANGE, and `line` names the first one, from 0, and in it the first
+ * such point: "point 7 of triangle 3 is missing", "point 7 of triangle 3 is out of range", or "too many facets at triangle
+ * 1048576". Else all is as in stlslice_open: a text of the same facets has the same mesh, or the same fault. */
+stlslice_status stlslice_open_mesh(const int32_t *points, size_t point_count, const uint32_t *triangles,
+                                   size_t triangle_count, const stlslice_options *options, stlslice_mesh *mesh,
+                                   stlslice_shape *shape, char *line, size_t line_room);
+
 /* The image of layer k in raw PBM, just as the program writes it: "P4", columns, rows, then rows of (columns + 7) / 8
  * bytes from the greatest y down, the leftmost pixel in the highest bit, 1 where the voxel is filled. */
 stlslice_status stlslice_mask(stlslice_mesh *mesh, uint32_t k, uint8_t *image, size_t image_room, size_t *image_size);
 
 /* The images of the layers 8 s to 8 s + 7, as far as there are, one after the other; this is faster than one by one. */
 stlslice_status stlslice_stripe(stlslice_mesh *mesh, uint64_t s, uint8_t *images, size_t images_room, size_t *images_size);
+
+/* The image of layer k as PNG (ISO 15948) in greyscale, of `depth` bits a pixel, 1 or 8: a pixel is white where the voxel is
+ * filled, and else black. Without mirrors column 0 stands at the left, and the greatest y at the top, as in stlslice_mask;
+ * STLSLICE_MIRROR_X puts column 0 at the right, and STLSLICE_MIRROR_Y the greatest y at the bottom. Another depth or other
+ * mirrors make the status STLSLICE_OUT_OF_RANGE. Sizes differ from layer to layer, and the size alone takes as long as the
+ * image: try a buffer first that is likely to do, as one of the size that stlslice_mask tells and 100 bytes more. */
+stlslice_status stlslice_png(stlslice_mesh *mesh, uint32_t k, uint32_t depth, uint32_t mirrors, uint8_t *png, size_t png_room,
+                             size_t *png_size);
 
 /* The number of filled pixels of layer k. */
 stlslice_status stlslice_area(stlslice_mesh *mesh, uint32_t k, uint64_t *area);

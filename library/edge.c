@@ -14,8 +14,11 @@ uint32_t proved_stlslice_version(void);
 uint32_t proved_stlslice_box(const uint8_t *, size_t, uint32_t, stlslice_corners *, uint8_t *, size_t);
 uint32_t proved_stlslice_open(const uint8_t *, size_t, const stlslice_options *, stlslice_mesh *, stlslice_shape *,
                               uint8_t *, size_t);
+uint32_t proved_stlslice_open_mesh(const int32_t *, size_t, const uint32_t *, size_t, const stlslice_options *, stlslice_mesh *,
+                                   stlslice_shape *, uint8_t *, size_t);
 uint32_t proved_stlslice_mask(stlslice_mesh *, uint32_t, uint8_t *, size_t, size_t *);
 uint32_t proved_stlslice_stripe(stlslice_mesh *, uint64_t, uint8_t *, size_t, size_t *);
+uint32_t proved_stlslice_png(stlslice_mesh *, uint32_t, uint32_t, uint32_t, uint8_t *, size_t, size_t *);
 uint32_t proved_stlslice_area(stlslice_mesh *, uint32_t, uint64_t *);
 uint32_t proved_stlslice_probe(stlslice_mesh *, uint32_t, uint32_t, uint32_t, stlslice_rays *);
 uint32_t proved_stlslice_loops(stlslice_mesh *, uint32_t, stlslice_point *, size_t, size_t *, size_t *, size_t, size_t *);
@@ -59,6 +62,21 @@ stlslice_status stlslice_open(const uint8_t *text, size_t text_size, const stlsl
                                 line_room ? (uint8_t *)line : &none, line_room);
 }
 
+stlslice_status stlslice_open_mesh(const int32_t *points, size_t point_count, const uint32_t *triangles,
+                                   size_t triangle_count, const stlslice_options *options, stlslice_mesh *mesh,
+                                   stlslice_shape *shape, char *line, size_t line_room) {
+    int32_t no_point[3] = {0, 0, 0};
+    uint32_t no_triangle[3] = {0, 0, 0};
+    uint8_t none = 0;
+    if (!can_all_lie(points, point_count, sizeof no_point) || !can_all_lie(triangles, triangle_count, sizeof no_triangle)
+        || options == NULL || mesh == NULL || shape == NULL || !can_lie(line, line_room)) {
+        stlslice_fault_text(STLSLICE_OUT_OF_RANGE, line, line_room);
+        return STLSLICE_OUT_OF_RANGE;
+    }
+    return proved_stlslice_open_mesh(point_count ? points : no_point, point_count, triangle_count ? triangles : no_triangle,
+                                     triangle_count, options, mesh, shape, line_room ? (uint8_t *)line : &none, line_room);
+}
+
 stlslice_status stlslice_mask(stlslice_mesh *mesh, uint32_t k, uint8_t *image, size_t image_room, size_t *image_size) {
     uint8_t none = 0;
     if (mesh == NULL || !can_lie(image, image_room) || image_size == NULL)
@@ -71,6 +89,14 @@ stlslice_status stlslice_stripe(stlslice_mesh *mesh, uint64_t s, uint8_t *images
     if (mesh == NULL || !can_lie(images, images_room) || images_size == NULL)
         return STLSLICE_OUT_OF_RANGE;
     return proved_stlslice_stripe(mesh, s, images_room ? images : &none, images_room, images_size);
+}
+
+stlslice_status stlslice_png(stlslice_mesh *mesh, uint32_t k, uint32_t depth, uint32_t mirrors, uint8_t *png, size_t png_room,
+                             size_t *png_size) {
+    uint8_t none = 0;
+    if (mesh == NULL || !can_lie(png, png_room) || png_size == NULL)
+        return STLSLICE_OUT_OF_RANGE;
+    return proved_stlslice_png(mesh, k, depth, mirrors, png_room ? png : &none, png_room, png_size);
 }
 
 stlslice_status stlslice_area(stlslice_mesh *mesh, uint32_t k, uint64_t *area) {

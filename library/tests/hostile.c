@@ -56,6 +56,10 @@ static uint8_t *text;
 static size_t text_size;
 static stlslice_options options;
 
+/* a tetrahedron of 4 mm, sliced as the text is */
+static const int32_t corners_of_four[12] = {0, 0, 0, 4000, 0, 0, 0, 4000, 0, 0, 0, 4000};
+static const uint32_t four[12] = {0, 2, 1, 0, 1, 3, 0, 3, 2, 1, 2, 3};
+
 static size_t read_file(const char *path) {
     FILE *file = fopen(path, "rb");
     if (file == NULL || fseek(file, 0, SEEK_END) != 0)
@@ -103,6 +107,7 @@ static void nulls(void) {
     CHECK(memcmp(&corners, &corners_were, sizeof corners) == 0);
     CHECK(stlslice_mask(NULL, 0, &byte, 1, &size) == STLSLICE_OUT_OF_RANGE);
     CHECK(stlslice_stripe(NULL, 0, &byte, 1, &size) == STLSLICE_OUT_OF_RANGE);
+    CHECK(stlslice_png(NULL, 0, 8, 0, &byte, 1, &size) == STLSLICE_OUT_OF_RANGE);
     CHECK(stlslice_area(NULL, 0, &area) == STLSLICE_OUT_OF_RANGE);
     CHECK(stlslice_probe(NULL, 0, 0, 0, &rays) == STLSLICE_OUT_OF_RANGE);
     CHECK(stlslice_loops(NULL, 0, NULL, 0, &size, NULL, 0, &count) == STLSLICE_OUT_OF_RANGE);
@@ -112,6 +117,9 @@ static void nulls(void) {
     CHECK(stlslice_mask(&mesh, 0, &byte, 1, NULL) == STLSLICE_OUT_OF_RANGE);
     CHECK(stlslice_stripe(&mesh, 0, NULL, 1, &size) == STLSLICE_OUT_OF_RANGE);
     CHECK(stlslice_stripe(&mesh, 0, &byte, 1, NULL) == STLSLICE_OUT_OF_RANGE);
+    CHECK(stlslice_png(&mesh, 0, 8, 0, NULL, 1, &size) == STLSLICE_OUT_OF_RANGE);
+    CHECK(stlslice_png(&mesh, 0, 8, 0, &byte, SIZE_MAX, &size) == STLSLICE_OUT_OF_RANGE);
+    CHECK(stlslice_png(&mesh, 0, 8, 0, &byte, 1, NULL) == STLSLICE_OUT_OF_RANGE);
     CHECK(stlslice_area(&mesh, 0, NULL) == STLSLICE_OUT_OF_RANGE);
     CHECK(stlslice_probe(&mesh, 0, 0, 0, NULL) == STLSLICE_OUT_OF_RANGE);
     CHECK(stlslice_loops(&mesh, 0, NULL, 1, &size, NULL, 0, &count) == STLSLICE_OUT_OF_RANGE);
@@ -124,10 +132,97 @@ static void nulls(void) {
     size_t layers = shape.layers < 8 ? shape.layers : 8;
     CHECK(stlslice_mask(&mesh, 0, NULL, 0, &count) == STLSLICE_NO_ROOM && count > shape.rows);
     CHECK(stlslice_stripe(&mesh, 0, NULL, 0, &size) == STLSLICE_NO_ROOM && size == layers * count);
+    CHECK(stlslice_png(&mesh, 0, 8, 0, NULL, 0, &size) == STLSLICE_NO_ROOM && size > 57);
     stlslice_close(&mesh);
     stlslice_close(NULL);
     stlslice_fault_text(0, NULL, 0);
     stlslice_fault_text(0, NULL, 9);
+}
+
+/* whether arrays are refused with this status and line, and leave mesh and shape as they are */
+static bool refuses(const int32_t *points, size_t point_count, const uint32_t *triangles, size_t triangle_count,
+                    stlslice_status status, const char *told) {
+    stlslice_mesh mesh = STLSLICE_CLOSED;
+    stlslice_shape shape;
+    char line[STLSLICE_LINE] = "as before";
+    memset(&shape, 0x77, sizeof shape);
+    const stlslice_shape was = shape;
+    return stlslice_open_mesh(points, point_count, triangles, triangle_count, &options, &mesh, &shape, line, sizeof line) == status
+        && strcmp(line, told) == 0 && !mesh.is_open && memcmp(&shape, &was, sizeof was) == 0;
+}
+
+/* arrays that are null, of sizes that no object has, and with each fault; the first is named */
+static void arrays(void) {
+    const char *wrong = texts[STLSLICE_OUT_OF_RANGE];
+    stlslice_mesh mesh = STLSLICE_CLOSED;
+    stlslice_shape shape;
+    char line[STLSLICE_LINE] = "as before";
+    CHECK(refuses(NULL, 4, four, 4, STLSLICE_OUT_OF_RANGE, wrong));
+    CHECK(refuses(corners_of_four, 4, NULL, 4, STLSLICE_OUT_OF_RANGE, wrong));
+    CHECK(refuses(corners_of_four, SIZE_MAX, four, 4, STLSLICE_OUT_OF_RANGE, wrong));
+    CHECK(refuses(corners_of_four, SIZE_MAX / 12 + 2, four, 4, STLSLICE_OUT_OF_RANGE, wrong));
+    CHECK(refuses(corners_of_four, 4, four, SIZE_MAX / 16, STLSLICE_OUT_OF_RANGE, wrong));
+    CHECK(refuses(NULL, 0, NULL, 0, STLSLICE_GRID, "no facet is left"));
+    CHECK(refuses(corners_of_four, 4, NULL, 0, STLSLICE_GRID, "no facet is left"));
+    CHECK(refuses(NULL, 0, four, 4, STLSLICE_OUT_OF_RANGE, "point 0 of triangle 0 is missing"));
+    CHECK(refuses(corners_of_four, 3, four, 4, STLSLICE_OUT_OF_RANGE, "point 3 of triangle 1 is missing"));
+    CHECK(refuses(corners_of_four, 4, four, 3, STLSLICE_OPEN_MESH, "open edge 0 0 4000 to 0 4000 0 there 1 back 0"));
+    for (unsigned place = 0; place < 12; place++) {
+        int32_t points[12];
+        uint32_t triangles[12];
+        char named[STLSLICE_LINE];
+        memcpy(points, corners_of_four, sizeof points);
+        memcpy(triangles, four, sizeof triangles);
+        triangles[place] = place % 2 ? 4 : UINT32_MAX;
+        snprintf(named, sizeof named, "point %u of triangle %u is missing", triangles[place], place / 3);
+        CHECK(refuses(points, 4, triangles, 4, STLSLICE_OUT_OF_RANGE, named));
+        triangles[place] = four[place];
+        static const int32_t far[] = {128000001, -128000001, INT32_MAX, INT32_MIN};
+        points[place] = far[place % 4];
+        unsigned first = 0;
+        while (four[first] != place / 3)
+            first++;
+        snprintf(named, sizeof named, "point %u of triangle %u is out of range", place / 3, first / 3);
+        CHECK(refuses(points, 4, triangles, 4, STLSLICE_OUT_OF_RANGE, named));
+        triangles[11] = 9; /* comes later than each of them */
+        CHECK(refuses(points, 4, triangles, 4, STLSLICE_OUT_OF_RANGE, named));
+    }
+    const size_t most = 1048576;
+    uint32_t *flat = (uint32_t *)calloc(3 * (most + 1), sizeof *flat);
+    CHECK(flat != NULL);
+    CHECK(refuses(corners_of_four, 4, flat, most, STLSLICE_GRID, "no facet is left"));
+    CHECK(refuses(corners_of_four, 4, flat, most + 1, STLSLICE_OUT_OF_RANGE, "too many facets at triangle 1048576"));
+    flat[3 * most - 1] = 4;
+    CHECK(refuses(corners_of_four, 4, flat, most + 1, STLSLICE_OUT_OF_RANGE, "point 4 of triangle 1048575 is missing"));
+    free(flat);
+    CHECK(stlslice_open_mesh(corners_of_four, 4, four, 4, NULL, &mesh, &shape, line, sizeof line) == STLSLICE_OUT_OF_RANGE);
+    CHECK(stlslice_open_mesh(corners_of_four, 4, four, 4, &options, NULL, &shape, line, sizeof line) == STLSLICE_OUT_OF_RANGE);
+    CHECK(stlslice_open_mesh(corners_of_four, 4, four, 4, &options, &mesh, NULL, line, sizeof line) == STLSLICE_OUT_OF_RANGE);
+    CHECK(stlslice_open_mesh(corners_of_four, 4, four, 4, &options, &mesh, &shape, NULL, 9) == STLSLICE_OUT_OF_RANGE);
+    CHECK(!mesh.is_open && strcmp(line, wrong) == 0);
+    /* the caller's arrays may go, and the unit has no effect */
+    for (uint32_t unit = STLSLICE_MILLIMETRE; unit <= STLSLICE_INCH; unit++) {
+        int32_t *points = (int32_t *)malloc(sizeof corners_of_four);
+        uint32_t *triangles = (uint32_t *)malloc(sizeof four);
+        uint64_t area = 0, again = 0;
+        CHECK(points != NULL && triangles != NULL);
+        memcpy(points, corners_of_four, sizeof corners_of_four);
+        memcpy(triangles, four, sizeof four);
+        stlslice_options other = options;
+        other.unit = unit;
+        CHECK(stlslice_open_mesh(points, 4, triangles, 4, &other, &mesh, &shape, NULL, 0) == STLSLICE_DONE);
+        CHECK(stlslice_area(&mesh, 0, &area) == STLSLICE_DONE && area > 0);
+        memset(points, 0xff, sizeof corners_of_four);
+        memset(triangles, 0xff, sizeof four);
+        free(points);
+        free(triangles);
+        CHECK(stlslice_area(&mesh, 0, &again) == STLSLICE_DONE && again == area);
+        CHECK(shape.corners.facets == 4 && shape.corners.high[2] == 4000 && shape.layers == 8);
+        /* a mesh that is refused leaves the open one */
+        CHECK(stlslice_open_mesh(corners_of_four, 4, four, 3, &other, &mesh, &shape, NULL, 0) == STLSLICE_OPEN_MESH);
+        CHECK(mesh.is_open && stlslice_area(&mesh, 0, &again) == STLSLICE_DONE && again == area);
+    }
+    stlslice_close(&mesh);
 }
 
 static void ranges(void) {
@@ -156,6 +251,9 @@ static void ranges(void) {
         }
         CHECK(stlslice_open(text, text_size, &wrong, &mesh, &shape, line, sizeof line) == STLSLICE_OUT_OF_RANGE);
         CHECK(strcmp(line, turn < 4 ? step : texts[STLSLICE_OUT_OF_RANGE]) == 0);
+        /* the options of arrays are the same, and come first */
+        CHECK(stlslice_open_mesh(NULL, 0, four, 4, &wrong, &mesh, &shape, line, sizeof line) == STLSLICE_OUT_OF_RANGE);
+        CHECK(strcmp(line, turn < 4 ? step : texts[STLSLICE_OUT_OF_RANGE]) == 0);
         CHECK(!mesh.is_open && memcmp(&shape, &was, sizeof was) == 0);
     }
     stlslice_options far = options;
@@ -164,6 +262,45 @@ static void ranges(void) {
     CHECK(strcmp(line, "grid has no cells") == 0);
     CHECK(stlslice_box(text, text_size, 2, &corners, line, sizeof line) == STLSLICE_OUT_OF_RANGE);
     CHECK(strcmp(line, texts[STLSLICE_OUT_OF_RANGE]) == 0 && memcmp(&corners, &nines, sizeof nines) == 0);
+}
+
+/* a PNG of each depth and each mirrors, in a buffer that just has room for it, and in one that lacks a byte; and numbers that
+ * are no depth, no mirrors or no layer */
+static void pngs(void) {
+    stlslice_mesh mesh = STLSLICE_CLOSED;
+    stlslice_shape shape;
+    CHECK(stlslice_open(text, text_size, &options, &mesh, &shape, NULL, 0) == STLSLICE_DONE);
+    const uint8_t front[] = {137, 'P', 'N', 'G', 13, 10, 26, 10, 0, 0, 0, 13, 'I', 'H', 'D', 'R', 0, 0,
+                             (uint8_t)(shape.columns >> 8), (uint8_t)shape.columns, 0, 0,
+                             (uint8_t)(shape.rows >> 8), (uint8_t)shape.rows};
+    for (uint32_t turn = 0; turn < 8; turn++) {
+        const uint32_t depth = turn < 4 ? 1 : 8, mirrors = turn % 4, k = turn % shape.layers;
+        size_t size = 0, again = 0;
+        CHECK(stlslice_png(&mesh, k, depth, mirrors, NULL, 0, &size) == STLSLICE_NO_ROOM && size > 57);
+        uint8_t *png = (uint8_t *)malloc(size + 1);
+        CHECK(png != NULL);
+        memset(png, 0xa5, size + 1);
+        CHECK(stlslice_png(&mesh, k, depth, mirrors, png, size - 1, &again) == STLSLICE_NO_ROOM && again == size);
+        for (size_t at = 0; at <= size; at++)
+            CHECK(png[at] == 0xa5);
+        again = 0;
+        CHECK(stlslice_png(&mesh, k, depth, mirrors, png, size, &again) == STLSLICE_DONE && again == size);
+        CHECK(memcmp(png, front, sizeof front) == 0 && png[24] == depth && png[size] == 0xa5);
+        CHECK(memcmp(png + size - 12, "\0\0\0\0IEND", 8) == 0);
+        free(png);
+    }
+    const uint32_t wrong[] = {0, 2, 3, 4, 5, 7, 9, 16, 256, 257, 264, 0x80000001, UINT32_MAX};
+    uint8_t byte = 5;
+    size_t size = 5;
+    for (size_t at = 0; at < sizeof wrong / sizeof *wrong; at++) {
+        CHECK(stlslice_png(&mesh, 0, wrong[at], 0, &byte, 1, &size) == STLSLICE_OUT_OF_RANGE);
+        if (wrong[at] > 3)
+            CHECK(stlslice_png(&mesh, 0, 8, wrong[at], &byte, 1, &size) == STLSLICE_OUT_OF_RANGE);
+    }
+    CHECK(stlslice_png(&mesh, shape.layers, 8, 0, &byte, 1, &size) == STLSLICE_OUT_OF_RANGE);
+    CHECK(stlslice_png(&mesh, UINT32_MAX, 1, 3, NULL, 0, &size) == STLSLICE_OUT_OF_RANGE);
+    CHECK(byte == 5 && size == 5);
+    stlslice_close(&mesh);
 }
 
 /* a text without its last word has no box; with it, that of the mesh that it opens, whose facets are counted here */
@@ -222,6 +359,8 @@ static void closed(void) {
     for (int turn = 0; turn < 2; turn++) {
         CHECK(stlslice_mask(&mesh, 0, bytes, sizeof bytes, &size) == STLSLICE_NOT_OPEN);
         CHECK(stlslice_stripe(&mesh, 0, bytes, sizeof bytes, &size) == STLSLICE_NOT_OPEN);
+        CHECK(stlslice_png(&mesh, 0, 8, 0, bytes, sizeof bytes, &size) == STLSLICE_NOT_OPEN);
+        CHECK(stlslice_png(&mesh, 0, 9, 9, NULL, 0, &size) == STLSLICE_NOT_OPEN);
         CHECK(stlslice_area(&mesh, 0, &area) == STLSLICE_NOT_OPEN);
         CHECK(stlslice_probe(&mesh, 0, 0, 0, &rays) == STLSLICE_NOT_OPEN);
         CHECK(stlslice_loops(&mesh, 0, NULL, 0, &size, NULL, 0, &size) == STLSLICE_NOT_OPEN);
@@ -248,8 +387,10 @@ static stlslice_status attempt(int turn, stlslice_mesh *mesh, uint8_t *images, s
     case 1: return stlslice_open(text, text_size, &options, mesh, &told.shape, line, STLSLICE_LINE);
     case 2: return stlslice_mask(mesh, 3, images, room, &told.size);
     case 3: return stlslice_stripe(mesh, 0, images, room, &told.size);
-    case 4: return stlslice_loops(mesh, 3, told.points, 1000, &told.size, told.ends, 100, &told.count);
-    default: return stlslice_area(mesh, 3, &told.area);
+    case 4: return stlslice_png(mesh, 3, 8, 0, images, room, &told.size);
+    case 5: return stlslice_loops(mesh, 3, told.points, 1000, &told.size, told.ends, 100, &told.count);
+    case 6: return stlslice_area(mesh, 3, &told.area);
+    default: return stlslice_open_mesh(corners_of_four, 4, four, 4, &options, mesh, &told.shape, line, STLSLICE_LINE);
     }
 }
 
@@ -267,7 +408,7 @@ static unsigned long short_memory(const char *said) {
     CHECK(stlslice_area(&mesh, 3, &area) == STLSLICE_DONE && area > 0);
     uint8_t *image = (uint8_t *)malloc(one), *images = (uint8_t *)malloc(eight);
     CHECK(image != NULL && images != NULL);
-    for (int turn = 0; turn < 6; turn++) {
+    for (int turn = 0; turn < 8; turn++) {
         CHECK(stlslice_mask(&mesh, 3, image, one, &size) == STLSLICE_DONE);
         for (failing = 1;; failing++) {
             char line[STLSLICE_LINE] = "as before";
@@ -284,7 +425,7 @@ static unsigned long short_memory(const char *said) {
             }
             all++;
             CHECK(status == STLSLICE_MEMORY);
-            CHECK(strcmp(line, turn < 2 ? said : "as before") == 0);
+            CHECK(strcmp(line, turn < 2 || turn == 7 ? said : "as before") == 0);
             CHECK(memcmp(&told, &before, sizeof told) == 0);
             for (size_t at = 0; at < eight; at++)
                 CHECK(images[at] == 0x3c);
@@ -310,7 +451,9 @@ int main(int count, char **words) {
     options.layer = 500;
     CHECK(stlslice_version() >= 1000000);
     nulls();
+    arrays();
     ranges();
+    pngs();
     boxes();
     lines();
     closed();

@@ -1,8 +1,11 @@
 /* Opens a text, and writes all its layers to standard output as the program does: once layer by layer and once stripe by
  * stripe, which it compares. Each of four threads does so with a mesh of its own, and one mesh goes from thread to thread.
+ * The mesh of ARRAYS, which are the same facets, has to be the same: shape, layers, or the fault.
  *
- *     layers FILE PITCH LAYER RULE UNIT [COLUMNS ROWS LAYERS X0 Y0 Z0]
+ *     layers FILE ARRAYS PITCH LAYER RULE UNIT [COLUMNS ROWS LAYERS X0 Y0 Z0]
  *
+ * ARRAYS has the numbers of points and of triangles, then the points and the triangles, in 4 bytes each; it is - where the text
+ * is no facets.
  * The status is that of stlslice_open, and 100 where an answer is another than the header says. */
 #include "stlslice.h"
 
@@ -30,6 +33,45 @@ typedef struct {
     stlslice_mesh mesh;
     stlslice_shape shape;
 } Work;
+
+static uint32_t counts[2], *array_triangles;
+static int32_t *array_points;
+
+static bool read_arrays(const char *path) {
+    FILE *file = fopen(path, "rb");
+    if (file == NULL || fread(counts, sizeof *counts, 2, file) != 2)
+        return false;
+    array_points = (int32_t *)malloc(12 * (size_t)counts[0] + 1);
+    array_triangles = (uint32_t *)malloc(12 * (size_t)counts[1] + 1);
+    bool is_read = array_points != NULL && array_triangles != NULL && fread(array_points, 12, counts[0], file) == counts[0]
+        && fread(array_triangles, 12, counts[1], file) == counts[1];
+    fclose(file);
+    return is_read;
+}
+
+/* opens the arrays, and lets them go */
+static stlslice_status open_arrays(stlslice_mesh *mesh, stlslice_shape *shape, char *line) {
+    stlslice_status status = stlslice_open_mesh(array_points, counts[0], array_triangles, counts[1], &options, mesh, shape, line, STLSLICE_LINE);
+    free(array_points);
+    free(array_triangles);
+    return status;
+}
+
+/* the mesh of the arrays has these layers and this shape */
+static void same_layers(const Work *work) {
+    stlslice_mesh mesh = STLSLICE_CLOSED;
+    stlslice_shape shape;
+    char line[STLSLICE_LINE];
+    CHECK(open_arrays(&mesh, &shape, line) == STLSLICE_DONE);
+    CHECK(memcmp(&shape, &work->shape, sizeof shape) == 0);
+    size_t one = work->size / shape.layers, size = 0;
+    uint8_t *image = (uint8_t *)malloc(one);
+    CHECK(image != NULL);
+    for (uint32_t k = 0; k < shape.layers; k++)
+        CHECK(stlslice_mask(&mesh, k, image, one, &size) == STLSLICE_DONE && memcmp(image, work->all + k * one, one) == 0);
+    free(image);
+    stlslice_close(&mesh);
+}
 
 static size_t bits_of(const uint8_t *image, size_t size, const stlslice_shape *shape) {
     size_t count = 0, rows = (size_t)shape->rows * ((shape->columns + 7u) / 8u);
@@ -149,7 +191,7 @@ static void *probe(void *given) {
 }
 
 int main(int count, char **words) {
-    if (count != 6 && count != 12)
+    if (count != 7 && count != 13)
         return 99;
     FILE *file = fopen(words[1], "rb");
     if (file == NULL || fseek(file, 0, SEEK_END) != 0)
@@ -160,17 +202,20 @@ int main(int count, char **words) {
     if (text == NULL || fread(text, 1, text_size, file) != text_size)
         return 99;
     fclose(file);
-    options.pitch = (uint32_t)strtoul(words[2], NULL, 10);
-    options.layer = (uint32_t)strtoul(words[3], NULL, 10);
-    options.rule = (uint32_t)strtoul(words[4], NULL, 10);
-    options.unit = (uint32_t)strtoul(words[5], NULL, 10);
-    if (count == 12) {
+    bool has_arrays = strcmp(words[2], "-") != 0;
+    if (has_arrays && !read_arrays(words[2]))
+        return 99;
+    options.pitch = (uint32_t)strtoul(words[3], NULL, 10);
+    options.layer = (uint32_t)strtoul(words[4], NULL, 10);
+    options.rule = (uint32_t)strtoul(words[5], NULL, 10);
+    options.unit = (uint32_t)strtoul(words[6], NULL, 10);
+    if (count == 13) {
         options.placing = STLSLICE_GIVEN;
-        options.columns = (uint32_t)strtoul(words[6], NULL, 10);
-        options.rows = (uint32_t)strtoul(words[7], NULL, 10);
-        options.layers = (uint32_t)strtoul(words[8], NULL, 10);
+        options.columns = (uint32_t)strtoul(words[7], NULL, 10);
+        options.rows = (uint32_t)strtoul(words[8], NULL, 10);
+        options.layers = (uint32_t)strtoul(words[9], NULL, 10);
         for (int axis = 0; axis < 3; axis++)
-            options.origin[axis] = (int32_t)strtol(words[9 + axis], NULL, 10);
+            options.origin[axis] = (int32_t)strtol(words[10 + axis], NULL, 10);
     }
     Work first = {NULL, 0, STLSLICE_CLOSED, {{0, {0, 0, 0}, {0, 0, 0}}, 0, 0, 0, {0, 0, 0}}};
     char line[STLSLICE_LINE];
@@ -183,6 +228,10 @@ int main(int count, char **words) {
         if (status == STLSLICE_TEXT) {
             CHECK(stlslice_box(text, text_size, options.unit, &corners, again, sizeof again) == STLSLICE_TEXT);
             CHECK(strcmp(again, line) == 0 && corners.facets == 9 && corners.low[0] == 9 && corners.high[2] == 9);
+        }
+        if (has_arrays) {
+            CHECK(open_arrays(&first.mesh, &first.shape, again) == status && strcmp(again, line) == 0);
+            CHECK(!first.mesh.is_open && first.shape.layers == 0);
         }
         fprintf(stderr, "stlslice: %s\n", line);
         free(text);
@@ -200,6 +249,8 @@ int main(int count, char **words) {
         CHECK(pthread_join(threads[at], NULL) == 0);
         CHECK(works[at].size == works[0].size && memcmp(works[at].all, works[0].all, works[0].size) == 0);
     }
+    if (has_arrays)
+        same_layers(&works[0]);
     for (int at = 0; at < THREADS; at++)
         CHECK(pthread_create(&threads[at], NULL, probe, &works[at]) == 0);
     for (int at = 0; at < THREADS; at++)

@@ -1,2 +1,4 @@
+pub mod Inputs
 pub mod Lengths
 pub mod OneAnswer
+pub mod Pngs

@@ -1,9 +1,15 @@
 -- What a session answers, and when it answers a fault.
-use Rattle.std.specs.Prelude.{◌≡◌, ◌⊎◌, ◌<◌, ◌≤◌, ℕ, ℤ, List, Result, Ok, Err, flat_map, if◌then◌else◌}
+use Rattle.std.specs.Prelude.{◌≡◌, ◌⊎◌, ◌<◌, ◌≤◌, ℕ, ℤ, List, Bool, Result, Ok, Err, flat_map, if◌then◌else◌}
 use Rattle.std.specs.List.{range_with_len}
 use Rattle.geometry.specs.Winding.{ray, ray_y}
+use Rattle.raster.specs.Filler.{is_filled}
 use Rattle.raster.specs.Grid.{Grid, centre, is_voxel}
 use Rattle.raster.specs.Image.{layer_image}
+use Rattle.layer_png.specs.Depth.{bits}
+use Rattle.layer_png.specs.Layer.{column_at, row_at}
+use Rattle.layer_png.specs.Text.{png_text}
+use Rattle.layer_png.specs.declared.depth.Depth.{Depth}
+use Rattle.layer_png.specs.declared.mirrors.Mirrors.{Mirrors}
 use Rattle.build_book.specs.Job.{Job, stripe_count, stripe_length, stripe_start}
 use Rattle.layer_session.specs.declared.session_fault.SessionFault.{SessionFault}
 use Rattle.layer_session.specs.declared.session_fault.SessionFault.TheVariants as fault
@@ -11,6 +17,16 @@ use Rattle.layer_session.specs.declared.session_fault.SessionFault.TheVariants a
 -- the image of layer k of a job
 abbrev pub image_of : Job → ℕ → List ℕ
 image_of job k = layer_image job.grid job.rule job.solid.facets k
+
+-- the pixel of column x and row y of the PNG of layer k, from the left and from the top, is white: its voxel is filled
+abbrev pub is_white : Job → ℕ → Mirrors → ℕ → ℕ → Bool
+is_white job k mirrors x y =
+    is_filled job.rule job.solid.facets
+    (centre job.grid (column_at mirrors job.grid.columns x) (row_at mirrors job.grid.rows y) k)
+
+-- the PNG of layer k of a job
+abbrev pub png_of : Job → ℕ → Depth → Mirrors → List ℕ
+png_of job k depth mirrors = png_text (bits depth) job.grid.columns job.grid.rows (is_white job k mirrors)
 
 -- the images of the layers of stripe s, from the lowest up
 abbrev pub stripe_images : Job → ℕ → List ℕ

@@ -1,10 +1,13 @@
--- What a session has, which one a text opens, and why it opens none.
-use Rattle.std.specs.Prelude.{◌≡◌, ◌≢◌, ℕ, List, length, Option, Result, Ok, Err}
+-- What a session has, which one a text or arrays open, and why they open none.
+use Rattle.std.specs.Prelude.{◌≡◌, ◌≢◌, ℕ, ℤ, List, length, Option, Result, Ok, Err}
 use Rattle.geometry.specs.Point.{Point}
 use Rattle.geometry.specs.Facet.{Facet}
 use Rattle.geometry.specs.BoundingBox.{extent}
 use Rattle.geometry.specs.declared.limits.TheConstants.{FACET_LIMIT}
 use Rattle.stl_text.specs.Text.{IsFaultOf, Reads}
+use Rattle.stl_text.specs.declared.stl_fault.StlFault.{StlFault}
+use Rattle.mesh_arrays.specs.declared.array_fault.ArrayFault.{ArrayFault}
+use Rattle.mesh_arrays.specs.Arrays.{IsFaultOf as IsFaultOfArrays, Spells}
 use Rattle.mesh_weld.specs.Balance.{IsBalanced, IsLeastOpen}
 use Rattle.mesh_weld.specs.Solid.{solid_of}
 use Rattle.mesh_weld.specs.declared.weld_fault.WeldFault.TheVariants as weld
@@ -20,11 +23,21 @@ pub record Session : Type 0 where
   pub facet_count : ℕ
   pub bounds : Option (Point × Point)
 
--- The text reads as facets of a closed mesh, which has a grid; solid, grid, rule, number and box are theirs.
-pub record IsSessionOf (setup : Setup) (bytes : List ℕ) (session : Session) : Type 0 where
+-- what is opened: the bytes of an ASCII STL text; or points and triangles
+pub data Input : Type 0 where
+  of_text : List ℕ → Input
+  of_arrays : List (List ℤ) → List (List ℕ) → Input
+
+-- which facets it is read as
+abbrev pub IsReadAs : Setup → Input → List Facet → Type 0
+IsReadAs setup (of_text bytes) facets = Reads FACET_LIMIT setup.unit bytes facets
+IsReadAs setup (of_arrays points triangles) facets = Spells points triangles facets
+
+-- The input is read as facets of a closed mesh, which has a grid. Solid, grid, rule, number and box are theirs.
+pub record IsSessionOf (setup : Setup) (input : Input) (session : Session) : Type 0 where
   pub facets : List Facet
   pub range : HasSteps setup
-  pub reads : Reads FACET_LIMIT setup.unit bytes facets
+  pub reads : IsReadAs setup input facets
   pub closed : IsBalanced facets
   pub solid : session.job.solid ≡ solid_of facets
   pub grid : grid_of setup (solid_of facets).facets ≡ Ok session.job.grid
@@ -32,20 +45,32 @@ pub record IsSessionOf (setup : Setup) (bytes : List ℕ) (session : Session) : 
   pub count : session.facet_count ≡ length facets
   pub bounds : session.bounds ≡ extent facets
 
--- a step out of range; else the fault of the text; else the least open edge of its facets; else the fault of the grid
-abbrev pub IsOpenFault : Setup → List ℕ → SessionFault → Type 0
-IsOpenFault setup bytes fault.Step = HasSteps setup → ⊥
-IsOpenFault setup bytes (fault.Stl cause) = HasSteps setup × IsFaultOf FACET_LIMIT setup.unit bytes cause
-IsOpenFault setup bytes (fault.Weld (weld.Open from to there back)) =
-    HasSteps setup × ((facets : List Facet) × Reads FACET_LIMIT setup.unit bytes facets × IsLeastOpen facets from to there back)
-IsOpenFault setup bytes (fault.Weld weld.Memory) = ⊥
-IsOpenFault setup bytes (fault.Grid cause) =
-    HasSteps setup × ((facets : List Facet) × Reads FACET_LIMIT setup.unit bytes facets × IsBalanced facets
-    × (grid_of setup (solid_of facets).facets ≡ Err cause))
-IsOpenFault setup bytes fault.Memory = Unit {0}
-IsOpenFault setup bytes (fault.Outside columns rows layers) = ⊥
+-- a fault of a text
+abbrev pub IsTextFault : Setup → Input → StlFault → Type 0
+IsTextFault setup (of_text bytes) cause = IsFaultOf FACET_LIMIT setup.unit bytes cause
+IsTextFault setup (of_arrays points triangles) cause = ⊥
 
--- what opening a text answers where memory suffices
-abbrev pub IsAnswer : Setup → List ℕ → Result Session SessionFault → Type 0
-IsAnswer setup bytes (Ok session) = IsSessionOf setup bytes session
-IsAnswer setup bytes (Err f) = (f ≢ fault.Memory) × IsOpenFault setup bytes f
+-- a fault of arrays
+abbrev pub IsArrayFault : Input → ArrayFault → Type 0
+IsArrayFault (of_text bytes) cause = ⊥
+IsArrayFault (of_arrays points triangles) cause = IsFaultOfArrays points triangles cause
+
+-- a step out of range; else the fault of the text or the arrays; else the least open edge of the facets; else the fault of the
+-- grid
+abbrev pub IsOpenFault : Setup → Input → SessionFault → Type 0
+IsOpenFault setup input fault.Step = HasSteps setup → ⊥
+IsOpenFault setup input (fault.Stl cause) = HasSteps setup × IsTextFault setup input cause
+IsOpenFault setup input (fault.Arrays cause) = HasSteps setup × IsArrayFault input cause
+IsOpenFault setup input (fault.Weld (weld.Open from to there back)) =
+    HasSteps setup × ((facets : List Facet) × IsReadAs setup input facets × IsLeastOpen facets from to there back)
+IsOpenFault setup input (fault.Weld weld.Memory) = ⊥
+IsOpenFault setup input (fault.Grid cause) =
+    HasSteps setup × ((facets : List Facet) × IsReadAs setup input facets × IsBalanced facets
+    × (grid_of setup (solid_of facets).facets ≡ Err cause))
+IsOpenFault setup input fault.Memory = Unit {0}
+IsOpenFault setup input (fault.Outside columns rows layers) = ⊥
+
+-- the answer of opening if memory suffices
+abbrev pub IsAnswer : Setup → Input → Result Session SessionFault → Type 0
+IsAnswer setup input (Ok session) = IsSessionOf setup input session
+IsAnswer setup input (Err f) = (f ≢ fault.Memory) × IsOpenFault setup input f

@@ -1,18 +1,22 @@
-//! What is made of a job's layers: loops, as segments and as points, filled pixels and their number, and images.
+//! What is made of a job's layers: loops, as segments and as points, filled pixels and their number, images and PNGs.
 ghost use Rattle.std.specs.Prelude.{◌≡◌, ◌<◌, All, IfOk, OnOk};
 ghost use Rattle.std.specs.Io.KnownBytes.{Appends};
 ghost use Rattle.build_book.specs.Job.{stripe_count};
 ghost use Rattle.plane_segments.specs.Segment.{HasOrderedNodes, segments};
 ghost use Rattle.contour.specs.Loops.{AreLoops, loops};
 ghost use Rattle.contour.specs.Outlines.{outlines};
+ghost use Rattle.layer_png.specs.Depth.{bits};
+ghost use Rattle.layer_png.specs.Layer.{grey};
+ghost use Rattle.layer_png.specs.Png.{IsPng};
 ghost use Rattle.raster.specs.Filler.{IsFillOf, area_of};
 ghost use Rattle.raster.specs.Grid.{plane};
 ghost use Rattle.raster.specs.Image.{image_of_pixels};
 ghost use Rattle.raster.specs.Span.{AreSpans, covers};
-ghost use Rattle.layer_session.specs.Answers.{image_of, stripe_images};
+ghost use Rattle.layer_session.specs.Answers.{image_of, is_white, png_of, stripe_images};
 
 use build_book::{Job, slice_stripe};
 use contour::{Linker, Loops, Outlines, segments};
+use layer_png::{Depth, Mirrors, write_png};
 use raster::{Counted, Grid, Sink, Span, area, fill, write_layer};
 use std::alloc::{AllocError, Allocator};
 
@@ -93,6 +97,29 @@ pub(crate) fn layer_image<A: Allocator + Copy + Send + Sync>(
     let mut sink = Counted::new(Vec::new(alloc));
     put_image(job.grid(), spans.as_slice(), &mut sink)?;
     Ok(sink.into_inner())
+}
+
+/// The PNG of layer k of a job.
+pub(crate) fn layer_as_png<A: Allocator + Copy + Send + Sync>(
+    alloc: A,
+    job: &Job<A>,
+    k: u32,
+    depth: Depth,
+    mirrors: Mirrors,
+) -> Result<Vec<u8, A>, AllocError>
+    requires { k < job.now.grid.layers }
+    ensures png { IfOk result (λ png. png.items ≡ png_of job.now k depth mirrors) }
+    ensures pixels { IfOk result (λ png. IsPng png.items job.now.grid.columns job.now.grid.rows (bits depth)
+        (λ x y. grey (bits depth) (is_white job.now k mirrors x y))) }
+{
+    let spans = layer_spans(alloc, job, k)?;
+    write_png(
+        Vec::new(alloc),
+        job.grid(),
+        spans.as_slice(),
+        depth,
+        mirrors,
+    )
 }
 
 /// The images of the layers of stripe s of a job, from the lowest up.

@@ -9,8 +9,10 @@
 //!     placing: Placing::Fitted,
 //! };
 //! let session = Session::open(alloc, text, &setup)?;
+//! let session = Session::open_mesh(alloc, points, triangles, &setup)?;    // the same from arrays
 //! for k in 0..session.layers() {
 //!     let image = session.image(k)?;              // raw PBM, just as the program writes it
+//!     let png = session.png(k, Depth::Eight, Mirrors { x: false, y: false })?;
 //!     let pixels = session.area(k)?;              // how many of its pixels are filled
 //!     let found = session.loops(k)?;              // the closed loops of its plane, by the facets that it cuts
 //!     let drawn = session.outlines(k)?;           // the same as points, in half-micrometres
@@ -18,15 +20,17 @@
 //! let (along_x, along_y) = session.probe(3, 4, 5)?;
 //! ```
 //!
-//! - [`Session`]: the closed mesh of an ASCII STL text, in its grid, with a rule. Whatever it is asked, it stays as it is.
+//! - [`Session`]: the closed mesh of an ASCII STL text, or of arrays, in its grid, with a rule. No call changes it.
 //! - [`SessionReader`]: opens a text that arrives in chunks.
 //! - [`Setup`]: what a text is opened with; [`Placing`]: a grid that fits the mesh, or a given one.
-//! - [`SessionFault`]: why there is no session, or no answer. The `Display` of a fault of text, mesh or grid, of one of memory
-//!   and of `Outside` is what the program writes for it after `stlslice: `; the program refuses `Step` as it reads its words.
-//! - [`Loops`] of [`Segment`]s between [`Node`]s, and [`Outlines`] of [`PlanePoint`]s: the answers of `Session::loops` and
-//!   of `Session::outlines`, handed on from `contour`.
-//! - [`Unit`], handed on from `micro_num`; [`Rule`] and [`Grid`], handed on from `raster`.
-//! - [`one_answer`]: a law. A setup and a text have one answer, a session or a fault, where memory suffices.
+//! - [`SessionFault`]: why there is no session, or no answer. Its `Display` is what the program writes for the fault after
+//!   `stlslice: `. There are two exceptions: the program refuses `Step` as it reads its words, and has no arrays.
+//! - [`Loops`] of [`Segment`]s between [`Node`]s, and [`Outlines`] of [`PlanePoint`]s: what `Session::loops` and
+//!   `Session::outlines` return, re-exported from `contour`.
+//! - [`ArrayFault`], re-exported from `mesh_arrays`; [`Unit`], re-exported from `micro_num`; [`Rule`] and [`Grid`], re-exported
+//!   from `raster`; [`Depth`] and [`Mirrors`] of a PNG, re-exported from `layer_png`.
+//! - [`one_answer`]: a law. A setup and a text, or arrays, have one answer, a session or a fault, if memory suffices.
+//! - [`same_answer`]: a law. A text and arrays that are read as the same facets have the same answer.
 //!
 //! Pitch, layer height, origin and box are in micrometres. Columns, rows and layers count from 0 along x, y and z, and
 //! stripes, which are eight layers each, from the lowest up.
@@ -40,7 +44,9 @@ mod session_reader;
 mod setup;
 
 pub use contour::{Loops, Node, Outlines, PlanePoint, Segment};
-pub use laws::one_answer;
+pub use laws::{one_answer, same_answer};
+pub use layer_png::{Depth, Mirrors};
+pub use mesh_arrays::ArrayFault;
 pub use micro_num::Unit;
 pub use raster::{Grid, Placing, Rule};
 pub use session::Session;

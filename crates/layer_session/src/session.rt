@@ -1,33 +1,39 @@
 //! Sessions: a closed mesh in its grid, with a rule, asked layer by layer.
-ghost use Rattle.std.specs.Prelude.{◌≡◌, ◌<◌, ◌≤◌, ◌*◌, All, Err, IfErr, IfOk, List, OnOk, length, vec_len, ℕ};
+ghost use Rattle.std.specs.Prelude.{◌≡◌, ◌<◌, ◌≤◌, ◌*◌, All, Err, IfErr, IfOk, OnOk, length, vec_len, ℕ};
 ghost use Rattle.build_book.specs.Job.{stripe_count};
 ghost use Rattle.build_book.specs.declared.limits.TheConstants.{MOST_STRIPES, STRIPE_LAYERS};
 ghost use Rattle.plane_segments.specs.Segment.{HasOrderedNodes, segments};
 ghost use Rattle.contour.specs.Loops.{AreLoops, loops};
 ghost use Rattle.contour.specs.Outlines.{outlines};
 ghost use Rattle.geometry.specs.declared.limits.TheConstants.{FACET_LIMIT, LAYER_LIMIT};
+ghost use Rattle.layer_png.specs.Depth.{bits};
+ghost use Rattle.layer_png.specs.Layer.{grey};
+ghost use Rattle.layer_png.specs.Png.{IsPng};
 ghost use Rattle.raster.specs.Filler.{area_of};
 ghost use Rattle.raster.specs.Grid.{plane};
 ghost use Rattle.raster.specs.Image.{image_limit};
-ghost use Rattle.stl_text.specs.Text.{Reads};
-ghost use Rattle.layer_session.specs.Answers.{IsLayerFault, IsStripeFault, image_of, outside, probed, stripe_images};
-ghost use Rattle.layer_session.specs.Session.{IsOpenFault, IsSessionOf, Session as SessionModel};
+ghost use Rattle.layer_session.specs.Answers.{IsLayerFault, IsStripeFault, image_of, is_white, outside, png_of, probed, stripe_images};
+ghost use Rattle.layer_session.specs.Session.{Input, IsOpenFault, IsReadAs, IsSessionOf, Session as SessionModel, of_arrays, of_text};
 ghost use Rattle.layer_session.specs.Setup.{HasSteps};
 ghost use Rattle.layer_session.specs.declared.session_fault.SessionFault.TheVariants.{Memory, Step};
 
-use crate::layers::{layer_area, layer_image, layer_loops, layer_outlines, stripe_images};
+use crate::layers::{
+    layer_area, layer_as_png, layer_image, layer_loops, layer_outlines, stripe_images,
+};
 use crate::session_fault::SessionFault;
 use crate::setup::Setup;
 use build_book::Job;
 use contour::{Loops, Outlines};
 use geometry::{Facet, Point, extent};
+use layer_png::{Depth, Mirrors};
+use mesh_arrays::read_arrays;
 use mesh_weld::{probe, weld};
 use raster::{Grid, Rule, image_len};
 use std::alloc::Allocator;
 use std::marker::Model;
 use stl_text::read_stl;
 
-/// A closed mesh in its grid, with a rule. No call changes it, so that its layers may be asked in any order.
+/// A closed mesh in its grid, with a rule. No call changes it, so its layers may be asked in any order.
 #[derive(Drop)]
 pub struct Session<A: Allocator> {
     alloc: A,
@@ -48,24 +54,58 @@ impl<A: Allocator + Copy + Send + Sync> Session<A> {
     /// Opens an ASCII STL text: reads it, drops the facets with two equal corners, welds the others and lays the grid.
     ///
     /// # Errors
-    /// In this order: `Step` where pitch or layer height is out of range, `Stl` where the text does not read as facets,
-    /// `Weld` where the edges of all its facets do not balance, `Grid` where there is no grid, else the session. `Memory`
-    /// comes only where an allocation failed, and never in place of `Step`; `Outside` does not come.
+    /// In this order:
+    /// - `Step` if pitch or layer height is out of range,
+    /// - `Stl` if the text does not read as facets,
+    /// - `Weld` if the edges of all its facets do not balance,
+    /// - `Grid` if there is no grid.
+    ///
+    /// `Memory` comes only if an allocation failed, and never in place of `Step`. `Outside` does not come.
     pub fn open(alloc: A, bytes: &[u8], setup: &Setup) -> Result<Session<A>, SessionFault>
-        ensures found { IfOk result (IsSessionOf setup.now bytes.now) }
-        ensures fault { IfErr result (IsOpenFault setup.now bytes.now) }
+        ensures found { IfOk result (IsSessionOf setup.now (of_text bytes.now)) }
+        ensures fault { IfErr result (IsOpenFault setup.now (of_text bytes.now)) }
         ensures step { (HasSteps setup.now → ⊥) → result ≡ Err Step }
-        ensures only { (session : SessionModel) → IsSessionOf setup.now bytes.now session
+        ensures only { (session : SessionModel) → IsSessionOf setup.now (of_text bytes.now) session
             → IfErr result (λ fault. fault ≡ Memory) }
     {
-        if !setup.is_in_range() {
-            return Err(SessionFault::Step);
-        }
+        setup.check()?;
         let facets = read_stl(alloc, bytes, setup.unit)?;
         Session::of_facets(alloc, facets, setup)
     }
 
-    /// The session of the facets that a text reads as.
+    /// Opens a mesh from arrays: takes the facets of the triangles, drops those with two equal corners, welds the others and
+    /// lays the grid.
+    ///
+    /// Points are three coordinates each, in whole micrometres. Triangles are the indices of their corners among the points,
+    /// counterclockwise as seen from outside. The unit of `setup` is not used. If a text reads as these facets,
+    /// [`Session::open`] has the same answer ([`same_answer`](crate::same_answer)).
+    ///
+    /// # Errors
+    /// In this order:
+    /// - `Step` if pitch or layer height is out of range,
+    /// - `Arrays` if the arrays are no facets,
+    /// - `Weld` if the edges of all facets do not balance,
+    /// - `Grid` if there is no grid.
+    ///
+    /// `Memory` comes only if an allocation failed, and never in place of `Step`. `Stl` and `Outside` do not come.
+    pub fn open_mesh(
+        alloc: A,
+        points: &[[i32; 3]],
+        triangles: &[[u32; 3]],
+        setup: &Setup,
+    ) -> Result<Session<A>, SessionFault>
+        ensures found { IfOk result (IsSessionOf setup.now (of_arrays points.now triangles.now)) }
+        ensures fault { IfErr result (IsOpenFault setup.now (of_arrays points.now triangles.now)) }
+        ensures step { (HasSteps setup.now → ⊥) → result ≡ Err Step }
+        ensures only { (session : SessionModel) → IsSessionOf setup.now (of_arrays points.now triangles.now) session
+            → IfErr result (λ fault. fault ≡ Memory) }
+    {
+        setup.check()?;
+        let facets = read_arrays(alloc, points, triangles)?;
+        Session::of_facets(alloc, facets, setup)
+    }
+
+    /// The session of the facets that an input is read as.
     pub(crate) fn of_facets(
         alloc: A,
         facets: Vec<Facet, A>,
@@ -73,12 +113,10 @@ impl<A: Allocator + Copy + Send + Sync> Session<A> {
     ) -> Result<Session<A>, SessionFault>
         requires range { HasSteps setup.now }
         requires few { vec_len facets ≤ FACET_LIMIT }
-        ensures found { (bytes : List ℕ) → Reads FACET_LIMIT setup.now.unit bytes facets.items
-            → IfOk result (IsSessionOf setup.now bytes) }
-        ensures fault { (bytes : List ℕ) → Reads FACET_LIMIT setup.now.unit bytes facets.items
-            → IfErr result (IsOpenFault setup.now bytes) }
-        ensures only { (bytes : List ℕ) (session : SessionModel) → Reads FACET_LIMIT setup.now.unit bytes facets.items
-            → IsSessionOf setup.now bytes session → IfErr result (λ fault. fault ≡ Memory) }
+        ensures found { (input : Input) → IsReadAs setup.now input facets.items → IfOk result (IsSessionOf setup.now input) }
+        ensures fault { (input : Input) → IsReadAs setup.now input facets.items → IfErr result (IsOpenFault setup.now input) }
+        ensures only { (input : Input) (session : SessionModel) → IsReadAs setup.now input facets.items
+            → IsSessionOf setup.now input session → IfErr result (λ fault. fault ≡ Memory) }
     {
         let facet_count = facets.len();
         let bounds = extent(facets.as_slice());
@@ -149,19 +187,19 @@ impl<A: Allocator + Copy + Send + Sync> Session<A> {
         self.facet_count
     }
 
-    /// The box of all facets that were read: their least and greatest x, y and z, in micrometres. `None` where the text
-    /// has no facet.
+    /// The box of all facets that were read: their least and greatest x, y and z, in micrometres. `None` if there are no
+    /// facets.
     pub fn bounds(&self) -> Option<(Point, Point)>
         ensures { result ≡ self.now.bounds }
     {
         self.bounds
     }
 
-    /// The image of layer k in raw PBM ("P4", pbm(5)), as the program writes it: a pixel is black where its voxel is
-    /// filled, and the row of the greatest y stands at the top.
+    /// The image of layer k in raw PBM ("P4", pbm(5)), as the program writes it. A pixel is black if its voxel is filled, and
+    /// the row of the greatest y stands at the top.
     ///
     /// # Errors
-    /// `Outside` exactly where there is no such layer; `Memory` only where an allocation failed.
+    /// `Outside` exactly if there is no such layer; `Memory` only if an allocation failed.
     pub fn image(&self, k: u32) -> Result<Vec<u8, A>, SessionFault>
         ensures image { IfOk result (λ image. image.items ≡ image_of self.now.job k) }
         ensures within { OnOk result (k < self.now.job.grid.layers) }
@@ -171,11 +209,29 @@ impl<A: Allocator + Copy + Send + Sync> Session<A> {
         Ok(layer_image(self.alloc, &self.job, k)?)
     }
 
+    /// The image of layer k as PNG (ISO 15948; RFC 2083), in greyscale of this depth, with these mirrors. A pixel is white if
+    /// its voxel is filled, else black. Without mirrors the row of the greatest y is at the top.
+    ///
+    /// `png`: its bytes, whose number differs from layer to layer. `pixels`: what a reader finds in them.
+    ///
+    /// # Errors
+    /// `Outside` exactly if there is no such layer; `Memory` only if an allocation failed.
+    pub fn png(&self, k: u32, depth: Depth, mirrors: Mirrors) -> Result<Vec<u8, A>, SessionFault>
+        ensures png { IfOk result (λ png. png.items ≡ png_of self.now.job k depth mirrors) }
+        ensures pixels { IfOk result (λ png. IsPng png.items self.now.job.grid.columns self.now.job.grid.rows (bits depth)
+            (λ x y. grey (bits depth) (is_white self.now.job k mirrors x y))) }
+        ensures within { OnOk result (k < self.now.job.grid.layers) }
+        ensures fault { IfErr result (IsLayerFault self.now.job.grid k) }
+    {
+        self.check_layer(k)?;
+        Ok(layer_as_png(self.alloc, &self.job, k, depth, mirrors)?)
+    }
+
     /// The images of the layers of stripe s, from the lowest up, one after the other. One sweep cuts all of them, where
     /// each call of [`Session::image`] begins anew.
     ///
     /// # Errors
-    /// `Outside` exactly where there is no such stripe; `Memory` only where an allocation failed.
+    /// `Outside` exactly if there is no such stripe; `Memory` only if an allocation failed.
     pub fn stripe(&self, s: u64) -> Result<Vec<u8, A>, SessionFault>
         ensures images { IfOk result (λ images. images.items ≡ stripe_images self.now.job s) }
         ensures within { OnOk result (s < stripe_count self.now.job.grid) }
@@ -190,7 +246,7 @@ impl<A: Allocator + Copy + Send + Sync> Session<A> {
     /// The number of filled pixels of layer k.
     ///
     /// # Errors
-    /// `Outside` exactly where there is no such layer; `Memory` only where an allocation failed.
+    /// `Outside` exactly if there is no such layer; `Memory` only if an allocation failed.
     pub fn area(&self, k: u32) -> Result<u64, SessionFault>
         ensures area { IfOk result (λ area. area ≡ area_of self.now.job.grid self.now.job.rule self.now.job.solid.facets k) }
         ensures within { OnOk result (k < self.now.job.grid.layers) }
@@ -204,7 +260,7 @@ impl<A: Allocator + Copy + Send + Sync> Session<A> {
     /// one. Of each node `low` is below `high`.
     ///
     /// # Errors
-    /// `Outside` exactly where there is no such layer; `Memory` only where an allocation failed.
+    /// `Outside` exactly if there is no such layer; `Memory` only if an allocation failed.
     pub fn loops(&self, k: u32) -> Result<Loops<A>, SessionFault>
         ensures loops { IfOk result (λ found. found ≡ loops (segments self.now.job.solid.facets (plane self.now.job.grid k))) }
         ensures closed { IfOk result (AreLoops (segments self.now.job.solid.facets (plane self.now.job.grid k))) }
@@ -216,12 +272,12 @@ impl<A: Allocator + Copy + Send + Sync> Session<A> {
         Ok(layer_loops(self.alloc, &self.job, k)?)
     }
 
-    /// The loops of layer k as points, one for each of their segments: where it starts, x and y rounded to the nearest
-    /// half-micrometre, halves upward. The inside of a mesh whose facets face outward lies on the left of each segment, as
-    /// of [`Outlines`].
+    /// The loops of layer k as points, one for each of their segments. The point is the start of the segment, x and y rounded
+    /// to the nearest half-micrometre, halves upward. The inside of a mesh whose facets face outward lies on the left of each
+    /// segment, as of [`Outlines`].
     ///
     /// # Errors
-    /// `Outside` exactly where there is no such layer; `Memory` only where an allocation failed.
+    /// `Outside` exactly if there is no such layer; `Memory` only if an allocation failed.
     pub fn outlines(&self, k: u32) -> Result<Outlines<A>, SessionFault>
         ensures outlines { IfOk result (λ found. found ≡ outlines self.now.job.solid.facets (plane self.now.job.grid k)) }
         ensures within { OnOk result (k < self.now.job.grid.layers) }
@@ -231,8 +287,11 @@ impl<A: Allocator + Copy + Send + Sync> Session<A> {
         Ok(layer_outlines(self.alloc, &self.job, k)?)
     }
 
-    /// The signed crossings of the mesh by the rays along x and along y from the centre of the voxel of column i, row j
-    /// and layer k; the fault is `Outside` where the grid has no such voxel.
+    /// The signed crossings of the mesh by the rays along x and along y from the centre of a voxel. The voxel is in column i,
+    /// row j and layer k.
+    ///
+    /// # Errors
+    /// `Outside` exactly if the grid has no such voxel.
     pub fn probe(&self, i: u32, j: u32, k: u32) -> Result<(i32, i32), SessionFault>
         ensures { result ≡ probed self.now.job i j k }
     {

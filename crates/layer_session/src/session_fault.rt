@@ -1,17 +1,20 @@
 //! Why there is no session, or no answer of one.
 ghost use Rattle.std.specs.Prelude.{◌≡◌, ◌≢◌};
+ghost use Rattle.mesh_arrays.specs.declared.array_fault.ArrayFault.TheVariants as array_fault;
 ghost use Rattle.mesh_weld.specs.declared.weld_fault.WeldFault.TheVariants as weld_fault;
 ghost use Rattle.stl_text.specs.declared.stl_fault.StlFault.TheVariants as stl_fault;
-ghost use Rattle.layer_session.specs.declared.session_fault.SessionFault.TheVariants.{Grid, Memory, Stl, Weld};
+ghost use Rattle.layer_session.specs.declared.session_fault.SessionFault.TheVariants.{Arrays, Grid, Memory, Stl, Weld};
 
+use mesh_arrays::ArrayFault;
 use mesh_weld::WeldFault;
 use raster::GridFault;
 use std::alloc::AllocError;
 use stl_text::StlFault;
 use thiserror::Error;
 
-/// Why there is no session, or no answer of one. Its `Display` is the program's line on standard error, after
-/// `stlslice: `, but for `Step`: the program checks pitch and layer height as it reads its words, and names the option.
+/// Why there is no session, or no answer of one. Its `Display` is the program's line on standard error, after `stlslice: `, but
+/// for `Step` and `Arrays`. The program checks pitch and layer height as it reads its words, and names the option. It has no
+/// arrays.
 #[derive(Clone, Copy, Debug, PartialEq, Eq, Error)]
 pub enum SessionFault {
     /// Pitch or layer height is out of range.
@@ -20,6 +23,9 @@ pub enum SessionFault {
     /// The text does not read as facets. It is not `StlFault::Memory`.
     #[error("{0}")]
     Stl(StlFault),
+    /// The arrays are no facets. It is not `ArrayFault::Memory`.
+    #[error("{0}")]
+    Arrays(ArrayFault),
     /// The mesh is not closed. It is not `WeldFault::Memory`.
     #[error("{0}")]
     Weld(WeldFault),
@@ -54,6 +60,18 @@ impl From<StlFault> for SessionFault {
         match cause {
             StlFault::Memory => SessionFault::Memory,
             _ => SessionFault::Stl(cause),
+        }
+    }
+}
+
+impl From<ArrayFault> for SessionFault {
+    ghost from_gives = { λ cause fault. (cause ≡ array_fault.Memory → fault ≡ Memory)
+        × (cause ≢ array_fault.Memory → fault ≡ Arrays cause) };
+
+    fn from(cause: ArrayFault) -> SessionFault {
+        match cause {
+            ArrayFault::Memory => SessionFault::Memory,
+            _ => SessionFault::Arrays(cause),
         }
     }
 }

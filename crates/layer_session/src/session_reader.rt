@@ -1,7 +1,7 @@
 //! Opening a text that arrives in chunks.
 ghost use Rattle.std.specs.Prelude.{◌≡◌, ◌++◌, [], Err, IfErr, IfOk, List, ℕ};
 ghost use Rattle.layer_session.specs.SessionReader.{IsFed};
-ghost use Rattle.layer_session.specs.Session.{IsOpenFault, IsSessionOf, Session as SessionModel};
+ghost use Rattle.layer_session.specs.Session.{IsOpenFault, IsSessionOf, Session as SessionModel, of_text};
 ghost use Rattle.layer_session.specs.Setup.{HasSteps};
 ghost use Rattle.layer_session.specs.declared.session_fault.SessionFault.TheVariants.{Memory, Step};
 ghost use Rattle.layer_session.specs.declared.setup.Setup.{Setup};
@@ -46,7 +46,7 @@ impl<A: Allocator + Copy + Send + Sync> SessionReader<A> {
         }
     }
 
-    /// Reads the next chunk of the text. Where it is cut from the next does not matter.
+    /// Reads the next chunk of the text. The place of the cut between two chunks does not matter.
     pub fn feed(&mut self, chunk: &[u8])
         ensures { (setup : Setup) (fed : List ℕ) → IsFed setup self.old fed → IsFed setup self.new (fed ++ chunk.now) }
     {
@@ -56,23 +56,21 @@ impl<A: Allocator + Copy + Send + Sync> SessionReader<A> {
     /// The session of the text that was fed, as of [`Session::open`].
     ///
     /// # Errors
-    /// Those of [`Session::open`], in the same order. `Memory` comes only where an allocation failed, at this call or
-    /// while the text was read, or past `usize::MAX` bytes.
+    /// Those of [`Session::open`], in the same order. `Memory` comes only if an allocation failed, at this call or while the
+    /// text was read, or past `usize::MAX` bytes.
     pub fn finish(self) -> Result<Session<A>, SessionFault>
-        ensures found { (setup : Setup) (fed : List ℕ) → IsFed setup self fed → IfOk result (IsSessionOf setup fed) }
-        ensures fault { (setup : Setup) (fed : List ℕ) → IsFed setup self fed → IfErr result (IsOpenFault setup fed) }
+        ensures found { (setup : Setup) (fed : List ℕ) → IsFed setup self fed → IfOk result (IsSessionOf setup (of_text fed)) }
+        ensures fault { (setup : Setup) (fed : List ℕ) → IsFed setup self fed → IfErr result (IsOpenFault setup (of_text fed)) }
         ensures step { (setup : Setup) (fed : List ℕ) → IsFed setup self fed → (HasSteps setup → ⊥) → result ≡ Err Step }
         ensures only { (setup : Setup) (fed : List ℕ) → IsFed setup self fed → (session : SessionModel)
-            → IsSessionOf setup fed session → IfErr result (λ fault. fault ≡ Memory) }
+            → IsSessionOf setup (of_text fed) session → IfErr result (λ fault. fault ≡ Memory) }
     {
         let SessionReader {
             alloc,
             setup,
             reader,
         } = self;
-        if !setup.is_in_range() {
-            return Err(SessionFault::Step);
-        }
+        setup.check()?;
         let facets = reader.finish()?;
         Session::of_facets(alloc, facets, &setup)
     }

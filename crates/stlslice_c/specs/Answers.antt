@@ -1,4 +1,4 @@
--- What a call leaves, and the status that it answers.
+-- What a call leaves, and the status that it returns.
 use Rattle.std.specs.Prelude.{◌≡◌, ◌⊎◌, ◌<◌, ◌≤◌, ◌∷◌, ◌++◌, ◌+◌, ◌-◌, ℕ, List, length, drop, take, min, Option, Some, None, Ok, Err, codes}
 use Rattle.geometry.specs.Facet.{Facet}
 use Rattle.geometry.specs.BoundingBox.{extent}
@@ -6,9 +6,11 @@ use Rattle.geometry.specs.declared.limits.TheConstants.{FACET_LIMIT}
 use Rattle.stl_text.specs.Text.{IsFaultOf, Reads}
 use Rattle.micro_num.specs.declared.unit.Unit.{Unit as LengthUnit}
 use Rattle.raster.specs.Filler.{area_of}
+use Rattle.layer_png.specs.declared.depth.Depth.{Depth}
+use Rattle.layer_png.specs.declared.mirrors.Mirrors.{Mirrors}
 use Rattle.build_book.specs.Job.{Job, stripe_count}
-use Rattle.layer_session.specs.Answers.{image_of, outside, probed, stripe_images}
-use Rattle.layer_session.specs.Session.{IsOpenFault, IsSessionOf, Session}
+use Rattle.layer_session.specs.Answers.{image_of, outside, png_of, probed, stripe_images}
+use Rattle.layer_session.specs.Session.{Input, IsOpenFault, IsSessionOf, Session}
 use Rattle.layer_session.specs.Setup.{HasSteps}
 use Rattle.layer_session.specs.declared.setup.Setup.{Setup}
 use Rattle.layer_session.specs.declared.session_fault.SessionFault.{SessionFault}
@@ -18,19 +20,19 @@ use Rattle.stlslice_c.specs.declared.shape.Corners.{Corners}
 use Rattle.stlslice_c.specs.declared.shape.Rays.{Rays}
 use Rattle.stlslice_c.specs.declared.shape.Shape.{Shape}
 use Rattle.stlslice_c.specs.declared.status.TheConstants.{DONE, MEMORY, NO_ROOM, OUT_OF_RANGE}
-use Rattle.stlslice_c.specs.Options.{IsSetup, unit_numbered}
+use Rattle.stlslice_c.specs.Options.{IsSetup, depth_numbered, mirrors_numbered, unit_numbered}
 use Rattle.stlslice_c.specs.Shape.{corners_told, shape_told}
 use Rattle.stlslice_c.specs.Status.{status_of, status_text}
 
--- These bytes stand at the front of a buffer, and the rest is as it was; or all of it is, where it is too small. Their
--- number is told in both cases.
+-- These bytes stand at the front of a buffer, and the rest is as it was; or all of it is, if it is too small. Their number is
+-- put in both cases.
 abbrev pub IsPut : List ℕ → List ℕ → List ℕ → ℕ → ℕ → Type 0
 IsPut bytes old new wanted status = (wanted ≡ length bytes)
     × (((length bytes ≤ length old) × (new ≡ bytes ++ drop (length bytes) old) × (status ≡ DONE))
     ⊎ ((length old < length bytes) × (new ≡ old) × (status ≡ NO_ROOM)))
 
--- The bytes of number n, which is below the count: put; or no memory for them, where there is room; or there is no such
--- number. In the last two cases buffer and size are as they were.
+-- The bytes of number n, which is below the count, are put; or there is no memory for them, though they fit; or there is no
+-- such number. In the last two cases buffer and size are as they were.
 abbrev pub IsNumbered : ℕ → ℕ → List ℕ → List ℕ → List ℕ → ℕ → ℕ → ℕ → Type 0
 IsNumbered n count bytes old new told wanted status =
     ((n < count) × IsPut bytes old new wanted status)
@@ -46,6 +48,23 @@ abbrev pub IsStripeAnswer : Job → ℕ → List ℕ → List ℕ → ℕ → �
 IsStripeAnswer job s old new told wanted status =
     IsNumbered s (stripe_count job.grid) (stripe_images job s) old new told wanted status
 
+-- a layer of the grid, a depth and mirrors, by their numbers
+pub record IsPngAsked (job : Job) (k depth mirrors : ℕ) (meant : Depth) (shown : Mirrors) : Type 0 where
+  pub layer : k < job.grid.layers
+  pub bits : depth_numbered depth ≡ Some meant
+  pub mirrored : mirrors_numbered mirrors ≡ Some shown
+
+-- The PNG of layer k: put; or no memory for it; or there is no such layer, depth or mirrors. In the last two cases buffer and
+-- size are as they were.
+abbrev pub IsPngAnswer : Job → ℕ → ℕ → ℕ → List ℕ → List ℕ → ℕ → ℕ → ℕ → Type 0
+IsPngAnswer job k depth mirrors old new told wanted status =
+    ((meant : Depth) × (shown : Mirrors) × IsPngAsked job k depth mirrors meant shown
+    × IsPut (png_of job k meant shown) old new wanted status)
+    ⊎ ((meant : Depth) × (shown : Mirrors) × IsPngAsked job k depth mirrors meant shown
+    × (new ≡ old) × (wanted ≡ told) × (status ≡ MEMORY))
+    ⊎ (((job.grid.layers ≤ k) ⊎ (depth_numbered depth ≡ None) ⊎ (mirrors_numbered mirrors ≡ None))
+    × (new ≡ old) × (wanted ≡ told) × (status ≡ OUT_OF_RANGE))
+
 abbrev pub IsAreaAnswer : Job → ℕ → ℕ → ℕ → ℕ → Type 0
 IsAreaAnswer job k old new status =
     ((k < job.grid.layers) × (new ≡ area_of job.grid job.rule job.solid.facets k) × (status ≡ DONE))
@@ -57,18 +76,19 @@ IsProbeAnswer job i j k old new status =
     ((probed job i j k ≡ Ok (new.along_x, new.along_y)) × (status ≡ DONE))
     ⊎ ((probed job i j k ≡ Err (outside job.grid)) × (new ≡ old) × (status ≡ OUT_OF_RANGE))
 
--- as much of a text as there is room for, with a 0 after it
+-- as much of a text as fits, with a 0 after it
 abbrev pub IsLine : List ℕ → List ℕ → List ℕ → Type 0
 IsLine text old new = (1 ≤ length old)
     → new ≡ take (min (length text) (length old - 1)) text ++ 0 ∷ drop (min (length text) (length old - 1) + 1) old
 
--- The line of a fault. What the program writes for a text, a mesh or a grid is the `Display` of the fault. `thiserror`
--- derives it without a contract, so no more is said of it than that it is a text.
+-- The line of a fault. For a text, a mesh or a grid the program writes the `Display` of the fault, and this line is the same.
+-- So is the line of arrays. `thiserror` derives it without a contract, so no more is said of it than that it is a text.
 abbrev pub IsFaultLine : SessionFault → List ℕ → List ℕ → Type 0
 IsFaultLine fault.Step old new = IsLine (codes "pitch and layer height take 1 to 100000 micrometres") old new
 IsFaultLine fault.Memory old new = IsLine (status_text MEMORY) old new
 IsFaultLine (fault.Outside columns rows layers) old new = IsLine (status_text OUT_OF_RANGE) old new
 IsFaultLine (fault.Stl cause) old new = (text : List ℕ) × IsLine text old new
+IsFaultLine (fault.Arrays cause) old new = (text : List ℕ) × IsLine text old new
 IsFaultLine (fault.Weld cause) old new = (text : List ℕ) × IsLine text old new
 IsFaultLine (fault.Grid cause) old new = (text : List ℕ) × IsLine text old new
 
@@ -77,6 +97,7 @@ abbrev pub IsTextFault : LengthUnit → List ℕ → SessionFault → Type 0
 IsTextFault unit text (fault.Stl cause) = IsFaultOf FACET_LIMIT unit text cause
 IsTextFault unit text fault.Memory = Unit {0}
 IsTextFault unit text fault.Step = ⊥
+IsTextFault unit text (fault.Arrays cause) = ⊥
 IsTextFault unit text (fault.Weld cause) = ⊥
 IsTextFault unit text (fault.Grid cause) = ⊥
 IsTextFault unit text (fault.Outside columns rows layers) = ⊥
@@ -101,29 +122,29 @@ abbrev pub IsBoxAnswer : ℕ → List ℕ → Corners → Corners → List ℕ �
 IsBoxAnswer unit text old new before after status =
     (IsBoxed unit text new × (after ≡ before) × (status ≡ DONE)) ⊎ ((new ≡ old) × IsUnboxed unit text before after status)
 
--- the session of a text, and its shape
-pub record IsOpened (o : Options) (text : List ℕ) (new : Option Session) (shape : Shape) : Type 0 where
+-- the session of a text or of arrays, and its shape
+pub record IsOpened (o : Options) (input : Input) (new : Option Session) (shape : Shape) : Type 0 where
   pub setup : Setup
   pub session : Session
   pub means : IsSetup o setup
-  pub opens : IsSessionOf setup text session
+  pub opens : IsSessionOf setup input session
   pub held : new ≡ Some session
   pub told : shape ≡ shape_told session
 
--- Where pitch or layer height is out of range, just that is the fault.
+-- If pitch or layer height is out of range, exactly that is the fault.
 abbrev pub IsStepFirst : Setup → SessionFault → Type 0
 IsStepFirst setup told = (HasSteps setup → ⊥) → told ≡ fault.Step
 
--- options that stand for no setup, or why the text opens no session, with the line of that
-abbrev pub IsUnopened : Options → List ℕ → List ℕ → List ℕ → ℕ → Type 0
-IsUnopened o text before after status =
+-- options that stand for no setup, or why no session is opened, with the line of that
+abbrev pub IsUnopened : Options → Input → List ℕ → List ℕ → ℕ → Type 0
+IsUnopened o input before after status =
     (((setup : Setup) → IsSetup o setup → ⊥) × (status ≡ OUT_OF_RANGE) × IsLine (status_text OUT_OF_RANGE) before after)
-    ⊎ ((setup : Setup) × (fault : SessionFault) × IsSetup o setup × IsOpenFault setup text fault
+    ⊎ ((setup : Setup) × (fault : SessionFault) × IsSetup o setup × IsOpenFault setup input fault
     × IsStepFirst setup fault
     × (status ≡ status_of fault) × IsFaultLine fault before after)
 
 -- a handle that was not opened has what it had; only then there is a line
-abbrev pub IsOpening : Options → List ℕ → Option Session → Option Session → Shape → Shape → List ℕ → List ℕ → ℕ → Type 0
-IsOpening o text held holds old new before after status =
-    (IsOpened o text holds new × (after ≡ before) × (status ≡ DONE))
-    ⊎ ((holds ≡ held) × (new ≡ old) × IsUnopened o text before after status)
+abbrev pub IsOpening : Options → Input → Option Session → Option Session → Shape → Shape → List ℕ → List ℕ → ℕ → Type 0
+IsOpening o input held holds old new before after status =
+    (IsOpened o input holds new × (after ≡ before) × (status ≡ DONE))
+    ⊎ ((holds ≡ held) × (new ≡ old) × IsUnopened o input before after status)

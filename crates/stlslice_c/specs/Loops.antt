@@ -11,8 +11,8 @@ use Rattle.stlslice_c.specs.declared.status.TheConstants.{DONE, MEMORY, NO_ROOM,
 abbrev pub point_told : PlanePoint → LoopPoint
 point_told p = record { x2 = p.x2; y2 = p.y2 }
 
--- Points and ends stand at the fronts of two buffers, and the rest is as it was; or all of both is, where one of them is
--- too small. Their numbers are told in both cases.
+-- Points and ends stand at the fronts of two buffers, and the rest is as it was; or all of both is, if one of them is too
+-- small. Their numbers are put in both cases.
 abbrev pub IsPutLoops : List LoopPoint → List ℕ → List LoopPoint → List LoopPoint → ℕ → List ℕ → List ℕ → ℕ → ℕ → Type 0
 IsPutLoops found found_ends old new wanted old_ends new_ends wanted_ends status =
     (wanted ≡ length found) × (wanted_ends ≡ length found_ends)

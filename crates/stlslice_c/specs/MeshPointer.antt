@@ -1,4 +1,4 @@
--- What a pointer that C keeps owns: a box where there is one, else nothing.
+-- What a pointer that C keeps owns: a box if there is one, else nothing.
 use Rattle.std.specs.Prelude.{Option, None, Some}
 use mir.Syntax.{Ty}
 use base.Fml.{Fml, ftrue}

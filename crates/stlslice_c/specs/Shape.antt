@@ -1,4 +1,4 @@
--- What C is told of a text's facets and of an open mesh.
+-- What C gets of a text's facets and of an open mesh.
 use Rattle.std.specs.Prelude.{ℕ, Option, Some, None, pos}
 use Rattle.geometry.specs.Point.{Point}
 use Rattle.raster.specs.Grid.{Grid}
@@ -7,7 +7,7 @@ use Rattle.stlslice_c.specs.declared.shape.Cells.{Cells}
 use Rattle.stlslice_c.specs.declared.shape.Corners.{Corners}
 use Rattle.stlslice_c.specs.declared.shape.Shape.{Shape}
 
--- the number of facets and their box; zeros where there is none
+-- the number of facets and their box; zeros if there is none
 abbrev pub corners_told : ℕ → Option (Point × Point) → Corners
 corners_told n None = record {
   facets = n;

@@ -1,13 +1,14 @@
--- The statuses that calls answer, and their texts.
+-- The statuses that calls return, and their texts.
 use Rattle.std.specs.Prelude.{ℕ, List, nat_eq, codes, if◌then◌else◌}
 use Rattle.layer_session.specs.declared.session_fault.SessionFault.{SessionFault}
 use Rattle.layer_session.specs.declared.session_fault.SessionFault.TheVariants as fault
 use Rattle.stlslice_c.specs.declared.status.TheConstants.{GRID, MEMORY, OPEN_MESH, OUT_OF_RANGE, TEXT}
 
--- the program's statuses; what is out of range, or outside the grid, has one of its own
+-- The program's statuses. What is out of range, or outside the grid, has one of its own, and so have arrays that are no facets.
 abbrev pub status_of : SessionFault → ℕ
 status_of fault.Step = OUT_OF_RANGE
 status_of (fault.Stl cause) = TEXT
+status_of (fault.Arrays cause) = OUT_OF_RANGE
 status_of (fault.Weld cause) = OPEN_MESH
 status_of (fault.Grid cause) = GRID
 status_of fault.Memory = MEMORY

@@ -1,13 +1,14 @@
 //! What an open mesh is asked.
-ghost use Rattle.stlslice_c.specs.Answers.{IsAreaAnswer, IsMaskAnswer, IsProbeAnswer, IsStripeAnswer};
+ghost use Rattle.stlslice_c.specs.Answers.{IsAreaAnswer, IsMaskAnswer, IsPngAnswer, IsProbeAnswer, IsStripeAnswer};
 
-use crate::buffers::{has_room, put};
+use crate::buffers::{has_room, put, put_if_room};
+use crate::options::{depth_numbered, mirrors_numbered};
 use crate::shape::Rays;
-use crate::status::{DONE, NO_ROOM, Status, status_of};
+use crate::status::{DONE, NO_ROOM, OUT_OF_RANGE, Status, status_of};
 use layer_session::Session;
 use std::alloc::Allocator;
 
-/// Puts the image of layer k into the front of a buffer. Without room for it, nothing is sliced.
+/// Puts the image of layer k into the front of a buffer. If it does not fit, nothing is sliced.
 pub(crate) fn put_mask<A: Allocator + Copy + Send + Sync>(
     session: &Session<A>,
     k: u32,
@@ -25,7 +26,7 @@ pub(crate) fn put_mask<A: Allocator + Copy + Send + Sync>(
     }
 }
 
-/// Puts the images of stripe s into the front of a buffer. Without room for them, nothing is sliced.
+/// Puts the images of stripe s into the front of a buffer. If they do not fit, nothing is sliced.
 pub(crate) fn put_stripe<A: Allocator + Copy + Send + Sync>(
     session: &Session<A>,
     s: u64,
@@ -39,6 +40,29 @@ pub(crate) fn put_stripe<A: Allocator + Copy + Send + Sync>(
     }
     match session.stripe(s) {
         Ok(bytes) => put(bytes.as_slice(), images, wanted),
+        Err(fault) => status_of(&fault),
+    }
+}
+
+/// Puts the PNG of layer k into the front of a buffer. Without room for it only its size is told, which takes as long.
+pub(crate) fn put_png<A: Allocator + Copy + Send + Sync>(
+    session: &Session<A>,
+    k: u32,
+    depth: u32,
+    mirrors: u32,
+    png: &mut [u8],
+    wanted: &mut usize,
+) -> Status
+    ensures { IsPngAnswer session.now.job k depth mirrors png.old png.new wanted.old wanted.new result }
+{
+    let Some(depth) = depth_numbered(depth) else {
+        return OUT_OF_RANGE;
+    };
+    let Some(mirrors) = mirrors_numbered(mirrors) else {
+        return OUT_OF_RANGE;
+    };
+    match session.png(k, depth, mirrors) {
+        Ok(bytes) => put_if_room(bytes.as_slice(), png, wanted),
         Err(fault) => status_of(&fault),
     }
 }

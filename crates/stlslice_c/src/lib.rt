@@ -5,20 +5,27 @@
 //! stlslice_options options = {.pitch = 50, .layer = 50};                 // micrometres
 //! stlslice_mesh mesh = STLSLICE_CLOSED;
 //! if (stlslice_open(text, size, &options, &mesh, &shape, line, sizeof line) != STLSLICE_DONE)
-//!     puts(line);                                                        // why not, ended by 0
+//!     puts(line);                                                        // why not, ended by 0; for arrays stlslice_open_mesh
 //! stlslice_mask(&mesh, k, NULL, 0, &wanted);                             // STLSLICE_NO_ROOM: an image's size, at once
 //! stlslice_mask(&mesh, k, image, wanted, &wanted);                       // the image of layer k
 //! stlslice_close(&mesh);                                                 // frees all
 //! ```
 //!
 //! - [`Handle`]: an open mesh, or none; C keeps it as a [`MeshPointer`]. Every call but open and close leaves it as it was.
-//! - [`Options`]: what a text is opened with. [`Cells`]: the numbers of a grid, given or told.
-//! - [`Corners`], [`Shape`], [`Rays`], [`LoopPoint`]: what C is told.
+//! - [`Options`]: what a text or arrays are opened with. [`Cells`]: the numbers of a grid, given or put.
+//! - [`Corners`], [`Shape`], [`Rays`], [`LoopPoint`]: what calls put for C.
 //!
-//! A call answers a status (`status.rt`): 0 done, 1 a number out of its range or outside the grid, 3 the text is no ASCII
-//! STL, 4 the mesh has an open edge, 5 there is no such grid, 6 an allocation failed, 7 the buffer is too small, 8 no mesh was
-//! opened, or it was closed. At 7 the size that is wanted is told; at any other status but 0 nothing of the caller's changes but
-//! a line of text.
+//! A call returns a status (`status.rt`):
+//! - 0: done
+//! - 1: a number is out of its range or outside the grid, or arrays are no facets
+//! - 3: the text is no ASCII STL
+//! - 4: the mesh has an open edge
+//! - 5: there is no such grid
+//! - 6: an allocation failed
+//! - 7: the buffer is too small
+//! - 8: no mesh was opened, or it was closed
+//!
+//! At 7 the size that is wanted is put. At any other status but 0 nothing of the caller's changes but a line of text.
 //!
 //! Lengths are in micrometres, and points of loops in half-micrometres. Columns, rows and layers count from 0 along x, y and
 //! z, and stripes, which are eight layers each, from the lowest up.
@@ -39,22 +46,21 @@ mod status;
 mod tests;
 
 ghost use Rattle.std.specs.Prelude.{◌≡◌, None, Some};
-ghost use Rattle.layer_session.specs.Session.{Session};
-ghost use Rattle.stlslice_c.specs.Answers.{IsAreaAnswer, IsBoxAnswer, IsLine, IsMaskAnswer, IsOpening, IsProbeAnswer, IsStripeAnswer};
+ghost use Rattle.layer_session.specs.Session.{Session, of_arrays, of_text};
+ghost use Rattle.stlslice_c.specs.Answers.{IsAreaAnswer, IsBoxAnswer, IsLine, IsMaskAnswer, IsOpening, IsPngAnswer, IsProbeAnswer, IsStripeAnswer};
 ghost use Rattle.stlslice_c.specs.Loops.{AreAsBefore, IsLoops};
 ghost use Rattle.stlslice_c.specs.Status.{status_text};
 ghost use Rattle.stlslice_c.specs.declared.status.TheConstants.{NOT_OPEN};
 
-use answers::{put_area, put_mask, put_probe, put_stripe};
+use answers::{put_area, put_mask, put_png, put_probe, put_stripe};
 pub use handle::Handle;
 use lines::{put_fault, put_status};
 pub use loops::LoopPoint;
 use loops::put_loops;
 pub use mesh_pointer::MeshPointer;
-use opening::{open, read_corners};
+use opening::{keep, open, open_mesh, read_corners};
 pub use options::Options;
 use options::unit_numbered;
-use shape::shape_told;
 pub use shape::{Cells, Corners, Rays, Shape};
 use status::{DONE, NOT_OPEN, OUT_OF_RANGE};
 use std::alloc::Global;
@@ -90,7 +96,7 @@ pub extern "C" fn stlslice_fault_text(status: u32, line: &mut [u8])
     put_status(status, line);
 }
 
-/// Reads a text, and puts the number and the box of its facets into `corners`. After a fault it is as it was, and the
+/// Reads a text, and puts the number and the box of its facets into `corners`. After a fault `corners` is as it was, and the
 /// fault's text is in `line`.
 #[unsafe(no_mangle)]
 pub extern "C" fn stlslice_box(
@@ -114,7 +120,7 @@ pub extern "C" fn stlslice_box(
     }
 }
 
-/// Opens a text: puts its mesh into `handle`, in place of one that it has, and tells its facets and its grid. After a
+/// Opens a text: puts its mesh into `handle`, in place of one that it has, and its facets and its grid into `shape`. After a
 /// fault handle and shape are as they were, and the fault's text is in `line`.
 #[unsafe(no_mangle)]
 pub extern "C" fn stlslice_open(
@@ -125,20 +131,37 @@ pub extern "C" fn stlslice_open(
     shape: &mut Shape,
     line: &mut [u8],
 ) -> u32
-    ensures { IsOpening options.now text.now handle.old.mesh.session handle.new.mesh.session shape.old shape.new
+    ensures { IsOpening options.now (of_text text.now) handle.old.mesh.session handle.new.mesh.session shape.old shape.new
         line.old line.new result }
 {
     let Some(setup) = options.setup() else {
         return put_status(OUT_OF_RANGE, line);
     };
-    match open(alloc, text, &setup) {
-        Ok(session) => {
-            *shape = shape_told(&session);
-            handle.put(alloc, session);
-            DONE
-        }
-        Err(fault) => put_fault(alloc, &fault, line),
-    }
+    let opened = open(alloc, text, &setup);
+    keep(alloc, opened, handle, shape, line)
+}
+
+/// Opens points and triangles: puts their mesh into `handle`, in place of one that it has, and its facets and its grid into
+/// `shape`. The points are in micrometres, whatever unit the options have. After a fault handle and shape are as they were, and
+/// the fault's text is in `line`.
+#[unsafe(no_mangle)]
+pub extern "C" fn stlslice_open_mesh(
+    alloc: Global,
+    points: &[[i32; 3]],
+    triangles: &[[u32; 3]],
+    options: &Options,
+    handle: &mut Handle,
+    shape: &mut Shape,
+    line: &mut [u8],
+) -> u32
+    ensures { IsOpening options.now (of_arrays points.now triangles.now) handle.old.mesh.session handle.new.mesh.session
+        shape.old shape.new line.old line.new result }
+{
+    let Some(setup) = options.setup() else {
+        return put_status(OUT_OF_RANGE, line);
+    };
+    let opened = open_mesh(alloc, points, triangles, &setup);
+    keep(alloc, opened, handle, shape, line)
 }
 
 /// Closes a handle, and frees its mesh. A closed handle may be closed again.
@@ -149,8 +172,8 @@ pub extern "C" fn stlslice_close(alloc: Global, handle: &mut Handle)
     drop(handle.take(alloc));
 }
 
-/// Puts the image of layer k into the front of `image`, as raw PBM, and its size into `wanted`. Without room for it, only the
-/// size is told, and nothing is sliced.
+/// Puts the image of layer k into the front of `image`, as raw PBM, and its size into `wanted`. If it does not fit, only the
+/// size is put, and nothing is sliced.
 #[unsafe(no_mangle)]
 pub extern "C" fn stlslice_mask(
     alloc: Global,
@@ -167,8 +190,8 @@ pub extern "C" fn stlslice_mask(
     asked!(alloc, handle, session => put_mask(&session, k, image, wanted))
 }
 
-/// Puts the images of the layers from 8 s to 8 s + 7, as far as the grid has them, into the front of `images`, one after the
-/// other, and their size into `wanted`. Without room for them, only the size is told, and nothing is sliced.
+/// Puts the images of a stripe into the front of `images`, one after the other, and their size into `wanted`. The stripe is the
+/// layers from 8 s to 8 s + 7, as far as the grid has them. If they do not fit, only the size is put, and nothing is sliced.
 #[unsafe(no_mangle)]
 pub extern "C" fn stlslice_stripe(
     alloc: Global,
@@ -183,6 +206,27 @@ pub extern "C" fn stlslice_stripe(
     ensures closed { handle.old.mesh.session ≡ None → (result ≡ NOT_OPEN) × (images.new ≡ images.old) × (wanted.new ≡ wanted.old) }
 {
     asked!(alloc, handle, session => put_stripe(&session, s, images, wanted))
+}
+
+/// Puts the PNG of layer k into the front of `png`, and its size into `wanted`. A pixel has `depth` bits, 1 or 8. `mirrors` is
+/// 0, 1 for x, 2 for y, or 3 for both. Sizes differ from layer to layer. If `png` is too short, only the size is put, which
+/// takes as long.
+#[unsafe(no_mangle)]
+pub extern "C" fn stlslice_png(
+    alloc: Global,
+    handle: &mut Handle,
+    k: u32,
+    depth: u32,
+    mirrors: u32,
+    png: &mut [u8],
+    wanted: &mut usize,
+) -> u32
+    ensures kept { handle.new.mesh.session ≡ handle.old.mesh.session }
+    ensures open { (session : Session) → handle.old.mesh.session ≡ Some session
+        → IsPngAnswer session.job k depth mirrors png.old png.new wanted.old wanted.new result }
+    ensures closed { handle.old.mesh.session ≡ None → (result ≡ NOT_OPEN) × (png.new ≡ png.old) × (wanted.new ≡ wanted.old) }
+{
+    asked!(alloc, handle, session => put_png(&session, k, depth, mirrors, png, wanted))
 }
 
 /// Puts the number of filled pixels of layer k into `area`.
@@ -214,8 +258,8 @@ pub extern "C" fn stlslice_probe(
     asked!(alloc, handle, session => put_probe(&session, i, j, k, rays))
 }
 
-/// Puts the loops of layer k into the fronts of two buffers: the points of all loops into `points`, one loop after the
-/// other, and for each loop the position after its last point into `ends`.
+/// Puts the loops of layer k into the fronts of two buffers. The points of all loops go into `points`, one loop after the
+/// other. For each loop the position after its last point goes into `ends`.
 #[unsafe(no_mangle)]
 pub extern "C" fn stlslice_loops(
     alloc: Global,

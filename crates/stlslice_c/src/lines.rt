@@ -10,7 +10,7 @@ use std::alloc::Allocator;
 /// The text of `SessionFault::Step`.
 const STEP_TEXT: &[u8] = b"pitch and layer height take 1 to 100000 micrometres";
 
-/// Puts as much of a text into a buffer as there is room for with a 0 after it.
+/// Puts as much of a text into a buffer as fits with a 0 after it.
 pub(crate) fn put_line(text: &[u8], line: &mut [u8])
     ensures { IsLine text.now line.old line.new }
 {
@@ -22,7 +22,7 @@ pub(crate) fn put_line(text: &[u8], line: &mut [u8])
     line[count] = 0;
 }
 
-/// Puts the text of a status, and answers the status.
+/// Puts the text of a status, and returns the status.
 pub(crate) fn put_status(status: Status, line: &mut [u8]) -> Status
     ensures line { IsLine (status_text status) line.old line.new }
     ensures status { result ≡ status }
@@ -31,7 +31,7 @@ pub(crate) fn put_status(status: Status, line: &mut [u8]) -> Status
     status
 }
 
-/// Puts the text of a fault, which is the program's where the program has such a fault, and answers its status.
+/// Puts the text of a fault, and returns its status. The text is the program's if the program has such a fault.
 pub(crate) fn put_fault<A: Allocator>(alloc: A, fault: &SessionFault, line: &mut [u8]) -> Status
     ensures line { IsFaultLine fault.now line.old line.new }
     ensures status { result ≡ status_of fault.now }

@@ -14,8 +14,8 @@ pub struct LoopPoint {
     pub y2: i64,
 }
 
-/// Puts the loops of layer k into the fronts of two buffers: the points, one loop after the other, and for each loop
-/// the position after its last point.
+/// Puts the loops of layer k into the fronts of two buffers: the points, one loop after the other, and for each loop the
+/// position after its last point.
 pub(crate) fn put_loops<A: Allocator + Copy + Send + Sync>(
     alloc: A,
     session: &Session<A>,
@@ -68,7 +68,7 @@ fn told(point: &PlanePoint) -> LoopPoint
     }
 }
 
-/// Puts points and ends into the fronts of two buffers, where both have room for all of them, and tells their numbers.
+/// Puts points and ends into the fronts of two buffers, if all of them fit, and puts their numbers.
 fn put_points(
     found: &[LoopPoint],
     found_ends: &[usize],

@@ -7,7 +7,7 @@ use layer_session::Session;
 use std::alloc::Global;
 use std::marker::Model;
 
-/// Where an open mesh lies, if there is one.
+/// The place of an open mesh in memory, if there is one.
 #[repr(C)]
 #[derive(Drop)]
 pub struct MeshPointer {

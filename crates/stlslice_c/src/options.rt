@@ -1,12 +1,12 @@
-//! The numbers that C opens a text with. Nothing checks what C passes, so each is tested.
+//! The numbers that C opens a text with, and asks for a PNG with. Nothing checks what C passes, so each is tested.
 ghost use Rattle.std.specs.Prelude.{◌≡◌, IfNone, IfSome};
 ghost use Rattle.raster.specs.declared.placing.Placing.{Placing};
 ghost use Rattle.layer_session.specs.declared.setup.Setup.{Setup};
-ghost use Rattle.stlslice_c.specs.Options.{IsPlaced, IsSetup, rule_numbered, unit_numbered};
+ghost use Rattle.stlslice_c.specs.Options.{IsPlaced, IsSetup, depth_numbered, mirrors_numbered, rule_numbered, unit_numbered};
 
 use crate::shape::Cells;
 use geometry::Point;
-use layer_session::{Placing, Rule, Setup, Unit};
+use layer_session::{Depth, Mirrors, Placing, Rule, Setup, Unit};
 
 /// How a text is read, and how its mesh is cut into voxels.
 #[repr(C)]
@@ -26,7 +26,7 @@ pub struct Options {
 }
 
 impl Options {
-    /// The setup that these numbers stand for, or `None` where one of them stands for nothing.
+    /// The setup that these numbers stand for, or `None` if one of them stands for nothing.
     pub(crate) fn setup(&self) -> Option<Setup>
         ensures some { IfSome result (IsSetup self.now) }
         ensures none { IfNone result ((setup : Setup) → IsSetup self.now setup → ⊥) }
@@ -43,7 +43,7 @@ impl Options {
         })
     }
 
-    /// Where the grid is to lie.
+    /// The place of the grid.
     fn placing(&self) -> Option<Placing>
         ensures some { IfSome result (IsPlaced self.now) }
         ensures none { IfNone result ((placing : Placing) → IsPlaced self.now placing → ⊥) }
@@ -84,6 +84,30 @@ fn rule_numbered(number: u32) -> Option<Rule>
         0 => Some(Rule::EvenOdd),
         1 => Some(Rule::NonZero),
         2 => Some(Rule::Positive),
+        _ => None,
+    }
+}
+
+/// The depth of that number of bits.
+pub(crate) fn depth_numbered(number: u32) -> Option<Depth>
+    ensures { result ≡ depth_numbered number }
+{
+    match number {
+        1 => Some(Depth::One),
+        8 => Some(Depth::Eight),
+        _ => None,
+    }
+}
+
+/// The mirrors of that number: 1 for x, 2 for y, and 3 for both.
+pub(crate) fn mirrors_numbered(number: u32) -> Option<Mirrors>
+    ensures { result ≡ mirrors_numbered number }
+{
+    match number {
+        0 => Some(Mirrors { x: false, y: false }),
+        1 => Some(Mirrors { x: true, y: false }),
+        2 => Some(Mirrors { x: false, y: true }),
+        3 => Some(Mirrors { x: true, y: true }),
         _ => None,
     }
 }

@@ -6,7 +6,7 @@ use geometry::Point;
 use layer_session::Session;
 use std::alloc::Global;
 
-/// How many facets a text has, and their least and greatest coordinates in micrometres; zeros where it has none.
+/// How many facets a text has, and their least and greatest coordinates in micrometres; zeros if it has none.
 #[repr(C)]
 #[derive(Clone, Copy)]
 pub struct Corners {

@@ -1,16 +1,16 @@
-//! The statuses that calls answer, and their texts.
+//! The statuses that calls return, and their texts.
 ghost use Rattle.std.specs.Prelude.{◌≡◌};
 ghost use Rattle.stlslice_c.specs.Status.{status_of, status_text};
 
 use layer_session::SessionFault;
 
-/// What a call answers: [`DONE`], or why not.
+/// What a call returns: [`DONE`], or why not.
 pub(crate) type Status = u32;
 
 /// Done.
 pub(crate) const DONE: Status = 0;
 
-/// An argument is out of its range, or there is no such layer, stripe or voxel.
+/// An argument is out of its range, arrays among them, or there is no such layer, stripe or voxel.
 pub(crate) const OUT_OF_RANGE: Status = 1;
 
 /// The text is no ASCII STL.
@@ -25,18 +25,18 @@ pub(crate) const GRID: Status = 5;
 /// An allocation failed.
 pub(crate) const MEMORY: Status = 6;
 
-/// The buffer is too small; the call told the size that it needs.
+/// The buffer is too small; the call put the size that it needs.
 pub(crate) const NO_ROOM: Status = 7;
 
 /// The handle has no mesh: none was opened, or it was closed.
 pub(crate) const NOT_OPEN: Status = 8;
 
-/// The status of a fault: the program's, but for what is out of range or outside the grid.
+/// The status of a fault: the program's, but for what is out of range or outside the grid, and for arrays.
 pub(crate) fn status_of(fault: &SessionFault) -> Status
     ensures { result ≡ status_of fault.now }
 {
     match fault {
-        SessionFault::Step | SessionFault::Outside { .. } => OUT_OF_RANGE,
+        SessionFault::Step | SessionFault::Arrays(_) | SessionFault::Outside { .. } => OUT_OF_RANGE,
         SessionFault::Stl(_) => TEXT,
         SessionFault::Weld(_) => OPEN_MESH,
         SessionFault::Grid(_) => GRID,

@@ -1,19 +1,20 @@
 //! Each call once, with values from outside: a tetrahedron of 4 mm, sliced at 1 mm. Then each allocation of the calls that
 //! allocate fails in turn: the status is that of memory, nothing else changes, and the next try succeeds. The exports take
 //! the heap alone, so this calls the functions that they are made of.
-use crate::answers::{put_area, put_mask, put_stripe};
+use crate::answers::{put_area, put_mask, put_png, put_stripe};
 use crate::handle::Handle;
 use crate::lines::put_fault;
 use crate::loops::{LoopPoint, put_loops};
-use crate::opening::{open, read_corners};
+use crate::opening::{open, open_mesh, read_corners};
 use crate::options::Options;
 use crate::shape::{Cells, NO_CORNERS, Rays, Shape};
 use crate::status::{DONE, MEMORY, NO_ROOM};
 use crate::{
     stlslice_area, stlslice_box, stlslice_close, stlslice_fault_text, stlslice_loops,
-    stlslice_mask, stlslice_open, stlslice_probe, stlslice_stripe, stlslice_version,
+    stlslice_mask, stlslice_open, stlslice_open_mesh, stlslice_png, stlslice_probe,
+    stlslice_stripe, stlslice_version,
 };
-use layer_session::{Session, SessionFault, Unit};
+use layer_session::{Placing, Rule, Session, SessionFault, Setup, Unit};
 use raster::GridFault;
 use short_memory::ShortMemory;
 use std::alloc::{Allocator, Global};
@@ -29,6 +30,11 @@ endsolid t
 
 // The lowest layer: x + y is below 3.5 mm.
 const LOWEST: &[u8] = b"P4\n4 4\n\x00\x80\xc0\xe0";
+
+// The same as PNG of depth 1. Python's zlib finds four lines in its second part: a byte 0, and a byte of the image.
+const LOWEST_PNG: &[u8] =
+    b"\x89PNG\r\n\x1a\n\0\0\0\rIHDR\0\0\0\x04\0\0\0\x04\x01\0\0\0\0\x81\x8a\xa3\xd3\
+\0\0\0-IDATx\x01\xed\xc1\x03\xa0\x04\n\x02\x04\xa09\xdb\xb6m\xdb\xb6m\xdb\xb6m\xdb\xb6m\xdb\xb6m\xfb\xe6?\xdb\\TI\x1e\x98\x0f\xe6\x87\x07\0\x05\xa8\x02!\xca\xa4`\xc6\0\0\0\0IEND\xaeB`\x82";
 
 const NO_CELLS: Cells = Cells {
     columns: 0,
@@ -96,6 +102,12 @@ fn a_mesh_is_opened_asked_and_closed(rt: HostRuntime) -> Result<(), Fail> {
         0
     );
     assert!(rt; image.starts_with(LOWEST) && wanted == 44);
+    let mut png = [0u8; 128];
+    assert_eq!(rt;
+        stlslice_png(alloc, &mut handle, 0, 1, 0, &mut png, &mut wanted),
+        0
+    );
+    assert!(rt; png.starts_with(LOWEST_PNG) && wanted == 102);
     let mut area = 0;
     assert_eq!(rt; stlslice_area(alloc, &mut handle, 0, &mut area), 0);
     assert_eq!(rt; area, 6);
@@ -126,12 +138,99 @@ fn a_mesh_is_opened_asked_and_closed(rt: HostRuntime) -> Result<(), Fail> {
     Ok(())
 }
 
+// The tetrahedron as arrays.
+const POINTS: &[[i32; 3]] = &[[0, 0, 0], [4000, 0, 0], [0, 4000, 0], [0, 0, 4000]];
+
+const TRIANGLES: &[[u32; 3]] = &[[0, 2, 1], [0, 1, 3], [0, 3, 2], [1, 2, 3]];
+
+#[test]
+fn a_mesh_of_arrays_is_opened(rt: HostRuntime) -> Result<(), Fail> {
+    let alloc = rt.alloc();
+    let mut handle = Handle::empty();
+    let mut shape = NO_SHAPE;
+    let mut line = [1u8; 64];
+    let wrong = &[[0, 2, 1], [0, 1, 7]];
+    assert_eq!(rt;
+        stlslice_open_mesh(
+            alloc,
+            POINTS,
+            wrong,
+            &MILLIMETRE,
+            &mut handle,
+            &mut shape,
+            &mut line
+        ),
+        1
+    );
+    assert!(rt; line.starts_with(b"point 7 of triangle 1 is missing\0") && shape.cells.layers == 0);
+    assert_eq!(rt;
+        stlslice_open_mesh(
+            alloc,
+            POINTS,
+            TRIANGLES,
+            &MILLIMETRE,
+            &mut handle,
+            &mut shape,
+            &mut line
+        ),
+        0
+    );
+    assert!(rt;
+        shape.cells.layers == 4 && shape.corners.high_x == 4000 && shape.corners.facets == 4
+    );
+    let mut image = [0u8; 64];
+    let mut wanted = 0;
+    assert_eq!(rt;
+        stlslice_mask(alloc, &mut handle, 0, &mut image, &mut wanted),
+        0
+    );
+    assert!(rt; image.starts_with(LOWEST) && wanted == 11);
+    stlslice_close(alloc, &mut handle);
+    Ok(())
+}
+
+// What `MILLIMETRE` stands for.
+const SETUP: Setup = Setup {
+    unit: Unit::Millimetre,
+    pitch: 1000,
+    layer: 1000,
+    rule: Rule::EvenOdd,
+    placing: Placing::Fitted,
+};
+
+// The number of the facets that the arrays open with.
+fn opened_facets(memory: &ShortMemory<Global>) -> Result<usize, SessionFault> {
+    let session = open_mesh(memory, POINTS, TRIANGLES, &SETUP)?;
+    Ok(session.facet_count())
+}
+
+// How many allocations of opening the arrays failed in turn, each with the fault `Memory`, until they were open.
+fn failed_arrays(alloc: Global) -> Option<u64> {
+    for turn in 1..TURNS {
+        let memory = ShortMemory::new(alloc, turn);
+        let facets = opened_facets(&memory);
+        if !memory.has_failed() {
+            return (facets == Ok(4)).then_some(turn - 1);
+        }
+        if facets != Err(SessionFault::Memory) {
+            return None;
+        }
+    }
+    None
+}
+
+#[test]
+fn each_failed_allocation_of_arrays_is_told(rt: HostRuntime) -> Result<(), Fail> {
+    assert!(rt; failed_arrays(rt.alloc()) > Some(5));
+    Ok(())
+}
+
 // More turns than any call here has allocations.
 const TURNS: u64 = 1000;
 
 // A call on an open mesh.
 trait Call {
-    // Its status, and whether what a caller has is right for that status: what is told, or what was there before.
+    // Its status, and whether what a caller has is right for that status: what is put, or what was there before.
     fn called<'a>(
         memory: &'a ShortMemory<Global>,
         session: &Session<&'a ShortMemory<Global>>,
@@ -150,6 +249,22 @@ impl Call for Mask {
         match put_mask(session, 0, &mut image, &mut wanted) {
             DONE => (DONE, image.as_slice() == LOWEST && wanted == 11),
             status => (status, image == [7; 11] && wanted == 9),
+        }
+    }
+}
+
+struct Png;
+
+impl Call for Png {
+    fn called<'a>(
+        _memory: &'a ShortMemory<Global>,
+        session: &Session<&'a ShortMemory<Global>>,
+    ) -> (u32, bool) {
+        let mut png = [7u8; 102];
+        let mut wanted = 9;
+        match put_png(session, 0, 1, 0, &mut png, &mut wanted) {
+            DONE => (DONE, png.as_slice() == LOWEST_PNG && wanted == 102),
+            status => (status, png == [7; 102] && wanted == 9),
         }
     }
 }
@@ -217,8 +332,8 @@ impl Call for Points {
     }
 }
 
-// Fails each allocation in turn, of opening the mesh and of a call on it, until none is left to fail; answers how many of
-// the call's failed. `None` where a call was not right.
+// Fails each allocation in turn, of opening the mesh and of a call on it, until none is left to fail. Returns how many of the
+// call's failed, or `None` if a call was not right.
 fn failures<C: Call>(alloc: Global) -> Option<u32> {
     let setup = MILLIMETRE.setup()?;
     let mut failed = 0u32;
@@ -246,13 +361,14 @@ fn failures<C: Call>(alloc: Global) -> Option<u32> {
 fn each_failed_allocation_is_told(rt: HostRuntime) -> Result<(), Fail> {
     let alloc = rt.alloc();
     assert!(rt; failures::<Mask>(alloc) > Some(0));
+    assert!(rt; failures::<Png>(alloc) > Some(0));
     assert!(rt; failures::<Stripe>(alloc) > Some(0));
     assert!(rt; failures::<Area>(alloc) > Some(0));
     assert!(rt; failures::<Points>(alloc) > Some(0));
     Ok(())
 }
 
-// How many allocations of reading a box failed in turn, each told as `Memory`, until it was right.
+// How many allocations of reading a box failed in turn, each with the fault `Memory`, until it was right.
 fn failed_boxes(alloc: Global) -> Option<u64> {
     for turn in 1..TURNS {
         let memory = ShortMemory::new(alloc, turn);
@@ -275,6 +391,32 @@ fn each_failed_allocation_of_a_box_is_told(rt: HostRuntime) -> Result<(), Fail> 
 fn is_line<A: Allocator>(alloc: A, fault: &SessionFault, status: u32, start: &[u8]) -> bool {
     let mut line = [1u8; 64];
     put_fault(alloc, fault, &mut line) == status && line.starts_with(start)
+}
+
+// Whether asking for a PNG by these numbers ends with this status and size, and changes no byte.
+fn is_no_png(
+    session: &Session<Global>,
+    [k, depth, mirrors]: [u32; 3],
+    status: u32,
+    size: usize,
+) -> bool {
+    let mut png = [7u8; 101];
+    let mut wanted = 9;
+    put_png(session, k, depth, mirrors, &mut png, &mut wanted) == status
+        && png == [7; 101]
+        && wanted == size
+}
+
+// Numbers that stand for no layer, depth or mirrors; and a buffer with a byte too little.
+#[test]
+fn pngs_that_are_refused(rt: HostRuntime) -> Result<(), Fail> {
+    let setup = MILLIMETRE.setup().ok_or("no setup")?;
+    let session = open(rt.alloc(), TETRAHEDRON, &setup)?;
+    assert!(rt; is_no_png(&session, [4, 8, 0], 1, 9) && is_no_png(&session, [4, 0, 4], 1, 9));
+    assert!(rt; is_no_png(&session, [0, 0, 0], 1, 9) && is_no_png(&session, [0, 2, 0], 1, 9));
+    assert!(rt; is_no_png(&session, [0, 9, 1], 1, 9) && is_no_png(&session, [0, 8, 4], 1, 9));
+    assert!(rt; is_no_png(&session, [0, 1, 0], NO_ROOM, 102));
+    Ok(())
 }
 
 // The sizes that buffers with a byte too little are told.
@@ -302,7 +444,7 @@ fn what_is_told_without_memory(rt: HostRuntime) -> Result<(), Fail> {
     assert!(rt; is_line(alloc, &no_cells, 5, b"grid has no cells\0"));
     assert!(rt; is_line(memory, &no_cells, 5, b"there is no such grid\0"));
     assert!(rt; is_line(memory, &SessionFault::Memory, 6, b"out of memory\0"));
-    // the size of an image is told without slicing: no allocation is left to fail
+    // the size of an image is put without slicing: no allocation is left to fail
     assert_eq!(rt; failures::<Sizes>(alloc), Some(0));
     Ok(())
 }

@@ -4,7 +4,7 @@ use Rattle.geometry.specs.declared.limits.TheConstants.{FACET_LIMIT}
 use Rattle.stl_text.specs.TextReader.{IsAfter, TextReader}
 use Rattle.stl_text.specs.declared.stl_fault.StlFault.TheVariants as stl
 use Rattle.layer_session.specs.SessionReader.{IsFed, SessionReader}
-use Rattle.layer_session.specs.Session.{IsOpenFault, IsSessionOf}
+use Rattle.layer_session.specs.Session.{IsOpenFault, IsSessionOf, of_text}
 use Rattle.layer_session.specs.declared.setup.Setup.{Setup}
 use Rattle.layer_session.proofs.session_reader.SessionReader.finish.Goals as goal
 
@@ -24,14 +24,14 @@ of_facets-requires-clause-few g c =
 pub returns-in_err-facets-clause-fault : goal.returns-in_err-facets-clause-fault
 returns-in_err-facets-clause-fault g c = λ setup fed is.
     let h = inside c.self.inside.setup c.self.inside.reader c.args.self setup fed c.self.view_is is in
-    subst (λ (s : Setup). IfErr c.from_residual.result (IsOpenFault s fed)) h.0 (
+    subst (λ (s : Setup). IfErr c.from_residual-in_err-facets.result (IsOpenFault s (of_text fed))) h.0 (
     let fault = c.in_err-facets.ensures.fault FACET_LIMIT c.self.inside.setup.unit [] fed h.1 in
     search rules)
 
 pub returns-in_err-facets-clause-only : goal.returns-in_err-facets-clause-only
 returns-in_err-facets-clause-only g c = λ setup fed is session made.
     let h = inside c.self.inside.setup c.self.inside.reader c.args.self setup fed c.self.view_is is in
-    let own : IsSessionOf c.self.inside.setup fed session = subst (λ (s : Setup). IsSessionOf s fed session) (sym h.0) made in
+    let own : IsSessionOf c.self.inside.setup (of_text fed) session = subst (λ (s : Setup). IsSessionOf s (of_text fed) session) (sym h.0) made in
     let cause : c.in_err-facets.field-0.0 ≡ stl.Memory =
     c.in_err-facets.ensures.only FACET_LIMIT c.self.inside.setup.unit [] fed h.1 own.facets own.reads in
     search rules
@@ -39,17 +39,17 @@ returns-in_err-facets-clause-only g c = λ setup fed is session made.
 pub returns-clause-found : goal.returns-clause-found
 returns-clause-found g c = λ setup fed is.
     let h = inside c.self.inside.setup c.self.inside.reader c.args.self setup fed c.self.view_is is in
-    subst (λ (s : Setup). IfOk c.of_facets.result (IsSessionOf s fed)) h.0
-    (c.of_facets.ensures.found fed (c.in_ok-facets.ensures.found FACET_LIMIT c.self.inside.setup.unit [] fed h.1))
+    subst (λ (s : Setup). IfOk c.of_facets.result (IsSessionOf s (of_text fed))) h.0
+    (c.of_facets.ensures.found (of_text fed) (c.in_ok-facets.ensures.found FACET_LIMIT c.self.inside.setup.unit [] fed h.1))
 
 pub returns-clause-fault : goal.returns-clause-fault
 returns-clause-fault g c = λ setup fed is.
     let h = inside c.self.inside.setup c.self.inside.reader c.args.self setup fed c.self.view_is is in
-    subst (λ (s : Setup). IfErr c.of_facets.result (IsOpenFault s fed)) h.0
-    (c.of_facets.ensures.fault fed (c.in_ok-facets.ensures.found FACET_LIMIT c.self.inside.setup.unit [] fed h.1))
+    subst (λ (s : Setup). IfErr c.of_facets.result (IsOpenFault s (of_text fed))) h.0
+    (c.of_facets.ensures.fault (of_text fed) (c.in_ok-facets.ensures.found FACET_LIMIT c.self.inside.setup.unit [] fed h.1))
 
 pub returns-clause-only : goal.returns-clause-only
 returns-clause-only g c = λ setup fed is session made.
     let h = inside c.self.inside.setup c.self.inside.reader c.args.self setup fed c.self.view_is is in
-    let own : IsSessionOf c.self.inside.setup fed session = subst (λ (s : Setup). IsSessionOf s fed session) (sym h.0) made in
-    c.of_facets.ensures.only fed session (c.in_ok-facets.ensures.found FACET_LIMIT c.self.inside.setup.unit [] fed h.1) own
+    let own : IsSessionOf c.self.inside.setup (of_text fed) session = subst (λ (s : Setup). IsSessionOf s (of_text fed) session) (sym h.0) made in
+    c.of_facets.ensures.only (of_text fed) session (c.in_ok-facets.ensures.found FACET_LIMIT c.self.inside.setup.unit [] fed h.1) own

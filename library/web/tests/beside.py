@@ -1,0 +1,45 @@
+"""What is tried beside the page, without a browser: its heap, and the messages of library/web/module.py."""
+
+import os
+
+from common import HERE, WEB, holds, library_test, same
+
+# What stands for `rt` in a toolchain that has changed, and what module.py says then
+CLANG = '"$KIT/toolchain/bin/clang"'
+CHANGED = [
+    ("exit 0", "the toolchain has changed: rt lib gave clang 0 files NAME.bc, and not one"),
+    ("exit 3", "rt lib ended with status 3; "),
+    (f"touch a.bc b.bc; {CLANG} a.bc b.bc", "the toolchain has changed: rt lib gave clang 2 files NAME.bc, and not one"),
+    (f"touch a.bc; {CLANG} a.bc; echo >> lib.a", "what was built is not "),
+    (None, "the toolchain has changed: there is no toolchain/bin/clang in "),
+]
+
+
+def try_heap(room):
+    """The page's heap as a native program, under sanitizers."""
+    program = os.path.join(room, "heap")
+    library_test.must([*library_test.LANGUAGES["C"], "-Wall", "-Wextra", "-Werror", *library_test.SANE,
+                       os.path.join(HERE, "heap.c"), "-o", program])
+    return library_test.must([program]).decode().strip()
+
+
+def put(path, body):
+    os.makedirs(os.path.dirname(path), exist_ok=True)
+    with open(path, "w", encoding="ascii") as file:
+        file.write(f"#!/bin/sh\n{body}\n")
+    os.chmod(path, 0o755)
+
+
+def try_changed_toolchains(room):
+    """If the toolchain's names have changed, one line says so."""
+    for number, (body, wanted) in enumerate(CHANGED):
+        kit = os.path.join(room, f"kit{number}")
+        put(f"{kit}/lib.a", "")
+        put(f"{kit}/bin/rt", f'KIT=$(dirname "$(dirname "$0")")\n{body or "exit 0"}')
+        if body:
+            put(f"{kit}/toolchain/bin/clang", "exit 0")
+        status, _, wrong = library_test.ran([os.path.join(WEB, "module.py"), kit, f"{kit}/lib.a", f"{kit}/module.bc"],
+                                            env={**os.environ, "PATH": f"{kit}/bin:{os.environ['PATH']}"})
+        same(f"status in a changed toolchain: {wrong}", status, 1)
+        holds(f"{wrong!r} says {wanted!r}", wanted in wrong)
+        holds("there is no module", not os.path.exists(f"{kit}/module.bc"))

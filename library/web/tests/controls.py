@@ -1,0 +1,278 @@
+"""The page's controls, used as by hand: files, slider, keys, wheel, plot, canvas, saving, examples."""
+
+import base64
+import math
+import os
+import struct
+import subprocess
+import zlib
+
+from common import IDLE, area_of, example, holds, images_of, same, script
+
+
+def bits_of_png(path):
+    """The columns, rows and bits of a PNG with one bit for each pixel and no filters, as the page writes it."""
+    with open(path, "rb") as file:
+        data = file.read()
+    same("signature of the PNG", data[:8], b"\x89PNG\r\n\x1a\n")
+    at, chunks = 8, {}
+    while at < len(data):
+        size, = struct.unpack(">I", data[at:at + 4])
+        kind, body = data[at + 4:at + 8], data[at + 8:at + 8 + size]
+        same(f"sum of {kind}", struct.unpack(">I", data[at + 8 + size:at + 12 + size])[0], zlib.crc32(kind + body))
+        chunks[kind] = body
+        at += 12 + size
+    columns, rows, *kind = struct.unpack(">IIBBBBB", chunks[b"IHDR"])
+    same("kind of the PNG", kind, [1, 0, 0, 0, 0])
+    lines = zlib.decompress(chunks[b"IDAT"])
+    stride = (columns + 7) // 8 + 1
+    same("size of the PNG's lines", len(lines), stride * rows)
+    same("filters of the PNG", set(lines[::stride]), {0})
+    return columns, rows, b"".join(lines[at + 1:at + stride] for at in range(0, len(lines), stride))
+
+
+def try_keys(page):
+    """Slider, keys and wheel, and the layer that each leads to."""
+    page.load()
+    page.set(100, 100)
+    page.take(example("bracket"))
+    layers = page.value("opened.layers")
+    at = layers // 2
+    same("the layer that comes first", page.k(), at)
+    page.value("document.activeElement.blur()")
+    for key, wanted in [("ArrowRight", at + 1), ("ArrowUp", at + 2), ("ArrowLeft", at + 1), ("ArrowDown", at),
+                        ("PageUp", at + 10), ("PageDown", at), ("End", layers - 1), ("ArrowRight", layers - 1), ("Home", 0),
+                        ("ArrowLeft", 0)]:
+        page.browser.key(key)
+        same(f"layer after {key}", page.k(), wanted)
+    for name, wanted in (("layer", 1), ("pitch", 1)):
+        page.value(f"by('{name}').focus()")
+        page.browser.key("ArrowRight")
+        same(f"layer after a key in the field {name}", page.k(), wanted)
+    page.value("document.activeElement.blur()")
+    try_mouse(page, layers)
+    try_zoom(page)
+
+
+def try_mouse(page, layers):
+    for selector in ("#image", "#plot", "#layer"):
+        x, y = page.middle(selector)
+        before = page.k()
+        page.browser.mouse("mouseWheel", x, y, deltaX=0, deltaY=-100)
+        same(f"layer after the wheel on {selector}", page.k(), before + 1)
+        page.browser.mouse("mouseWheel", x, y, deltaX=0, deltaY=100)
+        same(f"layer after the wheel back on {selector}", page.k(), before)
+    left, top, width, height = page.browser.place("#plot")
+    for part in (0.25, 0.75):
+        page.browser.click(left + width * part, top + height / 2)
+        holds(f"the plot at {part} of its width", abs(page.k() - part * layers) < 0.02 * layers + 1)
+    page.browser.click(*page.middle("#layer"))
+    holds("the slider's middle", abs(page.k() - layers / 2) < 0.02 * layers + 1)
+
+
+def try_zoom(page):
+    x, y = page.middle("#image")
+    page.browser.key("+", "Equal", "+")
+    page.browser.mouse("mouseWheel", x, y, deltaX=0, deltaY=-300, modifiers=2)
+    holds("Ctrl and the wheel zoom", page.value("look.zoom > 3"))
+    before = page.value("[look.x, look.y]")
+    page.browser.mouse("mousePressed", x, y, button="left", buttons=1, clickCount=1)
+    page.browser.mouse("mouseMoved", x + 30, y - 20, button="left", buttons=1)
+    page.browser.mouse("mouseReleased", x + 30, y - 20, button="left")
+    moved = [round(now - then, 6) for now, then in zip(page.value("[look.x, look.y]"), before)]
+    same("how far dragging moved the image", moved, [30, -20])
+    page.browser.key("0", "Digit0", "0")
+    same("the zoom after 0", page.value("look"), {"zoom": 1, "x": 0, "y": 0})
+    page.browser.key("o", "KeyO", "o")
+    same("outlines after o", page.value("by('outlines').checked"), False)
+    before = page.value("by('keys').open")
+    page.browser.key("?", "Slash", "?")
+    same("the keys after ?", page.value("by('keys').open"), not before)
+
+
+# Whether the canvas shows each pixel of the image, one after the other
+SHOWN = """(() => {
+    const { scale, left, top } = framed(), pen = by("image").getContext("2d"), { columns, rows } = opened, found = [];
+    const middle = (least, at) => Math.floor(least + (at + 0.5) * scale);
+    for (let j = 0; j < rows; j++)
+        for (let i = 0; i < columns; i++) {
+            const [red] = pen.getImageData(middle(left, i), middle(top, j), 1, 1).data;
+            found.push(red < 0xa0 ? 1 : 0);
+        }
+    return found.join("");
+})()"""
+
+
+def try_told(page, program):
+    """The line above the image reports its layer; the picture on the canvas has the image's pixels."""
+    images, columns, rows = images_of(program, example("bracket"), "--pitch", "100", "--layer", "100", "--rule", "positive")
+    page.value("by('outlines').checked = false; go(37)")
+    same("layer", page.k(), 37)
+    page.value("draw()")
+    area = area_of(images[37])
+    same("what is told of the layer", page.text("told").replace(",", ""),
+         f"Layer 37 of {len(images)} z 3.750 mm area {area / 100:.3f} mm² ({area} pixels) 1 loop")
+    page.until("areas.length === opened.layers")
+    holds("the canvas shows each pixel at least once", page.value("framed().scale > 1"))
+    stride = (columns + 7) // 8
+    lines = (images[37][at:at + stride] for at in range(0, stride * rows, stride))
+    same("the pixels on the canvas", page.value(SHOWN), "".join("".join(f"{byte:08b}" for byte in it)[:columns] for it in lines))
+    volume = sum(map(area_of, images)) * 100 ** 3 / 1e12
+    holds("the volume", f"Volume{volume:.3f} ml" in page.text("facts"))
+
+
+def try_drop(page):
+    page.load()
+    page.set(200, 200)
+    page.browser.drop(example("supported"), *page.middle("#image"))
+    page.until(IDLE)
+    same("the part that was dropped", page.text("name"), "supported.stl")
+    page.browser.choose("#file", example("bracket"))
+    page.until(f"part.name === 'bracket.stl' && {IDLE}")
+    same("the part after it", page.text("name"), "bracket.stl")
+
+
+def try_canvas(page, program):
+    """A canvas has the part in its middle, as the scripts for printers have it. A part that is larger is refused."""
+    page.load()
+    page.set(100, 100)
+    page.take(example("bracket"))
+    page.change(grid="canvas", columns=517, rows=303)
+    page.until(f"{IDLE} && opened.columns === 517")
+    with open(example("bracket"), "rb") as text:
+        box = subprocess.run([program, "--box"], stdin=text, capture_output=True, check=True).stdout.split()
+    low_x, low_y, low_z, high_x, high_y, high_z = map(int, box[3:])
+    x, y, layers = (low_x + high_x - 51700) // 2, (low_y + high_y - 30300) // 2, -(-(high_z - low_z) // 100)
+    grid = f"--grid=517,303,{layers},{x},{y},{low_z}"
+    images, *_ = images_of(program, example("bracket"), "--pitch", "100", "--layer", "100", "--rule", "positive", grid)
+    same("the images on a canvas", base64.b64decode(page.in_worker(script("all_layers"))["images"]),
+         b"".join(b"P4\n517 303\n" + it for it in images))
+    holds("the command has the grid", grid in page.text("command"))
+    page.change(rows=10)
+    page.until("!by('fault').hidden")
+    same("the fault of a part that is too large", page.text("fault_line"),
+         "the part doesn't fit: it is 31.964 x 12.000 mm, the canvas 51.700 x 1.000 mm")
+
+
+# Whether the canvas shows a pixel of the image as filled, when it is near and in the middle
+NEAR = """(() => {
+    const { columns, rows } = opened, canvas = by("image");
+    look = { zoom: 12, x: 0, y: 0 };
+    const { scale } = framed(), shift = (count, at) => (count / 2 - at - 0.5) * scale / dense();
+    look = { zoom: 12, x: shift(columns, %d), y: shift(rows, %d) };
+    draw();
+    const middle = [canvas.width / 2, canvas.height / 2].map(Math.floor);
+    return canvas.getContext("2d").getImageData(...middle, 1, 1).data[0] < 0xa0;
+})()"""
+
+
+def try_large_canvas(page, program):
+    """The picture of a large canvas is made smaller; near by, the image's own pixels are shown."""
+    page.load()
+    page.set(10, 1000)
+    page.take(example("bracket"))
+    page.change(grid="canvas", columns=5000, rows=3000)
+    page.until(f"{IDLE} && opened.columns === 5000")
+    page.value("by('outlines').checked = false; go(3)")
+    same("layer", page.k(), 3)
+    holds("the picture is made smaller", page.value("shown.side > 1 && shown.bits.length > 0"))
+    grid = "--grid=" + ",".join(map(str, page.value("opened.grid")))
+    images, *_ = images_of(program, example("bracket"), "--pitch", "10", "--layer", "1000", "--rule", "positive", grid)
+    row = 1500
+    line = "".join(f"{byte:08b}" for byte in images[3][row * 625:(row + 1) * 625])
+    ends = [at for at in range(1, 5000) if line[at] != line[at - 1]]
+    holds("the row has both kinds of pixels", len(ends) >= 2)
+    for column in [it for end in ends for it in (end - 1, end)]:
+        same(f"the pixel of column {column} near by", page.value(NEAR % (column, row)), line[column] == "1")
+
+
+def try_saving(page, program):
+    page.load()
+    page.set(100, 100)
+    page.take(example("bracket"))
+    page.value("go(20)")
+    same("layer", page.k(), 20)
+    page.value("document.activeElement.blur()")
+    page.browser.key("s", "KeyS", "s")
+    path = os.path.join(page.browser.saved, "bracket_00020.png")
+    for _ in range(200):
+        page.value("new Promise((done) => setTimeout(done, 50))")
+        if os.path.exists(path) and os.path.getsize(path):
+            break
+    images, columns, rows = images_of(program, example("bracket"), "--pitch", "100", "--layer", "100", "--rule", "positive")
+    same("the saved PNG", bits_of_png(path), (columns, rows, images[20]))
+
+
+def try_demos(page):
+    page.load()
+    for number in range(page.value("by('demos').children.length")):
+        page.load()
+        page.value(f"by('demos').children[{number}].click()")
+        page.until(IDLE)
+        page.k()
+        holds(f"{page.text('name')} is shown", page.value("opened.layers > 100 && shown.area > 0"))
+
+
+def shortest(number):
+    """The shortest decimal that reads back as a number of single precision."""
+    return next(word for word in (f"{number:.{digits}g}" for digits in range(1, 10)) if single(float(word)) == number)
+
+
+def single(number):
+    return struct.unpack("<f", struct.pack("<f", number))[0]
+
+
+def text_of(facets, word=shortest):
+    """Facets of nine numbers as a text, with the shortest decimals or other words."""
+    lines = ["solid"]
+    for facet in facets:
+        corners = (" ".join(map(word, facet[at:at + 3])) for at in (0, 3, 6))
+        lines += ["facet normal 0 0 0 outer loop", *(f"vertex {it}" for it in corners), "endloop endfacet"]
+    return "\n".join([*lines, "endsolid", ""]).encode()
+
+
+def half_micrometres(word):
+    """A number near a text's, of single precision, whose shortest decimal lies between two micrometres."""
+    return single(round(float(word) * 4) / 4 + 0.0005)
+
+
+def written(program, text, *words):
+    return subprocess.run([program, *words], input=text, capture_output=True, check=True).stdout
+
+
+def try_binary(page, room, program):
+    """A binary STL is the text with the shortest decimals of its numbers; a bad number is reported with its facet."""
+    with open(example("helical_gear"), encoding="ascii") as file:
+        words = file.read().split()
+    numbers = [half_micrometres(words[at + it]) for at, word in enumerate(words) if word == "vertex" for it in (1, 2, 3)]
+    facets, binary = [numbers[at:at + 9] for at in range(0, len(numbers), 9)], os.path.join(room, "binary.stl")
+    with open(binary, "wb") as file:
+        file.write(b"solid but binary".ljust(80) + struct.pack("<I", len(facets)))
+        file.write(b"".join(struct.pack("<12fH", 0, 0, 0, *facet, 0) for facet in facets))
+    page.load()
+    page.set(50, 100)
+    page.take(binary)
+    text = text_of(facets)
+    box = written(program, text, "--box")
+    holds("the box would be another with all digits", written(program, text_of(facets, repr), "--box") != box)
+    same("the box of a binary file", page.value("[...opened.low, ...opened.high]"), list(map(int, box.split()[3:])))
+    same("images of a binary file", base64.b64decode(page.in_worker(script("all_layers"))["images"]),
+         written(program, text, "--pitch", "50", "--layer", "100", "--rule", "positive"))
+    holds("the page says that the file is binary", "from a binary file" in page.text("facts"))
+    with open(binary, "r+b") as file:
+        file.seek(84 + 50 * 6 + 12)
+        file.write(struct.pack("<f", math.nan))
+    page.take(binary)
+    holds("a number that is none is reported", "not a number" in page.text("fault_line"))
+    holds("with its facet", page.text("fault_place").startswith("Facet 7 of the file"))
+
+
+def try_all(page, room, program):
+    try_keys(page)
+    try_told(page, program)
+    try_drop(page)
+    try_canvas(page, program)
+    try_large_canvas(page, program)
+    try_saving(page, program)
+    try_demos(page)
+    try_binary(page, room, program)

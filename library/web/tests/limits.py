@@ -1,0 +1,149 @@
+"""The page at its limits: little memory, a full stack, many openings, a large part."""
+
+import os
+
+from common import IDLE, example, holds, same, script
+from measure import ring_of
+
+OPENINGS = 3000
+FACETS = 200000  # of a large part
+STATUSES = {"0", "6"}
+
+
+def opened_bracket(page):
+    page.load()
+    page.set(500, 500)
+    page.take(example("bracket"))
+    page.until("areas.length === opened.layers")
+
+
+def try_little_memory(page):
+    """Allocations that fail, in the calls and in the page. Returns the numbers of calls and of those that failed."""
+    opened_bracket(page)
+    told = page.in_worker(script("little_memory"))
+    for name, found in told.items():
+        same(f"how {name} ends in little memory", set(found), STATUSES)
+    page.value("part = { ...part }; slice()")
+    page.until("!by('fault').hidden")
+    same("the page out of memory", [page.text("fault_head"), page.text("fault_line")],
+         ["bracket.stl is refused, status 6", "out of memory"])
+    holds("with its hint", "slabs" in page.text("hints"))
+    return sum(sum(it.values()) for it in told.values()), sum(it["6"] for it in told.values())
+
+
+# Opens the part with the stack's pointer so near to its end, and returns a layer or the trap's words
+WITH_STACK = """(() => {
+    library.__stack_pointer.value = %dn;
+    try {
+        open({ pitch: 500, layer: 500, rule: 2, unit: 0 });
+        return [...bits_of(9)].join();
+    } catch (trap) {
+        return trap.message;
+    }
+})()"""
+
+
+def try_full_stack(page):
+    """With little of the stack left, a call is right or traps. After a trap the worker refuses every call, and the next
+    opening has a new worker. Returns the numbers of both."""
+    opened_bracket(page)
+    wanted, top = page.in_worker("[[...bits_of(9)].join(), Number(library.__stack_pointer.value)]")
+    right = stopped = 0
+    size = 16
+    while size < top:
+        told = page.in_worker(WITH_STACK % size)
+        if told.startswith("the slicer has stopped: "):
+            stopped += 1
+            must_refuse(page, told)
+        else:
+            right += 1
+            same(f"the layer with a stack of {size}", told, wanted)
+        size = size * 4 // 3 // 16 * 16 + 16
+    holds(f"both ends were seen: {right} right, {stopped} stopped", right and stopped)
+    return right, stopped
+
+
+def must_refuse(page, line):
+    """The worker refuses each call, the page says why, and the next opening has a new worker."""
+    for call in ("areas', { from: 0, milliseconds: 1 }", "png', { k: 9 }", "open', { pitch: 500, layer: 500, rule: 2, unit: 0 }"):
+        same(f"the call {call}", page.value(f"slicer.call('{call}).then(() => null, (it) => it.message)"), line)
+    page.value("slicer.call('layer', { k: 9 }).catch((fault) => refused(fault, part))")
+    page.until("!by('fault').hidden")
+    same("what the page says", [page.text("fault_line"), page.text("fault_place")],
+         [line, "Change an option or choose a part to start it anew."])
+    page.change(pitch=500)
+    page.until(f"{IDLE} && opened")
+
+
+MANY = """(async () => {
+    const sizes = [], options = [400, 900, 250].map((pitch) => ({ pitch, layer: pitch, rule: 2, unit: 0 }));
+    for (let i = 0; i < %d; i++) {
+        sizes.push((await slicer.open(options[i %% 3])).memory);
+        if (i %% 7 === 0) await slicer.call("layer", { k: 5 });
+        if (i %% 11 === 0) await slicer.call("open", { ...options[0], pitch: 0 }).catch(() => {});
+    }
+    return [sizes[100], sizes.at(-1)];
+})()"""
+
+
+# The bytes of the memory after a buffer has grown to 3 MB, 1 kB at a time
+GROWING = """(() => {
+    for (let size = 1; size < 3000; size++) buffer("image", 1000 * size);
+    return library.memory.buffer.byteLength;
+})()"""
+
+
+def try_openings(page):
+    """Opens meshes in turn, many times: the memory does not grow. Returns its bytes."""
+    page.load()
+    page.set(400, 400)
+    page.take(example("calibration_block"))
+    soon, at_last = page.value(MANY % OPENINGS)
+    same("the memory after many openings", at_last, soon)
+    holds("a buffer that grows gives back the one before", page.in_worker(GROWING) < 32 << 20)
+    return soon
+
+
+WATCH = """longest = 0, before = performance.now(), was_busy = false;
+(function look_again() {
+    const now = performance.now();
+    longest = Math.max(longest, now - before);
+    before = now;
+    was_busy ||= !by('busy').hidden;
+    setTimeout(look_again, 5);
+})()"""
+
+
+def try_large_part(page, room):
+    """The page goes on while a large part is opened; opening can be stopped. Returns the longest pause, and the time."""
+    ring = os.path.join(room, "ring.stl")
+    ring_of(FACETS, ring)
+    page.load()
+    page.set(100, 100)
+    page.value(WATCH)
+    began = page.value("performance.now()")
+    page.take(ring)
+    page.k()
+    took = page.value("performance.now()") - began
+    longest = page.value("longest")
+    holds(f"the page was never held up for a third of the time: {longest:.0f} of {took:.0f} ms", 3 * longest < took)
+    holds("the page says that it slices", page.value("was_busy"))
+    page.value("by('file').value = ''")
+    page.browser.choose("#file", ring)
+    page.until("!by('busy').hidden")
+    page.value("by('stop').click()")
+    page.until("!by('fault').hidden && by('busy').hidden")
+    holds("a part can be stopped", page.text("fault_line").startswith("stopped by hand"))
+    page.take(example("bracket"))
+    same("facets of the part after it", page.value("opened.facets"), 236)
+    return longest, took
+
+
+def try_all(page, room):
+    calls, failed = try_little_memory(page)
+    print(f"memory: {calls} calls in little of it, {failed} with status 6; none lost any", flush=True)
+    right, stopped = try_full_stack(page)
+    print(f"stack: {stopped} calls stopped at its end, after which the worker refused; {right} right", flush=True)
+    print(f"openings: {OPENINGS} in {try_openings(page) >> 20} MiB", flush=True)
+    longest, took = try_large_part(page, room)
+    print(f"a part of {FACETS} facets: shown after {took:.0f} ms, the page held up for {longest:.0f} ms at most", flush=True)
