@@ -3,9 +3,10 @@
 
 mod progress;
 #[cfg(test)]
-mod tests;
+mod progress_texts;
 
 use crate::progress::{Progress, ProgressWriter};
+use clap::Error as Refusal;
 use clap::error::ErrorKind as RefusalKind;
 use std::env::{self, Env, FillError};
 use std::fmt::Display;
@@ -13,15 +14,30 @@ use std::io::{self, ErrorKind, IsTerminal};
 use std::process::ExitCode;
 use stlslice::{Counted, WordFault, read_words, run, run_watched, wants_progress};
 
-/// The status where the words are not UTF-8.
+/// The status if the words are not UTF-8.
 const NO_TEXT: u8 = 2;
 
-/// The status where the help or the version could not be written.
+/// The status if the help or the version could not be written.
 const UNWRITTEN: u8 = 7;
 
 /// What is said of a number that is refused, after the words that name it.
 const WHOLE_NUMBERS: &str =
     "stlslice: --pitch and --layer take whole micrometres, as in --pitch 50 for 0.05 mm; --workers takes a whole number";
+
+/// What is said of a word that is no option, after the words that name it.
+const PART_ON_INPUT: &str =
+    "stlslice: the part is read from standard input, as in stlslice --pitch 50 --layer 100 < part.stl";
+
+/// What is said of a value that begins with a minus, after the words that name it.
+const EQUALS_SIGN: &str =
+    "stlslice: a value that begins with a minus wants an equals sign; --grid takes three counts first, as in --grid=400,300,120,-9500,-7500,0";
+
+/// What is said where standard input is a terminal.
+const AWAITED: &str =
+    "stlslice: a part in ASCII STL is awaited on standard input, as in stlslice --pitch 50 --layer 100 < part.stl";
+
+/// How the text on a word that is no option begins.
+const UNEXPECTED: &str = "error: unexpected argument '";
 
 fn main(rt: HostRuntime) -> ExitCode {
     let alloc = rt.alloc();
@@ -33,6 +49,9 @@ fn main(rt: HostRuntime) -> ExitCode {
         Ok(task) => task,
         Err(fault) => return refused(&rt, &fault),
     };
+    if rt.stdin().is_terminal() {
+        let _ = rt.eprintln(&AWAITED);
+    }
     let mut source = Counted::new(rt.stdin());
     let end = if wants_progress(words.as_slice()) {
         let progress = Progress::new(&rt, &task, rt.stderr().is_terminal());
@@ -87,7 +106,7 @@ fn unread<R: Eprint>(rt: &R, fault: &io::Error) -> ExitCode {
 }
 
 /// Ends a program whose words are no task. Help or a version that they ask for goes to standard output.
-fn refused<R: Print + Eprint>(rt: &R, fault: &WordFault) -> ExitCode {
+fn refused<R: Print + Eprint + AllocGlobal>(rt: &R, fault: &WordFault) -> ExitCode {
     let WordFault::Refused(refusal) = fault else {
         return ended(rt, fault, fault.status());
     };
@@ -99,8 +118,28 @@ fn refused<R: Print + Eprint>(rt: &R, fault: &WordFault) -> ExitCode {
         Err(_) if fault.status() == 0 => {
             ended(rt, &"stlslice: the help could not be written", UNWRITTEN)
         }
-        _ if kind == RefusalKind::ValueValidation => ended(rt, &WHOLE_NUMBERS, fault.status()),
-        _ => ExitCode::from(fault.status()),
+        _ => match hint(rt, refusal) {
+            Some(line) => ended(rt, &line, fault.status()),
+            None => ExitCode::from(fault.status()),
+        },
+    }
+}
+
+/// What to write in place of words that are refused.
+fn hint<R: AllocGlobal>(rt: &R, refusal: &Refusal) -> Option<&'static str> {
+    match refusal.kind() {
+        RefusalKind::ValueValidation => Some(WHOLE_NUMBERS),
+        RefusalKind::UnknownArgument => {
+            let text = refusal.to_string(rt.alloc()).ok()?;
+            let word = text.as_str().strip_prefix(UNEXPECTED)?;
+            match word.strip_prefix('-') {
+                Some(rest) => rest
+                    .starts_with(|letter: char| letter.is_ascii_digit())
+                    .then_some(EQUALS_SIGN),
+                None => Some(PART_ON_INPUT),
+            }
+        }
+        _ => None,
     }
 }
 

@@ -1,5 +1,5 @@
-//! How far slicing is, shown on standard error: the layers that are made, then the bytes of their images that are
-//! written.
+//! How far slicing is, shown on standard error: the layers that are made, then the bytes of their images, or the PNGs, that
+//! are written.
 use std::alloc::Allocator;
 use std::fmt::{self, Display, Formatter};
 use std::io::{self, Write};
@@ -12,15 +12,16 @@ use stlslice::{Gate, Piece, Task, image_len};
 pub(crate) enum Phase {
     Slicing,
     Writing,
+    WritingPngs,
 }
 
-/// How far a phase is: in layers while slicing, in bytes while writing.
+/// How far a phase is: in layers while slicing and while writing PNGs, else in bytes.
 #[derive(Clone, Copy)]
 pub(crate) struct Bar {
     pub(crate) phase: Phase,
     pub(crate) done: u64,
     pub(crate) total: u64,
-    /// When the phase began. `None` before that, and where the clock cannot be read.
+    /// When the phase began. `None` before that, and if the clock cannot be read.
     pub(crate) begun: Option<Instant>,
 }
 
@@ -73,7 +74,7 @@ impl BarText {
         f.write_str("\x1b[K")
     }
 
-    /// A line of its own, where standard error is no terminal.
+    /// A line of its own, if standard error is no terminal.
     fn fmt_line<W: fmt::Write>(&self, f: &mut Formatter<W>) -> fmt::Result {
         f.write_str("stlslice: ")?;
         self.fmt_counts(f)?;
@@ -93,6 +94,7 @@ impl BarText {
         let (phase, unit) = match self.bar.phase {
             Phase::Slicing => ("slicing", "layers"),
             Phase::Writing => ("writing", "bytes"),
+            Phase::WritingPngs => ("writing", "layers"),
         };
         let percent = self.bar.steps_done(100);
         let done = self.bar.done;
@@ -106,13 +108,13 @@ impl BarText {
 }
 
 /// Shows how far a run is: on a terminal in one line, which is drawn anew at each percent, elsewhere by a line at each
-/// tenth. It is the gate of the workers; a [`ProgressWriter`] tells it of bytes.
+/// tenth. It is the gate of the workers; a [`ProgressWriter`] reports bytes to it.
 #[derive(Drop)]
 pub(crate) struct Progress<'r, R> {
     rt: &'r R,
     is_terminal: bool,
-    /// Whether the run writes images. A report is written at once, so its bytes are not shown.
-    has_images: bool,
+    /// How the run writes images. A report is written at once, so its bytes are not shown.
+    writing: Option<Phase>,
     state: Mutex<State>,
 }
 
@@ -120,8 +122,9 @@ pub(crate) struct Progress<'r, R> {
 #[derive(Drop)]
 struct State {
     bar: Bar,
-    /// The length of all images in bytes, once a piece was made.
-    image_bytes: u64,
+    /// How much is to be written, once a piece was made: the bytes of all images, or the number of PNGs, whose bytes are not
+    /// known before.
+    to_write: u64,
     /// Whether a bar was shown.
     is_shown: bool,
 }
@@ -138,16 +141,20 @@ impl<'r, R: Clock + Eprint + Wait> Progress<'r, R> {
         Progress {
             rt,
             is_terminal,
-            has_images: matches!(task, Task::Slice { report: false, .. }),
+            writing: match task {
+                Task::Slice { report: false, .. } => Some(Phase::Writing),
+                Task::Png { .. } => Some(Phase::WritingPngs),
+                _ => None,
+            },
             state: Mutex::new(State {
                 bar,
-                image_bytes: 0,
+                to_write: 0,
                 is_shown: false,
             }),
         }
     }
 
-    /// Ends the line that is drawn on a terminal, so that what follows stands on a line of its own.
+    /// Ends the line that is drawn on a terminal, so that what follows is on a line of its own.
     pub(crate) fn end(&self) {
         let is_shown = self.state.lock(self.rt).is_shown;
         if self.is_terminal && is_shown {
@@ -155,12 +162,12 @@ impl<'r, R: Clock + Eprint + Wait> Progress<'r, R> {
         }
     }
 
-    /// The time, where the clock can be read.
+    /// The time, if the clock can be read.
     fn now(&self) -> Option<Instant> {
         Instant::now(self.rt).ok()
     }
 
-    /// Adds layers or bytes to the phase's bar, and shows it where that is a step on.
+    /// Adds layers or bytes to the phase's bar, and shows it if that is a step on.
     fn advance(&self, state: &mut State, count: u64) {
         let steps = if self.is_terminal { 100 } else { 10 };
         let before = state.bar.steps_done(steps);
@@ -171,7 +178,7 @@ impl<'r, R: Clock + Eprint + Wait> Progress<'r, R> {
         }
     }
 
-    /// Shows a bar. Where standard error cannot be written, nothing is shown.
+    /// Shows a bar. If standard error cannot be written, nothing is shown.
     fn show(&self, bar: &Bar) {
         let seconds_left = match self.now() {
             Some(now) => bar.seconds_left(now),
@@ -184,20 +191,20 @@ impl<'r, R: Clock + Eprint + Wait> Progress<'r, R> {
         });
     }
 
-    /// Begins the phase of writing, where it has not begun.
-    fn begin_writing(&self) {
+    /// Begins the phase of writing, if it has not begun.
+    fn begin_writing(&self, phase: Phase) {
         let mut state = self.state.lock(self.rt);
         if state.bar.phase == Phase::Slicing {
             state.bar = Bar {
-                phase: Phase::Writing,
+                phase,
                 done: 0,
-                total: state.image_bytes,
+                total: state.to_write,
                 begun: self.now(),
             };
         }
     }
 
-    /// Adds bytes that were written.
+    /// Adds bytes or PNGs that were written.
     fn wrote(&self, count: u64) {
         let mut state = self.state.lock(self.rt);
         self.advance(&mut state, count);
@@ -217,12 +224,15 @@ impl<'r, A: Allocator, R: Clock + Eprint + Wait> Gate<A> for Progress<'r, R> {
         let layers = u64::from(grid.layers());
         let mut state = self.state.lock(self.rt);
         state.bar.total = layers;
-        state.image_bytes = image_len(grid).saturating_mul(layers);
+        state.to_write = match self.writing {
+            Some(Phase::WritingPngs) => layers,
+            _ => image_len(grid).saturating_mul(layers),
+        };
         self.advance(&mut state, piece.layers().len() as u64);
     }
 }
 
-/// A writer that tells a progress how many bytes it writes.
+/// A writer that reports to a progress how much it writes.
 #[derive(Drop)]
 pub(crate) struct ProgressWriter<'p, 'r, W, R> {
     pub(crate) to: W,
@@ -231,12 +241,16 @@ pub(crate) struct ProgressWriter<'p, 'r, W, R> {
 
 impl<'p, 'r, W: Write, R: Clock + Eprint + Wait> Write for ProgressWriter<'p, 'r, W, R> {
     fn write(&mut self, buf: &[u8]) -> io::Result<usize> {
-        if !self.progress.has_images {
+        let Some(phase) = self.progress.writing else {
             return self.to.write(buf);
-        }
-        self.progress.begin_writing();
+        };
+        self.progress.begin_writing(phase);
         let count = self.to.write(buf)?;
-        self.progress.wrote(count as u64);
+        self.progress.wrote(match phase {
+            // a PNG comes as a whole, so it is written once its rest was taken
+            Phase::WritingPngs => u64::from(count == buf.len()),
+            _ => count as u64,
+        });
         Ok(count)
     }
 

@@ -1,0 +1,176 @@
+//! Several images through one writer: which bytes go out, in how many calls of the sink, and how many before it fails.
+ghost use Rattle.raster.specs.Span.{AreSpans};
+
+use crate::byte_writers::{CHUNK_LEN, WAYS, Way, writer};
+use crate::spans::spans;
+use geometry::{COLUMN_LIMIT, Point};
+use raster::{Counted, Failures, Grid, ImageWriter, Sink, Span, WriteFault, write_layer};
+use short_memory::{InterruptedOnce, SmallWriter};
+use std::alloc::Global;
+use std::io::ErrorKind;
+use std::test::Fail;
+
+// Writes three images through one writer, and returns how many bytes went out. The second one is white; the spans are those
+// of the first and the third.
+fn write_by_one<W: Sink>(
+    outer: &Grid,
+    spans: &[Span],
+    inner: &Grid,
+    w: &mut W,
+) -> Result<u64, WriteFault>
+    requires { AreSpans outer.now.columns outer.now.rows spans.now }
+{
+    let mut writer = ImageWriter::new();
+    writer.add(outer, spans, w)?;
+    writer.add(inner, &[], w)?;
+    writer.add(outer, spans, w)?;
+    writer.finish(w)
+}
+
+// The bytes of these images, each of which is written by itself.
+fn text_of(alloc: Global, outer: &Grid, spans: &[Span], inner: &Grid) -> Option<Vec<u8>>
+    requires { AreSpans outer.now.columns outer.now.rows spans.now }
+{
+    let mut w = Counted::new(Vec::new(alloc));
+    write_layer(outer, spans, &mut w).ok()?;
+    write_layer(inner, &[], &mut w).ok()?;
+    write_layer(outer, spans, &mut w).ok()?;
+    Some(w.into_inner())
+}
+
+// Whether exactly the first bytes of the images' text go out to a writer of this way up to its room, with one failure if these
+// are not all.
+fn is_filled(
+    alloc: Global,
+    outer: &Grid,
+    spans: &[Span],
+    inner: &Grid,
+    text: &[u8],
+    way: Way,
+    room: usize,
+) -> bool
+    requires { AreSpans outer.now.columns outer.now.rows spans.now }
+{
+    let mut w = writer(alloc, way, room);
+    let found = write_by_one(outer, spans, inner, &mut w);
+    let written = room.min(text.len());
+    let told = if room < text.len() {
+        Err(WriteFault {
+            written: written as u64,
+        })
+    } else {
+        Ok(written as u64)
+    };
+    let failures = u64::from(told.is_err());
+    let is_front = w.inner().taken.as_slice() == &text[..written];
+    found == told && w.failures() == failures && is_front
+}
+
+#[test]
+fn each_beginning_of_three_images(rt: HostRuntime) -> Result<(), Fail> {
+    let text = b"P4\n2 2\n\xc0\x80P4\n9 1\n\x00\x00P4\n2 2\n\xc0\x80";
+    let spans = spans![0: 0, 1; 1: 0, 2];
+    let place = Point::new(0, 0, 0).ok_or("no point")?;
+    let outer = Grid::given(place, 1, 1, 2, 2, 1).ok().ok_or("no grid")?;
+    let inner = Grid::given(place, 1, 1, 9, 1, 1).ok().ok_or("no grid")?;
+    for way in WAYS {
+        for room in 0..=text.len() + 1 {
+            assert!(rt; is_filled(rt.alloc(), &outer, &spans, &inner, text, way, room));
+        }
+    }
+    Ok(())
+}
+
+// Whether the call of the sink after this many calls begins at this byte of the images' text. That call is interrupted.
+fn begins_at(
+    alloc: Global,
+    outer: &Grid,
+    spans: &[Span],
+    inner: &Grid,
+    text: &[u8],
+    calls: usize,
+    byte: usize,
+) -> bool
+    requires { AreSpans outer.now.columns outer.now.rows spans.now }
+{
+    let writer = SmallWriter::new(alloc, usize::MAX, usize::MAX, None, true);
+    let mut w = Counted::new(InterruptedOnce {
+        inner: writer,
+        calls: Some(calls as u64),
+    });
+    let found = write_by_one(outer, spans, inner, &mut w);
+    let written = byte as u64;
+    let told = if byte < text.len() {
+        Err(WriteFault { written })
+    } else {
+        Ok(written)
+    };
+    found == told && text.get(..byte) == Some(w.inner().inner.taken.as_slice())
+}
+
+// Whether three images go out in calls of the sink that end at these bytes. The first and the third are 8 pixels wide, the
+// second as wide as a grid may be. Also whether a writer is filled that has room up to the byte before each of them.
+fn ends_at(
+    alloc: Global,
+    outer_rows: u32,
+    spans: &[Span],
+    inner_rows: u32,
+    ends: &[usize],
+) -> Option<bool>
+    requires { AreSpans 8 outer_rows spans.now }
+{
+    let place = Point::new(0, 0, 0)?;
+    let outer = Grid::given(place, 1, 1, 8, outer_rows, 1).ok()?;
+    let inner = Grid::given(place, 1, 1, COLUMN_LIMIT, inner_rows, 1).ok()?;
+    let text = text_of(alloc, &outer, spans, &inner)?;
+    let bytes = text.as_slice();
+    let way = (1000, Some(ErrorKind::Other));
+    for (calls, end) in ends.iter().enumerate() {
+        let room = end.saturating_sub(1);
+        if !begins_at(alloc, &outer, spans, &inner, bytes, calls + 1, *end)
+            || !is_filled(alloc, &outer, spans, &inner, bytes, way, room)
+        {
+            return Some(false);
+        }
+    }
+    Some(begins_at(alloc, &outer, spans, &inner, bytes, 0, 0) && ends.last() == Some(&bytes.len()))
+}
+
+// A call of the sink takes a chunk if the next row, or 15 bytes for the next header, would go beyond it.
+#[test]
+fn images_at_the_ends_of_chunks(rt: HostRuntime) {
+    let alloc = rt.alloc();
+    let found = [
+        // a byte less than a chunk, just a chunk, and a byte more: the last row of the second image comes later then
+        ends_at(
+            alloc,
+            2025,
+            &spans![0: 0, 8],
+            11,
+            &[CHUNK_LEN - 1, CHUNK_LEN + 2034],
+        ),
+        ends_at(
+            alloc,
+            2026,
+            &spans![0: 0, 8],
+            11,
+            &[CHUNK_LEN, CHUNK_LEN + 2036],
+        ),
+        ends_at(
+            alloc,
+            2027,
+            &spans![0: 0, 8],
+            11,
+            &[CHUNK_LEN - 2047, CHUNK_LEN + 2038],
+        ),
+        // a large image after a small one
+        ends_at(
+            alloc,
+            1,
+            &spans![0: 0, 8],
+            24,
+            &[CHUNK_LEN - 2028, 2 * CHUNK_LEN - 2028, 2 * CHUNK_LEN + 28],
+        ),
+    ];
+    assert_eq!(rt; found, [Some(true); 4]);
+}

@@ -1,5 +1,0 @@
-use Rattle.stripe_claims.specs.Claims.{IsOwned}
-use Rattle.integration_tests.proofs.claims.draw_all.Given as goal
-
-abbrev pub invariant-loop : goal.invariant-loop
-invariant-loop l = IsOwned l.claims l.pass

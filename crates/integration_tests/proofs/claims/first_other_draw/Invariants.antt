@@ -1,6 +1,0 @@
-use Rattle.std.proofs.Common.{All}
-use Rattle.stripe_claims.specs.Claims.{IsOwned}
-use Rattle.integration_tests.proofs.claims.first_other_draw.Given as goal
-
-abbrev pub invariant-loop-n : goal.invariant-loop-n
-invariant-loop-n l = All (IsOwned l.claims) l.passes.items

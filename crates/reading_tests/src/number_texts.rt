@@ -1,0 +1,205 @@
+//! Decimal texts with known values.
+use micro_num::{NumFault, Unit, ceil_div, one_spelling, read_front, read_micro};
+use std::alloc::{AllocError, Global};
+use std::test::Fail;
+use test_meshes::published::{FARTHEST, INCH, MILLIMETRE};
+
+#[test]
+fn spellings(rt: HostRuntime) {
+    let rows: [(&[u8], Result<i32, NumFault>); 21] = [
+        (b"0.0005", Ok(1)),
+        (b"-0.0005", Ok(-1)),
+        (b"4.9999E-4", Ok(0)),
+        (b"2.648000e-002", Ok(26)),
+        (b"0e99999999999", Ok(0)),
+        (b"1.", Ok(1000)),
+        (b"+.5", Ok(500)),
+        (b"8000.0004", Ok(8000 * MILLIMETRE)),
+        (b"8000.0005", Ok(8000 * MILLIMETRE + 1)),
+        (b"128000.0004", Ok(FARTHEST)),
+        (b"-128000.0004", Ok(-FARTHEST)),
+        (b"128000.0005", Err(NumFault::OutOfRange)),
+        (b"-128000.0005", Err(NumFault::OutOfRange)),
+        (b"1e99999999999", Err(NumFault::OutOfRange)),
+        (b".", Err(NumFault::NotNumber)),
+        (b"1e", Err(NumFault::NotNumber)),
+        (b"1,5", Err(NumFault::NotNumber)),
+        (b"nan", Err(NumFault::NotNumber)),
+        (b"", Err(NumFault::NotNumber)),
+        (b"1.2.3", Err(NumFault::NotNumber)),
+        (b"+-1", Err(NumFault::NotNumber)),
+    ];
+    for (word, wanted) in rows {
+        assert!(rt; read_micro(word, Unit::Millimetre) == wanted);
+    }
+}
+
+#[test]
+fn numbers_at_the_front(rt: HostRuntime) {
+    let rows: [(&[u8], Option<(i32, usize)>); 9] = [
+        (
+            b"1.422800e+01 5.552000e+01",
+            Some((14 * MILLIMETRE + 228, 12)),
+        ),
+        (b"-0.0533 0", Some((-53, 7))),
+        (
+            b"123456789012.25e-8 and more",
+            Some((1234 * MILLIMETRE + 568, 18)),
+        ),
+        (b"1.5.5", Some((1500, 3))),
+        (b"1e9 2 3 4 5 6 7", None),
+        (b"x", None),
+        // nine digits are few, and ten are not
+        (
+            b"-000000001.987654321e-000000001 and more",
+            Some((-199, 31)),
+        ),
+        (
+            b"0000000001.9876543210e-0000000001 and more",
+            Some((199, 33)),
+        ),
+        (b"000128000.000500000e+000000000 and more", None),
+    ];
+    for (text, wanted) in rows {
+        assert!(rt; read_front(text, Unit::Millimetre) == wanted);
+    }
+}
+
+#[test]
+fn inches(rt: HostRuntime) {
+    let rows: [(&[u8], Result<i32, NumFault>); 8] = [
+        (b"1", Ok(INCH)),
+        (b"0.0001", Ok(3)),
+        (b"0.0025", Ok(64)),
+        (b"-0.0025", Ok(-64)),
+        (b"5039.37", Ok(FARTHEST - 2)),
+        (b"5039.37008", Ok(FARTHEST)),
+        (b"5039.3701", Err(NumFault::OutOfRange)),
+        (b"nan", Err(NumFault::NotNumber)),
+    ];
+    for (word, wanted) in rows {
+        assert!(rt; read_micro(word, Unit::Inch) == wanted);
+    }
+}
+
+/// `front`, a row of one byte, and `back`.
+pub(crate) fn long_word(
+    alloc: Global,
+    front: &[u8],
+    byte: u8,
+    count: usize,
+    back: &[u8],
+) -> Result<Vec<u8>, AllocError> {
+    let mut word = Vec::new(alloc);
+    word.extend_from_slice(front)?;
+    for _ in 0..count {
+        word.push(byte)?;
+    }
+    word.extend_from_slice(back)?;
+    Ok(word)
+}
+
+#[test]
+fn long_words(rt: HostRuntime) -> Result<(), Fail> {
+    let millimetres: [(&[u8], u8, usize, &[u8], Result<i32, NumFault>); 11] = [
+        (b"", b'0', 255, b"", Ok(0)),
+        (b"", b'0', 256, b"", Err(NumFault::TooLong)),
+        (b"0e", b'9', 253, b"", Ok(0)),
+        (b"1e-", b'9', 252, b"", Ok(0)),
+        (b"1e", b'9', 253, b"", Err(NumFault::OutOfRange)),
+        (b"1", b'0', 240, b"e-240", Ok(1000)),
+        (b"0.", b'0', 240, b"1e241", Ok(1000)),
+        (b"0.", b'0', 240, b"5e237", Ok(1)),
+        (b"0.00049", b'9', 240, b"", Ok(0)),
+        // a length is looked at before letters
+        (b"", b'a', 255, b"", Err(NumFault::NotNumber)),
+        (b"", b'a', 256, b"", Err(NumFault::TooLong)),
+    ];
+    for (front, byte, count, back, wanted) in millimetres {
+        let word = long_word(rt.alloc(), front, byte, count, back)?;
+        assert!(rt; read_micro(&word, Unit::Millimetre) == wanted);
+    }
+    let inches: [(&[u8], u8, i32); 2] = [(b"0.0025", b'0', 64), (b"0.00249", b'9', 63)];
+    for (front, digit, wanted) in inches {
+        let word = long_word(rt.alloc(), front, digit, 240, b"")?;
+        assert!(rt; read_micro(&word, Unit::Inch) == Ok(wanted));
+    }
+    Ok(())
+}
+
+/// Whether `word` is read in the same way if a long text follows it, if a short one does, and by itself.
+fn is_read_alike(alloc: Global, word: &[u8], unit: Unit) -> Result<bool, AllocError> {
+    let far = long_word(alloc, word, b' ', 40, b"")?;
+    let near = long_word(alloc, word, b' ', 1, b"")?;
+    let found = read_front(&far, unit);
+    let whole = match read_micro(word, unit) {
+        Ok(z) => found == Some((z, word.len())),
+        Err(_) => true,
+    };
+    Ok(whole && found == read_front(&near, unit))
+}
+
+#[test]
+fn every_length_of_digits(rt: HostRuntime) -> Result<(), Fail> {
+    let before = *b"00000000000000012345";
+    let behind = *b"98765432101234567890";
+    let tails: [&[u8]; 7] = [
+        b"",
+        b"e0",
+        b"E-03",
+        b"e+01",
+        b"e-000000002",
+        b"e-0000000002",
+        b"e",
+    ];
+    for whole in 0..21 {
+        for fraction in 0..21 {
+            for tail in tails {
+                let mut word = Vec::new(rt.alloc());
+                if fraction % 2 == 1 {
+                    word.push(b'-')?;
+                }
+                word.extend_from_slice(&before[20 - whole..])?;
+                if whole != fraction {
+                    word.push(b'.')?;
+                }
+                word.extend_from_slice(&behind[..fraction])?;
+                word.extend_from_slice(tail)?;
+                assert!(rt; is_read_alike(rt.alloc(), &word, Unit::Millimetre)?);
+                assert!(rt; is_read_alike(rt.alloc(), &word, Unit::Inch)?);
+            }
+        }
+    }
+    Ok(())
+}
+
+#[test]
+fn every_byte_at_every_place(rt: HostRuntime) -> Result<(), Fail> {
+    let usual = *b"-123.4567891e+01";
+    for place in 0..16 {
+        for byte in 0..=255 {
+            let mut word = usual;
+            word[place] = byte;
+            assert!(rt; is_read_alike(rt.alloc(), &word, Unit::Millimetre)?);
+            assert!(rt; is_read_alike(rt.alloc(), &word, Unit::Inch)?);
+        }
+    }
+    Ok(())
+}
+
+#[test]
+fn ceilings(rt: HostRuntime) {
+    assert!(rt; ceil_div(-7, 2) == -3);
+    assert!(rt; ceil_div(7, 2) == 4);
+    assert!(rt; ceil_div(6, 2) == 3);
+}
+
+#[test]
+fn numbers_of_faults(rt: HostRuntime) {
+    assert!(rt;
+        NumFault::NotNumber as u8 == 1
+            && NumFault::TooLong as u8 == 2
+            && NumFault::OutOfRange as u8 == 3
+    );
+    one_spelling();
+}

@@ -1,0 +1,447 @@
+//! Texts of meshes with known facets or a known fault.
+use micro_num::{NumFault, Unit};
+use short_memory::ShortMemory;
+use std::alloc::{AllocError, Allocator, Global};
+use std::test::Fail;
+use stl_text::{Facet, Point, StlFault, TextReader, Word, read_stl, read_stl_at_most};
+use test_meshes::published::{FARTHEST, INCH};
+
+// How the parts of a file are spelled.
+struct Style {
+    opening: &'static [u8],
+    facet: &'static [u8],
+    vertex: &'static [u8],
+    vertex_end: &'static [u8],
+    facet_end: &'static [u8],
+    closing: &'static [u8],
+}
+
+const PLAIN: Style = Style {
+    opening: b"solid t\n",
+    facet: b"facet normal 0 0 0\nouter loop\n",
+    vertex: b"vertex",
+    vertex_end: b"\n",
+    facet_end: b"endloop\nendfacet\n",
+    closing: b"endsolid t\n",
+};
+
+const LOUD: Style = Style {
+    opening: b"SOLID\r\n",
+    facet: b"FACET NORMAL nan nan nan\r\nOUTER LOOP\r\n",
+    vertex: b"VERTEX",
+    vertex_end: b"\r\n",
+    facet_end: b"ENDLOOP\r\nENDFACET\r\n",
+    closing: b"ENDSOLID\r\n",
+};
+
+// The corners of a box's facets. The bits of a corner say where x, y and z take the greater value.
+const FACETS: [[u8; 3]; 12] = [
+    [0b000, 0b010, 0b110],
+    [0b000, 0b110, 0b100],
+    [0b001, 0b101, 0b111],
+    [0b001, 0b111, 0b011],
+    [0b000, 0b100, 0b101],
+    [0b000, 0b101, 0b001],
+    [0b010, 0b011, 0b111],
+    [0b010, 0b111, 0b110],
+    [0b000, 0b001, 0b011],
+    [0b000, 0b011, 0b010],
+    [0b100, 0b110, 0b111],
+    [0b100, 0b111, 0b101],
+];
+
+const AXES: [u8; 3] = [0b100, 0b010, 0b001];
+
+// Adds a solid, a cube from `low` to `high` in each direction.
+fn put_cube(out: &mut Vec<u8>, style: &Style, low: &[u8], high: &[u8]) -> Result<(), AllocError> {
+    out.extend_from_slice(style.opening)?;
+    for corners in FACETS {
+        out.extend_from_slice(style.facet)?;
+        for corner in corners {
+            out.extend_from_slice(style.vertex)?;
+            for axis in AXES {
+                out.push(b' ')?;
+                out.extend_from_slice(if corner & axis == 0 { low } else { high })?;
+            }
+            out.extend_from_slice(style.vertex_end)?;
+        }
+        out.extend_from_slice(style.facet_end)?;
+    }
+    out.extend_from_slice(style.closing)
+}
+
+// The file of the cube from 0 to 2 micrometres.
+pub(crate) fn cube_file(alloc: Global) -> Result<Vec<u8>, AllocError> {
+    let mut out = Vec::new(alloc);
+    put_cube(&mut out, &PLAIN, b"0.000", b"0.002")?;
+    Ok(out)
+}
+
+// Whether these are the facets of a cube.
+fn are_cube(facets: &[Facet], low: i32, high: i32) -> bool {
+    if facets.len() != FACETS.len() {
+        return false;
+    }
+    for (facet, corners) in facets.iter().zip(FACETS.as_slice()) {
+        for (point, corner) in facet.0.iter().zip(corners.as_slice()) {
+            let at = |axis: u8| if *corner & axis == 0 { low } else { high };
+            if Some(*point) != Point::new(at(0b100), at(0b010), at(0b001)) {
+                return false;
+            }
+        }
+    }
+    true
+}
+
+#[test]
+fn each_beginning_of_a_file(rt: HostRuntime) -> Result<(), Fail> {
+    let file = cube_file(rt.alloc())?;
+    assert_eq!(rt; file.len(), 1483);
+    for len in 0..=file.len() {
+        let text = file.as_slice();
+        match read_stl(rt.alloc(), &text[..len], Unit::Millimetre) {
+            Ok(facets) => {
+                assert!(rt; 1480 <= len);
+                assert!(rt; are_cube(&facets, 0, 2));
+            }
+            Err(StlFault::Expected { .. } | StlFault::Ended { .. }) => assert!(rt; len < 1480),
+            Err(_) => assert!(rt; false),
+        }
+    }
+    Ok(())
+}
+
+/// A text and how it is read.
+#[derive(Clone, Copy)]
+pub(crate) struct Text<'t> {
+    pub(crate) bytes: &'t [u8],
+    /// The number of facets that it may have.
+    pub(crate) limit: u8,
+    pub(crate) unit: Unit,
+}
+
+impl Text<'_> {
+    /// The result for the whole text.
+    pub(crate) fn whole(&self, alloc: Global) -> Result<Vec<Facet>, StlFault> {
+        read_stl_at_most(alloc, self.bytes, u32::from(self.limit), self.unit)
+    }
+
+    /// A reader to which it can be fed.
+    pub(crate) fn reader(&self, alloc: Global) -> TextReader<Global> {
+        TextReader::new(alloc, u32::from(self.limit), self.unit)
+    }
+}
+
+// What a text is read as: cubes, by the least and the greatest coordinate of each, or its fault.
+type Answer = Result<&'static [(i32, i32)], StlFault>;
+
+/// A text with its result.
+#[derive(Drop)]
+pub(crate) struct Worked {
+    bytes: Vec<u8>,
+    limit: u8,
+    unit: Unit,
+    answer: Answer,
+}
+
+impl Worked {
+    pub(crate) fn text(&self) -> Text<'_> {
+        Text {
+            bytes: self.bytes.as_slice(),
+            limit: self.limit,
+            unit: self.unit,
+        }
+    }
+}
+
+// A limit that none of the texts here passes.
+const ENOUGH: u8 = 24;
+
+// Adds a text that is read in millimetres.
+fn put(
+    list: &mut Vec<Worked>,
+    bytes: Vec<u8>,
+    limit: u8,
+    answer: Answer,
+) -> Result<(), AllocError> {
+    list.push(Worked {
+        bytes,
+        limit,
+        unit: Unit::Millimetre,
+        answer,
+    })?;
+    Ok(())
+}
+
+fn ended(word: Word) -> Answer {
+    Err(StlFault::Ended { word })
+}
+
+fn expected(word: Word, at: usize) -> Answer {
+    Err(StlFault::Expected { word, at })
+}
+
+fn number(cause: NumFault, at: usize) -> Answer {
+    Err(StlFault::Number { cause, at })
+}
+
+fn too_many(at: usize) -> Answer {
+    Err(StlFault::TooMany { at })
+}
+
+// Adds texts with a fault in no facet or in the first one.
+fn put_faulty(alloc: Global, list: &mut Vec<Worked>) -> Result<(), AllocError> {
+    let rows: [(&[u8], Answer); 18] = [
+        (b"", ended(Word::Solid)),
+        (b" \t\r\n\x0b\x0c", ended(Word::Solid)),
+        (b"solidx", expected(Word::Solid, 0)),
+        (b"\xef\xbb\xbfsolid\nendsolid\n", expected(Word::Solid, 0)),
+        (b"solid", ended(Word::FacetOrEnd)),
+        (b"solid facet normal", ended(Word::FacetOrEnd)),
+        (b"solid a\x0bendsolid\x0cendsolid", ended(Word::FacetOrEnd)),
+        (b"solid\n\xff", expected(Word::FacetOrEnd, 6)),
+        (b"solid\nendsoli", expected(Word::FacetOrEnd, 6)),
+        (b"solid\nendsolid\n facet", expected(Word::Solid, 16)),
+        (b"solid\nfacet normal 0 0", ended(Word::Number)),
+        (
+            b"solid\nfacet normal 0 0\nouter loop",
+            expected(Word::Outer, 29),
+        ),
+        (
+            b"solid\nfacet normal 0 0 1\nouter lop",
+            expected(Word::Loop, 31),
+        ),
+        (
+            b"solid\nfacet normal 0 0 1\nouter loop\nvertex 1 x 3",
+            number(NumFault::NotNumber, 45),
+        ),
+        (
+            b"solid\nfacet normal 0 0 1\nouter loop\nvertex 1 1e9 3",
+            number(NumFault::OutOfRange, 45),
+        ),
+        (
+            b"solid\nfacet normal 0 0 1\nouter loop\nvertex 1 2",
+            ended(Word::Number),
+        ),
+        (
+            b"solid\nfacet normal 0 0 1\nouter loop\nvertex 1 2 3\nvertexes",
+            expected(Word::Vertex, 49),
+        ),
+        (
+            b"solid\nfacet normal 0 0 1\nouter loop\nvertex 1 2 3 4",
+            expected(Word::Vertex, 49),
+        ),
+    ];
+    for (text, answer) in rows {
+        put(list, text.to_vec(alloc)?, ENOUGH, answer)?;
+    }
+    Ok(())
+}
+
+// Adds texts of no facets.
+fn put_empty(alloc: Global, list: &mut Vec<Worked>) -> Result<(), AllocError> {
+    let rows: [&[u8]; 4] = [
+        b"solid facet normal\nENDSOLID",
+        b"solid \x00\xff\nendsolid solid\n",
+        b"\r\n Solid a\rendSolid b\nsolid\n\x0b\x0cendsolid\r \n",
+        b"solid a\x0bendsolid\nendsolid facet\x0csolid",
+    ];
+    for text in rows {
+        put(list, text.to_vec(alloc)?, 0, Ok(&[]))?;
+    }
+    Ok(())
+}
+
+// The cube from 0 to 2 micrometres.
+const CUBE: &[(i32, i32)] = &[(0, 2)];
+
+// Adds the file of a cube under several limits, with bytes before and after it. The mark with which some programs begin
+// a text is part of the first word. Facets are counted over all solids: the word after the second solid's name begins
+// at byte 1491.
+fn put_limited(alloc: Global, list: &mut Vec<Worked>) -> Result<(), AllocError> {
+    let cube = cube_file(alloc)?;
+    let rows: [(&[u8], &[u8], u8, Answer); 9] = [
+        (b"", b"", 12, Ok(CUBE)),
+        (b"", b"", 2, too_many(252)),
+        (b"", b"", 0, too_many(8)),
+        (b"\xef\xbb\xbf", b"", 12, expected(Word::Solid, 0)),
+        (b"", cube.as_slice(), 12, too_many(1491)),
+        (b"", b"solid t\nfacet", 12, too_many(1491)),
+        (
+            b"",
+            b"solid t\nfacets",
+            12,
+            expected(Word::FacetOrEnd, 1491),
+        ),
+        (
+            b"",
+            b"solid t\nvertex",
+            12,
+            expected(Word::FacetOrEnd, 1491),
+        ),
+        (b"", b"solid t\nendsolid", 12, Ok(CUBE)),
+    ];
+    for (front, back, limit, answer) in rows {
+        let mut bytes = front.to_vec(alloc)?;
+        bytes.extend_from_slice(cube.as_slice())?;
+        bytes.extend_from_slice(back)?;
+        put(list, bytes, limit, answer)?;
+    }
+    Ok(())
+}
+
+// Adds the file of a cube that ends after a loop, two cubes in capitals, and a cube in inches.
+fn put_cubes(alloc: Global, list: &mut Vec<Worked>) -> Result<(), AllocError> {
+    let mut short = cube_file(alloc)?;
+    short.truncate(120);
+    put(list, short, ENOUGH, ended(Word::EndFacet))?;
+    let mut loud = Vec::new(alloc);
+    put_cube(&mut loud, &LOUD, b"+0", b"4E-3")?;
+    put_cube(&mut loud, &LOUD, b".002", b"6.e-3")?;
+    put(list, loud, ENOUGH, Ok(&[(0, 4), (2, 6)]))?;
+    let mut bytes = Vec::new(alloc);
+    put_cube(&mut bytes, &PLAIN, b"-1", b"0.002")?;
+    list.push(Worked {
+        bytes,
+        limit: ENOUGH,
+        unit: Unit::Inch,
+        answer: Ok(&[(-INCH, 51)]),
+    })?;
+    Ok(())
+}
+
+// Adds a text with a number of 256 digits.
+fn put_long_number(alloc: Global, list: &mut Vec<Worked>) -> Result<(), AllocError> {
+    let mut bytes = b"solid\nfacet normal 0 0 1\nouter loop\nvertex 1 ".to_vec(alloc)?;
+    for _ in 0..256 {
+        bytes.push(b'0')?;
+    }
+    bytes.extend_from_slice(b" 3")?;
+    put(list, bytes, ENOUGH, number(NumFault::TooLong, 45))
+}
+
+/// The texts whose results are known.
+pub(crate) fn worked_texts(alloc: Global) -> Result<Vec<Worked>, AllocError> {
+    let mut list = Vec::new(alloc);
+    put_faulty(alloc, &mut list)?;
+    put_empty(alloc, &mut list)?;
+    put_limited(alloc, &mut list)?;
+    put_cubes(alloc, &mut list)?;
+    put_long_number(alloc, &mut list)?;
+    Ok(list)
+}
+
+// Whether these are the facets of cubes, one after another.
+fn are_cubes(facets: &[Facet], cubes: &[(i32, i32)]) -> bool {
+    if facets.len() / FACETS.len() != cubes.len() {
+        return false;
+    }
+    for (cube, (low, high)) in facets.chunks(FACETS.len()).zip(cubes) {
+        if !are_cube(cube, *low, *high) {
+            return false;
+        }
+    }
+    true
+}
+
+// Whether a text is read as its result says.
+fn is_answered(worked: &Worked, found: &Result<Vec<Facet>, StlFault>) -> bool {
+    match (found, &worked.answer) {
+        (Ok(facets), Ok(cubes)) => are_cubes(facets, cubes),
+        (Err(fault), Err(wanted)) => fault == wanted,
+        _ => false,
+    }
+}
+
+#[test]
+fn worked_texts_have_their_answers(rt: HostRuntime) -> Result<(), Fail> {
+    let list = worked_texts(rt.alloc())?;
+    assert_eq!(rt; list.len(), 35);
+    for (k, worked) in list.iter().enumerate() {
+        let found = worked.text().whole(rt.alloc());
+        assert!(rt; is_answered(worked, &found), "text {k}");
+    }
+    Ok(())
+}
+
+#[test]
+fn each_allocation_fails_in_turn(rt: HostRuntime) -> Result<(), Fail> {
+    let file = cube_file(rt.alloc())?;
+    for turn in 1..100 {
+        let memory = ShortMemory::new(rt.alloc(), turn);
+        let fault = read_stl(&memory, file.as_slice(), Unit::Millimetre).err();
+        if !memory.has_failed() {
+            assert!(rt; turn > 1);
+            assert_eq!(rt; fault, None);
+            return Ok(());
+        }
+        assert_eq!(rt; fault, Some(StlFault::Memory));
+    }
+    assert!(rt; false);
+    Ok(())
+}
+
+#[test]
+fn faults_as_text(rt: HostRuntime) -> Result<(), Fail> {
+    let words = [
+        (Word::Solid, "solid"),
+        (Word::FacetOrEnd, "facet or endsolid"),
+        (Word::Normal, "normal"),
+        (Word::Outer, "outer"),
+        (Word::Loop, "loop"),
+        (Word::Vertex, "vertex"),
+        (Word::Number, "number"),
+        (Word::EndLoop, "endloop"),
+        (Word::EndFacet, "endfacet"),
+    ];
+    for (word, text) in words {
+        let ended = StlFault::Ended { word };
+        assert_eq!(rt;
+            format!(in rt.alloc(); "{ended}")?,
+            format!(in rt.alloc(); "input ended before {text}")?
+        );
+    }
+    let rows = [
+        (
+            StlFault::Expected {
+                word: Word::Loop,
+                at: 31,
+            },
+            "expected loop at byte 31",
+        ),
+        (
+            StlFault::Number {
+                cause: NumFault::TooLong,
+                at: 45,
+            },
+            "number at byte 45: too long",
+        ),
+        (StlFault::TooMany { at: 252 }, "too many facets at byte 252"),
+        (StlFault::Memory, "out of memory"),
+    ];
+    for (fault, text) in rows {
+        let printed = format!(in rt.alloc(); "{fault}")?;
+        assert_eq!(rt; printed.as_str(), text);
+    }
+    Ok(())
+}
+
+// The coordinates of the point with these.
+fn placed([x, y, z]: [i32; 3]) -> Option<[i32; 3]> {
+    let point = Point::new(x, y, z)?;
+    Some([point.x(), point.y(), point.z()])
+}
+
+#[test]
+fn farthest_points(rt: HostRuntime) {
+    for far in [FARTHEST, -FARTHEST] {
+        for place in [[far, 0, 0], [0, far, 0], [0, 0, far]] {
+            assert_eq!(rt; placed(place), Some(place));
+        }
+    }
+    for beyond in [FARTHEST + 1, -FARTHEST - 1] {
+        for place in [[beyond, 0, 0], [0, beyond, 0], [0, 0, beyond]] {
+            assert_eq!(rt; placed(place), None);
+        }
+    }
+}

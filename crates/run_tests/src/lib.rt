@@ -1,0 +1,29 @@
+//! Tests of loads and of runs: the lines and statuses of faults, and the text of a run with enough memory. They also test what
+//! a failed device or allocation leaves. They are in a crate of their own, because a crate's tests are proved with the whole
+//! crate once more.
+#![tactic(auto)]
+
+#[cfg(test)]
+mod allocation_runs;
+#[cfg(test)]
+mod answers;
+#[cfg(test)]
+mod box_runs;
+#[cfg(test)]
+mod byte_runs;
+#[cfg(test)]
+mod device_runs;
+#[cfg(test)]
+mod drawn_runs;
+#[cfg(test)]
+mod lines;
+#[cfg(test)]
+mod loads;
+#[cfg(test)]
+mod meshes;
+#[cfg(test)]
+mod png_runs;
+#[cfg(test)]
+mod probe_runs;
+#[cfg(test)]
+mod slice_runs;

@@ -1,0 +1,14 @@
+//! Tests of sessions and of their outlines. They are in a crate of their own, because a crate's
+//! tests are proved with the whole crate once more.
+#![tactic(auto)]
+
+#[cfg(test)]
+mod outlines;
+#[cfg(test)]
+mod session_arrays;
+#[cfg(test)]
+mod session_chunks;
+#[cfg(test)]
+mod session_pngs;
+#[cfg(test)]
+mod sessions;

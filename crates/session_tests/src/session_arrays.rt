@@ -1,0 +1,183 @@
+//! Sessions of arrays: the answer is that of the text of the same facets, each fault names the first triangle that has one, and
+//! memory that fails is told.
+use crate::session_chunks::are_answers_same;
+use crate::sessions::fitted;
+use layer_session::{ArrayFault, Session, SessionFault, Setup};
+use micro_num::Unit;
+use raster::Rule;
+use short_memory::ShortMemory;
+use std::alloc::{AllocError, Allocator, Global};
+use std::test::Fail;
+use test_meshes::{
+    BOX, CORNERS, CUBE, CUBE_AND_FLAT, HOLLOW_CUBE, OCTAHEDRON, ONE_INWARD, Part, SHEET, TWO_CUBES,
+    text_of,
+};
+
+// Points and triangles of a mesh by tables: the points of all parts, one part after the other.
+fn arrays_of<A: Allocator + Copy>(
+    alloc: A,
+    parts: &[Part<'_>],
+) -> Result<(Vec<[i32; 3], A>, Vec<[u32; 3], A>), AllocError> {
+    let mut points = Vec::new(alloc);
+    let mut triangles = Vec::new(alloc);
+    for (corners, facets) in parts {
+        let first = u32::try_from(points.len()).unwrap_or(u32::MAX);
+        points.extend_from_slice(corners)?;
+        for facet in *facets {
+            let [a, b, c] = *facet;
+            triangles.push([
+                first.saturating_add(u32::from(a)),
+                first.saturating_add(u32::from(b)),
+                first.saturating_add(u32::from(c)),
+            ])?;
+        }
+    }
+    Ok((points, triangles))
+}
+
+// Whether arrays and the text of the same facets have the same answer.
+fn is_as_text(alloc: Global, parts: &[Part<'_>], setup: &Setup) -> Result<bool, AllocError> {
+    let (points, triangles) = arrays_of(alloc, parts)?;
+    let text = text_of(alloc, parts)?;
+    let found = Session::open_mesh(alloc, points.as_slice(), triangles.as_slice(), setup);
+    let told = Session::open(alloc, text.as_bytes(), setup);
+    Ok(are_answers_same(&found, &told))
+}
+
+#[test]
+fn arrays_are_as_their_text(rt: HostRuntime) -> Result<(), Fail> {
+    let alloc = rt.alloc();
+    let open_box: &[Part] = &[(CORNERS, &BOX[1..])];
+    for parts in [
+        CUBE,
+        CUBE_AND_FLAT,
+        TWO_CUBES,
+        ONE_INWARD,
+        HOLLOW_CUBE,
+        OCTAHEDRON,
+        SHEET,
+        open_box,
+        &[],
+    ] {
+        for rule in [Rule::EvenOdd, Rule::NonZero, Rule::Positive] {
+            assert!(rt; is_as_text(alloc, parts, &fitted(1, rule))?);
+        }
+        assert!(rt; is_as_text(alloc, parts, &fitted(0, Rule::NonZero))?);
+    }
+    Ok(())
+}
+
+// The fault of arrays that open no session.
+fn fault_of(alloc: Global, points: &[[i32; 3]], triangles: &[[u32; 3]]) -> Option<SessionFault> {
+    Session::open_mesh(alloc, points, triangles, &fitted(1, Rule::NonZero)).err()
+}
+
+const FAR: i32 = 128_000_000;
+
+// Points: two in range, at its ends, then three beyond it, along x, y and z.
+const POINTS: &[[i32; 3]] = &[
+    [FAR, -FAR, FAR],
+    [0, 0, 0],
+    [FAR + 1, 0, 0],
+    [0, -FAR - 1, 0],
+    [0, 0, i32::MIN],
+];
+
+#[test]
+fn the_first_fault_is_named(rt: HostRuntime) -> Result<(), Fail> {
+    let alloc = rt.alloc();
+    let missing = |triangle: usize, point: u32| Some(SessionFault::Arrays(ArrayFault::Missing {
+        triangle,
+        point,
+    }));
+    let out = |triangle: usize, point: u32| Some(SessionFault::Arrays(ArrayFault::OutOfRange {
+        triangle,
+        point,
+    }));
+    assert!(rt; fault_of(alloc, POINTS, &[[0, 1, 5]]) == missing(0, 5));
+    assert!(rt; fault_of(alloc, POINTS, &[[0, 1, 0], [1, u32::MAX, 2]]) == missing(1, u32::MAX));
+    assert!(rt; fault_of(alloc, POINTS, &[[0, 1, 0], [1, 2, 9]]) == out(1, 2));
+    assert!(rt; fault_of(alloc, POINTS, &[[3, 9, 9], [9, 9, 9]]) == out(0, 3));
+    assert!(rt; fault_of(alloc, POINTS, &[[1, 1, 4]]) == out(0, 4));
+    assert!(rt; fault_of(alloc, &[], &[[0, 0, 0]]) == missing(0, 0));
+    // points that no triangle has may lie anywhere
+    assert!(rt;
+        matches!(
+            fault_of(alloc, POINTS, &[[0, 1, 0]]),
+            Some(SessionFault::Grid(_))
+        )
+    );
+    Ok(())
+}
+
+#[test]
+fn the_lines_name_the_triangle(rt: HostRuntime) -> Result<(), Fail> {
+    let alloc = rt.alloc();
+    let missing = SessionFault::Arrays(ArrayFault::Missing {
+        triangle: 3,
+        point: 7,
+    });
+    let out = SessionFault::Arrays(ArrayFault::OutOfRange {
+        triangle: 3,
+        point: 7,
+    });
+    let many = SessionFault::Arrays(ArrayFault::TooMany {
+        triangle: 1_048_576,
+    });
+    assert_eq!(rt;
+        format!(in alloc; "{missing}")?.as_str(),
+        "point 7 of triangle 3 is missing"
+    );
+    assert_eq!(rt;
+        format!(in alloc; "{out}")?.as_str(),
+        "point 7 of triangle 3 is out of range"
+    );
+    assert_eq!(rt;
+        format!(in alloc; "{many}")?.as_str(),
+        "too many facets at triangle 1048576"
+    );
+    Ok(())
+}
+
+// The unit is of a text's numbers alone.
+#[test]
+fn the_unit_is_not_used(rt: HostRuntime) -> Result<(), Fail> {
+    let alloc = rt.alloc();
+    let (points, triangles) = arrays_of(alloc, CUBE)?;
+    let setup = fitted(1, Rule::EvenOdd);
+    let inches = Setup {
+        unit: Unit::Inch,
+        ..setup
+    };
+    let found = Session::open_mesh(alloc, points.as_slice(), triangles.as_slice(), &inches);
+    let told = Session::open_mesh(alloc, points.as_slice(), triangles.as_slice(), &setup);
+    assert!(rt; found.is_ok() && are_answers_same(&found, &told));
+    Ok(())
+}
+
+// Fails each allocation in turn until none is left to fail: how many of them were answered by `Memory`. `None` where an
+// answer was another.
+fn failures(alloc: Global, points: &[[i32; 3]], triangles: &[[u32; 3]]) -> Option<u32> {
+    let mut told = 0u32;
+    for turn in 1..2000u64 {
+        let memory = ShortMemory::new(alloc, turn);
+        let found = Session::open_mesh(&memory, points, triangles, &fitted(1, Rule::NonZero));
+        let facets = found.map(|session| session.facet_count());
+        if !memory.has_failed() {
+            return (facets == Ok(24)).then_some(told);
+        }
+        if facets != Err(SessionFault::Memory) {
+            return None;
+        }
+        told = told.saturating_add(1);
+    }
+    None
+}
+
+#[test]
+fn memory_that_fails_is_told(rt: HostRuntime) -> Result<(), Fail> {
+    let (points, triangles) = arrays_of(rt.alloc(), TWO_CUBES)?;
+    let told = failures(rt.alloc(), points.as_slice(), triangles.as_slice());
+    assert!(rt; told > Some(5));
+    Ok(())
+}

@@ -1,0 +1,389 @@
+//! Sessions: each layer is what filling, linking and writing give, faults read as the program's, and memory that fails
+//! is reported and leaves the session as it was.
+ghost use Rattle.std.specs.Prelude.{◌≤◌};
+
+use build_book::{Job, Layer, slice_stripe};
+use contour::Loops;
+use layer_session::{Depth, Mirrors, Placing, Session, SessionFault, Setup};
+use micro_num::Unit;
+use raster::{Counted, Grid, GridFault, Rule, write_layer};
+use short_memory::ShortMemory;
+use std::alloc::{Allocator, Global};
+use std::test::Fail;
+use stl_text::{Point, StlFault, Word};
+use test_layers::layer;
+use test_meshes::published::GREATEST_STEP;
+use test_meshes::{
+    BOX, COLUMN, CORNERS, CUBE, CUBE_AND_FLAT, INWARD_CUBE, NINE_IN_A_ROW, OCTAHEDRON, ONE_INWARD,
+    Part, SHEET, TWO_CUBES, text_of,
+};
+use test_solids::solid_of;
+
+const EACH_RULE: [Rule; 3] = [Rule::EvenOdd, Rule::NonZero, Rule::Positive];
+
+// A setup of voxels of one size in micrometres, in a grid that fits the mesh.
+pub(crate) fn fitted(size: u32, rule: Rule) -> Setup {
+    Setup {
+        unit: Unit::Millimetre,
+        pitch: size,
+        layer: size,
+        rule,
+        placing: Placing::Fitted,
+    }
+}
+
+pub(crate) fn open<A: Allocator + Copy + Send + Sync>(
+    alloc: A,
+    parts: &[Part<'_>],
+    setup: &Setup,
+) -> Result<Session<A>, SessionFault> {
+    let text = text_of(alloc, parts)?;
+    Session::open(alloc, text.as_bytes(), setup)
+}
+
+// The image of a layer of a job, by its spans.
+fn image_of(alloc: Global, job: &Job<Global>, k: u32) -> Option<Vec<u8, Global>> {
+    if k >= job.grid().layers() {
+        return None;
+    }
+    let spans = layer(alloc, job.solid(), job.grid(), job.rule(), k).ok()?;
+    let mut sink = Counted::new(Vec::new(alloc));
+    write_layer(job.grid(), spans.as_slice(), &mut sink).ok()?;
+    Some(sink.into_inner())
+}
+
+// Whether a layer of a session has this image.
+fn is_image(session: &Session<Global>, k: u32, image: &[u8]) -> bool {
+    match session.image(k) {
+        Ok(found) => found.as_slice() == image,
+        Err(_) => false,
+    }
+}
+
+// Whether a stripe of a session has these images.
+fn is_stripe(session: &Session<Global>, s: u64, images: &[u8]) -> bool {
+    match session.stripe(s) {
+        Ok(found) => found.as_slice() == images,
+        Err(_) => false,
+    }
+}
+
+// How many bytes the images of a stripe of a session have.
+fn stripe_len(session: &Session<Global>, s: u64) -> Option<usize> {
+    match session.stripe(s) {
+        Ok(found) => Some(found.len()),
+        Err(_) => None,
+    }
+}
+
+// How many loops a layer of a session has.
+fn loop_count(session: &Session<Global>, k: u32) -> Option<usize> {
+    match session.loops(k) {
+        Ok(found) => Some(found.count()),
+        Err(_) => None,
+    }
+}
+
+// Whether a layer of a session has as many loops as these, and the same first one.
+fn are_loops_like(session: &Session<Global>, k: u32, loops: &Loops<Global>) -> bool {
+    match session.loops(k) {
+        Ok(found) => found.count() == loops.count() && found.get(0) == loops.get(0),
+        Err(_) => false,
+    }
+}
+
+// Whether a layer of a session is this one of a job, and the images after it.
+fn is_layer_of(
+    alloc: Global,
+    session: &Session<Global>,
+    job: &Job<Global>,
+    layer: &Layer<Global>,
+    images: &mut Vec<u8>,
+) -> Option<bool> {
+    let k = layer.number();
+    let image = image_of(alloc, job, k)?;
+    images.extend_from_slice(image.as_slice()).ok()?;
+    Some(
+        is_image(session, k, image.as_slice())
+            && session.area(k) == Ok(layer.area())
+            && are_loops_like(session, k, layer.loops()),
+    )
+}
+
+// Whether the layers of one stripe of a session are those of a job.
+fn is_stripe_of(
+    alloc: Global,
+    session: &Session<Global>,
+    job: &Job<Global>,
+    s: u64,
+) -> Option<bool> {
+    if s >= job.stripes() {
+        return None;
+    }
+    let piece = slice_stripe(alloc, job, s).ok()?;
+    let mut images = Vec::new(alloc);
+    for layer in piece.layers() {
+        if is_layer_of(alloc, session, job, layer, &mut images) != Some(true) {
+            return Some(false);
+        }
+    }
+    Some(is_stripe(session, s, images.as_slice()))
+}
+
+// The job of a mesh, with voxels of one size in micrometres.
+pub(crate) fn job_of(
+    alloc: Global,
+    parts: &[Part<'_>],
+    size: u32,
+    rule: Rule,
+) -> Option<Job<Global>>
+    requires low { 1 ≤ size }
+    requires high { size ≤ 2 }
+{
+    let solid = solid_of(alloc, parts).ok()?;
+    let grid = Grid::fit(&solid, size, size).ok()?;
+    Some(Job::new(solid, grid, rule))
+}
+
+// Whether all stripes of the session of a mesh's text are those of the mesh itself.
+fn are_stripes_of(alloc: Global, parts: &[Part<'_>], size: u32, rule: Rule) -> Option<bool>
+    requires low { 1 ≤ size }
+    requires high { size ≤ 2 }
+{
+    let session = open(alloc, parts, &fitted(size, rule)).ok()?;
+    let job = job_of(alloc, parts, size, rule)?;
+    for s in 0..job.stripes() {
+        if is_stripe_of(alloc, &session, &job, s) != Some(true) {
+            return Some(false);
+        }
+    }
+    Some(session.stripes() == job.stripes() && session.layers() == job.grid().layers())
+}
+
+#[test]
+fn layers_are_those_of_the_mesh(rt: HostRuntime) -> Result<(), Fail> {
+    for parts in [
+        CUBE,
+        TWO_CUBES,
+        ONE_INWARD,
+        INWARD_CUBE,
+        OCTAHEDRON,
+        NINE_IN_A_ROW,
+        COLUMN,
+        SHEET,
+    ] {
+        for rule in EACH_RULE {
+            assert_eq!(rt; are_stripes_of(rt.alloc(), parts, 1, rule), Some(true));
+            assert_eq!(rt; are_stripes_of(rt.alloc(), parts, 2, rule), Some(true));
+        }
+    }
+    Ok(())
+}
+
+// What is reported of a session as a whole: counts of facets, columns, rows, layers and stripes, and the rule.
+fn told(session: &Session<Global>) -> (usize, [u32; 3], u64, Rule) {
+    let grid = session.grid();
+    (
+        session.facet_count(),
+        [grid.columns(), grid.rows(), grid.layers()],
+        session.stripes(),
+        session.rule(),
+    )
+}
+
+#[test]
+fn a_column_of_seventeen_layers(rt: HostRuntime) -> Result<(), Fail> {
+    let session = open(rt.alloc(), COLUMN, &fitted(1, Rule::EvenOdd))?;
+    assert!(rt; told(&session) == (12, [1, 1, 17], 3, Rule::EvenOdd));
+    assert!(rt; session.layers() == 17);
+    assert!(rt; is_image(&session, 16, b"P4\n1 1\n\x80"));
+    assert!(rt; is_stripe(&session, 2, b"P4\n1 1\n\x80"));
+    assert!(rt; stripe_len(&session, 1) == Some(64));
+    assert!(rt; session.area(16) == Ok(1) && loop_count(&session, 16) == Some(1));
+    assert!(rt; session.probe(0, 0, 16) == Ok((1, 1)));
+    Ok(())
+}
+
+// The box holds a degenerate facet too, which the grid does not.
+#[test]
+fn the_box_is_that_of_all_facets(rt: HostRuntime) -> Result<(), Fail> {
+    let far: &[Part] = &[
+        (CORNERS, BOX),
+        (&[[0, 0, 0], [9, 9, 9]], &[[0, 0, 1], [1, 1, 0]]),
+    ];
+    let session = open(rt.alloc(), far, &fitted(1, Rule::NonZero))?;
+    let bounds = Point::new(0, 0, 0).zip(Point::new(9, 9, 9));
+    assert!(rt; bounds.is_some() && session.bounds() == bounds);
+    assert!(rt; told(&session) == (14, [2, 2, 2], 1, Rule::NonZero));
+    let flat = open(rt.alloc(), CUBE_AND_FLAT, &fitted(1, Rule::NonZero))?;
+    assert!(rt; told(&flat) == (13, [2, 2, 2], 1, Rule::NonZero));
+    Ok(())
+}
+
+// A setup of voxels of a micrometre in a grid of this many columns, rows and layers, from a corner on.
+fn given([columns, rows, layers]: [u32; 3], [x, y, z]: [i32; 3]) -> Option<Setup> {
+    let origin = Point::new(x, y, z)?;
+    Some(Setup {
+        placing: Placing::Given {
+            columns,
+            rows,
+            layers,
+            origin,
+        },
+        ..fitted(1, Rule::NonZero)
+    })
+}
+
+#[test]
+fn a_given_grid(rt: HostRuntime) -> Result<(), Fail> {
+    let setup = given([3, 2, 4], [-1, 0, 0]).ok_or("no point")?;
+    let session = open(rt.alloc(), CUBE, &setup)?;
+    assert!(rt; told(&session) == (12, [3, 2, 4], 1, Rule::NonZero));
+    assert!(rt; is_image(&session, 0, b"P4\n3 2\n\x60\x60"));
+    assert!(rt; is_image(&session, 2, b"P4\n3 2\n\x00\x00"));
+    assert!(rt; session.area(1) == Ok(4) && session.area(3) == Ok(0));
+    assert!(rt; loop_count(&session, 1) == Some(1) && loop_count(&session, 3) == Some(0));
+    assert!(rt; session.probe(0, 0, 0) == Ok((0, 0)) && session.probe(1, 0, 0) == Ok((1, 1)));
+    Ok(())
+}
+
+// Whether opening a mesh's text fails, and the fault reads so.
+fn fails_with(alloc: Global, parts: &[Part<'_>], setup: &Setup, line: &str) -> Option<bool> {
+    let fault = open(alloc, parts, setup).err()?;
+    Some(format!(in alloc; "{fault}").ok()?.as_str() == line)
+}
+
+const STEP: &str = "pitch and layer height take 1 to 100000 micrometres";
+
+// The step goes before the mesh, and the mesh before the grid.
+#[test]
+fn faults_read_as_the_program_s(rt: HostRuntime) -> Result<(), Fail> {
+    let alloc = rt.alloc();
+    let setup = fitted(1, Rule::NonZero);
+    let none = Setup { pitch: 0, ..setup };
+    let coarse = Setup {
+        layer: GREATEST_STEP + 1,
+        ..setup
+    };
+    let no_cells = given([1, 0, 1], [0, 0, 0]).ok_or("no point")?;
+    let open_box: &[Part] = &[(CORNERS, &BOX[1..])];
+    let open_edge = "open edge 0 0 0 to 0 2 0 there 0 back 1";
+    assert_eq!(rt; fails_with(alloc, CUBE, &none, STEP), Some(true));
+    assert_eq!(rt; fails_with(alloc, open_box, &coarse, STEP), Some(true));
+    assert_eq!(rt;
+        fails_with(alloc, open_box, &no_cells, open_edge),
+        Some(true)
+    );
+    assert_eq!(rt;
+        fails_with(alloc, CUBE, &no_cells, "grid has no cells"),
+        Some(true)
+    );
+    assert_eq!(rt;
+        fails_with(alloc, &[], &setup, "no facet is left"),
+        Some(true)
+    );
+    Ok(())
+}
+
+// A text goes before the grid, too.
+#[test]
+fn faults_of_a_text_and_of_a_grid(rt: HostRuntime) -> Result<(), Fail> {
+    let alloc = rt.alloc();
+    let no_cells = given([1, 0, 1], [0, 0, 0]).ok_or("no point")?;
+    let misread = Session::open(alloc, b"solid\nendloop", &no_cells).err();
+    let wanted = StlFault::Expected {
+        word: Word::FacetOrEnd,
+        at: 6,
+    };
+    assert!(rt; misread == Some(SessionFault::Stl(wanted)));
+    assert!(rt; open(alloc, CUBE, &no_cells).err() == Some(SessionFault::Grid(GridFault::NoCells)));
+    Ok(())
+}
+
+// What is reported of a layer, a stripe or a voxel outside the column's grid.
+const OUTSIDE: SessionFault = SessionFault::Outside {
+    columns: 1,
+    rows: 1,
+    layers: 17,
+};
+
+// Whether a layer of the column's session is outside, whatever is asked of it.
+fn is_outside(session: &Session<Global>, k: u32) -> bool {
+    session.image(k).err() == Some(OUTSIDE)
+        && session.area(k) == Err(OUTSIDE)
+        && session.loops(k).err() == Some(OUTSIDE)
+        && session.probe(0, 0, k) == Err(OUTSIDE)
+}
+
+#[test]
+fn nothing_lies_outside_the_grid(rt: HostRuntime) -> Result<(), Fail> {
+    let alloc = rt.alloc();
+    let session = open(alloc, COLUMN, &fitted(1, Rule::NonZero))?;
+    let line = "voxel outside the grid: 1 columns, 1 rows, 17 layers";
+    assert_eq!(rt; format!(in alloc; "{OUTSIDE}")?.as_str(), line);
+    for k in [17, u32::MAX] {
+        assert!(rt; is_outside(&session, k));
+    }
+    for s in [3, u64::MAX] {
+        assert!(rt; session.stripe(s).err() == Some(OUTSIDE));
+    }
+    assert!(rt; session.probe(1, 0, 0) == Err(OUTSIDE) && session.probe(0, 1, 0) == Err(OUTSIDE));
+    Ok(())
+}
+
+// What a session returns, one call after the other; every call is made again if one of them has no memory.
+fn answers(
+    memory: &ShortMemory<Global>,
+) -> Result<(usize, usize, usize, u64, usize), SessionFault> {
+    let text = text_of(memory, TWO_CUBES)?;
+    let session = Session::open(memory, text.as_bytes(), &fitted(1, Rule::NonZero))?;
+    let first = answers_of(&session);
+    if first == Err(SessionFault::Memory) {
+        return answers_of(&session);
+    }
+    first
+}
+
+// The lengths of an image, of a PNG and of a stripe, an area and a count of loops.
+fn answers_of<A: Allocator + Copy + Send + Sync>(
+    session: &Session<A>,
+) -> Result<(usize, usize, usize, u64, usize), SessionFault> {
+    Ok((
+        session.image(3)?.len(),
+        session
+            .png(3, Depth::Eight, Mirrors { x: true, y: false })?
+            .len(),
+        session.stripe(0)?.len(),
+        session.area(3)?,
+        session.loops(3)?.count(),
+    ))
+}
+
+// Fails each allocation in turn until none is left to fail. Returns how many of them gave `Memory`, and how many were mended by
+// the next try. It is `None` if a result was another.
+fn failures(alloc: Global) -> Option<(u32, u32)> {
+    let usual = (13, 110, 78, 28, 2);
+    let (mut told, mut tried) = (0u32, 0u32);
+    for turn in 1..2000u64 {
+        let memory = ShortMemory::new(alloc, turn);
+        let found = answers(&memory);
+        if !memory.has_failed() {
+            return (found == Ok(usual)).then_some((told, tried));
+        }
+        if found == Err(SessionFault::Memory) {
+            told = told.saturating_add(1);
+        } else if found == Ok(usual) {
+            tried = tried.saturating_add(1);
+        } else {
+            return None;
+        }
+    }
+    None
+}
+
+#[test]
+fn memory_that_fails_is_told_and_changes_nothing(rt: HostRuntime) -> Result<(), Fail> {
+    let (told, tried) = failures(rt.alloc()).ok_or("another answer")?;
+    assert!(rt; told > 10 && tried > 10);
+    Ok(())
+}

@@ -1,0 +1,97 @@
+//! The texts that progress is shown by, on a terminal and elsewhere: no clause speaks of a `Display`.
+use crate::progress::{Bar, BarText, Phase};
+use std::alloc::Global;
+
+/// What is shown, and its text.
+type Row<'a> = (BarText, &'a str);
+
+const TEXTS: [Row; 5] = [
+    (
+        BarText {
+            bar: Bar {
+                phase: Phase::Slicing,
+                done: 9,
+                total: 20,
+                begun: None,
+            },
+            seconds_left: Some(12),
+            is_terminal: true,
+        },
+        "\r[####      ] slicing 45 %, 9 of 20 layers, 12 s left\x1b[K",
+    ),
+    (
+        BarText {
+            bar: Bar {
+                phase: Phase::Writing,
+                done: 5_402_640,
+                total: 5_402_640,
+                begun: None,
+            },
+            seconds_left: None,
+            is_terminal: true,
+        },
+        "\r[##########] writing 100 %, 5402640 of 5402640 bytes\x1b[K",
+    ),
+    (
+        BarText {
+            bar: Bar {
+                phase: Phase::Writing,
+                done: 540_263,
+                total: 5_402_640,
+                begun: None,
+            },
+            seconds_left: Some(0),
+            is_terminal: false,
+        },
+        "stlslice: writing 9 %, 540263 of 5402640 bytes, 0 s left\n",
+    ),
+    (
+        BarText {
+            bar: Bar {
+                phase: Phase::WritingPngs,
+                done: 12,
+                total: 40,
+                begun: None,
+            },
+            seconds_left: Some(3),
+            is_terminal: false,
+        },
+        "stlslice: writing 30 %, 12 of 40 layers, 3 s left\n",
+    ),
+    (
+        BarText {
+            bar: Bar {
+                phase: Phase::Slicing,
+                done: 0,
+                total: 0,
+                begun: None,
+            },
+            seconds_left: None,
+            is_terminal: false,
+        },
+        "stlslice: slicing 0 %, 0 of 0 layers\n",
+    ),
+];
+
+/// Whether this text is shown.
+fn is_text(alloc: Global, shown: &BarText, text: &str) -> bool {
+    match shown.to_string(alloc) {
+        Ok(found) => found.as_str() == text,
+        Err(_) => false,
+    }
+}
+
+/// `Ok`, or the number of the first row with another text.
+fn all_texts(alloc: Global, rows: &[Row<'_>]) -> Result<(), usize> {
+    for (n, (shown, text)) in rows.iter().enumerate() {
+        if !is_text(alloc, shown, text) {
+            return Err(n);
+        }
+    }
+    Ok(())
+}
+
+#[test]
+fn texts_of_bars(rt: HostRuntime) -> Result<(), usize> {
+    all_texts(rt.alloc(), &TEXTS)
+}

@@ -1,0 +1,192 @@
+//! A welder that is fed in lists of any length returns what `weld` returns for the whole list.
+use crate::welding::rings;
+use geometry::Facet;
+use mesh_weld::{Solid, WeldFault, Welder};
+use short_memory::{Count, ShortMemory, first_free_turn};
+use std::alloc::{Allocator, Global};
+use std::test::Fail;
+use std::thread::Threads;
+use test_meshes::{
+    BOX, CORNERS, CUBE, CUBE_AND_FLAT, CUBE_AND_PAIR, OCTAHEDRON, Part, TOUCHING, TWO_CUBES,
+    facets_of,
+};
+use test_solids::{ROOM, welded};
+
+/// The result of a welder that gets the facets in lists of this many, the last one perhaps shorter.
+pub(crate) fn fed<A: Allocator + Copy + Send + Sync>(
+    alloc: A,
+    facets: &[Facet],
+    size: usize,
+) -> Result<Solid<A>, WeldFault> {
+    let mut welder = Welder::new(alloc);
+    let mut rest = facets;
+    for _ in 0..facets.len() {
+        let (part, behind) = rest.split_at(size.min(rest.len()));
+        rest = behind;
+        if welder.count() > ROOM || part.len() > ROOM {
+            return Err(WeldFault::Memory);
+        }
+        welder.add(part)?;
+    }
+    if welder.count() != facets.len() {
+        return Err(WeldFault::Memory);
+    }
+    welder.finish()
+}
+
+/// The result of a welder that gets all facets at once, and is finished by several threads.
+pub(crate) fn fed_by<R: Threads + Sync, A: Allocator + Copy + Send + Sync>(
+    rt: &R,
+    alloc: A,
+    facets: &[Facet],
+) -> Result<Solid<A>, WeldFault> {
+    let mut welder = Welder::new(alloc);
+    if welder.count() > ROOM || facets.len() > ROOM {
+        return Err(WeldFault::Memory);
+    }
+    welder.add(facets)?;
+    welder.finish_by(rt)
+}
+
+/// Whether two welds have the same result: the same fault, or the same solid.
+pub(crate) fn agree(
+    one: &Result<Solid<Global>, WeldFault>,
+    two: &Result<Solid<Global>, WeldFault>,
+) -> bool {
+    match (one, two) {
+        (Ok(solid), Ok(other)) => {
+            solid.same(other)
+                && solid.vertices() == other.vertices()
+                && solid.triples() == other.triples()
+                && solid.edge_numbers() == other.edge_numbers()
+                && solid.edge_count() == other.edge_count()
+                && solid.by_height() == other.by_height()
+        }
+        (Err(fault), Err(other)) => fault == other && *fault != WeldFault::Memory,
+        _ => false,
+    }
+}
+
+// The lengths of lists that are tried; 0 stands for one list of all.
+fn first_apart(alloc: Global, facets: Vec<Facet>, sizes: &[usize]) -> Option<usize> {
+    let copy = facets.clone().ok()?;
+    let whole = welded(alloc, facets);
+    for size in sizes {
+        let length = if *size == 0 { copy.len() } else { *size };
+        if !agree(&fed(alloc, copy.as_slice(), length), &whole) {
+            return Some(*size);
+        }
+    }
+    None
+}
+
+const ALL_SIZES: [usize; 18] = [0, 1, 2, 3, 4, 5, 6, 7, 8, 9, 10, 11, 12, 13, 14, 15, 16, 17];
+
+static CLOSED: [&[Part]; 7] = [
+    CUBE,
+    CUBE_AND_PAIR,
+    CUBE_AND_FLAT,
+    TOUCHING,
+    TWO_CUBES,
+    OCTAHEDRON,
+    &[],
+];
+
+#[test]
+fn closed_meshes(rt: HostRuntime) -> Result<(), Fail> {
+    for parts in CLOSED {
+        let facets = facets_of(rt.alloc(), parts)?;
+        assert_eq!(rt; first_apart(rt.alloc(), facets, &ALL_SIZES), None);
+    }
+    Ok(())
+}
+
+#[test]
+fn open_meshes(rt: HostRuntime) -> Result<(), Fail> {
+    let part = (CORNERS, &BOX[1..]);
+    let facets = facets_of(rt.alloc(), &[part])?;
+    assert_eq!(rt; first_apart(rt.alloc(), facets, &ALL_SIZES), None);
+    // the edges of degenerate facets count
+    let flat = [[0, 2, 2], [7, 7, 7]];
+    let parts: [Part<'_>; 3] = [(CORNERS, &[[1, 1, 4]]), part, (CORNERS, &flat)];
+    let facets = facets_of(rt.alloc(), &parts)?;
+    assert_eq!(rt; first_apart(rt.alloc(), facets, &ALL_SIZES), None);
+    Ok(())
+}
+
+#[test]
+fn many_facets(rt: HostRuntime) -> Result<(), Fail> {
+    for count in [4095, 4096, 4607, 4608] {
+        let facets = rings(rt.alloc(), count)?;
+        assert_eq!(rt; first_apart(rt.alloc(), facets, &[0, 1, 7, 17, 4096]), None);
+    }
+    Ok(())
+}
+
+// The facets of a mesh that is fed three at a time.
+struct KeptOfLists;
+
+impl Count for KeptOfLists {
+    fn count(memory: &ShortMemory<Global>) -> Option<usize> {
+        let facets = facets_of(memory, CUBE_AND_FLAT).ok()?;
+        let solid = fed(memory, facets.as_slice(), 3).ok()?;
+        Some(solid.count())
+    }
+}
+
+#[test]
+fn each_allocation_fails_in_turn(rt: HostRuntime) -> Result<(), Fail> {
+    assert!(rt; first_free_turn::<KeptOfLists>(rt.alloc(), 100, 12) > Some(8));
+    Ok(())
+}
+
+// The facets of the rings, fed 100 at a time.
+struct KeptOfRingLists;
+
+impl Count for KeptOfRingLists {
+    fn count(memory: &ShortMemory<Global>) -> Option<usize> {
+        let facets = rings(memory, 4608).ok()?;
+        let solid = fed(memory, facets.as_slice(), 100).ok()?;
+        Some(solid.count())
+    }
+}
+
+#[test]
+fn each_allocation_fails_in_turn_among_many_facets(rt: HostRuntime) -> Result<(), Fail> {
+    assert!(rt; first_free_turn::<KeptOfRingLists>(rt.alloc(), 100, 4608) > Some(30));
+    Ok(())
+}
+
+// Adds facets to a welder: whether it has taken them, or `None` if there is no room.
+fn added<A: Allocator + Copy + Send + Sync>(
+    welder: &mut Welder<A>,
+    facets: &[Facet],
+) -> Option<bool> {
+    if welder.count() > ROOM || facets.len() > ROOM {
+        return None;
+    }
+    Some(welder.add(facets).is_ok())
+}
+
+// Adds facets to a new welder twice: whether it has taken them, and how many facets it has then.
+fn added_twice<A: Allocator + Copy + Send + Sync>(
+    alloc: A,
+    facets: &[Facet],
+) -> [(Option<bool>, usize); 2] {
+    let mut welder = Welder::new(alloc);
+    let first = added(&mut welder, facets);
+    let count = welder.count();
+    let second = added(&mut welder, facets);
+    [(first, count), (second, welder.count())]
+}
+
+// A welder that lost its facets when memory ran out can be fed again.
+#[test]
+fn a_welder_is_empty_after_a_failed_allocation(rt: HostRuntime) -> Result<(), Fail> {
+    let memory = ShortMemory::new(rt.alloc(), 2);
+    let facets = facets_of(rt.alloc(), CUBE)?;
+    let found = added_twice(&memory, facets.as_slice());
+    assert!(rt; memory.has_failed());
+    assert_eq!(rt; found, [(Some(false), 0), (Some(true), 12)]);
+    Ok(())
+}
