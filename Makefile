@@ -1,24 +1,11 @@
-# make            proves and builds the program, and leaves it at build/stlslice
-# make demo       slices a bundled part into build/demo, at once: unproved where the program isn't built
-# make test       the gate (every proof, the edits that must fail, each test, each program), then tests/;
-#                 where all passed, what it proved and built is left at build/stlslice
-# make install    copies the program, its manual, completions, documents and examples below PREFIX, and the library
-#                 with its header where it is built
-# make uninstall  removes what make install copied
-# make deb        a Debian package of the program and its files, in build/, and two of the library where it is built
-# make dist       a tarball of the program, and of the library where it is built, with their SHA-256, in build/
-# make library    proves and builds the library for C, and leaves it in build/library
-# make wheel      a wheel of the Python module and the library, in build/
-# make test-library  compares the library's layers, in C, C++ and Python, with the program's; see docs/embedding.md
-# make bench      times the program on a mesh that it makes; FACETS=N says how large
-# make examples   makes the bundled parts anew
-# make clean      removes build/
+# Proves, builds, tests and packs stlslice. `make help` lists what it can do.
 
 # what --version prints, where it stands
 VERSION := $(shell sed -nE 's/^const VERSION: &str = "([^ ]+) .*/\1/p' crates/task_words/src/command.rt)
 DESTDIR ?=
 PREFIX ?= /usr/local
 FACETS ?= 200000
+BASE ?= HEAD
 CRATE := crates/stlslice_program
 PROGRAM := build/stlslice
 SOURCES := crates.txt $(shell find crates -path '*/out' -prune -o -type f \( -name '*.rt' -o -name '*.antt' \) -print)
@@ -31,19 +18,21 @@ LIBRARY_BUILT := $(wildcard $(LIBRARY))
 SHARE = $(PREFIX)/share
 LIB = $(PREFIX)/lib
 INCLUDE = $(PREFIX)/include
-MANUAL = $(SHARE)/man/man1/stlslice.1.gz
-BASH_COMPLETION = $(SHARE)/bash-completion/completions/stlslice
-ZSH_COMPLETION = $(SHARE)/zsh/site-functions/_stlslice
-FISH_COMPLETION = $(SHARE)/fish/vendor_completions.d/stlslice.fish
+COMMANDS = stlslice-sl1 stlslice-pngs stlslice-slabs stlslice-page
+MODULE = $(SHARE)/stlslice/stlslice_commands
+MANUALS = $(SHARE)/man/man1
+BASH_COMPLETIONS = $(SHARE)/bash-completion/completions
+ZSH_COMPLETIONS = $(SHARE)/zsh/site-functions
+FISH_COMPLETIONS = $(SHARE)/fish/vendor_completions.d
 DOCS = $(SHARE)/doc/stlslice
 
 MISSING = rt is missing: the Rattle toolchain, rattle-kit-13, which proves and builds stlslice; put the folder bin/ \
 	of the kit on the PATH. A built stlslice itself needs only the C library (glibc 2.34 or later).
 NEEDS_RT = @command -v rt > /dev/null || { echo "$(MISSING)" >&2; exit 1; }
 
-.PHONY: all demo test library test-library wheel install install-library uninstall deb dist bench examples clean
+.PHONY: all help demo check test library test-library web test-web wheel install install-library uninstall deb dist docs bench examples clean
 
-all: $(PROGRAM)
+all: $(PROGRAM)  ## proves and builds the program, and leaves it at build/stlslice
 
 # The libraries side by side; then `rt run` proves the program, builds it and runs it once, on the stored input.
 $(PROGRAM): $(SOURCES)
@@ -53,16 +42,23 @@ $(PROGRAM): $(SOURCES)
 	mkdir -p build
 	cp $(CRATE)/out/stlslice_program $@
 
-demo:
+demo:  ## slices a bundled part into build/demo, at once: unproved if the program isn't built
 	@test -x $(PROGRAM) || command -v rt > /dev/null || { echo "$(MISSING)" >&2; exit 1; }
 	@python3 examples/demo.py $(PROGRAM) build/demo
 
-test:
+help:  ## lists these targets
+	@sed -nE 's/^([a-z-]+):.*  ## (.*)/\1\t\2/p' Makefile | awk -F '\t' '{ printf "%-14s %s\n", $$1, $$2 }'
+
+check:  ## what a change touches, in minutes; BASE=REV says what it is compared with (HEAD)
 	$(NEEDS_RT)
-	@tests/gate $(CRATE)/out/stlslice_program
+	@tools/check.py --base $(BASE)
+
+test:  ## the gate: every proof, edit and test, and what ships; leaves what it built in build/
+	$(NEEDS_RT)
+	@tools/gate.py $(CRATE)/out/stlslice_program
 	@mkdir -p build && cp $(CRATE)/out/stlslice_program build/stlslice
 
-library: $(LIBRARY)
+library: $(LIBRARY)  ## proves and builds the library for C, and leaves it in build/library
 
 $(LIBRARY): $(SOURCES) include/stlslice.h library/build library/edge.c library/exports.map
 	$(NEEDS_RT)
@@ -70,23 +66,40 @@ $(LIBRARY): $(SOURCES) include/stlslice.h library/build library/edge.c library/e
 	cd $(LIBRARY_CRATE) && rt lib
 	CC="$(CC)" library/build $(LIBRARY_CRATE)/out/libstlslice_c.a $(VERSION) $(PREFIX) build/library
 
-wheel: $(LIBRARY)
+wheel: $(LIBRARY)  ## a wheel of the Python module and the library, in build/
 	@mkdir -p build
 	python3 python/wheel_of_library.py $(VERSION) $(LIBRARY) build
 
-test-library: $(LIBRARY) $(PROGRAM)
+test-library: $(LIBRARY) $(PROGRAM)  ## compares the library's layers, in C, C++ and Python, with the program's
 	CC="$(CC)" CXX="$(CXX)" library/test build/library $(PROGRAM)
 
-install: $(PROGRAM) $(if $(LIBRARY_BUILT),install-library)
+# The module of which `rt lib` compiled the library; the page is made of it.
+web: build/web/preview.html  ## a page that slices in a browser: the library as WebAssembly, in build/web/preview.html
+
+build/web/preview.html: $(LIBRARY) docs/refused.md $(wildcard library/web/*.* library/web/build) $(wildcard examples/*.stl)
+	library/web/module.py $(LIBRARY_CRATE) build/library/proved.a build/web/module.bc
+	CC="$(CC)" library/web/build build/web/module.bc build/web
+
+# Without Chromium the test ends with status 77 and one line: it was skipped.
+test-web: build/web/preview.html $(PROGRAM)  ## tries that page in a headless Chromium, beside the program and the library
+	CC="$(CC)" library/web/test build/web/preview.html $(PROGRAM) build/library build/web/pictures || test $$? -eq 77
+
+install: $(PROGRAM) $(if $(LIBRARY_BUILT),install-library)  ## copies the program and its files below PREFIX, and the library if it is built
 	install -D -m 755 $(PROGRAM) $(DESTDIR)$(PREFIX)/bin/stlslice
-	install -d $(DESTDIR)$(dir $(MANUAL)) $(DESTDIR)$(DOCS)/examples $(DESTDIR)$(DOCS)/docs
-	gzip -9nc man/stlslice.1 > $(DESTDIR)$(MANUAL)
-	chmod 644 $(DESTDIR)$(MANUAL)
-	install -D -m 644 completions/stlslice.bash $(DESTDIR)$(BASH_COMPLETION)
-	install -D -m 644 completions/_stlslice $(DESTDIR)$(ZSH_COMPLETION)
-	install -D -m 644 completions/stlslice.fish $(DESTDIR)$(FISH_COMPLETION)
-	install -m 644 README.md CHANGELOG.md CONTRIBUTING.md LICENSE $(DESTDIR)$(DOCS)
-	install -m 644 docs/* $(DESTDIR)$(DOCS)/docs
+	install -m 755 $(addprefix commands/,$(COMMANDS)) $(DESTDIR)$(PREFIX)/bin
+	install -d $(DESTDIR)$(MODULE) $(DESTDIR)$(MANUALS) $(DESTDIR)$(DOCS)/examples $(DESTDIR)$(DOCS)/docs/decisions
+	install -m 644 commands/stlslice_commands/*.* $(DESTDIR)$(MODULE)
+	for name in stlslice $(COMMANDS); do \
+		gzip -9nc man/$$name.1 > $(DESTDIR)$(MANUALS)/$$name.1.gz; \
+		chmod 644 $(DESTDIR)$(MANUALS)/$$name.1.gz; \
+		words=$$(echo $$name | sed s/pngs/sl1/); \
+		install -D -m 644 completions/$$words.bash $(DESTDIR)$(BASH_COMPLETIONS)/$$name; \
+		install -D -m 644 completions/_$$words $(DESTDIR)$(ZSH_COMPLETIONS)/_$$words; \
+		install -D -m 644 completions/$$words.fish $(DESTDIR)$(FISH_COMPLETIONS)/$$name.fish; \
+	done
+	install -m 644 *.md LICENSE $(DESTDIR)$(DOCS)
+	install -m 644 docs/*.* $(DESTDIR)$(DOCS)/docs
+	install -m 644 docs/decisions/* $(DESTDIR)$(DOCS)/docs/decisions
 	for file in examples/*.*; do \
 		mode=644; test ! -x "$$file" || mode=755; \
 		install -m $$mode "$$file" $(DESTDIR)$(DOCS)/examples; \
@@ -103,25 +116,31 @@ install-library: $(LIBRARY)
 		$(dir $(LIBRARY))stlslice.pc > $(DESTDIR)$(LIB)/pkgconfig/stlslice.pc
 	chmod 644 $(DESTDIR)$(LIB)/pkgconfig/stlslice.pc
 
-uninstall:
-	rm -f $(DESTDIR)$(PREFIX)/bin/stlslice $(DESTDIR)$(MANUAL) $(DESTDIR)$(BASH_COMPLETION)
-	rm -f $(DESTDIR)$(ZSH_COMPLETION) $(DESTDIR)$(FISH_COMPLETION)
+uninstall:  ## removes what make install copied
+	for name in stlslice $(COMMANDS); do \
+		rm -f $(DESTDIR)$(PREFIX)/bin/$$name $(DESTDIR)$(MANUALS)/$$name.1.gz $(DESTDIR)$(BASH_COMPLETIONS)/$$name \
+			$(DESTDIR)$(ZSH_COMPLETIONS)/_$$name $(DESTDIR)$(FISH_COMPLETIONS)/$$name.fish; \
+	done
+	rm -rf $(DESTDIR)$(SHARE)/stlslice
 	rm -rf $(DESTDIR)$(DOCS)
 	rm -f $(DESTDIR)$(INCLUDE)/stlslice.h $(DESTDIR)$(LIB)/libstlslice.a $(DESTDIR)$(LIB)/pkgconfig/stlslice.pc
 	rm -f $(DESTDIR)$(LIB)/libstlslice.so $(DESTDIR)$(LIB)/libstlslice.so.1 $(DESTDIR)$(LIB)/libstlslice.so.$(VERSION)
 
-deb: $(PROGRAM) $(LIBRARY_BUILT)
+deb: $(PROGRAM) $(LIBRARY_BUILT)  ## Debian packages of the program, and of the library if it is built, in build/
 	tools/deb $(PROGRAM) $(VERSION) build
 	$(if $(LIBRARY_BUILT),tools/deb_library $(LIBRARY) $(VERSION) build)
 
-dist: $(PROGRAM) $(LIBRARY_BUILT)
+dist: $(PROGRAM) $(LIBRARY_BUILT)  ## tarballs of the program, and of the library if it is built, with SHA-256, in build/
 	tools/dist $(PROGRAM) $(VERSION) build $(LIBRARY_BUILT)
 
-bench: $(PROGRAM)
+docs:  ## the reference of all crates, as HTML in build/docs: contracts, definitions, what has to be believed
+	python3 tools/reference.py build/docs
+
+bench: $(PROGRAM)  ## times the program on a mesh that it makes; FACETS=N says how large
 	python3 bench/measure.py $(PROGRAM) $(FACETS)
 
-examples:
+examples:  ## makes the bundled parts anew
 	python3 examples/make_parts.py
 
-clean:
+clean:  ## removes build/
 	rm -rf build

@@ -11,7 +11,7 @@ half of the processors each, and the time that it leaves: theirs is a lower prio
 
 A library of which no check has kept any work is proved by one process that shares its work among many, and no work is kept.
 Where work is to be kept, the toolchain proves the functions in batches, each by a process that reads all libraries below,
-and then reads what these found, which takes longer (docs/DECISIONS.md has the times).
+and then reads what these found, which takes longer (docs/decisions/libraries-side-by-side.md).
 
 The quick pass over all sources, with which `rt run` begins, goes on beside the first proofs. `rt run` takes what is built
 here as built, by its own stamps, and builds the rest itself. So where the toolchain's library is another than expected,
@@ -36,12 +36,13 @@ NEARLY = 0.7
 
 
 def toolchain():
-    path = os.path.join(os.path.dirname(os.path.realpath(shutil.which("rt"))), "rtlib.py")
-    spec = importlib.util.spec_from_file_location("rtlib", path)
-    module = importlib.util.module_from_spec(spec)
-    sys.modules["rtlib"] = module
-    spec.loader.exec_module(module)
-    return module
+    """The toolchain's own library, loaded once. Its first use, and that of `guarded`, has to be in the main thread."""
+    if "rtlib" not in sys.modules:
+        path = os.path.join(os.path.dirname(os.path.realpath(shutil.which("rt") or "rt")), "rtlib.py")
+        spec = importlib.util.spec_from_file_location("rtlib", path)
+        sys.modules["rtlib"] = importlib.util.module_from_spec(spec)
+        spec.loader.exec_module(sys.modules["rtlib"])
+    return sys.modules["rtlib"]
 
 
 def heights(crates):

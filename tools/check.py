@@ -1,0 +1,210 @@
+#!/usr/bin/env python3
+"""Checks what a change touches, in minutes: the loop between two runs of the gate.
+
+    check.py [--base REV]
+
+The change is all that differs from REV (HEAD), with files that git doesn't know yet. This
+- proves each changed crate over what earlier checks kept, and the crates above it if something changed that they can
+  see: a definition, a signature, a contract, a type, the statement of a public lemma;
+- tries the edits of changed sources in one batch a crate, or all of a crate's if a definition changed; and changed edits;
+- proves and runs the nearest tests: of the crates of tests that use a changed crate, the one with the fewest libraries;
+- builds the program and runs the tests in tests/, but for the demo; if no crate changed, those that name a changed file.
+
+It ends by telling what it didn't try, and 'N passed, N failed'. Only the gate, make test, tries all.
+"""
+
+import argparse
+import os
+import re
+import subprocess
+import sys
+import time
+
+sys.dont_write_bytecode = True
+
+ROOT = os.path.dirname(os.path.dirname(os.path.abspath(__file__)))
+PROGRAM = "build/stlslice"
+# These take a minute each and read sources that the program's own tests cover.
+SLOW_TESTS = ("test_demo_unproved",)
+# A function's body: from the brace that ends its head's last line to the brace with the same indentation. A head has no blank
+# line and, unlike a trait's function without a body, no line that ends in a semicolon; and its clauses are no body.
+HEAD = r"(?:pub(?:\([\w:]+\))? )?(?:const |unsafe |extern \"C\" )*fn \w(?:(?!.*;$).+\n)*?(?!\s*(?:ensures|requires)\b).*"
+BODY = re.compile(rf"(?m)^([ \t]*)({HEAD})\{{\n(?:(?!\1\}}).*\n)*\1\}}$")
+COMMENT = re.compile(r"(?m)^\s*(//|--).*\n")
+
+
+def git(*words):
+    return subprocess.run(["git", *words], cwd=ROOT, stdout=subprocess.PIPE, text=True).stdout
+
+
+def changed_files(base):
+    names = git("diff", "--name-only", base).split("\n") + git("ls-files", "--others", "--exclude-standard").split("\n")
+    return sorted({it for it in names if it})
+
+
+def text_of(name):
+    path = os.path.join(ROOT, name)
+    if not os.path.isfile(path):
+        return ""
+    with open(path, encoding="utf-8") as file:
+        return file.read()
+
+
+def seen_from_above(name, text):
+    """What crates above can see of a source: all of a definition, of a lemma its statement, of code everything but bodies."""
+    text = COMMENT.sub("", text)
+    if name.endswith(".rt"):
+        return BODY.sub(r"\1\2{}", text)
+    if "/specs/" in name:
+        return text
+    if name.endswith("/Invariants.antt"):
+        return ""
+    # in proofs/ an item begins at the start of a line; its statement is the one with a colon before any equals sign
+    items = [it for it in re.split(r"(?m)^(?=\S)", text) if it.strip()]
+    unfolded = {it.split()[2] for it in items if re.match(r"(abbrev|unfoldable) pub ", it)}
+    return "".join(it for it in items if re.match(r"(abbrev |unfoldable )?pub [^=]+?:\s", it) or it.split()[0] in unfolded)
+
+
+def crates():
+    """For each crate its libraries in this repository, lowest first."""
+    rows = [line.partition(":") for line in text_of("crates.txt").splitlines() if line and not line.startswith("#")]
+    names = [head.split()[0] for head, _, _ in rows]
+    return {head.split()[0]: [it for it in tail.split() if it in names] for head, _, tail in rows}
+
+
+def is_of_tests(name):
+    return name.endswith("_tests")
+
+
+def has_tests(name):
+    folders = os.walk(os.path.join(ROOT, "crates", name, "src"))
+    return any("#[test]" in text_of(f"{at}/{file}") for at, _, files in folders for file in files)
+
+
+class Change:
+    """What differs from a revision, and which crates it concerns."""
+
+    def __init__(self, base):
+        self.files = changed_files(base)
+        self.deps = crates()
+        inside = [re.match(r"crates/(\w+)/(src|specs|proofs)/", it) for it in self.files]
+        self.sources = {it[1]: [] for it in inside if it and it[1] in self.deps}
+        self.open = set()
+        for name, told in zip(self.files, inside):
+            if told and told[1] in self.deps:
+                self.sources[told[1]].append(name)
+                if seen_from_above(name, text_of(name)) != seen_from_above(name, git("show", f"{base}:{name}")):
+                    self.open.add(told[1])
+
+    def crates_to_prove(self):
+        above = [it for it, deps in self.deps.items() if self.open & {*deps} and not is_of_tests(it)]
+        return [it for it in self.deps if it in self.sources or it in above]
+
+    def nearest_tests(self):
+        """The crates of tests to run: each changed one, or the one with the fewest libraries that uses a changed crate."""
+        changed = [it for it in self.sources if is_of_tests(it)]
+        users = [it for it, deps in self.deps.items() if is_of_tests(it) and {*deps} & {*self.sources}]
+        return changed or sorted(users, key=lambda it: len(self.deps[it]))[:1]
+
+    def edits_to_try(self):
+        """Words for tools/edits.py."""
+        for crate in self.deps:
+            names = self.sources.get(crate, [])
+            is_whole = any("/specs/" in it for it in names)
+            folders = "must-fail" if is_whole else "edits|must-fail|src"
+            changed = [it for it in self.files if re.match(rf"crates/{crate}/({folders})/", it) and (text_of(it) or it.endswith(".rt"))]
+            if is_whole:
+                yield [crate]
+            if changed:
+                yield ["--changed", *changed]
+
+    def tests_that_name_it(self):
+        names = [os.path.basename(it) for it in self.files if not it.startswith("crates/")]
+        tests = [it for it in sorted(os.listdir(os.path.join(ROOT, "tests"))) if it.startswith("test_")]
+        return [it for it in tests if it in names or any(name in text_of(f"tests/{it}") for name in names)]
+
+
+class Steps:
+    """Runs one command after another, and those in the background beside them."""
+
+    def __init__(self):
+        self.passed, self.failed, self.beside, self.begun = 0, [], [], []
+
+    def count(self, what, status, seconds):
+        self.passed += status == 0
+        self.failed += [what] * (status != 0)
+        print(f"{'passed' if status == 0 else 'FAILED'}: {what} ({seconds:.0f} s)", flush=True)
+
+    def run(self, what, words, folder="."):
+        began = time.monotonic()
+        self.begun.append(what)
+        print(f"== {what}", flush=True)
+        status = subprocess.run(words, cwd=os.path.join(ROOT, folder), stdin=subprocess.DEVNULL).returncode
+        self.count(what, status, time.monotonic() - began)
+        return status == 0
+
+    def start(self, what, words):
+        how = {"cwd": ROOT, "stdin": subprocess.DEVNULL, "stdout": subprocess.PIPE, "stderr": subprocess.STDOUT}
+        self.begun.append(what)
+        self.beside.append((what, time.monotonic(), subprocess.Popen(["nice", *words], text=True, **how)))
+
+    def join(self):
+        for what, began, child in self.beside:
+            said, _ = child.communicate()
+            print(f"== {what}\n{said}", end="")
+            self.count(what, child.returncode, time.monotonic() - began)
+
+
+def try_edits(change, steps):
+    for words in change.edits_to_try():
+        steps.start(f"edits {' '.join(words)}", ["tools/edits.py", *words])
+
+
+def try_crates(change, steps):
+    """Proves, and tries edits and tests. Returns whether the program was built."""
+    for crate in change.crates_to_prove():
+        if not steps.run(f"proof of {crate}", ["rt", "check"], f"crates/{crate}"):
+            return False
+    try_edits(change, steps)
+    for crate in change.nearest_tests():
+        steps.run(f"libraries below {crate}", ["tools/prove.py", f"crates/{crate}"])
+        steps.run(f"tests of {crate}", ["rt", "test"], f"crates/{crate}")
+    return steps.run("the program", ["make", PROGRAM])
+
+
+def main():
+    read = argparse.ArgumentParser(description=__doc__.split("\n")[0])
+    read.add_argument("--base", default="HEAD", metavar="REV", help="what the change is compared with (HEAD)")
+    change, steps = Change(read.parse_args().base), Steps()
+    if not change.files:
+        print("nothing has changed: name an older revision (make check BASE=REV)")
+        return 0
+    tests = change.tests_that_name_it()
+    if not change.sources:
+        try_edits(change, steps)
+    elif try_crates(change, steps):
+        tests = [it for it in sorted(os.listdir(os.path.join(ROOT, "tests"))) if it.startswith("test_") and not it.startswith(SLOW_TESTS)]
+    tests = [] if steps.failed else tests
+    if tests:
+        steps.run(f"{len(tests)} tests in tests/", ["tests/run", PROGRAM, *tests])
+    steps.join()
+    tell(change, steps, tests)
+    print(*[f"failed: {it}" for it in steps.failed], f"{steps.passed} passed, {len(steps.failed)} failed", sep="\n")
+    return 1 if steps.failed else 0
+
+
+def tell(change, steps, tests):
+    """Says what was not tried."""
+    proofs = [it for it in change.deps if f"proof of {it}" not in steps.begun and not is_of_tests(it)]
+    tested = [it for it in change.deps if f"tests of {it}" not in steps.begun and has_tests(it)]
+    edits = [word for it in steps.begun if it.startswith("edits ") for word in it.split()[1:] if word != "--changed"]
+    every = [it for it in os.listdir(os.path.join(ROOT, "tests")) if it.startswith("test_")]
+    print("not tried:")
+    print(f"  proofs of {', '.join(proofs) or 'no crate'}")
+    print(f"  tests of {', '.join(tested) or 'no crate'}")
+    print(f"  edits but those of {', '.join(edits)}" if edits else "  edits")
+    print(f"  {len(every) - len(tests)} of {len(every)} tests in tests/")
+
+
+if __name__ == "__main__":
+    sys.exit(main())

@@ -1,0 +1,874 @@
+#!/usr/bin/env python3
+"""Tries wrong bodies, those of different functions of a crate together in one check, each of which a clause has to refuse.
+
+    tools/edits.py [--jobs N] [NAME.. | EDIT..]     those of these crates, or these alone; all where nothing is named
+    tools/edits.py [--jobs N] --changed FILE..      those that a change of these files concerns, also of must-fail/
+    tools/edits.py [--jobs N] --batch EDIT..        these together, in one check
+
+--show FOLDER, before these, tries all anew and leaves there what each check said. Else the results of a batch that passed are
+taken from build/edits where neither the batch, nor its crate, nor one below has changed.
+
+An edit is a file crates/NAME/edits/FUNCTION.FAULT.edit, in the form that `rt must-fail` reads (CONTRIBUTING.md). It is planted
+in a copy of the crate, together with others. The functions that none of them edits keep their statements, and their proofs
+are left out. So each edited function is judged by itself: it has to be refused by a goal of its own, or of a closure in it,
+that is a clause (`returns..`), or the invariant of a loop or of a type (`loop-..`, `invariant_of-..`; a loop that has a label
+goes by it, as in `rows-preserved`). A lemma of its answers stands for the goals that rest on it, where all of them are such.
+An edit of a definition, in specs/, has to be refused in a function whose contract cites it, a law if there is one. Where an
+edit is refused otherwise it has failed, unless tools/edits_refused_otherwise.txt names it, with the goal and the reason.
+
+In each check stands one edit more, which means the same as before. It has to read as proved, so that a tool that can't see
+shows.
+
+Each edit has a line; the last line is 'N passed, N failed', and the status is 0 where none failed, 1 where one did, and 2
+where nothing was tried. The libraries below a crate are built first, where they aren't.
+"""
+
+import contextlib
+import hashlib
+import json
+import os
+import re
+import shutil
+import signal
+import subprocess
+import sys
+import tempfile
+import threading
+from concurrent.futures import FIRST_COMPLETED, ThreadPoolExecutor, wait
+
+sys.dont_write_bytecode = True
+
+ROOT = os.path.dirname(os.path.dirname(os.path.abspath(__file__)))
+sys.path.insert(0, os.path.join(ROOT, "tools"))
+
+from prove import toolchain  # noqa: E402
+
+OTHERWISE = "tools/edits_refused_otherwise.txt"
+KEPT = "build/edits"
+
+# The most edits of one check. More take as long each, and more memory together.
+MOST = 30
+
+# The seconds that a check gets, and more for each edit, before it is stopped and its edits are tried by halves; and those of
+# a whole crate.
+SECONDS, SECONDS_EACH, SECONDS_WHOLE = 600, 60, 3600
+
+# How far the priority of the checks is lowered.
+NICENESS = 10
+
+# Goals that show a contract: what a clause says, and what a loop or a type keeps. That a loop's measure is smaller shows none.
+OF_CONTRACT = re.compile(r"returns|invariant_of-|loop-(?!.*-smaller\b)")
+
+# What antt says of an answer that names what the edit took away, or that cites such an answer. It shows nothing.
+ONLY_NAMES = re.compile(r"has no field|is not in scope|has no `|was not admitted|is no name")
+
+
+class Unfit(Exception):
+    """What cannot be tried, in one line."""
+
+
+def text_of(file):
+    with open(file, encoding="utf-8") as it:
+        return it.read()
+
+
+# ---- functions
+
+
+class Function:
+    """A function: its path below the crate as the toolchain spells it, its lines, and the one on which its body opens."""
+
+    def __init__(self, symbol, file, first, opens, last, lines):
+        self.symbol, self.file, self.first, self.opens, self.last = symbol, file, first, opens, last
+        self.name = symbol.rpartition("::")[2]
+        self.head = lines[first : (last if opens is None else opens) + 1]
+        self.body = [] if opens is None else lines[opens : last + 1]
+
+    def contract(self):
+        rows = [at for at, it in enumerate(self.head) if re.match(r"\s*(requires|ensures)\b", it)]
+        return "\n".join(self.head[rows[0] :]) if rows else ""
+
+    def words(self):
+        """The words of the body, without comments and strings. A question mark calls `from`."""
+        text = re.sub(r'//.*|"(?:[^"\\]|\\.)*"', "", "\n".join(self.body).partition("{")[2])
+        return set(re.findall(r"[A-Za-z_]\w*", text)) | ({"from"} if "?" in text else set())
+
+    def is_law(self):
+        return bool(self.body) and self.body[0].strip() == "{}"
+
+    def shows_contract(self, goal):
+        """Whether a goal of the function's is a clause, or the invariant of a loop or of a type. The goals of a loop begin with its
+        label where it has one."""
+        label, _, rest = goal.partition("-")
+        labels = re.findall(r"(?m)^\s*'(\w+): (?:while|for|loop)\b", "\n".join(self.body))
+        return bool(OF_CONTRACT.match(goal)) or label in labels and bool(re.match(r"(?:init|preserved)\b", rest))
+
+    def may_be_left_out(self):
+        """Whether a proof can be written for it alone: it has a body, doesn't call itself, and is no `drop`."""
+        return bool(self.body) and self.name not in self.words() and not self.symbol.endswith("Drop::drop")
+
+
+IS_FUNCTION = re.compile(r'^( *)(?:pub(?:\([a-z]+\))? )?(?:const )?(?:unsafe )?(?:extern "C" )?fn (\w+)')
+IS_BLOCK = re.compile(r"^(?:unsafe )?impl\b|^(?:pub(?:\([a-z]+\))? )?(?:unsafe )?trait\b")
+IS_TYPE = r"(?m)^(?:pub(?:\([a-z]+\))? )?(?:struct|enum) (\w+)"
+NAMED = r"[&\s]*(?:'\w+\s+)?(?:mut\s+)?(?:\w+::)*(\w+)"
+
+
+def after_parameters(head):
+    """The names that `<..>` at the start of the text declares, and the text after it."""
+    if not head.startswith("<"):
+        return [], head
+    depth = 0
+    for at, sign in enumerate(head):
+        depth += (sign == "<") - (sign == ">" and head[at - 1] != "-")
+        if depth == 0:
+            break
+    return re.findall(r"(?:^|, ?)(?:const )?(\w+)", head[1:at]), head[at + 1 :].strip()
+
+
+def owner(head):
+    """How the toolchain spells an impl or a trait in a function's path: `Point`, `PointDebug`, `StlFaultFromAllocError`."""
+    head = re.sub(r"^(pub(\([a-z]+\))? )?(unsafe )?", "", " ".join(head.split()))
+    if head.startswith("trait"):
+        return re.match(r"trait (\w+)", head)[1]
+    parameters, head = after_parameters(head[len("impl") :].strip())
+    trait, is_for, of = head.partition(" where ")[0].partition(" for ")
+    if not is_for:
+        return re.match(NAMED, trait)[1]
+    name, _, given = trait.partition("<")
+    given = [it for it in re.findall(r"(?:^|, ?)(?:\w+::)*(\w+)", given) if it not in parameters]
+    return re.match(NAMED, of)[1] + re.match(NAMED, name)[1] + "".join(given)
+
+
+def opening(lines, at, indent):
+    """The line on which the body opens of the function whose head begins at a line, or None, and the line on which the function
+    ends. The layout is that of `rt fmt`: what is inside stands deeper."""
+    row, depth = at, 0
+    while True:
+        line = lines[row].rstrip()
+        is_level = row == at or not line.startswith(f"{indent} ")
+        if line.startswith(f"{indent}{{") or is_level and line.endswith(("{", "}")):
+            break
+        depth += line.count("{") - line.count("}")
+        if not depth and line.endswith(";"):
+            return None, row
+        row += 1
+    end = row
+    while not lines[row].rstrip().endswith("}") and not lines[end].startswith(f"{indent}}}"):
+        end += 1
+    return row, end
+
+
+def place_of(file):
+    """The module that a source file is."""
+    return [it for it in file[len("src/") : -len(".rt")].split("/") if it not in ("lib", "main")]
+
+
+def functions_of(file, text, homes):
+    """The functions of a source file of a crate, without its tests. Those of a type stand in its own module, which homes names."""
+    lines, found, block = text.split("\n"), [], []
+    for at, line in enumerate(lines):
+        if IS_BLOCK.match(line):
+            block = [owner("\n".join(lines[at:]).partition("{")[0])]
+        elif line.startswith("}"):
+            block = []
+        it = IS_FUNCTION.match(line)
+        if it and "#[test]" not in lines[at - 1]:
+            opens, last = opening(lines, at, it[1])
+            within = [*homes.get(block[0], place_of(file)), *block] if block and it[1] else place_of(file)
+            found.append(Function("::".join([*within, it[2]]), file, at, opens, last, lines))
+    return found
+
+
+# ---- a crate's files, and what cites what
+
+
+IS_ITEM = re.compile(r"(?!use |pub use |mod |pub mod |--)(?:(?:pub|unfoldable|abbrev|record|data) )*([^\s:({]+)(?: .*)?[:=]")
+
+
+class Source:
+    """The files of a crate: the text of each, the functions of src/, and those for which the toolchain reads no proof of ours."""
+
+    def __init__(self, folder):
+        self.folder, self.texts, self.functions, self.unread = folder, {}, [], set()
+        for part in ("src", "specs", "proofs"):
+            for at, folders, names in os.walk(f"{folder}/{part}"):
+                folders.sort()
+                for name in sorted(it for it in names if it.endswith((".rt", ".antt"))):
+                    file = os.path.relpath(f"{at}/{name}", folder)
+                    self.texts[file] = text_of(f"{at}/{name}")
+        sources = {file: text for file, text in self.texts.items() if file.endswith(".rt")}
+        homes = {name: place_of(file) for file, text in sources.items() for name in re.findall(IS_TYPE, text)}
+        for file, text in sources.items():
+            self.functions += functions_of(file, text, homes)
+        self.proved_in = {f"proofs/{it.symbol.replace('::', '/')}": it for it in self.functions}
+
+    def at(self, file, row):
+        """The function on a line of a file, or None."""
+        return next((it for it in self.functions if it.file == file and it.first <= row <= it.last), None)
+
+    def is_import(self, file, row):
+        return bool(re.match(r"(pub |ghost )*use ", self.texts[file].split("\n")[row]))
+
+    def citing(self, names):
+        """The functions whose contracts cite one of these definitions, each a module and a name; those whose proofs do; and the
+        definitions and lemmas that do."""
+        stated, proved, more = [], [], set()
+        for file, text in self.texts.items():
+            words = seen_from(text, names)
+            if file.endswith(".rt"):
+                stated += [it for it in self.functions if it.file == file and words and cites(it.contract(), words)]
+                continue
+            words |= {name for module, name in names if module == module_of(file)}
+            found = [name for name, part in items_of(text) if cites(part, words)] if words else []
+            if os.path.dirname(file) in self.proved_in:
+                proved += [self.proved_in[os.path.dirname(file)]] * bool(found)
+            more |= {(module_of(file), name) for name in found}
+        return stated, proved, more - names
+
+
+def module_of(file):
+    return re.sub(r"(/Lib)?\.antt$", "", file).replace("/", ".")
+
+
+def seen_from(text, names):
+    """By which words a text names these definitions."""
+    found = set()
+    for module, listed in re.findall(r"use Rattle\.\w+\.((?:specs|proofs)\.[\w.]+)\.\{([^}]*)\}", text):
+        for it in listed.split(","):
+            name, _, other = it.strip().partition(" as ")
+            found |= {other or name} if (module, name) in names else set()
+    for module, name in re.findall(r"use Rattle\.\w+\.((?:specs|proofs)\.[\w.]+) as (\w+)", text):
+        found |= {f"{name}.{it}" for other, it in names if other == module}
+    return found
+
+
+def words_of(text):
+    return set(re.findall(r"[^\s(){},;:]+", text))
+
+
+def cites(text, words):
+    return bool(words & words_of(text))
+
+
+def items_of(text):
+    """The items of a text of specs/ or proofs/: the name of each, and its text."""
+    for part in re.split(r"\n(?=[^\s-])", text):
+        found = IS_ITEM.match(part)
+        if found:
+            yield found[1], part
+
+
+def item_at(text, row):
+    """The name of the item of specs/ on a line of its text, or None."""
+    lines = text.split("\n")
+    while row >= 0 and not IS_ITEM.match(lines[row]) or lines[row].startswith(" "):
+        row -= 1
+    return IS_ITEM.match(lines[row])[1] if row >= 0 else None
+
+
+def reached(source, definitions):
+    """The functions that a change of these definitions reaches. First those whose contracts cite one with as few definitions
+    between as can be, or else with more where the others are no laws and these are; then all, also those whose proofs do."""
+    names, nearest, laws, every = set(definitions), [], [], []
+    while names:
+        stated, proved, more = source.citing(names)
+        nearest = nearest or stated
+        laws = laws or [it for it in stated if it.is_law()]
+        every += [it for it in [*stated, *proved] if it not in every]
+        if not more:
+            break
+        names |= more
+    return laws or nearest, every
+
+
+# ---- edits
+
+
+class Edit:
+    """An edit as it stands in its file: which lines of which files it changes, the functions whose lines these are, those of
+    which one has to be refused, and all that it can change the proof of. It is `bad` where it can't be applied."""
+
+    def __init__(self, path, crate, source):
+        self.path, self.name = path, f"{crate}/{os.path.basename(path)[: -len('.edit')]}"
+        self.rows, self.functions, self.definitions, self.judged, self.reach = {}, [], [], [], []
+        self.is_alone = True
+        self.bad = self.apply(text_of(path), source)
+        if not self.bad:
+            self.place(source)
+
+    def apply(self, text, source):
+        """Notes the lines that the edit changes, or says why it can't be applied. Each `old` stands on one line."""
+        file, old, texts = "", None, {}
+        for line in text.split("\n"):
+            if line.startswith("file: "):
+                file, old = line[len("file: ") :].strip(), None
+                if file not in source.texts:
+                    return f"there is no file {file}"
+            elif line.startswith("old: "):
+                old = line[len("old: ") :]
+            elif line.startswith("new:"):
+                if not file or not old:
+                    return "a 'new:' line stands before any 'file:' or 'old:' line"
+                now = texts.setdefault(file, source.texts[file])
+                if now.count(old) != 1:
+                    return f"an 'old:' text is in {file} {now.count(old)} times, and not once"
+                texts[file], old = now.replace(old, re.sub(r"\A ", "", line[len("new:") :])), None
+        for file, now in texts.items():
+            pairs = zip(source.texts[file].split("\n"), now.split("\n"))
+            self.rows.update({(file, at): new for at, (was, new) in enumerate(pairs) if was != new})
+        return None if self.rows else "it changes nothing"
+
+    def place(self, source):
+        """Finds what the edit is of: functions, definitions of specs/, or neither."""
+        for file, at in self.rows:
+            function, name = source.at(file, at), item_at(source.texts[file], at) if file.startswith("specs/") else None
+            if function and function not in self.functions:
+                self.functions.append(function)
+            self.definitions += [(module_of(file), name)] if name else []
+        others = [row for row in self.rows if not source.is_import(*row) and not source.at(*row)]
+        self.is_alone = any(not file.startswith("specs/") for file, _ in others)
+        stated, every = reached(source, self.definitions)
+        self.reach = [*self.functions, *every]
+        named = self.name.rpartition("/")[2].partition(".")[0]
+        among = (not others and self.functions) or stated
+        self.judged = [it for it in among or source.functions if it.name == named] or among
+        if not self.judged:
+            self.bad = "it is of no function, and its name begins with none: nothing says which one has to be refused"
+
+    def clash(self, other):
+        """A function for which the two can't be told apart in one check, or None."""
+        both = [it for it in self.reach if it in other.functions or it in other.judged]
+        both += [it for it in other.reach if it in self.functions or it in self.judged]
+        return both[0] if both else None
+
+
+def stop_on_clash(edits):
+    """Refuses edits that can't be tried in one check."""
+    for at, it in enumerate(edits):
+        if it.bad:
+            raise Unfit(f"{it.name}: {it.bad}")
+        if len(edits) > 1 and (it.is_alone or it.definitions):
+            raise Unfit(f"{it.name} is of a constant, a type or a definition, so it is tried alone")
+        for other in edits[:at]:
+            function = it.clash(other)
+            if function or {*it.rows} & {*other.rows}:
+                of = function.symbol if function else "one line"
+                raise Unfit(f"{other.name} and {it.name} are both of {of}, so they can't be tried together")
+
+
+def grouped(edits):
+    """The edits in few lists, each about as long as the others, in which no two clash. One of a definition is tried without
+    others: a lemma that it refuses could be theirs."""
+    together = [it for it in edits if not it.bad and not it.is_alone and not it.definitions]
+    number = {}
+    for it in together:
+        for function in {*it.functions, *it.judged}:
+            number[function] = number.get(function, 0) + 1
+    lists = [[] for _ in range(max([-(-len(together) // MOST), *number.values()]))]
+    for it in sorted(together, key=lambda it: (-len(it.reach), -max(number[f] for f in it.judged), it.name)):
+        free = [one for one in lists if not any(it.clash(other) or {*it.rows} & {*other.rows} for other in one)]
+        if not free:
+            free = [[]]
+            lists += free
+        min(free, key=len).append(it)
+    return [it for it in lists if it] + [[it] for it in edits if it not in together]
+
+
+# ---- batches
+
+
+class Batch:
+    """Edits of a crate that are tried in one check. `need` is the memory that the check is likely to take, in bytes."""
+
+    def __init__(self, crate, source, edits, kept):
+        self.crate, self.source, self.edits, self.kept, self.name = crate, source, edits, kept, crate.name
+        self.need = 1_000_000_000 + 15_000_000 * len(edits) + 150_000 * crate.count(rb"\n")
+
+    def finds_work(self):
+        """Whether an earlier check of the crate kept what this one begins with."""
+        return self.kept.last is not None
+
+
+def edits_in(crate, folders=("edits",)):
+    """The paths of a crate's edits."""
+    found = []
+    for at in (f"{crate.folder}/{it}" for it in folders):
+        found += [f"{at}/{name}" for name in sorted(os.listdir(at)) if name.endswith(".edit")] if os.path.isdir(at) else []
+    return found
+
+
+def batches_of_crate(crate, paths):
+    source, kept = Source(crate.folder), Kept()
+    return [Batch(crate, source, it, kept) for it in grouped([Edit(path, crate.name, source) for path in paths])]
+
+
+def batches_of(root=ROOT, names=(), folders=("edits",)):
+    """The batches of a repository's edits, of each crate or of those that are named, lowest first. Call it in the main thread."""
+    toolchain().guarded()
+    crates = [it for it in toolchain().crates_below(root) if not names or it.name in names]
+    return [batch for crate in crates for batch in batches_of_crate(crate, edits_in(crate, folders))]
+
+
+# ---- one check
+
+
+def called(source, function):
+    """The functions of the crate that a function may call, by the words of its body, and those that these may call."""
+    names = {}
+    for it in source.functions:
+        names.setdefault(it.name, []).append(it)
+    found, left = [], [function]
+    while left:
+        for word in left.pop().words():
+            more = [it for it in names.get(word, []) if it not in found and it is not function]
+            found += more
+            left += more
+    return found
+
+
+def harmless(batch):
+    """A function that no edit of the batch reaches, nor one that it calls: the plainest of them. With it the line on which its
+    body opens, with a statement more that does nothing, and the functions that it may call. None where there is none."""
+    reach = {it for edit in batch.edits for it in [*edit.reach, *edit.judged]}
+    found = []
+    for it in batch.source.functions:
+        opens = it.body[0].rstrip() if it.body else ""
+        # a proof by hand walks over the code as it stands
+        by_hand = os.path.isfile(f"{batch.source.folder}/proofs/{it.symbol.replace('::', '/')}/Proof.antt")
+        if it in reach or by_hand or not opens.endswith(("{", "{}")) or "unsafe" in " ".join(it.head):
+            continue
+        calls = called(batch.source, it)
+        if not reach & {*calls}:
+            text = f"{opens} let _same = ();" if opens.endswith("{") else f"{opens[:-2]}{{ let _same = (); }}"
+            found.append((it.is_law(), len(calls), not it.contract(), len(it.body), it.symbol, it, text, calls))
+    return min(found, key=lambda it: it[:5])[5:] if found else None
+
+
+STUB = "use {0}.Statement.{{statement}}\n\npub {1}_spec : {{M : Type 1}} → statement M\n{1}_spec = ?\n"
+
+
+def leave_out(room, crate, function):
+    """Gives the function a proof that is left out, in place of its own."""
+    path = function.symbol.split("::")
+    folder = f"{room}/proofs/{'/'.join(path)}"
+    for name in ("Answers.antt", "Invariants.antt"):
+        with contextlib.suppress(FileNotFoundError):
+            os.remove(f"{folder}/{name}")
+    os.makedirs(folder, exist_ok=True)
+    with open(f"{folder}/Proof.antt", "w", encoding="utf-8") as it:
+        it.write(STUB.format(f"Rattle.{crate}.proofs.{'.'.join(path)}", path[-1]))
+
+
+def copy_with(batch, room, rows):
+    """Copies the crate to a folder, with these lines in place of its own."""
+    for part in ("src", "specs", "proofs"):
+        if os.path.isdir(f"{batch.crate.folder}/{part}"):
+            shutil.copytree(f"{batch.crate.folder}/{part}", f"{room}/{part}")
+    for file in {file for file, _ in rows}:
+        lines = batch.source.texts[file].split("\n")
+        for at in (at for other, at in rows if other == file):
+            lines[at] = rows[file, at]
+        with open(f"{room}/{file}", "w", encoding="utf-8") as it:
+            it.write("\n".join(lines))
+
+
+def plant(batch, room, control):
+    """Makes the copy of the crate in which the edits of the batch stand, and returns the functions that are to be checked."""
+    function, line, calls = control
+    rows = {row: new for edit in batch.edits for row, new in edit.rows.items()}
+    rows[function.file, function.opens] = line
+    asked = list(dict.fromkeys([function, *(it for edit in batch.edits for it in [*edit.functions, *edit.judged])]))
+    copy_with(batch, room, rows)
+    for it in batch.source.functions:
+        if it.may_be_left_out() and it not in asked and it not in calls and it.symbol not in batch.source.unread:
+            leave_out(room, batch.name, it)
+    return asked
+
+
+IS_GOAL = re.compile(r"note: src/\S+: it is not proved that .* \(`([^`]+)`\)")
+
+
+class Check:
+    """What a check said: its status, its lines, the seconds of processor time that it took, and the most bytes of memory. Each
+    function has a line, and above it stand the goals that no search proves."""
+
+    def __init__(self, status, said, seconds, memory):
+        self.status, self.said, self.seconds, self.memory = status, said, seconds, memory
+        self.is_whole = bool(re.search(r"(?m)^(only|holes)=\d", said))
+        self.lines, self.open, goals = {}, {}, []
+        for line in said.split("\n"):
+            goals += IS_GOAL.findall(line)
+            found = re.match(r"fn \w+::(\S+): (.*)", line)
+            if found:
+                self.lines[found[1]], self.open[found[1]], goals = found[2], goals, []
+
+    def errors(self, file):
+        """What antt says of each item of a file of proofs/ that it refuses, without a name for those that have none."""
+        at = rf"(?m)^(?:\./)?proofs/{re.escape(file)}:\d+:\d+: error: (?:`([^`]+)`: )?(.*)$"
+        return re.findall(at, self.said)
+
+
+class Kept:
+    """What a check of a crate's batches kept, its lemmas above all: the next one begins with it. The toolchain takes from there
+    only what it finds to be of the texts as they stand. A check writes a new file for each module and changes none, so such a
+    file may stand in several folders at once. Each folder has lists of its own, which a check does change."""
+
+    def __init__(self):
+        self.last, self.alone = None, threading.Lock()
+
+    def begin(self):
+        """A folder for a check, with what the last one kept."""
+        room = tempfile.TemporaryDirectory(prefix="kept-")
+        with self.alone:
+            if self.last:
+                shutil.copytree(self.last.name, room.name, copy_function=link_module, dirs_exist_ok=True)
+        return room
+
+    def end(self, room):
+        """Takes over the folder of a check that has ended."""
+        with self.alone:
+            self.last = room
+
+
+def link_module(one, other):
+    with contextlib.suppress(OSError):
+        if one.endswith(".oantt"):
+            return os.link(one, other)
+    return shutil.copy2(one, other)
+
+
+def check(batch, asked, room):
+    """Checks these functions of the copy of a crate in a folder, past those that are left out; the whole crate if none is named."""
+    rtlib, kept = toolchain(), batch.kept.begin() if asked else None
+    only = [word for it in asked for word in ("--only", it.symbol)]
+    words = [*batch.crate.words(["--jobs", "1"], keeps=False), *(["--allow-holes", "--incremental", kept.name] if asked else []), *only]
+    with tempfile.TemporaryFile("w+", encoding="utf-8", errors="replace") as said:
+        whole = [*rtlib.guarded(), "nice", "-n", str(NICENESS), rtlib.RATTLE, "check", *words]
+        ran = subprocess.Popen(whole, cwd=room, stdin=subprocess.DEVNULL, stdout=said, stderr=subprocess.STDOUT)
+        late = threading.Timer(SECONDS + SECONDS_EACH * len(batch.edits) if asked else SECONDS_WHOLE, ran.kill)
+        late.start()
+        _, status, used = os.wait4(ran.pid, 0)
+        late.cancel()
+        ran.returncode = -os.WTERMSIG(status) if os.WIFSIGNALED(status) else os.WEXITSTATUS(status)
+        said.seek(0)
+        if kept and ran.returncode >= 0:
+            batch.kept.end(kept)
+        return Check(ran.returncode, said.read(), used.ru_utime + used.ru_stime, 1024 * used.ru_maxrss)
+
+
+# ---- what a check said of an edit
+
+
+def refused_by(function, source, module, lemma):
+    """What of a function isn't proved where a lemma is refused: the goals whose answers rest on it, at once or by others, if all of
+    them show a contract. Else the lemma stands for itself, and so does the answer of a goal."""
+    names, more = set(), {(module, lemma)}
+    if f"goal.{lemma}" in words_of(source.texts.get(f"{module.replace('.', '/')}.antt", "")):
+        return [lemma]
+    while more:
+        names |= more
+        more = source.citing(names)[2]
+    goals = []
+    for file, text in source.texts.items():
+        if source.proved_in.get(os.path.dirname(file)) is function:
+            own = {name for place, name in names if place == module_of(file)}
+            goals += sorted(it for it in own if f"goal.{it}" in words_of(text))
+    return goals if goals and all(map(function.shows_contract, goals)) else [lemma]
+
+
+def lines_of(function, check):
+    """What the check says of the function and of its closures, each by its path: `a::fn::T::f::each` is a closure of `a::T::f`."""
+    found = {}
+    for symbol, said in check.lines.items():
+        module, _, within = f"::{symbol}".partition("::fn::")
+        if symbol == function.symbol or within and f"{module}::{within.rpartition('::')[0]}" == f"::{function.symbol}":
+            found[symbol] = said
+    return found
+
+
+def goals_of(function, batch, check):
+    """The goals of the function's own that the check refuses: those that no search proves, and those whose answers prove them no
+    more. The last come with what antt says of them."""
+    found = {}
+    for symbol, words in lines_of(function, check).items():
+        found.update(dict.fromkeys(check.open.get(symbol, []), ""))
+        for names in re.findall(r"`search` did not prove ((?:`[^`]+`(?:, | and )?)+)", words):
+            found.update(dict.fromkeys(re.findall(r"`([^`]+)`", names), ""))
+        # a loop that the edit adds, of which nothing shows that it ends
+        found.update(dict.fromkeys(re.findall(r"expected a (measure) in ", words), ""))
+        for module, lemma, said in lemmas_of(symbol, batch, check):
+            if module.startswith(f"proofs.{symbol.replace('::', '.')}."):
+                found.update({it: said for it in refused_by(function, batch.source, module, lemma) if it not in found})
+    return found
+
+
+def lemmas_of(symbol, batch, check):
+    """The lemmas and answers by which a function is proved that the check refuses: of each its module, its name, and what antt says
+    of it."""
+    words = check.lines.get(symbol, "")
+    if words.startswith("depends on a hole"):
+        return
+    for module, lemma in re.findall(rf"`Rattle\.{batch.name}\.(proofs\.[\w.]+)\.([^`.]+)`", words):
+        said = [why for name, why in check.errors(f"{module[len('proofs.') :].replace('.', '/')}.antt") if name == lemma]
+        yield module, lemma, said[0] if said else ""
+
+
+def refusal(edit, batch, check):
+    """What refuses an edit, a clause or an invariant if one does, and whether it is one. Where the edit is of a definition, each
+    lemma by which a law is proved counts for its clause; where it is of a constant or a type, a lemma counts for the goals that
+    rest on it. Where the edit is refused only since answers name what is no longer there, this is `names`."""
+    of_contract, named, names = [], [], []
+    for it in edit.judged:
+        found = [(goal, said, it.shows_contract(goal)) for goal, said in goals_of(it, batch, check).items()]
+        for module, lemma, said in lemmas_of(it.symbol, batch, check) if edit.definitions or edit.is_alone else []:
+            goals = [lemma] if edit.definitions else refused_by(it, batch.source, module, lemma)
+            found += [(goal, said, bool(edit.definitions) or it.shows_contract(goal)) for goal in goals]
+        for goal, said, shows in found:
+            (names if ONLY_NAMES.search(said) else of_contract if shows else named).append(goal)
+    best = [*of_contract, *named, *["names"] * bool(names)]
+    return (best[0], bool(of_contract)) if best else (None, False)
+
+
+def listed_otherwise(root):
+    """The edits that no clause refuses: of each the goal that does, and the reason."""
+    found = {}
+    with contextlib.suppress(FileNotFoundError):
+        for line in text_of(f"{root}/{OTHERWISE}").split("\n"):
+            if line and not line.startswith("#"):
+                name, goal, why = line.split(": ", 2)
+                found[name] = goal, why
+    return found
+
+
+def judge(edit, batch, check, otherwise, other=None):
+    """Whether an edit passed, and what to say of it. `other` refuses it where no goal of its own function does."""
+    goal, is_clause = refusal(edit, batch, check)
+    goal = goal or other
+    known = otherwise.get(edit.name)
+    if is_clause and known:
+        return False, f"refused by `{goal}`, a clause: take it out of {OTHERWISE}"
+    if is_clause:
+        return True, f"refused by `{goal}`"
+    if goal and known and known[0] == goal:
+        return True, f"REFUSED OTHERWISE: by `{goal}`: {known[1]}"
+    if goal:
+        why = "only since its answers name what the edit took away" if goal == "names" else "which is no clause and no invariant"
+        return False, f"REFUSED OTHERWISE: by `{goal}`, {why}"
+    return False, f"NOT REFUSED: {check.lines.get(edit.judged[0].symbol, 'the check has no line for its function')[:160]}"
+
+
+def blamed(batch, check):
+    """The edits on whose lines fault is found before any proof, each with the first that is said there, and those of functions that
+    the toolchain spells otherwise."""
+    unknown = re.findall(r"has no function `([^`]+)`: help: write the name", check.said)
+    found = {it: f"NOT TRIED: the toolchain knows no function {f.symbol}" for it in batch.edits for f in [*it.functions, *it.judged]
+             if f.symbol in unknown}
+    for file, row, said in re.findall(r"(?m)^(?:\./)?((?:src|specs)/\S+?):(\d+):\d+: (error.*)$", check.said):
+        place = (file, int(row) - 1)
+        within = [it for it in batch.edits if place in it.rows]
+        within += [it for it in batch.edits for f in it.functions if f.file == file and f.first <= place[1] <= f.last]
+        for it in within[:1]:
+            found.setdefault(it, f"BAD EDIT: {said[:160]}")
+    return found
+
+
+def is_hidden(edit, check):
+    """Whether an edit can't be judged, since the proof of another function that is edited was not even begun: that of a loop whose
+    invariant no longer fits, say."""
+    return any("is not made yet: a call of `" in check.lines.get(it.symbol, "") for it in edit.judged)
+
+
+def results_of(batch, check, control, otherwise):
+    """The results that a check gives, and the edits of which it says nothing, in the lists in which they are to be tried."""
+    seen = check.lines.get(control[0].symbol, "the check has no line for it")
+    bad = blamed(batch, check) if check.is_whole or not check.lines else {}
+    told = {it: judge(it, batch, check, otherwise) for it in batch.edits}
+    if check.is_whole and seen != "no holes":
+        told = dict.fromkeys(batch.edits, (False, f"NOT TRIED: the harmless edit of {control[0].symbol} isn't seen as proved: {seen[:160]}"))
+    elif not check.is_whole:
+        told = {it: told[it] for it in batch.edits if seen == "no holes" and told[it][0]}
+        told.update({it: (False, said) for it, said in bad.items()})
+    else:
+        # without the others they are judged; where all of them are hidden it is by something else
+        hidden = [it for it in batch.edits if not told[it][0] and is_hidden(it, check)]
+        told = {it: told[it] for it in batch.edits if it not in hidden or len(hidden) == len(batch.edits)}
+        told.update({it: (False, said) for it, said in bad.items()})
+    left = [it for it in batch.edits if it not in told]
+    if len(batch.edits) == 1 and left:
+        return [(left[0], False, f"NOT TRIED: {ended(check)}")], []
+    half = len(left) // 2 if len(left) == len(batch.edits) else 0
+    return [(it, *told[it]) for it in told], [left[:half], left[half:]]
+
+
+def ended(check):
+    lines = [it for it in check.said.split("\n") if re.search(r"error|no verdict", it)] or check.said.strip().split("\n")[-1:]
+    return f"its check ended with status {check.status}: {lines[0][:200]}"
+
+
+def kept_at(batch, root):
+    """The file in which the results of the batch are kept. Its name is a sum of all that they rest on."""
+    rests = [text_of(os.path.abspath(__file__)), batch.crate.stamp(), sorted(listed_otherwise(root).items())]
+    rests += [(it.name, sorted(it.rows.items())) for it in batch.edits]
+    return f"{root}/{KEPT}/{hashlib.sha256(repr(rests).encode()).hexdigest()}"
+
+
+def try_or_recall(batch, root=ROOT, show=None):
+    """As try_batch, and keeps in build/ the results of a batch that passed: those of the same batch of the same files come from
+    there. It took no time then. Nothing is kept where the crate's files have changed since they were read."""
+    file = kept_at(batch, root)
+    with contextlib.suppress(OSError, ValueError):
+        told = json.loads(text_of(file))
+        return [(it, True, told[it.name]) for it in batch.edits], 0
+    results, seconds = try_batch(batch, root, show)
+    is_same = file == kept_at(batch, root) and Source(batch.crate.folder).texts == batch.source.texts
+    if all(passed for _, passed, _ in results) and is_same:
+        os.makedirs(os.path.dirname(file), exist_ok=True)
+        with tempfile.NamedTemporaryFile("w", dir=os.path.dirname(file), delete=False, encoding="utf-8") as it:
+            json.dump({edit.name: text for edit, _, text in results}, it)
+        os.replace(it.name, file)
+    return results, seconds
+
+
+def try_batch(batch, root=ROOT, show=None):
+    """Tries the edits of a batch. It returns of each the edit, whether it passed, and what to say of it; and the seconds of
+    processor time that all took. Threads may try batches side by side: all that it writes stands in a folder of its own."""
+    if any(it.bad for it in batch.edits):
+        return [(it, False, f"BAD EDIT: {it.bad or 'it stands beside one'}") for it in batch.edits], 0
+    control, results, left, seconds = harmless(batch), [], [batch.edits], 0
+    if control:
+        with tempfile.TemporaryDirectory(prefix="edits-") as room:
+            said = check(batch, plant(batch, room, control), room)
+        unread = set(re.findall(r"(?m)^(?:\./)?proofs/(\S+)/Proof\.antt: error", said.said))
+        if unread and not said.is_whole and not {it.replace("/", "::") for it in unread} <= batch.source.unread:
+            batch.source.unread |= {it.replace("/", "::") for it in unread}
+            results, seconds = try_batch(batch, root, show)
+            return results, said.seconds + seconds
+        if show:
+            with tempfile.NamedTemporaryFile("w", dir=show, prefix=f"{batch.name}-", suffix=".txt", delete=False) as it:
+                start = f"{said.seconds:.0f} s of processor time, {said.memory / 1_000_000:.0f} MB of {batch.need / 1_000_000:.0f}"
+                it.write("\n".join([start, *(edit.name for edit in batch.edits), said.said]))
+        results, left = results_of(batch, said, control, listed_otherwise(root))
+        seconds = said.seconds
+    elif len(batch.edits) == 1:
+        return [(batch.edits[0], False, "NOT TRIED: the crate has no function for a harmless edit")], 0
+    else:
+        left = [batch.edits[: len(batch.edits) // 2], batch.edits[len(batch.edits) // 2 :]]
+    for part in filter(None, left):
+        more, used = try_batch(Batch(batch.crate, batch.source, part, batch.kept), root, show)
+        results, seconds = results + more, seconds + used
+    return results, seconds
+
+
+def try_alone(edit, batch, root=ROOT):
+    """Whether an edit passes alone, where no proof is left out, and what to say of it. It is for an edit that a batch can't judge.
+    What refuses only the proof of another function counts as the goal `elsewhere`, and a limit of the prover as `limit`."""
+    if edit.bad:
+        return False, f"BAD EDIT: {edit.bad}"
+    one = Batch(batch.crate, batch.source, [edit], batch.kept)
+    with tempfile.TemporaryDirectory(prefix="edits-") as room:
+        copy_with(one, room, edit.rows)
+        said = check(one, [], room)
+    is_refused = said.status == 1 and said.said.rstrip("\n").split("\n")[-1].startswith("logic=not-proved")
+    if is_refused or said.status == 3:
+        is_passed, text = judge(edit, one, said, listed_otherwise(root), "elsewhere" if is_refused else "limit")
+        return is_passed, f"{text} (tried alone)"
+    return False, "NOT REFUSED, alone either" if said.status == 0 else f"NOT TRIED: {ended(said)}"
+
+
+# ---- the command
+
+
+def run(batches, jobs, show=None):
+    """Tries batches, some at a time, as many as memory holds. It prints what comes, and returns how many passed and failed."""
+    rtlib, left, running, counts, spent = toolchain(), list(batches), {}, [0, 0], {}
+    with ThreadPoolExecutor(jobs) as pool:
+        while left or running:
+            while left and len(running) < jobs and (not running or rtlib.fits(left[0].need)):
+                batch = left.pop(0)
+                running[pool.submit(try_batch if show else try_or_recall, batch, ROOT, show)] = batch
+            for it in wait(running, return_when=FIRST_COMPLETED).done:
+                name, (results, seconds) = running.pop(it).name, it.result()
+                for edit, passed, text in results:
+                    print(f"{edit.name}: {text}", flush=True)
+                    counts[not passed] += 1
+                number, before = spent.get(name, (0, 0))
+                spent[name] = number + 1, before + seconds
+    for name, (number, seconds) in spent.items():
+        print(f"{name}: {seconds:.0f} s of processor time, {number} {'batch' if number == 1 else 'batches'}")
+    return counts
+
+
+def crate_above(crates, path):
+    found = next((it for it in crates if os.path.abspath(path).startswith(f"{it.folder}/")), None)
+    if not found or not path.endswith(".edit") or not os.path.isfile(path):
+        raise Unfit(f"{path} is no crate and no crate's edit")
+    return found
+
+
+def concerned(crate, files):
+    """The edits of a crate that a change of these of its files concerns: edits of these files or of what they define, those whose
+    functions are proved there, and those that are these files."""
+    source = Source(crate.folder)
+    definitions = [(module_of(it), name) for it in files if it.startswith("specs/") and it in source.texts
+                   for name, _ in items_of(source.texts[it])]
+    reach = reached(source, definitions)[1]
+    found = []
+    for path in edits_in(crate, ("edits", "must-fail")):
+        edit = Edit(path, crate.name, source)
+        folders = {f"proofs/{it.symbol.replace('::', '/')}" for it in edit.judged}
+        of_files = any(row[0] in files for row in edit.rows) or any(os.path.dirname(it) in folders for it in files)
+        is_one = os.path.relpath(path, crate.folder) in files
+        found += [path] if edit.bad or of_files or is_one or {*reach} & {*edit.judged} else []
+    return found
+
+
+def chosen(words):
+    """The batches that the command's words ask for, how many to try at a time, and where to leave what the checks say."""
+    words, options = list(words), {"--jobs": "1", "--show": ""}
+    while len(words) > 1 and words[0] in options:
+        name = words.pop(0)
+        options[name] = words.pop(0)
+    jobs = int(options["--jobs"]) if options["--jobs"].isdigit() else 0
+    flag = words.pop(0) if words and words[0] in ("--changed", "--batch") else ""
+    if not jobs or any(it.startswith("-") for it in words) or flag and not words:
+        raise Unfit("use: tools/edits.py [--jobs N] [NAME.. | EDIT.. | --changed FILE.. | --batch EDIT..]")
+    crates, asked = toolchain().crates_below(ROOT), {}
+    names = {it.name: it for it in crates}
+    for word in words if flag != "--changed" else []:
+        paths = edits_in(names[word]) if word in names and not flag else [os.path.abspath(word)]
+        asked.setdefault(names.get(word) or crate_above(crates, word), []).extend(paths)
+    if not words:
+        asked = {it: edits_in(it) for it in crates}
+    for it in crates if flag == "--changed" else []:
+        files = [os.path.relpath(word, it.folder) for word in map(os.path.abspath, words) if word.startswith(f"{it.folder}/")]
+        asked.update({it: concerned(it, files)} if files else {})
+    if flag != "--batch":
+        return [batch for crate, paths in asked.items() for batch in batches_of_crate(crate, paths)], jobs, options["--show"]
+    batches = []
+    for crate, paths in asked.items():
+        source = Source(crate.folder)
+        batches.append(Batch(crate, source, [Edit(path, crate.name, source) for path in paths], Kept()))
+        stop_on_clash(batches[-1].edits)
+    return batches, jobs, options["--show"]
+
+
+def main():
+    # with Python's own handler Ctrl-C would wait for the checks that run
+    signal.signal(signal.SIGINT, signal.SIG_DFL)
+    try:
+        batches, jobs, show = chosen(sys.argv[1:])
+        toolchain().guarded()
+        for below in {dep.folder: dep for batch in batches for dep in batch.crate.below()}.values():
+            if below.build_rlib(["--jobs", "1"], anew=False):
+                raise Unfit(f"the library {below.name} isn't proved")
+    except Unfit as why:
+        print(f"edits.py: {why}", file=sys.stderr)
+        return 2
+    passed, failed = run(batches, jobs, show)
+    print(f"{passed} passed, {failed} failed")
+    return 1 if failed else 0
+
+
+if __name__ == "__main__":
+    sys.exit(main())

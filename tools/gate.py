@@ -1,0 +1,279 @@
+#!/usr/bin/env python3
+"""The whole gate: every proof, edit and test, and what ships.
+
+    gate.py PROGRAM
+
+1. `rt ci` proves each crate and its tests, tries the edits in must-fail/, runs the tests, and builds and runs PROGRAM.
+2. Beside it tools/edits.py tries the edits in edits/ in batches, at a lower priority: those of a crate once it is proved.
+   With fewer than four processors they wait until `rt ci` has ended.
+   What a batch can't judge is tried alone. What something else than a clause refuses is told at the end, unless
+   tools/edits_refused_otherwise.txt says why.
+3. The library, and the page that has it, are built from what was proved.
+4. tests/run tests what people touch: the program, the library, packages, recipes, documents.
+
+What an earlier run left at PROGRAM is removed first, so nothing older is tested. The last lines tell where the time went,
+what was skipped and what failed, and then 'N passed, N failed', the sum of all parts. The status is 0 if nothing failed.
+"""
+
+import collections
+import os
+import re
+import shutil
+import subprocess
+import sys
+import tempfile
+import threading
+import time
+
+sys.dont_write_bytecode = True
+
+ROOT = os.path.dirname(os.path.dirname(os.path.abspath(__file__)))
+sys.path.insert(0, os.path.join(ROOT, "tools"))
+
+import edits  # noqa: E402
+import prove  # noqa: E402
+import spent  # noqa: E402
+
+LIBRARY_CRATE = "stlslice_c"
+# The memory that a batch leaves free for what runs beside it.
+RESERVE = 3_000_000_000
+# Ends the line of an edit that something else than a clause or an invariant refuses, and that no list explains yet.
+UNLISTED = " (to be listed)"
+PROVED = re.compile(r"rt: (\w+) (?:proved|is kept: .*)$")
+COUNTS = re.compile(r"(?m)^(\d+) passed, (\d+) failed$")
+FAULTS = re.compile(r"rt: FAILED: |.*(NOT PROVED|NOT REFUSED|NOT TRIED)|.*: its tests FAILED$|failed: ")
+showing = threading.Lock()
+
+Ran = collections.namedtuple("Ran", "status lines clock processor")
+
+
+def show(text):
+    with showing:
+        print(text, flush=True)
+
+
+def run(words, hear=lambda line: None):
+    """Runs a command, shows its lines as they come, and returns what came of it, with its seconds."""
+    began, lines = time.monotonic(), []
+    how = {"stdin": subprocess.DEVNULL, "stdout": subprocess.PIPE, "stderr": subprocess.STDOUT}
+    child = subprocess.Popen(words, cwd=ROOT, text=True, errors="replace", **how)
+    for line in child.stdout:
+        lines.append(line.rstrip("\n"))
+        show(lines[-1])
+        hear(lines[-1])
+    _, status, usage = os.wait4(child.pid, 0)
+    child.returncode = -(status & 0x7F) or status >> 8
+    return Ran(child.returncode, lines, time.monotonic() - began, usage.ru_utime + usage.ru_stime)
+
+
+def counts(ran):
+    """Passed and failed by a command's last count; one failure if there is none, or if its status tells of one."""
+    found = COUNTS.findall("\n".join(ran.lines[-1:]))
+    passed, failed = map(int, found[0]) if found else (0, 1)
+    return passed, failed or int(ran.status != 0)
+
+
+class ProvedTree:
+    """A copy of the crates, with the libraries that `rt ci` has proved so far.
+
+    `rt ci` ends by putting back what stood in the crates' out/ before, and the sources may change meanwhile.
+    """
+
+    def __init__(self):
+        self.path = tempfile.mkdtemp(prefix="stlslice-gate-")
+        shutil.copytree(f"{ROOT}/crates", f"{self.path}/crates", ignore=shutil.ignore_patterns("out"))
+        os.mkdir(f"{self.path}/tools")
+        for name in ("crates.txt", "HANDLES", edits.OTHERWISE):
+            shutil.copyfile(f"{ROOT}/{name}", f"{self.path}/{name}")
+
+    def take(self, crate):
+        """Gives a library that was proved just now a second name here."""
+        made = f"crates/{crate}/out/rlib/{crate}.rlib"
+        if os.path.isdir(f"{ROOT}/{made}"):
+            shutil.copytree(f"{ROOT}/{made}", f"{self.path}/{made}", copy_function=link_or_copy)
+
+    def hand_over(self, rtlib):
+        """Puts each library into the repository, marked as built, if the repository has none of these sources."""
+        mine = {it.name: it for it in rtlib.crates_below(self.path)}
+        for crate in rtlib.crates_below(ROOT):
+            source = mine.get(crate.name)
+            if source and os.path.isdir(source.rlib) and not crate.is_built() and crate.stamp() == source.stamp():
+                shutil.rmtree(os.path.dirname(crate.rlib), ignore_errors=True)
+                shutil.copytree(source.rlib, crate.rlib, copy_function=link_or_copy)
+                with open(f"{os.path.dirname(crate.rlib)}/stamp", "w", encoding="utf-8") as file:
+                    file.write(crate.stamp())
+
+    def remove(self):
+        shutil.rmtree(self.path, ignore_errors=True)
+
+
+def link_or_copy(one, other):
+    try:
+        os.link(one, other)
+    except OSError:
+        shutil.copyfile(one, other)
+
+
+def tried(batch, root):
+    """What came of each edit of a batch: a line, and whether it passed. What the batch can't judge is tried alone, and what is
+    refused otherwise than the list says is told at the end. An edit that can't be read has failed. A tool that breaks off fails
+    the whole batch."""
+    found = []
+    try:
+        for edit, is_passed, text in edits.try_batch(batch, root)[0]:
+            if not is_passed and not text.lower().startswith(("refused", "bad edit")):
+                is_passed, text = edits.try_alone(edit, batch, root)
+            if not is_passed and text.startswith("REFUSED OTHERWISE"):
+                is_passed, text = True, text + UNLISTED
+            found.append((f"{edit.name}: {text}", is_passed))
+    except Exception as fault:  # noqa: BLE001
+        found += [(f"{edit.name}: NOT TRIED: {fault!r}", False) for edit in batch.edits[len(found) :]]
+    return found
+
+
+class Batches:
+    """Tries the batches of edits of each crate once it is proved, some at a time."""
+
+    def __init__(self, root, processors):
+        self.root, self.change = root, threading.Condition()
+        self.waiting, self.ready, self.running = collections.defaultdict(list), [], 0
+        # those in must-fail/ are tried once more, since `rt ci` takes any refusal and this a clause's alone
+        for batch in edits.batches_of(root, folders=("edits", "must-fail")):
+            self.waiting[batch.name].append(batch)
+        self.processors, self.most, self.is_last = processors, processors // 2 if processors >= 4 else 0, False
+        self.begun, self.passed, self.failed, self.faults, self.unlisted = set(), 0, 0, [], []
+        self.threads = [threading.Thread(target=self.work, daemon=True) for _ in range(processors)]
+        for it in self.threads:
+            it.start()
+
+    def proved(self, crate):
+        with self.change:
+            self.ready += self.waiting.pop(crate, [])
+            self.change.notify_all()
+
+    def next(self):
+        """The next batch, or None if there will be none."""
+        with self.change:
+            while True:
+                if not self.ready and self.is_last:
+                    return None
+                fits = [it for it in self.ready if not self.running or spent.available() > it.need + RESERVE]
+                if fits and self.running < self.most:
+                    # a crate's first check keeps what its others begin with
+                    batch = min(fits, key=lambda it: it.name in self.begun and not it.finds_work())
+                    self.running += 1
+                    self.begun.add(batch.name)
+                    self.ready.remove(batch)
+                    return batch
+                self.change.wait(5)
+
+    def work(self):
+        while True:
+            batch = self.next()
+            if batch is None:
+                return
+            told = tried(batch, self.root)
+            with self.change:
+                self.running -= 1
+                faults = [text for text, is_passed in told if not is_passed]
+                self.passed, self.failed = self.passed + len(told) - len(faults), self.failed + len(faults)
+                self.faults += faults
+                self.unlisted += [text for text, _ in told if text.endswith(UNLISTED)]
+                self.change.notify_all()
+            show("\n".join(text for text, _ in told))
+
+    def finish(self):
+        """Waits until all are tried; those of crates that were not proved are named."""
+        with self.change:
+            self.most, self.is_last = self.processors, True
+            self.change.notify_all()
+        for it in self.threads:
+            it.join()
+        if not self.passed + self.failed and not self.waiting:
+            self.faults, self.failed = ["edits: NOT TRIED, since none was found"], 1
+        for crate, left in self.waiting.items():
+            self.faults.append(f"edits of {crate}: NOT TRIED, since the crate is not proved")
+            self.failed += sum(len(it.edits) for it in left)
+
+
+def library():
+    """Builds the library, and the page that has it, from what was proved: only the crate of the C calls is proved again."""
+    return run(["make", "library", "web"])
+
+
+def failures(*parts):
+    return [line for ran in parts for line in ran.lines if FAULTS.match(line)]
+
+
+def skipped(tests):
+    """The tests that could not run here, each with what is missing."""
+    told = [re.match(r"skipped +(\S+) \([\d.]+ s\): (.*)", line) for line in tests.lines]
+    return [f"skipped: {it[1]}: {it[2]}" for it in told if it]
+
+
+def slowest(times, tests):
+    """Processor seconds of each check, and the seconds of each test in tests/."""
+    yield from ((seconds, f"{part}: {crate}") for (part, crate), seconds in times.by_check().items())
+    for line in tests.lines:
+        told = re.match(r"\w+ +(test_\S+) \(([\d.]+) s\)", line)
+        if told:
+            yield float(told[2]), f"tests/run: {told[1]}"
+
+
+def main():
+    program = os.path.abspath(sys.argv[1])
+    if os.path.exists(program):
+        os.remove(program)
+    began, times, tree = time.monotonic(), spent.Spent(), ProvedTree()
+    batches = Batches(tree.path, len(os.sched_getaffinity(0)))
+
+    def hear(line):
+        told = PROVED.match(line)
+        if told:
+            tree.take(told[1])
+            batches.proved(told[1])
+
+    proofs = run(["rt", "ci"], hear)
+    with batches.change:
+        batches.most = batches.processors
+        batches.change.notify_all()
+    passed, failed = counts(proofs)
+    built = tests = Ran(1, [], 0, 0)
+    if os.access(program, os.X_OK):
+        tree.hand_over(prove.toolchain())
+        built = library()
+        tests = run(["tests/run", program])
+        more = counts(tests)
+        passed, failed = passed + more[0], failed + more[1] + (built.status != 0)
+    else:
+        show("rt ci built no program, so nothing in tests/ was run")
+        failed = failed or 1
+    batches.finish()
+    tree.remove()
+    times.stop()
+    passed, failed = passed + batches.passed, failed + batches.failed
+    tell(times, began, built, tests)
+    for line in skipped(tests) + batches.unlisted + failures(proofs, tests) + batches.faults:
+        print(line)
+    print(f"{passed} passed, {failed} failed")
+    return 1 if failed else 0
+
+
+def tell(times, began, built, tests):
+    """Prints where the time went, and leaves it in build/gate.txt."""
+    checks = times.by_check()
+    parts = [spent.PROOFS, spent.TESTS, spent.MUST_FAIL, spent.BATCHES]
+    rows = [(it, times.clock(it), sum(s for (part, _), s in checks.items() if part == it)) for it in parts]
+    rows += [("the library", built.clock, built.processor), ("tests/run", tests.clock, tests.processor)]
+    whole = os.times()
+    rows.append(("the whole", time.monotonic() - began, whole.children_user + whole.children_system))
+    lines = list(spent.table(rows, slowest(times, tests)))
+    lines.append(f"most memory: {times.most_memory / 1e9:.1f} GB; processors: {len(os.sched_getaffinity(0))}")
+    os.makedirs(os.path.join(ROOT, "build"), exist_ok=True)
+    with open(os.path.join(ROOT, "build", "gate.txt"), "w", encoding="utf-8") as file:
+        print(*lines, sep="\n", file=file)
+    print(*lines, sep="\n")
+
+
+if __name__ == "__main__":
+    sys.exit(main())

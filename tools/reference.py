@@ -1,0 +1,366 @@
+#!/usr/bin/env python3
+"""Writes the reference of the crates: what they promise, as HTML that needs no network.
+
+    reference.py FOLDER
+
+FOLDER gets a page for each crate, with its front page and its public items, their comments and contracts; a page with the
+crate's definitions; and two pages with all that somebody has to believe who believes a promise: of `run`, and of
+`stlslice_mask`. Each name in a contract leads to its definition. All of it comes from the sources, so it is never older.
+"""
+
+import html
+import json
+import os
+import re
+import shutil
+import sys
+
+sys.dont_write_bytecode = True
+
+import sources  # noqa: E402
+
+HERE = os.path.dirname(os.path.abspath(__file__))
+ROOT = os.path.dirname(HERE)
+WORD = re.compile(r"[^\s(){}\[\],;·&<>|]+")
+RUST_WORD = re.compile(r"[A-Za-z_]\w*")
+NEW_LINE = re.compile(r"^\s*(pub |fn |///|#\[|where$|\}|\)|$)")
+
+# The promises whose definitions are listed: the page, its crate, the call and what the page says of it.
+BELIEVED = [
+    ("believe-run", "stlslice", "run", "A run of the program: any task, any source of bytes and any sink."),
+    ("believe-mask", "stlslice_c", "stlslice_mask", "The image of one layer, as a caller in C gets it."),
+]
+
+
+class Names:
+    """Where the names of the sources lead to."""
+
+    def __init__(self, crates):
+        self.crates = crates
+
+    def place(self, entry):
+        """The page and the mark of an entry."""
+        if entry.path.endswith(".antt"):
+            return f"{entry.crate}.specs.html#{self.module(entry)}.{entry.name}"
+        return f"{entry.crate}.html#{entry.owner + '.' if entry.owner else ''}{entry.name}"
+
+    def module(self, entry):
+        return entry.path.split("/specs/")[1][:-len(".antt")].replace("/", ".")
+
+    def imported(self, scope, word, rest=""):
+        """What a `use` line gives a name to: an entry, or None for what is not of these crates. `rest` is what stands behind
+        the point after the name of a whole module."""
+        path, there = scope[word]
+        parts = path.split(".")
+        crate = self.crates.get(parts[1]) if parts[0] == "Rattle" and len(parts) > 2 else None
+        if not crate or parts[2] != "specs":
+            return None
+        if parts[3:4] == ["declared"]:
+            name = parts[-2] if parts[-1] == "TheVariants" else there or parts[-1]
+            return crate.items.get(name)
+        module = crate.definitions.get(".".join(parts[3:]), {})
+        there = there or rest
+        return module.get(there) or next((it for it in module.values() if there in sources.constructors(it)), None)
+
+    def in_contract(self, entry, word):
+        """What a word of a contract or of a definition means: an entry, or None."""
+        head, _, rest = word.partition(".")
+        if head in entry.scope:
+            # a parameter may have the name of a module whose cases are imported, and these begin with a capital
+            is_enum = entry.scope[head][0].endswith(".TheVariants") and not entry.scope[head][1]
+            return None if is_enum and not rest[:1].isupper() else self.imported(entry.scope, head, rest)
+        if entry.path.endswith(".antt"):
+            return self.crates[entry.crate].definitions[self.module(entry)].get(head)
+        bounds = re.findall(rf"\b{re.escape(head)}: ([\w+ ]+)", entry.text) if len(head) == 1 else []
+        for bound in re.findall(r"\w+", " ".join(bounds)):
+            if self.in_code(entry, bound):
+                return self.in_code(entry, bound)
+        return None
+
+    def in_code(self, entry, word):
+        """What a word of a signature or of a type means: an item, or None."""
+        for name in [entry.crate, *self.crates[entry.crate].below]:
+            crate = self.crates.get(name)
+            found = crate.items.get(word) if crate else None
+            if found and found.path and found.kind != "fn" and (name == entry.crate or found.is_public):
+                return found
+        return None
+
+    def origin(self, crate, name):
+        """The item that a crate makes public by a name, in that crate or in the one below that it comes from."""
+        for place, public in crate.public:
+            if public == name:
+                below = self.crates.get(place)
+                return self.origin(below, name) if below and below is not crate else crate.items.get(name)
+        return None
+
+    def in_comment(self, crate, name):
+        """What a comment of a crate means by a name: an item of its own, or a public one of a crate below."""
+        below = [self.origin(self.crates[it], name) for it in crate.below if it in self.crates]
+        return next((it for it in [crate.items.get(name), *below] if it and it.path), None)
+
+    def is_from_outside(self, entry, word):
+        head = word.split(".")[0]
+        return head in entry.scope and bool(entry.scope[head][1]) and not self.imported(entry.scope, head)
+
+
+def parts_of(entry):
+    """The lines of an entry's text, each with what it is: code, contract or comment."""
+    is_contract = entry.path.endswith(".antt")
+    for line in entry.text.splitlines():
+        if not entry.path.endswith(".antt"):
+            if sources.CLAUSE.match(line):
+                is_contract = True
+            elif NEW_LINE.match(line):
+                is_contract = False
+        is_comment = line.strip().startswith(("--", "//"))
+        yield "comment" if is_comment else "contract" if is_contract else "code", line
+
+
+def words_of(names, entry, kind, line):
+    """The words of a line, each with its place and the entry that it means, or None."""
+    if kind == "comment":
+        return
+    # the first word of a line of an enum is the name of a variant
+    start = re.match(r"\s*\w*", line).end() if entry.kind == "enum" and not line.startswith("pub") else 0
+    pattern, meaning = (WORD, names.in_contract) if kind == "contract" else (RUST_WORD, names.in_code)
+    for found in pattern.finditer(line, start):
+        yield found.start(), found[0], meaning(entry, found[0])
+
+
+def marked(names, entry, kind, line):
+    """A line as HTML, with a link at each name that leads somewhere."""
+    if kind == "comment":
+        return f'<span class="comment">{html.escape(line)}</span>'
+    out, at = [], 0
+    for start, word, target in words_of(names, entry, kind, line):
+        if target and target is not entry and target.path:
+            said = html.escape((target.comment.splitlines() or [target.kind])[0], quote=True)
+            head = word.split(".")[0]
+            out += [html.escape(line[at:start]), f'<a href="{names.place(target)}" title="{said}">{html.escape(head)}</a>']
+            at = start + len(head)
+    return "".join(out) + html.escape(line[at:])
+
+
+def code(names, entry):
+    return "<pre>" + "\n".join(marked(names, entry, kind, line) for kind, line in parts_of(entry)) + "</pre>"
+
+
+def model(names, entry):
+    """What contracts see of a value of a type."""
+    if not entry.model:
+        return ""
+    seen = sources.Entry(entry.crate, "model", entry.name, entry.path, 0, "", entry.model, entry.scope)
+    return '<p class="soft">What contracts see of a value:</p>' + code(names, seen)
+
+
+def prose(names, crate, text):
+    """The HTML of a comment: paragraphs, lists, code and links to items."""
+    def inline(words):
+        words = html.escape(words, quote=False)
+        words = re.sub(r"\[`([\w:]+)(?:\(\))?`\](?:\(([\w:]+)\))?", lambda it: linked(it[1], it[2] or it[1]), words)
+        return re.sub(r"`([^`]+)`", r"<code>\1</code>", words)
+
+    def linked(shown, meant):
+        entry = names.in_comment(crate, meant.removeprefix("crate::"))
+        is_there = entry and (entry.is_public or entry.kind != "fn")
+        return f'<a href="{names.place(entry)}"><code>{shown}</code></a>' if is_there else f"<code>{shown}</code>"
+
+    out = []
+    for n, piece in enumerate(re.split(r"(?ms)^```\w*\n(.*?)^```$", text)):
+        if n % 2:
+            out.append(f"<pre>{html.escape(piece.rstrip())}</pre>")
+            continue
+        for paragraph in re.split(r"\n\s*\n", piece.strip()):
+            points = re.split(r"(?m)^- ", paragraph)
+            lead = points[0].strip()
+            if lead.startswith("# "):
+                head, _, lead = lead[2:].partition("\n")
+                out.append(f"<p><b>{inline(head)}</b></p>")
+            out += [f"<p>{inline(' '.join(lead.split()))}</p>"] if lead else []
+            listed = "".join(f"<li>{inline(' '.join(it.split()))}</li>" for it in points[1:])
+            out += [f"<ul>{listed}</ul>"] if listed else []
+    return "".join(out)
+
+
+def page(title, body):
+    return f"""<!DOCTYPE html>
+<html lang="en">
+<head>
+<meta charset="utf-8">
+<meta name="viewport" content="width=device-width">
+<title>{html.escape(title)}</title>
+<link rel="stylesheet" href="reference.css">
+</head>
+<body>
+<header><a href="index.html">stlslice, the reference</a>
+<div><input type="search" placeholder="Find a call or a definition" aria-label="Find"><ul id="found"></ul></div></header>
+{body}
+<script src="entries.js"></script>
+<script src="reference.js"></script>
+</body>
+</html>
+"""
+
+
+def section(names, entry, crate):
+    """An item or a definition with its comment and its text."""
+    mark = names.place(entry).split("#")[1]
+    name = mark if entry.path.endswith(".antt") else mark.replace(".", "::")
+    return (f'<h3 id="{mark}">{html.escape(name)} <span class="kind">{entry.kind}, {entry.path}:{entry.line}</span></h3>'
+            + prose(names, crate, entry.comment) + code(names, entry) + model(names, entry))
+
+
+def public_entries(names, crate):
+    """The public items of a crate in the order of its files, each type followed by its methods."""
+    own = {name for place, name in crate.public if place not in names.crates or place == crate.name}
+    for key, entry in crate.items.items():
+        if entry.path and (entry.owner or key) in own:
+            yield entry
+
+
+def crate_page(names, crate):
+    """The front page, the public items, and what else contracts cite of the sources."""
+    public = list(public_entries(names, crate))
+    others = [it for it in crate.items.values() if it.path and it not in public and not it.owner and it.kind != "fn"]
+    body = [f"<h1>{crate.name}</h1>", prose(names, crate, crate.front)]
+    if crate.definitions:
+        body.append(f'<p><a href="{crate.name}.specs.html">Definitions of {crate.name}</a></p>')
+    handed = [names.origin(crate, name) for place, name in crate.public if place in names.crates and place != crate.name]
+    if handed:
+        links = ", ".join(f'<a href="{names.place(it)}"><code>{it.name}</code></a>' for it in handed)
+        body.append(f"<p>From crates below: {links}.</p>")
+    body += ["<h2>Public items</h2>"] + [section(names, it, crate) for it in public] if public else []
+    body += ["<h2>Types and constants inside</h2>"] + [section(names, it, crate) for it in others] if others else []
+    return page(crate.name, "\n".join(body))
+
+
+def specs_page(names, crate):
+    body = [f"<h1>Definitions of {crate.name}</h1>", f'<p><a href="{crate.name}.html">{crate.name}</a></p>']
+    for module, entries in crate.definitions.items():
+        if entries:
+            head = crate.heads[module]
+            body += [f'<h2 id="{module}">{module}</h2>'] + [f"<pre>{html.escape(head)}</pre>"] * bool(head)
+            body += [section(names, it, crate) for it in entries.values()]
+    return page(f"Definitions of {crate.name}", "\n".join(body))
+
+
+def cited(names, entry):
+    """The entries that an entry's text cites, in the order of the text, and its names from outside these crates. Of a type
+    whose value contracts see as something else, only that counts."""
+    if entry.model:
+        entry = sources.Entry(entry.crate, "model", entry.name, entry.path, 0, "",
+                              "\n".join(it for it in entry.model.splitlines() if it.startswith("ghost Value")), entry.scope)
+    found, outside = [], []
+    for kind, line in parts_of(entry):
+        for _, word, target in words_of(names, entry, kind, line):
+            if target and target.path:
+                found.append(target)
+            elif kind == "contract" and names.is_from_outside(entry, word):
+                outside.append((entry.scope[word.split(".")[0]][0], word.split(".")[0]))
+    return found, outside
+
+
+def believed(names, root):
+    """All that a promise rests on, each where it is first needed, and the names from outside."""
+    order, outside, waiting = [], {}, [root]
+    while waiting:
+        entry = waiting.pop()
+        if entry in order:
+            continue
+        order.append(entry)
+        found, beyond = cited(names, entry)
+        waiting += [it for it in reversed(found) if it not in order]
+        for path, name in beyond:
+            outside.setdefault(path, set()).add(name)
+    return order, outside
+
+
+def believe_page(names, title, crate, name, said):
+    root = names.crates[crate].items[name]
+    order, outside = believed(names, root)
+    count = sum(entry.lines() for entry in order)
+    body = [f"<h1>What you have to believe: <code>{name}</code></h1>",
+            f"<p>{said} The promise comes first, then each definition where it is first needed. There are {len(order)} entries "
+            f"with {count} lines, comments aside.</p>",
+            "<p>That the promise holds is proved. Whether it says what you want, only reading tells.</p>",
+            f'<p class="soft">From outside the repository: {external(outside)}.</p>']
+    body += [section(names, it, names.crates[it.crate]).replace('<h3 id="', f'<h3 id="{it.crate}.', 1) for it in order]
+    return page(f"What you have to believe: {name}", within("\n".join(body))), len(order), count
+
+
+def within(text):
+    """A page whose links lead to the page itself where it has what they lead to."""
+    marks = set(re.findall(r'<h3 id="([^"]*)"', text))
+
+    def kept(link):
+        mark = f"{link[1]}.{link[2]}"
+        return f'href="#{mark}"' if mark in marks else link[0]
+
+    return re.sub(r'href="(\w+)(?:\.specs)?\.html#([^"]+)"', kept, text)
+
+
+def external(outside):
+    return "; ".join(f"<code>{path}</code> ({html.escape(', '.join(sorted(found)))})" for path, found in sorted(outside.items()))
+
+
+def index_page(names, rows):
+    """The first page: what to believe, then the crates from the lowest up."""
+    body = ["<h1>The reference of stlslice</h1>",
+            "<p>What each crate promises, from its sources. Each name in a contract leads to its definition. "
+            "<code>docs/PROVED.md</code> has the promises in short.</p>", "<h2>What you have to believe</h2>", "<ul>"]
+    body += [f'<li><a href="{title}.html"><code>{name}</code></a>: {said} {entries} entries, {count} lines.</li>'
+             for title, name, said, entries, count in rows] + ["</ul>", "<h2>Crates, from the lowest up</h2>", "<table>"]
+    for crate in names.crates.values():
+        if crate.public or crate.definitions:
+            first = prose(names, crate, crate.front.split("\n\n")[0])
+            body.append(f'<tr><td><a href="{crate.name}.html">{crate.name}</a></td><td>{first}</td></tr>')
+    return page("The reference of stlslice", "\n".join(body + ["</table>"]))
+
+
+def search_entries(names):
+    """What the search box finds: public items, and definitions."""
+    found = []
+    for crate in names.crates.values():
+        found += [(f"{it.owner}::{it.name}" if it.owner else it.name, f"{it.kind} of {crate.name}", names.place(it))
+                  for it in public_entries(names, crate)]
+        found += [(it.name, f"{it.kind} of {crate.name}, {module}", names.place(it))
+                  for module, entries in crate.definitions.items() for it in entries.values()]
+    return "const ENTRIES = " + json.dumps(found, ensure_ascii=False) + ";\n"
+
+
+def pages(names):
+    """Each file of the reference with its text."""
+    rows = []
+    for title, crate, name, said in BELIEVED:
+        text, entries, count = believe_page(names, title, crate, name, said)
+        rows.append((title, name, said, entries, count))
+        yield f"{title}.html", text
+    for crate in names.crates.values():
+        if crate.public or crate.definitions:
+            yield f"{crate.name}.html", crate_page(names, crate)
+        if crate.definitions:
+            yield f"{crate.name}.specs.html", specs_page(names, crate)
+    yield "index.html", index_page(names, rows)
+    yield "entries.js", search_entries(names)
+
+
+def main():
+    if len(sys.argv) != 2:
+        sys.exit("use: reference.py FOLDER")
+    folder = sys.argv[1]
+    shutil.rmtree(folder, ignore_errors=True)
+    os.makedirs(folder)
+    names = Names(sources.crates_of(ROOT))
+    count = 0
+    for name, text in pages(names):
+        count += 1
+        with open(os.path.join(folder, name), "w", encoding="utf-8") as file:
+            file.write(text)
+    for name in ("reference.css", "reference.js"):
+        shutil.copy(os.path.join(HERE, name), folder)
+    print(f"{count} pages in {folder}: open {os.path.join(folder, 'index.html')}")
+
+
+if __name__ == "__main__":
+    main()
