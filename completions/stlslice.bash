@@ -13,6 +13,7 @@ _stlslice() {
     case $before in
         --rule) mapfile -t COMPREPLY < <(compgen -W 'evenodd nonzero positive' -- "$word") ;;
         --unit) mapfile -t COMPREPLY < <(compgen -W 'mm inch' -- "$word") ;;
+        --depth) mapfile -t COMPREPLY < <(compgen -W '8 1' -- "$word") ;;
         --workers) mapfile -t COMPREPLY < <(compgen -W '1 2 4 8 16 32 64' -- "$word") ;;
         --pitch | --layer | --grid | --probe) ;;
         *'<'* | *'>'*) compopt -o default ;;
@@ -24,6 +25,10 @@ _stlslice() {
                 --unit
                 --grid
                 --workers
+                --png
+                --depth
+                --mirror-x
+                --mirror-y
                 --report
                 --box
                 --probe

@@ -6,7 +6,7 @@
 # One task of a Slurm array: slices one slab of a part and leaves its images in a folder.
 #
 #   mkdir slabs
-#   examples/slabs.sh -p 50 -l 50 -n 64 --words part.stl > slabs/words
+#   stlslice-slabs -p 50 -l 50 -n 64 --words part.stl > slabs/words
 #   sbatch --array=0-$(($(wc -l < slabs/words) - 1)) examples/slabs.sbatch part.stl slabs
 #   cat slabs/*.pbm > layers.pbm                 # when all tasks are done
 #

@@ -2,15 +2,19 @@
 
     import stlslice
 
-    with stlslice.open("part.stl", pitch=50, layer=50) as mesh:
+    with stlslice.open_mesh(points, triangles, pitch=50, layer=50) as mesh:
         print(mesh.shape)               # layers, rows, columns
         mask = mesh[120]                # layer 120: a numpy array of bool, rows by columns
         some = mesh[100:140:2]          # layers as one array of three dimensions
         for mask in mesh:               # all of them, eight at a time behind the scenes
             ...
+        mesh.png(120)                   # the layer as PNG: bytes
         mesh.area(120)                  # how many pixels of the layer are filled
         mesh.loops(120)                 # its closed polygons: arrays of points, in half-micrometres
         mesh.probe(10, 20, 120)         # signed crossings of the rays along x and y from a voxel's centre
+
+The points of `open_mesh` are whole micrometres: `micrometres` makes them of millimetres, and `read_binary` reads them from a
+binary STL. `open` takes an ASCII STL text, as the program does.
 
 A mask is laid out as the program's image: its first row is that of the greatest y, so the pixel of column i and row j
 (from the least y up, as `probe` counts) is `mask[rows - 1 - j, i]`, or `mask[::-1][j, i]`. Lengths are whole micrometres.
@@ -19,31 +23,39 @@ What the program refuses raises a `Fault` with the program's status and line. A 
 calls wait for each other. Different meshes run at the same time, since a call holds no lock of the interpreter.
 
 The work is done by libstlslice, by ctypes: by the one that the variable STLSLICE_LIBRARY names, else the one beside this
-module, else the one that the system finds. numpy is needed for arrays and loops alone.
+module, else the one that the system finds. numpy is needed for masks and loops alone; it makes arrays faster to take.
 """
 
 from __future__ import annotations
 
+import array
 import builtins
 import ctypes
+import math
 import operator
 import os
+import struct
 import threading
-from typing import TYPE_CHECKING, Any, BinaryIO, Iterator, List, NamedTuple, Optional, Sequence, Tuple, Union, overload
+from fractions import Fraction
+from typing import TYPE_CHECKING, Any, BinaryIO, Callable, Iterator, List, NamedTuple, Optional, Sequence, Tuple, Union, overload
 
 if TYPE_CHECKING:
     import numpy
 
-__all__ = ["Box", "ClosedFault", "Fault", "MemoryFault", "Mesh", "RangeFault", "box", "open", "version"]
+__all__ = ["Box", "ClosedFault", "Fault", "MemoryFault", "Mesh", "RangeFault", "box", "micrometres", "open", "open_mesh",
+           "read_binary", "version"]
 
 Source = Union[str, "os.PathLike[str]", bytes, bytearray, memoryview, BinaryIO]
 Triple = Tuple[int, int, int]
+Triples = Union["numpy.ndarray", "array.array[int]", memoryview, Sequence[Sequence[int]]]
 
 RULES = {"evenodd": 0, "nonzero": 1, "positive": 2}
 UNITS = {"mm": 0, "inch": 1}
 LINE = 256
 STRIPE = 8
 WORD = range(2**32)
+MOST_COORDINATE = 2**31 - 1     # more than any that a mesh may have, and as far as the library's type goes
+HEADER, FACET = 84, 50          # bytes of a binary STL
 OUT_OF_RANGE, MEMORY, NO_ROOM, NOT_OPEN = 1, 6, 7, 8
 
 
@@ -115,8 +127,10 @@ def _library() -> ctypes.CDLL:
         "version": [],
         "box": [text, size, word, ctypes.POINTER(_Corners), at, size],
         "open": [text, size, ctypes.POINTER(_Options), handle, ctypes.POINTER(_Shape), at, size],
+        "open_mesh": [at, size, at, size, ctypes.POINTER(_Options), handle, ctypes.POINTER(_Shape), at, size],
         "mask": [handle, word, at, size, sized],
         "stripe": [handle, ctypes.c_uint64, at, size, sized],
+        "png": [handle, word, word, word, at, size, sized],
         "area": [handle, word, ctypes.POINTER(ctypes.c_uint64)],
         "probe": [handle, word, word, word, ctypes.POINTER(_Rays)],
         "loops": [handle, word, at, size, sized, at, size, sized],
@@ -155,9 +169,16 @@ def _text(source: Source) -> bytes:
         return file.read()
 
 
+def _whole(name: str, value: Any) -> int:
+    try:
+        return operator.index(value)
+    except TypeError:
+        raise TypeError(f"{name} takes whole numbers, and {value!r} is none") from None
+
+
 def _word(name: str, value: Any) -> int:
     """A whole number that a C call can take; whether it is in its own range is the library's to say."""
-    number = operator.index(value)
+    number = _whole(name, value)
     if number not in WORD:
         raise RangeFault(OUT_OF_RANGE, f"{name} is out of its range")
     return number
@@ -167,6 +188,148 @@ def _choice(name: str, value: str, choices: dict[str, int]) -> int:
     if value not in choices:
         raise RangeFault(OUT_OF_RANGE, f"{name} takes {', '.join(choices)}")
     return choices[value]
+
+
+def _numpy() -> Any:
+    """numpy, or None where it is missing."""
+    try:
+        import numpy
+    except ImportError:
+        return None
+    return numpy
+
+
+def _rows(name: str, values: Any, of_numbers: str) -> Any:
+    """Rows of three numbers, as an array of numpy; as a list of all numbers where numpy is missing, or has no type for them."""
+    numpy = _numpy()
+    try:
+        found = None if numpy is None else numpy.asarray(values)
+    except ValueError:
+        found = None            # rows of different lengths
+    if found is None or found.dtype.kind == "O":
+        rows = values.tolist() if hasattr(values, "tolist") else list(values)
+        numbers = [number for row in rows for number in (row if hasattr(row, "__len__") else (row,))]
+        if len(numbers) % 3 or any(hasattr(row, "__len__") and len(row) != 3 for row in rows):
+            raise RangeFault(OUT_OF_RANGE, f"{name} takes three numbers a row")
+        return numbers
+    if found.size == 0:
+        return numpy.empty((0, 3), numpy.int32)
+    if found.dtype.kind not in of_numbers:
+        hint = "; stlslice.micrometres makes them of millimetres" if name == "points" else ""
+        raise TypeError(f"{name} takes {'numbers' if 'f' in of_numbers else 'whole numbers'}, and has {found.dtype}{hint}")
+    if found.size % 3 or (found.ndim > 1 and found.shape[1:] != (3,)):
+        raise RangeFault(OUT_OF_RANGE, f"{name} takes three numbers a row")
+    return found.reshape(-1, 3)
+
+
+def _points(values: Triples) -> Tuple[Any, Any, int]:
+    """A copy of the coordinates as C has them, its address and the number of points. What no coordinate can be stays so."""
+    rows = _rows("points", values, "iu")
+    if isinstance(rows, list):
+        kept = array.array("i", [max(-MOST_COORDINATE, min(_whole("points", it), MOST_COORDINATE)) for it in rows])
+        return kept, kept.buffer_info()[0], len(rows) // 3
+    numpy = _numpy()
+    if rows.dtype.itemsize > 4 or rows.dtype.kind == "u":
+        least = 0 if rows.dtype.kind == "u" else -MOST_COORDINATE
+        rows = numpy.clip(rows, least, min(MOST_COORDINATE, numpy.iinfo(rows.dtype).max))
+    kept = numpy.array(rows, numpy.int32, order="C")
+    return kept, kept.ctypes.data, len(kept)
+
+
+def _triangles(values: Triples) -> Tuple[Any, Any, int]:
+    """A copy of the indices as C has them, its address and the number of triangles."""
+    rows = _rows("triangles", values, "iu")
+    if isinstance(rows, list):
+        numbers = [_whole("triangles", it) for it in rows]
+        wrong = next((at for at, number in enumerate(numbers) if number not in WORD), None)
+        if wrong is not None:
+            raise RangeFault(OUT_OF_RANGE, f"point {numbers[wrong]} of triangle {wrong // 3} is missing")
+        kept = array.array("I", numbers)
+        return kept, kept.buffer_info()[0], len(numbers) // 3
+    numpy = _numpy()
+    if rows.size and (rows.min() < 0 or rows.max() > WORD[-1]):
+        wrong = int(numpy.flatnonzero((rows < 0) | (rows > WORD[-1]))[0])
+        raise RangeFault(OUT_OF_RANGE, f"point {rows.flat[wrong]} of triangle {wrong // 3} is missing")
+    kept = numpy.array(rows, numpy.uint32, order="C")
+    return kept, kept.ctypes.data, len(kept)
+
+
+def _single(value: float) -> Fraction:
+    """The shortest decimal that reads back as a number of single precision; of several the nearest, of two the even one."""
+    size = Fraction(abs(value))
+    bits, = struct.unpack("<I", struct.pack("<f", abs(value)))
+    if bits == 0:
+        return size
+    below, above = (Fraction(struct.unpack("<f", struct.pack("<I", bits + step))[0]) for step in (-1, 1))
+    low, high = (below + size) / 2, (size + above) / 2
+    power = int(f"{value:e}".split("e")[1])
+    for digits in range(1, 10):
+        unit = Fraction(10) ** (power - digits + 1)
+        for number in sorted((size // unit, size // unit + 1), key=lambda it: (abs(it * unit - size), it % 2)):
+            it = number * unit
+            if low < it < high or (bits % 2 == 0 and it in (low, high)):
+                return it if value > 0 else -it
+    return Fraction(value)
+
+
+def _rounded(value: float, is_single: bool) -> int:
+    """A number of millimetres in micrometres, by its shortest decimal: the nearest, halves away from zero."""
+    decimal = _single(value) if is_single else Fraction(repr(value))
+    size = math.floor(abs(decimal) * 1000 + Fraction(1, 2))
+    return size if decimal >= 0 else -size
+
+
+def micrometres(millimetres: Any) -> Any:
+    """Points in whole micrometres, as `open_mesh` takes them, of points in millimetres: rows of three numbers.
+
+    A number becomes what the program reads where a text has the shortest decimal that reads back as this number: the nearest
+    micrometre, halves away from zero. Raises `RangeFault` where a number is not finite, or 2147483.648 mm or more from 0. The
+    result is an array of numpy, or where that is missing a list of triples.
+    """
+    rows = _rows("millimetres", millimetres, "iuf")
+    if isinstance(rows, list):
+        return _listed([float(it) if isinstance(it, float) else _whole("millimetres", it) for it in rows], False)
+    numpy = _numpy()
+    is_single = rows.dtype.kind == "f" and rows.dtype.itemsize == 4
+    exact = numpy.abs(rows.astype(numpy.float64)) * 1000
+    _all_fit(numpy.flatnonzero(~(exact < MOST_COORDINATE)))
+    whole = numpy.floor(exact + 0.5)
+    # a number so near to a half that the decimal decides
+    near = numpy.flatnonzero(numpy.abs(exact - numpy.floor(exact) - 0.5) <= exact * (2.0**-22 if is_single else 2.0**-50))
+    found = numpy.copysign(whole, rows.astype(numpy.float64)).astype(numpy.int32)
+    for at in near:
+        found.flat[at] = _rounded(float(rows.flat[at]), is_single)
+    return found
+
+
+def _listed(numbers: Sequence[float], is_single: bool) -> List[Triple]:
+    """The same of a list of all numbers, without numpy."""
+    _all_fit([at for at, it in enumerate(numbers) if not abs(it) * 1000 < MOST_COORDINATE])
+    found = [it * 1000 if isinstance(it, int) else _rounded(it, is_single) for it in numbers]
+    return list(zip(found[::3], found[1::3], found[2::3]))
+
+
+def _all_fit(wrong: Sequence[int]) -> None:
+    if len(wrong):
+        raise RangeFault(OUT_OF_RANGE, f"point {wrong[0] // 3} is out of range")
+
+
+def read_binary(path: Union[str, "os.PathLike[str]"]) -> Tuple[Any, Any]:
+    """The points and triangles of a binary STL in millimetres, as `open_mesh` takes them: three points for each facet, in
+    micrometres (see `micrometres`). Raises `ValueError` where the file is no binary STL: it has 84 bytes, and 50 for each facet
+    that it tells.
+    """
+    with builtins.open(os.fspath(path), "rb") as file:
+        data = file.read()
+    count = struct.unpack_from("<I", data, 80)[0] if len(data) >= HEADER else 0
+    if len(data) < HEADER or len(data) != HEADER + FACET * count:
+        raise ValueError(f"{os.fspath(path)} is no binary STL")
+    numpy = _numpy()
+    if numpy is None:
+        numbers = [it for at in range(HEADER, len(data), FACET) for it in struct.unpack_from("<9f", data, at + 12)]
+        return _listed(numbers, True), [(at, at + 1, at + 2) for at in range(0, 3 * count, 3)]
+    facets = numpy.frombuffer(data, numpy.dtype([("normal", "<f4", 3), ("corners", "<f4", (3, 3)), ("more", "<u2")]), count, HEADER)
+    return micrometres(facets["corners"].reshape(-1, 3)), numpy.arange(3 * count, dtype=numpy.uint32).reshape(-1, 3)
 
 
 def version() -> str:
@@ -192,17 +355,37 @@ def open(source: Source, pitch: int = 50, layer: int = 50, rule: str = "evenodd"
     of the program's option: columns, rows and layers, then the corner of least x, y and z in micrometres. Raises a
     `Fault` where the program would refuse the text, and `OSError` where the file cannot be read.
     """
-    return Mesh(_text(source), pitch, layer, rule, grid, unit)
+    text = _text(source)
+    return Mesh(lambda *places: _lib.stlslice_open(text, len(text), *places), pitch, layer, rule, grid, unit)
+
+
+def open_mesh(points: Triples, triangles: Triples, pitch: int = 50, layer: int = 50, rule: str = "evenodd",
+              grid: Optional[Sequence[int]] = None) -> Mesh:
+    """Opens a mesh from arrays.
+
+    `points` are rows of three coordinates in whole micrometres, and `triangles` rows of the indices of three points, from 0,
+    counterclockwise as seen from outside: arrays of numpy, other buffers of whole numbers, or sequences of rows. They are
+    copied. For a mesh in millimetres that has `vertices` and `faces`:
+
+        stlslice.open_mesh(stlslice.micrometres(part.vertices), part.faces, pitch=50, layer=50)
+
+    The other arguments are those of `open`. Raises a `RangeFault` that names the first triangle, from 0, with a point that is
+    missing or out of range, and the faults of `open` for a mesh and a grid.
+    """
+    corners, indices = _points(points), _triangles(triangles)
+    return Mesh(lambda *places: _lib.stlslice_open_mesh(corners[1], corners[2], indices[1], indices[2], *places),
+                pitch, layer, rule, grid, "mm")
 
 
 class Mesh:
-    """A closed mesh in its grid, with a rule: a sequence of its layers. `open` makes it.
+    """A closed mesh in its grid, with a rule: a sequence of its layers. `open` and `open_mesh` make it.
 
     `shape` has the counts of layers, rows and columns, `origin` the grid's corner of least x, y and z, and `box` the
     number and the box of all facets that were read.
     """
 
-    def __init__(self, text: bytes, pitch: int, layer: int, rule: str, grid: Optional[Sequence[int]], unit: str) -> None:
+    def __init__(self, opens: Callable[..., int], pitch: int, layer: int, rule: str, grid: Optional[Sequence[int]],
+                 unit: str) -> None:
         self._lock = threading.Lock()
         self._handle = _Handle()
         options = _Options(pitch=_word("pitch", pitch), layer=_word("layer", layer), rule=_choice("rule", rule, RULES),
@@ -211,12 +394,12 @@ class Mesh:
             if isinstance(grid, str) or len(grid) != 6:
                 raise RangeFault(OUT_OF_RANGE, "grid takes six numbers: columns, rows, layers, x, y, z")
             columns, rows, layers, x, y, z = grid
-            if any(abs(operator.index(at)) >= 2**31 for at in (x, y, z)):
+            if any(abs(_whole("grid", at)) >= 2**31 for at in (x, y, z)):
                 raise RangeFault(OUT_OF_RANGE, "grid is out of its range")
             options.placing, options.origin = 1, (x, y, z)
             options.columns, options.rows, options.layers = (_word("grid", it) for it in (columns, rows, layers))
         shape, line = _Shape(), ctypes.create_string_buffer(LINE)
-        status = _lib.stlslice_open(text, len(text), options, self._handle, shape, line, LINE)
+        status = opens(options, self._handle, shape, line, LINE)
         if status:
             _raise(status, line)
         corners = shape.corners
@@ -238,7 +421,7 @@ class Mesh:
             _lib.stlslice_close(self._handle)
 
     def __reduce__(self) -> Any:
-        raise TypeError("a mesh cannot be copied or pickled: open its text again")
+        raise TypeError("a mesh cannot be copied or pickled: open it again")
 
     def __repr__(self) -> str:
         layers, rows, columns = self.shape
@@ -273,6 +456,22 @@ class Mesh:
     def image(self, k: int) -> bytes:
         """Layer k as the program writes it, in raw PBM."""
         return bytes(self._call("mask", self._layer(k), 1))
+
+    def png(self, k: int, depth: int = 8, mirror_x: bool = False, mirror_y: bool = False) -> bytes:
+        """Layer k as a PNG in greyscale, of 8 bits a pixel or 1: white where it is filled, and else black. Without mirrors
+        it is laid out as a mask; `mirror_x` exchanges left and right, and `mirror_y` top and bottom. Raises `RangeFault` for
+        another depth."""
+        number, bits, mirrors = self._layer(k), _word("depth", depth), (1 if mirror_x else 0) + (2 if mirror_y else 0)
+        room = self._size + 100     # mostly enough; asking for the size alone takes as long as the PNG
+        while True:
+            png, wanted = (ctypes.c_char * room)(), ctypes.c_size_t()
+            status = self._status("png", number, bits, mirrors, png, room, wanted)
+            if status != NO_ROOM:
+                break
+            room = wanted.value
+        if status:
+            _raise(status)
+        return png[:wanted.value]
 
     def area(self, k: int) -> int:
         """The number of the filled pixels of layer k."""

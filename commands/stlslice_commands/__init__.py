@@ -1,0 +1,6 @@
+"""What the commands `stlslice-sl1`, `stlslice-pngs` and `stlslice-page` are made of. It needs Python's standard library (3.8 or
+later) and the program `stlslice`.
+
+`words` reads the options, with the table of `printers`; `parts` opens the part, `stl` and `shells` rewrite it; `slicing` puts
+it on the screen; `program` runs the program; `images` joins PNGs; `sl1` and `pngs` write what was asked for.
+"""

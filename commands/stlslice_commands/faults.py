@@ -1,0 +1,77 @@
+"""How the commands end, and what they say on standard error."""
+
+import os
+import signal
+import sys
+import time
+
+
+class Refused(Exception):
+    """What ends a command: its line on standard error, if the program's own isn't there already, and its status."""
+
+    def __init__(self, line, status=1):
+        super().__init__(line)
+        self.line = line
+        self.status = status
+
+
+def say(line):
+    """Writes a line on standard error, behind the command's name."""
+    Progress.clear()
+    print(f"{os.path.basename(sys.argv[0])}: {line}", file=sys.stderr, flush=True)
+
+
+def aside(output):
+    """The name that an output has until it is whole."""
+    return f"{output}.{os.getpid()}.part"
+
+
+class Progress:
+    """One line on standard error that is drawn anew, ten times a second at most. It is shown on a terminal alone."""
+
+    drawn = False
+    moment = 0.0
+
+    @classmethod
+    def show(cls, text):
+        now = time.monotonic()
+        if now - cls.moment < 0.1 or not sys.stderr.isatty():
+            return
+        print(f"\r\x1b[K{text}", end="", file=sys.stderr, flush=True)
+        cls.drawn, cls.moment = True, now
+
+    @classmethod
+    def through(cls, layers, count):
+        """The layers as they come, `count` of them; the line tells how many are done, and for how long the others will take."""
+        begin = time.monotonic()
+        for number, layer in enumerate(layers, 1):
+            yield layer
+            left = (time.monotonic() - begin) / number * (count - number)
+            cls.show(f"layer {number:,} of {count:,}, {left:.0f} s left")
+        cls.clear()
+
+    @classmethod
+    def clear(cls):
+        if cls.drawn:
+            print("\r\x1b[K", end="", file=sys.stderr, flush=True)
+        cls.drawn, cls.moment = False, 0.0
+
+
+def ended(main):
+    """Runs a command, and ends with its status: 0, the program's, 1 for a fault of its own, 130 and 143 for signals."""
+    signal.signal(signal.SIGTERM, lambda number, _: sys.exit(128 + number))
+    try:
+        main()
+    except Refused as fault:
+        Progress.clear()
+        if fault.line:
+            say(fault.line)
+        sys.exit(fault.status)
+    except OSError as fault:
+        # what is made aside is told by the name that was given
+        name = str(fault.filename or "").replace(aside(""), "")
+        say(f"{fault.strerror}: {name}" if name else str(fault.strerror))
+        sys.exit(1)
+    except KeyboardInterrupt:
+        Progress.clear()
+        sys.exit(130)

@@ -1,0 +1,74 @@
+"""What people have: an STL as text, a binary one, or another format, which is refused with the command that converts it."""
+
+import contextlib
+import os
+import re
+import shlex
+import shutil
+import sys
+import tempfile
+
+from .faults import Refused, say
+from .stl import corners_of_binary, facets_of_binary, size_of, text_of
+
+# What makes an STL of each format that isn't one; each was tried. {0} is the file, {1} the STL to make.
+PRUSASLICER = "prusa-slicer --export-stl --output {1} {0}"
+ASSIMP = "assimp export {0} {1}"
+CONVERTED = {"3MF": PRUSASLICER, "OBJ": PRUSASLICER, "PLY": ASSIMP, "OFF": ASSIMP, "zip": "unzip {0}", "gzip": "zcat {0} > {1}"}
+OBJ = re.compile(rb"(?:\s|#[^\n]*\n)*(?:v|vn|vt|vp|f|o|g|s|mtllib|usemtl)[ \t]")
+
+
+@contextlib.contextmanager
+def opened(path):
+    """The part as a file that can be read twice, a pipe copied first. One of another format is refused."""
+    with contextlib.ExitStack() as stack:
+        file = sys.stdin.buffer if path == "-" else stack.enter_context(open(path, "rb"))
+        if path == "-" and sys.stdin.isatty():
+            say("a part is awaited on standard input")
+        if path == "-" or not file.seekable():
+            copy = stack.enter_context(tempfile.TemporaryFile())
+            shutil.copyfileobj(file, copy)
+            copy.flush()
+            file = copy
+        refuse_others(file, path)
+        yield file
+
+
+def refuse_others(file, path):
+    if facets_of_binary(file) is not None:
+        return
+    file.seek(0)
+    head = file.read(1024)
+    kind = kind_of(head)
+    if kind:
+        name = "part." + kind.lower() if path == "-" else path
+        command = CONVERTED[kind].format(shlex.quote(name), shlex.quote(re.sub(r"(?i)(\.stl)?\.\w+$", "", name) + ".stl"))
+        raise Refused(f"the part is {kind}, not STL; {'unpack' if 'zip' in kind else 'convert'} it: {command}", 3)
+    # a binary STL has a 0 there, in its count of facets at the latest
+    if b"\0" in head[:84] and not head.startswith((b"\xff\xfe", b"\xfe\xff")) and size_of(file) >= 84:
+        count = int.from_bytes(head[80:84], "little")
+        raise Refused(f"the part is no text, and no whole binary STL: {count:,} facets as its header tells take "
+                      f"{84 + 50 * count:,} bytes, and it has {size_of(file):,}", 3)
+
+
+def kind_of(head):
+    """The format whose files begin so; none where it is none of these."""
+    if head.startswith(b"PK\x03\x04"):
+        # a 3MF is a zip whose first file is one of these
+        return "3MF" if any(word in head[:128] for word in (b"[Content_Types].xml", b"_rels/", b"3D/", b"Metadata/")) else "zip"
+    if head.startswith(b"\x1f\x8b"):
+        return "gzip"
+    if re.match(rb"ply\s", head):
+        return "PLY"
+    if re.match(rb"(ST)?(C)?(N)?(4)?OFF\s", head):
+        return "OFF"
+    return "OBJ" if OBJ.match(head) else None
+
+
+def as_text(file):
+    """The part as ASCII STL: the file itself, or a binary one written out."""
+    count = facets_of_binary(file)
+    if count is None:
+        return file
+    say(f"binary STL, {count:,} facets: each number is taken as the shortest decimal that reads back as the same")
+    return text_of(corners_of_binary(file))

@@ -1,0 +1,35 @@
+"""`stlslice-pngs`: a part as a folder of PNGs, one a layer. NAME/00000.png is the lowest."""
+
+import os
+import shutil
+
+from . import words
+from .faults import Refused, aside
+from .parts import opened
+from .slicing import Sliced
+
+ABOUT = """Slices an STL into a folder of PNGs, one a layer: NAME/00000.png is the lowest. The part stands in the middle
+of the screen, white on black; one that doesn't fit is refused. The folder must be new or empty; it is made aside and
+moved into place when it is whole."""
+
+
+def main():
+    given = words.read(words.parser(ABOUT, "the folder to make"))
+    folder = given.output.rstrip("/") or "/"
+    if os.path.realpath(folder) == os.path.realpath(os.curdir):
+        raise Refused(f"{folder} is the current folder, which can't be made")
+    if os.path.lexists(folder) and not (os.path.isdir(folder) and not os.listdir(folder)):
+        raise Refused(f"{folder} is there already")
+    with opened(given.part) as source:
+        sliced = Sliced(given, source)
+        path = aside(folder)
+        os.mkdir(path)
+        try:
+            for number, (png, _) in enumerate(sliced.pngs()):
+                with open(os.path.join(path, f"{number:05}.png"), "xb") as file:
+                    file.write(png)
+            os.rename(path, folder)
+        finally:
+            if os.path.exists(path):
+                shutil.rmtree(path)
+    print(sliced.told(folder))

@@ -1,0 +1,52 @@
+"""The printers that are known by name. `printers.csv` has a row for each, with its source: a printer whose figures nobody could
+look up is not there."""
+
+import csv
+import os
+from fractions import Fraction
+
+TABLE = os.path.join(os.path.dirname(os.path.abspath(__file__)), "printers.csv")
+
+
+class Printer:
+    """A screen as it is built in, how its images lie on it, and the exposures of one resin.
+
+    Lengths of the screen and of the layer are micrometres, as fractions; times are seconds. A screen in `portrait` shows
+    images that are turned by a quarter, so these have `rows` columns and `columns` rows.
+    """
+
+    def __init__(self, row):
+        self.model, self.name, self.material, self.source = (row[key] for key in ("model", "name", "material", "source"))
+        self.columns, self.rows = int(row["columns"]), int(row["rows"])
+        self.width, self.depth, self.height = (1000 * Fraction(row[key]) for key in ("width", "depth", "height"))
+        self.is_portrait = row["orientation"] == "portrait"
+        self.mirror_x, self.mirror_y = row["mirror_x"] == "1", row["mirror_y"] == "1"
+        self.layer = int(row["layer"])
+        self.exposure, self.first_exposure = float(row["exposure"]), float(row["first_exposure"])
+        self.fade = int(row["fade"])
+        self.fast_tilt, self.slow_tilt = float(row["fast_tilt"]), float(row["slow_tilt"])
+        self.area_fill = int(row["area_fill"])
+
+    def canvas(self):
+        """Columns and rows of an image."""
+        return (self.rows, self.columns) if self.is_portrait else (self.columns, self.rows)
+
+    def pitch(self):
+        """Width and depth of an image's pixel."""
+        sides = self.width / self.columns, self.depth / self.rows
+        return sides[::-1] if self.is_portrait else sides
+
+
+def printers():
+    """Each printer of the table by its model."""
+    with open(TABLE, encoding="utf-8", newline="") as file:
+        return {row["model"]: Printer(row) for row in csv.DictReader(file)}
+
+
+def listed():
+    """What `--printer help` prints."""
+    lines = []
+    for it in printers().values():
+        sides = " x ".join(f"{float(side) / 1000:g}" for side in (it.width, it.depth, it.height))
+        lines.append(f"{it.model}  {it.name}: {it.columns} x {it.rows} pixels, {sides} mm\n    from {it.source}\n")
+    return "".join(lines)

@@ -1,0 +1,170 @@
+"""`stlslice-sl1`: a part as an SL1 archive, which is a zip of one PNG a layer, a config.ini for the printer and a prusaslicer.ini
+for programs that read the archive again. PrusaSlicer writes such archives for the Original Prusa SL1 and SL1S."""
+
+import argparse
+import os
+import re
+import time
+import zipfile
+
+from . import words
+from .faults import Refused, aside, say
+from .parts import opened
+from .slicing import Sliced
+
+ABOUT = """Slices an STL into an SL1 archive for a resin printer. The part stands in the middle of the screen, white on
+black; one that doesn't fit is refused. The archive is made aside and moved into place when it is whole, so a fault
+leaves what was there before."""
+
+LEVEL = 1  # of deflating the program's PNGs once more, which are long where nothing is lit
+FIRST = 3  # layers with the first exposure, before it fades to that of the others
+
+
+class Defaults:
+    """What PrusaSlicer takes where nothing is told: seconds, layers, and from how many percent of the screen a layer is slow."""
+
+    exposure, first_exposure, fade, material = 2.2, 25.0, 10, ""
+    fast_tilt, slow_tilt, area_fill = 5.0, 8.0, 50
+
+
+def main():
+    parser = words.parser(ABOUT, "the archive to write, as out.sl1")
+    add = parser.add_argument
+    add("--exposure", type=seconds, metavar="S", help="seconds a layer is exposed (the printer's, else 2.2)")
+    add("--first-exposure", type=seconds, metavar="S", help="the same of the first layers (the printer's, else 25)")
+    add("--fade", type=count, metavar="N", help="layers over which the exposure fades from the first to the other (10)")
+    add("--material", type=one_line, metavar="NAME", help="the resin's name, for the printer to show")
+    given = words.read(parser)
+    fill_in(given)
+    if os.path.lexists(given.output) and (os.path.islink(given.output) or not os.path.isfile(given.output)):
+        raise Refused(f"{given.output} is no plain file")
+    if os.path.exists(given.output) and os.path.exists(given.part) and os.path.samefile(given.output, given.part):
+        raise Refused(f"{given.output} is the part itself")
+    with opened(given.part) as source:
+        sliced = Sliced(given, source)
+        path = aside(given.output)
+        try:
+            with open(path, "xb") as file, zipfile.ZipFile(file, "w") as archive:
+                fill(archive, sliced, job_name(given.output))
+            os.replace(path, given.output)
+        finally:
+            if os.path.exists(path):
+                os.remove(path)
+    print(sliced.told(given.output))
+
+
+def fill_in(given):
+    """Exposures, resin and tilts that weren't given: the printer's, else those of Defaults."""
+    usual = given.printer or Defaults
+    if given.printer and given.exposure is None and given.layer != usual.layer:
+        say(f"the exposure of {usual.exposure:g} s is that of {usual.material}, whose layers are {usual.layer} micrometres high; "
+            "--exposure takes another")
+    for name in ("exposure", "first_exposure", "fade", "material"):
+        if getattr(given, name) is None:
+            setattr(given, name, getattr(usual, name))
+    given.fast_tilt, given.slow_tilt, given.area_fill = usual.fast_tilt, usual.slow_tilt, usual.area_fill
+
+
+def fill(archive, sliced, job):
+    """Writes a PNG for each layer, and behind them the settings and the profile."""
+    now = time.gmtime(int(os.environ.get("SOURCE_DATE_EPOCH", time.time())))
+
+    def entry(name, body):
+        head = zipfile.ZipInfo(name, max(now[:6], (1980, 1, 1, 0, 0, 0)))
+        archive.writestr(head, body, zipfile.ZIP_DEFLATED, LEVEL)
+
+    given = sliced.given
+    columns, rows = given.canvas
+    slow = 0
+    for number, (png, lit) in enumerate(sliced.pngs()):
+        entry(f"{job}{number:05}.png", png)
+        slow += 100 * lit > given.area_fill * columns * rows
+    for name, pairs in (("config.ini", settings(sliced, job, slow, now)), ("prusaslicer.ini", profile(given))):
+        entry(name, "".join(f"{key} = {value}\n" for key, value in sorted(pairs.items())))
+
+
+def settings(sliced, job, slow, now):
+    """What stands in config.ini. Without a printer's name none is told, as PrusaSlicer does."""
+    given, layers = sliced.given, sliced.layers
+    exposures = sum(exposure_of(number, given) for number in range(layers))
+    model = given.printer.model if given.printer else ""
+    return {
+        "action": "print",
+        "expTime": f"{given.exposure:g}",
+        "expTimeFirst": f"{given.first_exposure:g}",
+        "expUserProfile": 0,
+        "fileCreationTimestamp": time.strftime("%Y-%m-%d at %H:%M:%S UTC", now),
+        "hollow": 0,
+        "jobDir": job,
+        "layerHeight": f"{given.layer / 1000:g}",
+        "materialName": given.material or "resin",
+        "numFade": given.fade,
+        "numFast": layers - slow,
+        "numSlow": slow,
+        "printProfile": f"{given.layer / 1000:g} mm",
+        "printTime": f"{exposures + given.fast_tilt * (layers - slow) + given.slow_tilt * slow:.6f}",
+        "printerModel": model,
+        "printerProfile": given.printer.name if given.printer else "",
+        "printerVariant": "default" if given.printer else "",
+        "prusaSlicerVersion": "stlslice",
+        "usedMaterial": f"{sliced.millilitres(sliced.lit):.6f}",
+    }
+
+
+def profile(given):
+    """What stands in prusaslicer.ini: the screen, from which the images can be placed in space again, and the layers."""
+    return {
+        **screen(given),
+        "exposure_time": f"{given.exposure:g}",
+        "faded_layers": given.fade,
+        "gamma_correction": 0,
+        "initial_exposure_time": f"{given.first_exposure:g}",
+        "initial_layer_height": f"{given.layer / 1000:g}",
+        "layer_height": f"{given.layer / 1000:g}",
+        "printer_model": given.printer.model if given.printer else "",
+        "printer_technology": "SLA",
+    }
+
+
+def screen(given):
+    """The printer's screen as it is built in; without a printer one whose images lie as it is built, which is `landscape`."""
+    (columns, rows), (width, depth), orientation = given.canvas, given.pitch, "landscape"
+    if given.printer and given.printer.is_portrait:
+        columns, rows, width, depth, orientation = rows, columns, depth, width, "portrait"
+    return {
+        "display_height": f"{float(rows * depth / 1000):.10g}",
+        "display_mirror_x": int(given.mirror_x),
+        "display_mirror_y": int(given.mirror_y),
+        "display_orientation": orientation,
+        "display_pixels_x": columns,
+        "display_pixels_y": rows,
+        "display_width": f"{float(columns * width / 1000):.10g}",
+    }
+
+
+def one_line(text):
+    return " ".join(text.split())
+
+
+def exposure_of(number, given):
+    faded = max(0, number - FIRST + 1)
+    step = (given.first_exposure - given.exposure) / (given.fade + 1)
+    return given.exposure if faded > given.fade else given.first_exposure - faded * step
+
+
+def count(text):
+    if not re.fullmatch(r"\d{1,3}", text):
+        raise argparse.ArgumentTypeError("it takes a whole number, at most 999")
+    return int(text)
+
+
+def seconds(text):
+    if not re.fullmatch(r"\d{1,5}(\.\d{1,6})?", text) or not float(text):
+        raise argparse.ArgumentTypeError("it takes seconds above 0, as 2.2")
+    return float(text)
+
+
+def job_name(output):
+    """The archive's name without its ending and without what isn't a letter, a digit, `_`, `-` or `.`."""
+    name = re.sub(r"\.sl1s?$", "", os.path.basename(output), flags=re.IGNORECASE)
+    return re.sub(r"[^\w.-]", "_", name) or "part"

@@ -1,0 +1,155 @@
+"""STL as text: binary STL written out, and text whose coordinates are turned and multiplied. No number is rounded."""
+
+import decimal
+import math
+import os
+import re
+import struct
+import tempfile
+
+from .faults import Progress, Refused
+from .floats import shortest
+
+BLOCK = 1 << 20
+HEADER, FACET = 84, 50
+TEXT = b"facet normal 0 0 0\nouter loop\nvertex %b\nvertex %b\nvertex %b\nendloop\nendfacet\n"
+# Single numbers and corners that were met, each with its text, are forgotten beyond this many.
+KEPT = 1 << 17
+
+NUMBER = rb"[-+]?(?:\d+\.?\d*|\.\d+)(?:[eE][-+]?\d+)?"
+VERTEX = re.compile(rb"(?i)(?<!\S)(vertex\s+)(%b)(\s+)(%b)(\s+)(%b)(?!\S)" % (NUMBER, NUMBER, NUMBER))
+EXACT = decimal.Context(prec=1000, traps=[decimal.Inexact, decimal.InvalidOperation])
+
+
+def size_of(file):
+    return file.seek(0, os.SEEK_END)
+
+
+def facets_of_binary(file):
+    """How many facets a binary STL has; none where the file isn't one, which its length tells: 84 bytes, and 50 for each facet."""
+    size = size_of(file)
+    file.seek(80)
+    count = struct.unpack("<I", file.read(4))[0] if size >= HEADER else 0
+    return count if size >= HEADER and size == HEADER + FACET * count else None
+
+
+class Words:
+    """The text of corners, three numbers of single precision each."""
+
+    def __init__(self):
+        self.corners = {}
+        self.numbers = {}
+
+    def corner(self, raw):
+        found = self.corners.get(raw)
+        if found is None:
+            if len(self.corners) > KEPT:
+                self.corners.clear()
+                self.numbers.clear()
+            found = self.corners[raw] = b" ".join(map(self.number, struct.unpack("<3f", raw)))
+        return found
+
+    def number(self, value):
+        found = self.numbers.get(value)
+        if found is None:
+            if not math.isfinite(value):
+                raise ValueError("it is no number")
+            found = self.numbers[value] = shortest(value).encode()
+        return found
+
+
+def corners_of_binary(file):
+    """The texts of the three corners of each facet of a binary STL."""
+    count, words, number = facets_of_binary(file), Words(), 0
+    file.seek(HEADER)
+    while number < count:
+        block = file.read(FACET * 4096)
+        Progress.show(f"reading: facet {number:,} of {count:,}")
+        for at in range(0, len(block), FACET):
+            try:
+                yield tuple([words.corner(block[at + k:at + k + 12]) for k in (12, 24, 36)])
+            except ValueError:
+                raise Refused(f"facet {number:,} of the binary STL has a coordinate that is no number (nan or inf)", 3)
+            number += 1
+
+
+def corners_of_text(file):
+    """The texts of the three corners of each facet of an ASCII STL that the program has read."""
+    for block in blocks(file):
+        corners = [b" ".join(found.group(2, 4, 6)) for found in VERTEX.finditer(block)]
+        for at in range(0, len(corners) - 2, 3):
+            yield tuple(corners[at:at + 3])
+
+
+def text_of(facets):
+    """A file of the text of these facets."""
+    file = begun()
+    file.writelines(TEXT % corners for corners in facets)
+    return ended(file)
+
+
+def begun():
+    file = tempfile.TemporaryFile()
+    file.write(b"solid part\n")
+    return file
+
+
+def ended(file):
+    file.write(b"endsolid part\n")
+    file.flush()
+    return file
+
+
+def blocks(file):
+    """The text of the file in blocks that end behind a word `endloop`, so that no facet's corners are cut."""
+    size, rest = size_of(file), b""
+    file.seek(0)
+    while True:
+        more = file.read(BLOCK)
+        Progress.show(f"reading: {100 * file.tell() // max(1, size)} %")
+        rest += more
+        end = rest.lower().rfind(b"endloop") + len(b"endloop") if more else len(rest)
+        if end >= len(b"endloop") or not more:
+            yield rest[:end]
+            rest = rest[end:]
+        if not more:
+            return
+
+
+def changed(source, facets, quarters, times):
+    """A file of the same text, turned by so many quarters from x to y, and then with x, y and z multiplied by whole numbers.
+    Numbers that are turned alone are exchanged and negated as they are written."""
+    count = 0
+
+    def corner(found):
+        nonlocal count
+        count += 1
+        x, y = turned(found[2], found[4], quarters)
+        x, y, z = (multiplied(word, by) for word, by in zip((x, y, found[6]), times))
+        return b"".join((found[1], x, found[3], y, found[5], z))
+
+    file = tempfile.TemporaryFile()
+    file.writelines(VERTEX.sub(corner, block) for block in blocks(source))
+    file.flush()
+    if count < 3 * facets:
+        raise Refused("the part's text has a corner that can't be turned or multiplied")
+    return file
+
+
+def turned(x, y, quarters):
+    for _ in range(quarters % 4):
+        x, y = negated(y), x
+    return x, y
+
+
+def negated(word):
+    return word[1:] if word[:1] == b"-" else b"-" + word.lstrip(b"+")
+
+
+def multiplied(word, by):
+    if by == 1:
+        return word
+    try:
+        return str(EXACT.multiply(decimal.Decimal(word.decode()), by)).encode()
+    except decimal.DecimalException:
+        raise Refused(f"the number {word.decode()} can't be multiplied exactly")

@@ -1,0 +1,103 @@
+"""The options that both commands take."""
+
+import argparse
+import os
+import re
+import sys
+from fractions import Fraction
+
+from .printers import listed, printers
+
+RULES = ["evenodd", "nonzero", "positive"]
+UNITS = ["mm", "cm", "m", "inch"]
+
+
+class Listing(argparse.Action):
+    """`--printer help` lists the printers and ends; another word has to be a model of the list."""
+
+    def __call__(self, parser, given, word, option=None):
+        if word == "help":
+            print(listed(), end="")
+            parser.exit()
+        known = printers()
+        if word.upper() not in known:
+            parser.error(f"--printer takes {' or '.join(known)} (--printer help says more); for another printer take --canvas "
+                         "and --pitch")
+        given.printer = known[word.upper()]
+
+
+def parser(description, output):
+    """A parser of the options that both commands take; `output` is what the second word names."""
+    made = argparse.ArgumentParser(description=description, allow_abbrev=False)
+    add = made.add_argument
+    add("part", help="an STL, ASCII or binary, or - for standard input")
+    add("output", help=output)
+    add("--printer", action=Listing, metavar="MODEL",
+        help="a printer that is known by name: it brings canvas, pitch, mirrors and height; 'help' lists them")
+    add("--canvas", type=canvas, metavar="COLUMNSxROWS", help="pixels of the screen, as its images have them")
+    add("--pitch", type=pitch, metavar="N", help="a pixel in micrometres: 50, 47.25, or 19x24 for width and depth")
+    add("--layer", type=whole, default=50, metavar="N", help="height of a layer in micrometres (%(default)s)")
+    add("--height", type=millimetres, metavar="MM", help="the printer's height in mm; a higher part is refused")
+    add("--turn", choices=["quarter", "auto"], metavar="[auto]",
+        help="turn the part by a quarter, counterclockwise from above; 'auto' does so where it fits only so")
+    add("--rule", default="positive", choices=RULES,
+        help="which pixels are lit (%(default)s, which joins shells that overlap, as supports do)")
+    add("--unit", default="mm", choices=UNITS, help="unit of the part's numbers (%(default)s)")
+    add("--shells", action="store_true",
+        help="slice each shell by itself and join the images, for a part of more than 1,048,576 facets")
+    add("--mirror-x", action="store_true", help="swap left and right in each image")
+    add("--mirror-y", action="store_true", help="swap top and bottom in each image")
+    add("--depth", type=int, default=8, choices=[1, 8], help="bits of a PNG's pixel (%(default)s)")
+    add("--workers", type=whole, default=os.cpu_count() or 1, metavar="N", help="threads of the slicer (%(default)s)")
+    add("--program", metavar="PATH", help="the slicer (stlslice beside this command, else on PATH)")
+    return made
+
+
+def read(made):
+    """The options given, as the parser reads them, with what a printer brings in its place."""
+    given = made.parse_args(quarters(sys.argv[1:]))
+    own = [name for name in ("canvas", "pitch", "mirror_x", "mirror_y", "height") if getattr(given, name)]
+    if given.printer and own:
+        made.error(f"--printer {given.printer.model} brings its own: leave out --{own[0].replace('_', '-')}")
+    if given.printer:
+        it = given.printer
+        given.canvas, given.pitch, given.height = it.canvas(), it.pitch(), it.height
+        given.mirror_x, given.mirror_y = it.mirror_x, it.mirror_y
+    if not given.canvas or not given.pitch:
+        made.error("the printer is missing: --printer MODEL for one that --printer help lists; for another --canvas COLUMNSxROWS "
+                   "and --pitch N (its screen in pixels, and a pixel in micrometres)")
+    return given
+
+
+def quarters(words):
+    """The words with the value of `--turn` written out: with none it is a quarter."""
+    bare = [word == "--turn" and words[at + 1:at + 2] != ["auto"] for at, word in enumerate(words)]
+    return ["--turn=quarter" if is_bare else word for word, is_bare in zip(words, bare)]
+
+
+def canvas(text):
+    found = re.fullmatch(r"([1-9]\d{0,4})[x,]([1-9]\d{0,4})", text)
+    if not found:
+        raise argparse.ArgumentTypeError("it takes COLUMNSxROWS, as in 2560x1620")
+    return int(found[1]), int(found[2])
+
+
+def whole(text):
+    if not re.fullmatch(r"0*[1-9]\d{0,5}", text):
+        raise argparse.ArgumentTypeError("it takes a whole number, at least 1")
+    return int(text)
+
+
+def millimetres(text):
+    """Micrometres, as a fraction."""
+    if not re.fullmatch(r"\d{1,6}(\.\d{1,6})?", text) or not Fraction(text):
+        raise argparse.ArgumentTypeError("it takes millimetres above 0, as 150 or 149.5")
+    return 1000 * Fraction(text)
+
+
+def pitch(text):
+    """Width and depth of a pixel, as fractions of micrometres."""
+    sides = text.split("x")
+    if len(sides) > 2 or not all(re.fullmatch(r"\d{1,6}(\.\d{1,3})?", side) and Fraction(side) for side in sides):
+        raise argparse.ArgumentTypeError("it takes micrometres with at most three digits behind the point, as 50, 47.25 or 19x24")
+    return Fraction(sides[0]), Fraction(sides[-1])

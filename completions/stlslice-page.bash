@@ -1,0 +1,29 @@
+# Completions of stlslice-page for bash.
+
+_stlslice_page() {
+    local word=${COMP_WORDS[COMP_CWORD]} before=
+    ((COMP_CWORD > 0)) && before=${COMP_WORDS[COMP_CWORD - 1]}
+    # bash takes --rule=positive for three words
+    if [[ $word == = ]]; then
+        word=
+    elif [[ $before == = ]]; then
+        before=${COMP_WORDS[COMP_CWORD - 2]}
+    fi
+    COMPREPLY=()
+    case $before in
+        --rule) mapfile -t COMPREPLY < <(compgen -W 'positive nonzero evenodd' -- "$word") ;;
+        --unit) mapfile -t COMPREPLY < <(compgen -W 'mm inch' -- "$word") ;;
+        --workers) mapfile -t COMPREPLY < <(compgen -W '1 2 4 8 16 32 64' -- "$word") ;;
+        --pitch | --layer | --canvas | --title) ;;
+        --program) compopt -o default ;;
+        *)
+            if [[ $word == -* ]]; then
+                mapfile -t COMPREPLY < <(compgen -W '--pitch --layer --rule --unit --canvas --title --workers --program --help' -- "$word")
+            else
+                compopt -o default
+            fi
+            ;;
+    esac
+}
+
+complete -F _stlslice_page stlslice-page

@@ -1,0 +1,16 @@
+# Completions of stlslice-slabs for fish.
+
+complete -c stlslice-slabs -s p -x -d 'Pitch in micrometres (default 50)'
+complete -c stlslice-slabs -s l -x -d 'Layer height in micrometres (default 50)'
+complete -c stlslice-slabs -s n -x -d 'Layers of a slab (default 64)'
+complete -c stlslice-slabs -s r -x -a 'evenodd nonzero positive' -d 'Which pixels are filled (default evenodd)'
+complete -c stlslice-slabs -s u -x -a 'mm inch' -d 'Unit of the part\'s numbers (default mm)'
+complete -c stlslice-slabs -s j -x -d 'Slabs at once on each machine'
+complete -c stlslice-slabs -s S -x -a '(__fish_print_hostnames)' -d 'Machines, for GNU parallel'
+complete -c stlslice-slabs -s P -r -d 'The slicer, here and there'
+complete -c stlslice-slabs -l png -d 'Write PNGs in place of P4 images'
+complete -c stlslice-slabs -l depth -x -a '8 1' -d 'Bits of a pixel of a PNG (default 8)'
+complete -c stlslice-slabs -l mirror-x -d 'Mirror each PNG: the greatest x stands at the left'
+complete -c stlslice-slabs -l mirror-y -d 'Mirror each PNG: the least y stands at the top'
+complete -c stlslice-slabs -l words -d 'Only write the slicer\'s words for each slab'
+complete -c stlslice-slabs -s h -l help -d 'Show the options'
