@@ -3,10 +3,9 @@
 
     bench/long_texts.py PROGRAM [PART]
 
-The full sizes are 2 GB of white space, names and lines of 300 MB, words and numbers of 100 MB; PART takes one part in
-PART of them. Each text is written to the program as it takes it, and is held nowhere. The answer has to be right, and
-the memory at most 20 MB, 4 for --box, beside the word's own length where a whole word is long. A line a text: its length, seconds,
-seconds a gigabyte, the most memory. A text of half the length tells whether the time grows with the length alone.
+Each is 2 GB long there; PART takes one part in PART of it. A text is written to the program as it takes it, and is held
+nowhere. The answer has to be right, and the memory at most 20 MB, 4 for --box. A line a text: its length, seconds, seconds a
+gigabyte, the most memory. A text of half the length tells whether the time grows with the length alone.
 """
 
 import os
@@ -18,8 +17,8 @@ sys.path.insert(0, os.path.join(os.path.dirname(os.path.dirname(os.path.abspath(
 from parts import box, facet, text  # noqa: E402
 
 MB = 1_000_000
-SPACE, LINE, WORD = 2_000 * MB, 300 * MB, 100 * MB
-# what the program takes beside a long word, in bytes: --box holds a window of the text, several workers hold two rounds
+LENGTH = 2_000 * MB
+# what the program may take, in bytes: --box holds a window of the text, several workers hold two rounds
 ROOM, BOX_ROOM = 20 * MB, 4 * MB
 # the seconds within which two times aren't told apart
 NOISE = 0.2
@@ -37,31 +36,38 @@ IMAGE = b"P4\n10 10\n" + b"\xff\xc0" * 10
 class Text:
     """A text whose middle is one filling, `length` times the byte `fill`."""
 
-    def __init__(self, name, front, fill, length, back, holds, words, answer):
+    def __init__(self, name, front, fill, length, back, words, answer):
         self.name, self.front, self.fill, self.length, self.back = name, front, fill, length, back
-        self.holds, self.words, self.answer = holds, words, answer
+        self.words, self.answer = words, answer
 
 
 def texts(part):
-    """Every text with its length, the part of it that may be held, the words, and status, output and fault."""
-    space, line, word = SPACE // part, LINE // part, WORD // part
+    """Every text with its length, the words, and status, output and fault."""
+    length = LENGTH // part
     done, image = (0, BOX, b""), (0, IMAGE, b"")
 
     def fault(said):
         return 3, b"", b"stlslice: " + said + b"\n"
 
     number = b"solid part\nfacet normal 0 0 0 outer loop vertex 0 0 "
-    for words, good in ((["--box"], done), ([*SLICE, "--workers", "4"], image), ([*SLICE, "--workers", "64"], image)):
-        yield Text("white space in a mesh", MESH[:-len(b"endsolid part\n")], b" ", space, b"endsolid part\n", 0, words, good)
-        yield Text("a name", b"solid ", b"a", line, b"\n" + FACETS + b"endsolid\n", 0, words, good)
-        yield Text("the rest of a line", MESH[:-1], b"b", line, b"\n", 0, words, good)
-        yield Text("a word of a normal", HEAD, b"7", word, TAIL, word, words, good)
-        yield Text("a number", number, b"1", word, b" x", word, words, fault(b"number at byte %d: too long" % len(number)))
-        yield Text("a word for facet", b"solid part\n", b"f", word, b"", word, words,
+    sliced = [([*SLICE, "--workers", workers], image) for workers in ("1", "4", "64")]
+    for words, good in [(["--box"], done), *sliced]:
+        yield Text("white space in a mesh", MESH[:-len(b"endsolid part\n")], b" ", length, b"endsolid part\n", words, good)
+        yield Text("a name", b"solid ", b"a", length, b"\n" + FACETS + b"endsolid\n", words, good)
+        yield Text("the rest of a line", MESH[:-1], b"b", length, b"\n", words, good)
+        yield Text("a word of a normal", HEAD, b"7", length, TAIL, words, good)
+        yield Text("a number", number, b"1", length, b" x", words, fault(b"number at byte %d: too long" % len(number)))
+        yield Text("a number at the end", number, b"0", length, b"", words, fault(b"number at byte %d: too long" % len(number)))
+        yield Text("a word for facet", b"solid part\n", b"f", length, b"", words, fault(b"expected facet or endsolid at byte 11"))
+        yield Text("a word that begins as facet", b"solid part\nfacet", b"t", length, b" normal", words,
                    fault(b"expected facet or endsolid at byte 11"))
-    yield Text("white space alone", b"", b"\n", space, b"", 0, ["--box"], fault(b"input ended before solid"))
-    yield Text("white space behind a fault", b"solid part\nfacets", b" ", space, b"", 0, ["--box"],
-               fault(b"expected facet or endsolid at byte 11"))
+        yield Text("a word for vertex", number[:-len(b"vertex 0 0 ")], b"v", length, b" 0 0 0", words,
+                   fault(b"expected vertex at byte %d" % (len(number) - len(b"vertex 0 0 "))))
+        yield Text("zero bytes alone", b"", b"\0", length, b"", words, fault(b"expected solid at byte 0"))
+        yield Text("bytes 255 alone", b"", b"\xff", length, b"", words, fault(b"expected solid at byte 0"))
+        yield Text("white space alone", b"", b"\n", length, b"", words, fault(b"input ended before solid"))
+        yield Text("white space behind a fault", b"solid part\nfacets", b" ", length, b"", words,
+                   fault(b"expected facet or endsolid at byte 11"))
 
 
 def chunks(text, length):
@@ -107,12 +113,16 @@ def try_all(program, part):
     for text in texts(part):
         half, _, _ = run(program, text, text.length // 2)
         seconds, memory, answer = run(program, text, text.length)
+        # what else the machine does may have taken the time
+        for _ in range(2):
+            if seconds > 3 * half + NOISE:
+                seconds = min(seconds, run(program, text, text.length)[0])
         label = f"{text.name}, {' '.join(text.words[-2:])}"
-        print(f"{label:40} {text.length / MB:8.0f} MB {seconds:7.2f} s {seconds / text.length * 1000 * MB:6.2f} s/GB "
+        print(f"{label:42} {text.length / MB:8.0f} MB {seconds:7.2f} s {seconds / text.length * 1000 * MB:6.2f} s/GB "
               f"{memory / MB:7.1f} MB", flush=True)
         if answer != text.answer:
             wrong.append(f"{label}: {answer} in place of {text.answer}")
-        if memory > text.holds + (BOX_ROOM if text.words == ["--box"] else ROOM):
+        if memory > (BOX_ROOM if text.words == ["--box"] else ROOM):
             wrong.append(f"{label}: {memory} bytes of memory")
         if seconds > 3 * half + NOISE:
             wrong.append(f"{label}: {seconds:.2f} s, and {half:.2f} s for half the length")

@@ -19,6 +19,7 @@ TASKS = [
     ("report, 4 workers", ["--pitch", "100", "--layer", "100", "--report", "--workers", "4"]),
     ("images", ["--pitch", "100", "--layer", "100"]),
     ("images, 4 workers", ["--pitch", "100", "--layer", "100", "--workers", "4"]),
+    ("PNGs", ["--pitch", "100", "--layer", "100", "--png"]),
 ]
 
 RUNS = 3

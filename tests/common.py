@@ -19,6 +19,21 @@ def skip(why):
     sys.exit(77)
 
 
+LEFT_OUT = []
+
+
+def leave_out(why):
+    """Notes what of a test can't run here."""
+    print(why)
+    LEFT_OUT.append(why)
+
+
+def ended():
+    """Ends the test as skipped, where something was left out."""
+    if LEFT_OUT:
+        skip("; ".join(LEFT_OUT))
+
+
 def text_of(name):
     with open(os.path.join(ROOT, name), encoding="utf-8") as file:
         return file.read()
@@ -48,6 +63,12 @@ def library():
     return skip(why) if why else os.path.join(ROOT, LIBRARY)
 
 
+def python_with(room, *modules):
+    """A Python that has these modules, else the one that runs this."""
+    found = [it for it in (sys.executable, "/usr/bin/python3") if os.path.exists(it)]
+    return next((it for it in found if not room.run(it, "-c", f"import {', '.join(modules)}").returncode), sys.executable)
+
+
 def wants(*tools):
     """Ends the test as one that can't run here where one of these tools is missing, each told with its Debian package."""
     for tool, package in tools:
@@ -66,6 +87,20 @@ def holds(what, is_so):
     if not is_so:
         sys.exit(f"{what}: not so")
     print(f"{what}: so")
+
+
+def links_hold(folder):
+    """Each link in a document below the folder leads to a file below it."""
+    count = 0
+    for at, _, names in os.walk(folder):
+        for name in (it for it in names if it.endswith(".md")):
+            with open(os.path.join(at, name), encoding="utf-8") as file:
+                text = re.sub(r"(?ms)^```.*?^```$", "", file.read())
+            for place in re.findall(r"\]\(([^)#:\s]+)(?:#[^)]*)?\)", text):
+                count += 1
+                if not os.path.exists(os.path.join(at, place)):
+                    sys.exit(f"{os.path.join(at, name)}: {place} isn't there")
+    holds(f"{count} links of documents lead to what is there", count > 20)
 
 
 class Room:

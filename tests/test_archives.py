@@ -1,19 +1,21 @@
 #!/usr/bin/env -S python3 -B
-"""examples/to_sl1.py and examples/to_pngs.py: each pixel beside the slicer's own P4 stream, the place on the canvas, what
+"""stlslice-sl1 and stlslice-pngs, as installed: each pixel beside the slicer's own P4 stream, the place on the canvas, what
 is refused, and that a fault leaves nothing."""
 
 import os
 import re
+import shutil
 import signal
 import subprocess
 import sys
 import time
 import zipfile
 
-from parts import (ROOT, box, environment, example, main, p4_images, pixels_of_p4, pixels_of_png, run, same, text)
+from parts import (ROOT, box, environment, example, installed, main, p4_images, pixels_of_p4, pixels_of_png, png_of_p4, run, same,
+                   text)
 
-SL1 = example("to_sl1.py")
-PNGS = example("to_pngs.py")
+SL1 = installed("stlslice-sl1")
+PNGS = installed("stlslice-pngs")
 CANVAS = (331, 203)
 SMALL = ["--canvas", "331x203", "--pitch", "200", "--layer", "500", "--workers", "2"]
 
@@ -81,7 +83,7 @@ def archive_is_the_stream(program, folder):
 
 def settings_are_those_asked_for(program, folder):
     out = os.path.join(folder, "my part.SL1")
-    words = SMALL + ["--exposure", "2.5", "--first-exposure", "30", "--fade", "4", "--printer", "SL1S", "--material", "grey",
+    words = SMALL + ["--exposure", "2.5", "--first-exposure", "30", "--fade", "4", "--material", "grey",
                      "--program", program, example("bracket.stl"), out]
     env = dict(os.environ, SOURCE_DATE_EPOCH="1700000000")
     status, told, fault = run(script(SL1, words), env=env)
@@ -93,7 +95,7 @@ def settings_are_those_asked_for(program, folder):
               "materialName": "grey", "numFade": "4", "numFast": "54", "numSlow": "0", "printProfile": "0.5 mm",
               # three layers of 30 s; 24.5, 19, 13.5 and 8 s; 47 of 2.5 s; and 5 s behind each
               "printTime": f"{90 + 24.5 + 19 + 13.5 + 8 + 47 * 2.5 + 54 * 5:.6f}",
-              "printerModel": "SL1S", "printerProfile": "SL1S", "printerVariant": "default",
+              "printerModel": "", "printerProfile": "", "printerVariant": "",
               "prusaSlicerVersion": "stlslice", "usedMaterial": settings["usedMaterial"]}
     same(settings, wanted, "settings")
     with zipfile.ZipFile(out) as archive:
@@ -146,7 +148,7 @@ def folder_is_the_stream(program, folder):
     assert images == stream(program, part, "positive"), "pixels differ"
     leaves_nothing(folder, ["pngs"])
     status, _, fault = run(script(PNGS, SMALL + ["--program", program, part, out]))
-    same((status, fault), (1, f"to_pngs.py: {out} is there already\n".encode()), "a folder that is there")
+    same((status, fault), (1, f"stlslice-pngs: {out} is there already\n".encode()), "a folder that is there")
     same(sorted(os.listdir(out)), names, "names after that")
     os.mkdir(out + "2")
     same(run(script(PNGS, SMALL + ["--program", program, part, out + "2"]))[0], 0, "an empty folder")
@@ -158,12 +160,17 @@ def large_part_is_refused(program, folder):
     for path, out in ((SL1, "out.sl1"), (PNGS, "out")):
         name, out = os.path.basename(path), os.path.join(folder, out)
         for words, size in ((["--canvas", "640x239"], "32.000 x 11.950"), (["--canvas", "639x240"], "31.950 x 12.000"),
-                            (["--canvas", "640x240", "--height", "26.9"], "32.000 x 12.000 x 26.900")):
-            status, told, fault = run(script(path, words + ["--program", program, part, out]))
+                            (["--canvas", "240x639"], "12.000 x 31.950"),
+                            (["--canvas", "640x240", "--height", "26.9"], "32.000 x 12.000 x 26.900"),
+                            (["--canvas", "240x640", "--height", "26.9"], "12.000 x 32.000 x 26.900"),
+                            (["--canvas", "240x640"], "12.000 x 32.000 mm; turned by a quarter it fits: --turn")):
+            status, told, fault = run(script(path, words + ["--pitch", "50", "--program", program, part, out]))
             line = f"{name}: the part doesn't fit: it is 31.964 x 12.000 x 27.000 mm, the canvas {size} mm\n"
+            line = line.replace("--turn mm", "--turn")
             same((status, told, fault.decode()), (1, b"", line), "a part that is too large")
         leaves_nothing(folder, [])
-    status, _, _ = run(script(SL1, ["--canvas", "640x240", "--height", "27", "--layer", "1000", "--program", program, part,
+    status, _, _ = run(script(SL1, ["--canvas", "640x240", "--pitch", "50", "--height", "27", "--layer", "1000",
+                                    "--program", program, part,
                                     os.path.join(folder, "fits.sl1")]))
     same(status, 0, "a part that fits exactly")
 
@@ -178,6 +185,7 @@ def faults_are_handed_on(program, folder):
                  b"%s: no pixel is lit by --rule positive: is the part inside out (try --rule nonzero), or its unit "
                  b"another than mm? It is 1.000 x 1.000 x 1.000 mm\n"),
         "small": (text(box((0, 0, 0), ("0.02", "0.027", "0.03"))).encode(), 1,
+                  b"%s: the part is 0.020 x 0.027 x 0.030 mm: is mm the unit of its numbers? --unit takes mm, cm, m or inch\n"
                   b"%s: no pixel is lit by --rule positive: is the part inside out (try --rule nonzero), or its unit "
                   b"another than mm? It is 0.020 x 0.027 x 0.030 mm\n"),
     }
@@ -194,7 +202,7 @@ def faults_are_handed_on(program, folder):
         with open(part, "rb") as file:
             out = os.path.join(folder, "out.sl1")
             status, _, fault = run(script(SL1, SMALL + ["--program", program, "-", out]), input=bad)
-            same((status, fault), (wanted, line.replace(b"%s", b"to_sl1.py")), name + " on standard input")
+            same((status, fault), (wanted, line.replace(b"%s", b"stlslice-sl1")), name + " on standard input")
         leaves_nothing(folder, [f"{n}.stl" for n in files if os.path.exists(os.path.join(folder, n + ".stl"))])
 
 
@@ -217,8 +225,13 @@ def output_that_is_no_plain_file_is_refused(program, folder):
     os.symlink("elsewhere", link)
     for out in (pipe, link, folder):
         status, told, fault = run(script(SL1, SMALL + ["--program", program, example("bracket.stl"), out]))
-        same((status, told, fault.decode()), (1, b"", f"to_sl1.py: {out} is no plain file\n"), "an output that is no plain file")
+        same((status, told, fault.decode()), (1, b"", f"stlslice-sl1: {out} is no plain file\n"), "an output that is no plain file")
     leaves_nothing(folder, ["link", "pipe"])
+    for command in (SL1, PNGS):
+        out = os.path.join(folder, "none", "out")
+        found = run(script(command, SMALL + ["--program", program, example("bracket.stl"), out]))
+        line = f"{os.path.basename(command)}: No such file or directory: {out}\n"
+        same(found, (1, b"", line.encode()), "an output in a folder that isn't there")
 
 
 def part_is_not_overwritten(program, folder):
@@ -228,11 +241,11 @@ def part_is_not_overwritten(program, folder):
     os.link(part, link)
     for out in (part, link):
         found = run(script(SL1, SMALL + ["--program", program, part, out]))
-        same(found, (1, b"", f"to_sl1.py: {out} is the part itself\n".encode()), "the part as its own archive")
+        same(found, (1, b"", f"stlslice-sl1: {out} is the part itself\n".encode()), "the part as its own archive")
     with open(example("bracket.stl"), "rb") as file, open(part, "rb") as copy:
         assert copy.read() == file.read(), "the part has changed"
     found = run(script(PNGS, SMALL + ["--program", program, example("bracket.stl"), "."]), cwd=folder)
-    same(found, (1, b"", b"to_pngs.py: . is the current folder, which can't be made\n"), "the current folder")
+    same(found, (1, b"", b"stlslice-pngs: . is the current folder, which can't be made\n"), "the current folder")
     leaves_nothing(folder, ["link.stl", "part.stl"])
 
 
@@ -271,22 +284,38 @@ def pitch_of_quarters_is_exact(program, folder):
     leaves_nothing(folder, ["large.stl", "out.sl1", "part.stl"])
 
 
-def slicer(folder, body):
-    """A stand-in for the slicer: it answers the box, and slices as `body` says."""
+def slicer(folder, body, layers=2):
+    """A stand-in for the slicer: it answers the box and the report, and slices as `body` says."""
     path = os.path.join(folder, "slicer")
+    report = "".join(f"layer {k} loops 1 area 8\n" for k in range(layers)) + f"total {8 * layers}\n"
     with open(path, "w") as file:
-        file.write("#!/bin/sh\ncase \"$*\" in *--box*) echo facets 12 box 0 0 0 800 100 1000; exit;; esac\n" + body)
+        file.write("#!/bin/sh\ncase \"$*\" in *--box*) echo facets 12 box 0 0 0 800 100 1000; exit;; "
+                   f"*--report*) printf '{report}'; exit;; esac\n" + body)
     os.chmod(path, 0o755)
     return path
 
 
+def printed(data):
+    """A line of shell that prints these bytes."""
+    return "printf '" + "".join(f"\\{byte:03o}" for byte in data) + "'\n"
+
+
+IMAGE = png_of_p4((8, 1, b"\377"), 8)
+
+
 def broken_slicers_leave_nothing(program, folder):
-    image = "printf 'P4\\n8 1\\n\\377'\n"
+    image, short = printed(IMAGE), printed(IMAGE[:-1])
+    ended = "stlslice-sl1: the program's output ended within its layers"
+    other = "stlslice-sl1: the program's output isn't a stream of PNGs of that canvas"
     for body, status, line in (
             (image + "echo stlslice: write failed after 8 bytes >&2; exit 7\n", 7, "stlslice: write failed after 8 bytes"),
-            (image, 1, "to_sl1.py: the program's output ended within its layers"),
-            (image + image + "printf x\n", 1, "to_sl1.py: the program wrote more layers than it was asked for"),
-            (image + "printf 'P4\\n1 8\\n\\377'", 1, "to_sl1.py: the program's output isn't a P4 stream of that canvas"),
+            (image, 1, ended), (image + short, 1, ended), (image + printed(IMAGE[:35]), 1, ended), (image + printed(IMAGE[:9]), 1, ended),
+            # a chunk as long as four bytes can say
+            (image + printed(IMAGE[:33] + b"\377" * 4 + IMAGE[37:]), 1, ended),
+            (image + image + "printf x\n", 1, "stlslice-sl1: the program wrote more layers than it was asked for"),
+            (image + image + image, 1, "stlslice-sl1: the program wrote more layers than it was asked for"),
+            (image + printed(png_of_p4((1, 8, b"\x80" * 8), 8)), 1, other), (image + printed(png_of_p4((8, 1, b"\377"), 1)), 1, other),
+            (image + "printf 'P4\\n8 1\\n\\377 and as many bytes as a head has'\n", 1, other),
             (image + "kill -KILL $$\n", 137, None),
     ):
         words = ["--canvas", "8x1", "--pitch", "100", "--layer", "500", "--program", slicer(folder, body),
@@ -294,10 +323,40 @@ def broken_slicers_leave_nothing(program, folder):
         found, _, fault = run(script(SL1, words))
         same((found, fault.decode()), (status, line + "\n" if line else ""), body)
         leaves_nothing(folder, ["slicer"])
+    words = ["--canvas", "8x1", "--pitch", "100", "--layer", "500", "--program", slicer(folder, image + image, 1),
+             example("bracket.stl"), os.path.join(folder, "out.sl1")]
+    same(run(script(SL1, words)), (1, b"", b"stlslice-sl1: the program's report has 1 layers, and 2 were asked for\n"), "a short report")
+    leaves_nothing(folder, ["slicer"])
+
+
+def pngs_are_taken_as_they_are(program, folder):
+    """The images of archive and folder are the program's own PNGs, byte by byte, and the archive deflates them once more."""
+    part, out = example("helical_gear.stl"), os.path.join(folder, "out")
+    with open(part, "rb") as file:
+        x0, y0, z0, x1, y1, z1 = [int(word) for word in run([program, "--box"], stdin=file)[1].split()[3:]]
+    grid = f"--grid=331,203,{-(-(z1 - z0) // 500)},{(x0 + x1 - 66200) // 2},{(y0 + y1 - 40600) // 2},{z0}"
+    for more in (["--depth", "8"], ["--depth", "1", "--mirror-x"], ["--depth", "8", "--mirror-x", "--mirror-y"]):
+        with open(part, "rb") as file:
+            words = [program, "--pitch", "200", "--layer", "500", "--rule", "positive", grid, "--png", *more]
+            status, wanted, fault = run(words, stdin=file)
+        same((status, fault), (0, b""), "the program")
+        same(run(script(SL1, SMALL + more + ["--program", program, part, out]))[0], 0, "archive")
+        with zipfile.ZipFile(out) as archive:
+            entries = [it for it in archive.infolist() if it.filename.endswith(".png")]
+            assert b"".join(map(archive.read, entries)) == wanted, f"{more}: the archive has other PNGs"
+            assert all(it.compress_type == zipfile.ZIP_DEFLATED and it.compress_size < it.file_size for it in entries), "not deflated"
+        os.remove(out)
+        same(run(script(PNGS, SMALL + more + ["--program", program, part, out]))[0], 0, "folder")
+        found = b""
+        for name in sorted(os.listdir(out)):
+            with open(os.path.join(out, name), "rb") as file:
+                found += file.read()
+        assert found == wanted, f"{more}: the folder has other PNGs"
+        shutil.rmtree(out)
 
 
 def stopped_script_leaves_nothing(program, folder):
-    path = slicer(folder, "printf 'P4\\n8 1\\n\\377'; exec sleep 60\n")
+    path = slicer(folder, printed(IMAGE) + "exec sleep 60\n")
     child = subprocess.Popen(script(SL1, ["--canvas", "8x1", "--pitch", "100", "--layer", "500", "--program", path,
                                           example("bracket.stl"), os.path.join(folder, "out.sl1")]))
     for _ in range(200):
@@ -329,7 +388,7 @@ def pipes_and_units(program, folder):
 
 
 def options_are_those_of_the_page(program, folder):
-    """The table of docs/printing.md has the options of to_sl1.py, with their defaults; to_pngs.py has all but five."""
+    """The table of docs/printing.md has the options of stlslice-sl1, with their defaults; stlslice-pngs has all but four."""
     with open(os.path.join(ROOT, "docs", "printing.md"), encoding="utf-8") as file:
         rows = re.findall(r"(?m)^\| (`--[^|]*) \| ([^|]*) \|", file.read())
     told = {}
@@ -339,8 +398,8 @@ def options_are_those_of_the_page(program, folder):
         told.update(zip(names, defaults if len(defaults) == len(names) else [None] * len(names)))
     helps = [" ".join(run(script(path, ["--help"]), env={"COLUMNS": "80"})[1].decode().split()) for path in (SL1, PNGS)]
     sl1, pngs = (set(re.findall(r"\[(--[a-z-]+)", it)) for it in helps)
-    same(set(told), sl1, "options of to_sl1.py")
-    same(sl1 - pngs, {"--exposure", "--first-exposure", "--fade", "--printer", "--material"}, "options of to_sl1.py alone")
+    same(set(told), sl1, "options of stlslice-sl1")
+    same(sl1 - pngs, {"--exposure", "--first-exposure", "--fade", "--material"}, "options of stlslice-sl1 alone")
     tried = 0
     for name, default in told.items():
         said = re.search(rf"(?<!\[){name} (?:[A-Z][A-Za-z]*|\{{\S*\}}) .*?\(([^ ,)]+)", helps[0])
@@ -348,12 +407,12 @@ def options_are_those_of_the_page(program, folder):
             number = re.fullmatch(r"[\d.]+", default)
             same(float(said[1]) if number else said[1], float(default) if number else default, f"default of {name}")
             tried += 1
-    same(tried, 10, "defaults that were compared")
+    same(tried, 5, "defaults that were compared")
 
 
 if __name__ == "__main__":
     main([archive_is_the_stream, settings_are_those_asked_for, large_layers_are_slow, part_is_upright_and_in_the_middle,
           folder_is_the_stream, large_part_is_refused, faults_are_handed_on, fault_keeps_what_was_there,
-          output_that_is_no_plain_file_is_refused, part_is_not_overwritten,
+          output_that_is_no_plain_file_is_refused, part_is_not_overwritten, pngs_are_taken_as_they_are,
           pitch_of_quarters_is_exact, broken_slicers_leave_nothing, stopped_script_leaves_nothing, pipes_and_units,
           options_are_those_of_the_page])

@@ -48,7 +48,8 @@ def main():
             bash.keys("\x15\r")
             bash.until("> $")
             bash.keys("stlslice --\t\t")
-            listed = bash.until(r"--workers\s")
+            # the words stand in columns, so the last of them may stand before others: the list ends at the next prompt
+            listed = bash.until(r"--workers\s[^>]*> stlslice --$")
             holds("each word is listed", all(f"--{it}" in listed for it in ("pitch", "grid", "probe", "box", "help")))
 
 

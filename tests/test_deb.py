@@ -6,12 +6,15 @@ import glob
 import os
 import shutil
 
-from common import PROGRAM, ROOT, Room, holds, same, skip, version
+from common import PROGRAM, ROOT, Room, holds, links_hold, same, skip, version
 
 PLACES = """./usr/bin/stlslice ./usr/share/man/man1/stlslice.1.gz ./usr/share/doc/stlslice/copyright
 ./usr/share/doc/stlslice/changelog.gz ./usr/share/doc/stlslice/examples/bracket.stl
 ./usr/share/bash-completion/completions/stlslice ./usr/share/zsh/vendor-completions/_stlslice
-./usr/share/fish/vendor_completions.d/stlslice.fish""".split()
+./usr/share/fish/vendor_completions.d/stlslice.fish ./usr/bin/stlslice-sl1 ./usr/bin/stlslice-pngs
+./usr/bin/stlslice-slabs ./usr/share/stlslice/stlslice_commands/printers.csv ./usr/share/man/man1/stlslice-sl1.1.gz
+./usr/share/zsh/vendor-completions/_stlslice-sl1 ./usr/share/bash-completion/completions/stlslice-pngs
+./usr/bin/stlslice-page ./usr/share/man/man1/stlslice-page.1.gz ./usr/share/zsh/vendor-completions/_stlslice-page""".split()
 
 
 def made(room, name):
@@ -39,10 +42,16 @@ def main():
         with open(os.path.join(ROOT, "examples", "bracket.stl"), "rb") as part:
             told = room.run(room.file("opened", "usr/bin/stlslice"), "--box", stdin=part)
         holds("the program runs", told.returncode == 0 and told.stdout.startswith("facets "))
+        links_hold(room.file("opened", "usr/share/doc/stlslice"))
+        part = os.path.join(ROOT, "examples", "bracket.stl")
+        told = room.run(room.file("opened", "usr/bin/stlslice-sl1"), "--printer", "SL1S", part, room.file("out.sl1"))
+        page = room.run(room.file("opened", "usr/bin/stlslice-page"), part, room.file("page.html"))
+        holds("the command for a page runs", (page.returncode, page.stderr) == (0, "") and "540 layers" in page.stdout)
+        holds("the command for archives runs", (told.returncode, told.stderr) == (0, "") and "540 layers" in told.stdout)
         if shutil.which("lintian"):
             same("what lintian has to say", room.run("lintian", "--allow-root", package).stdout, "")
         else:
-            print("lintian is missing: the package was not looked at by it")
+            skip("lintian is missing (Debian: lintian): the package was not looked at by it")
 
 
 if __name__ == "__main__":

@@ -9,7 +9,7 @@ import os
 import shutil
 import tarfile
 
-from common import LIBRARY, PROGRAM, ROOT, Room, holds, same, version, why_no_library
+from common import LIBRARY, PROGRAM, ROOT, Room, ended, holds, leave_out, links_hold, same, version, why_no_library
 
 WITHOUT = "tools/dist: the library isn't built (make library), so the tarball has the program alone\n"
 
@@ -45,7 +45,7 @@ def with_library(room):
     same("what the links lead to", [os.readlink(os.path.join(folder, "lib", it)) for it in ("libstlslice.so", "libstlslice.so.1")],
          ["libstlslice.so.1", os.path.basename(shared)])
     if not shutil.which("pkg-config") or not shutil.which("cc"):
-        return print("pkg-config or cc is missing: no program was made with the library")
+        return leave_out("pkg-config or cc is missing (Debian: pkgconf, gcc): no program was made with the library")
     with open(room.file("told.c"), "w", encoding="ascii") as file:
         file.write('#include <stdio.h>\n#include <stlslice.h>\nint main(void) { return printf("%u\\n", stlslice_version()) < 0; }\n')
     command = f"cc {room.file('told.c')} $(pkg-config --cflags --libs stlslice) -o {room.file('told')} && {room.file('told')}"
@@ -58,7 +58,7 @@ def with_library(room):
 def main():
     why = why_no_library()
     if why:
-        print(f"{why}: no tarball was made with it")
+        leave_out(f"{why}: no tarball was made with it")
     else:
         with Room() as room:
             with_library(room)
@@ -75,13 +75,16 @@ def main():
             told = room.run(os.path.join(folder, "stlslice"), "--box", stdin=part)
         holds("the program runs", told.returncode == 0 and told.stdout.startswith("facets "))
         without = {name: value for name, value in room.environment.items() if name != "PATH"}
-        for words in (["examples/to_sl1.py", "examples/bracket.stl", "part.sl1", "--canvas", "800x400"],
-                      ["examples/slabs.sh", "--words", "examples/bracket.stl"]):
+        for words in (["./stlslice-sl1", "examples/bracket.stl", "part.sl1", "--canvas", "800x400", "--pitch", "50"],
+                      ["./stlslice-pngs", "examples/bracket.stl", "pngs", "--printer", "SL1", "--layer", "500"],
+                      ["./stlslice-page", "examples/bracket.stl", "page.html"], ["./stlslice-slabs", "--words", "examples/bracket.stl"]):
             told = room.run(*words, cwd=folder, env={**without, "PATH": "/usr/local/bin:/usr/bin:/bin"})
             same(f"{words[0]}, unpacked", (told.returncode, told.stderr), (0, ""))
         for name in ("README.md", "LICENSE", "stlslice.1", "completions/_stlslice", "docs/PROVED.md", "CONTRIBUTING.md",
-                     "examples/to_sl1.py", "examples/bracket.stl"):
+                     "SECURITY.md", "stlslice-sl1.1", "stlslice-page.1", "completions/_stlslice-page", "stlslice_commands/printers.csv", "completions/stlslice-sl1.fish", "examples/bracket.stl"):
             holds(f"{name} is in it", os.path.exists(os.path.join(folder, name)))
+        links_hold(folder)
+    ended()
 
 
 if __name__ == "__main__":

@@ -7,7 +7,7 @@ import os
 import re
 import shutil
 
-from common import ROOT, Room, holds, library, same, version, wants
+from common import ROOT, Room, ended, holds, leave_out, library, same, version, wants
 
 LIB = "usr/lib/x86_64-linux-gnu"
 SHARED = f"{LIB}/libstlslice.so.{version()}"
@@ -18,6 +18,7 @@ FILES = {
                         "usr/include/stlslice.h": "include/stlslice.h",
                         "usr/share/doc/libstlslice-dev/embedding.md": None,
                         "usr/share/doc/libstlslice-dev/preview.png": "docs/preview.png",
+                        "usr/share/doc/libstlslice-dev/page.png": "docs/page.png",
                         "usr/share/doc/libstlslice-dev/copyright": "LICENSE"},
 }
 PROGRAM = '#include <stdio.h>\n#include <stlslice.h>\nint main(void) { return printf("%u\\n", stlslice_version()) < 0; }\n'
@@ -58,10 +59,12 @@ def main():
         told = bytes_of(room.file("opened", LIB, "pkgconfig", "stlslice.pc")).decode().splitlines()
         same("places in stlslice.pc", told[:3], ["prefix=/usr", f"libdir=/{LIB}", "includedir=/usr/include"])
         linked = re.findall(r"\]\(([^)]+)\)", bytes_of(room.file("opened", "usr/share/doc/libstlslice-dev/embedding.md")).decode())
-        same("what its document links to", sorted(linked), ["#tested", "preview.png"])
+        same("what its document links to", sorted(linked), ["#tested", "page.png", "preview.png"])
         depends = room.run("dpkg-deb", "-f", packages[1], "Depends").stdout
         holds("one wants the other, of just its version", f"libstlslice1 (= {version()}-1)" in depends)
-        if shutil.which("cc"):
+        if not shutil.which("cc"):
+            leave_out("cc is missing (Debian: gcc): no program was built with the library")
+        else:
             with open(room.file("told.c"), "w", encoding="ascii") as file:
                 file.write(PROGRAM)
             ran = room.run("cc", room.file("told.c"), f"-I{room.file('opened', 'usr/include')}", f"-L{room.file('opened', LIB)}",
@@ -72,7 +75,8 @@ def main():
         if shutil.which("lintian"):
             same("what lintian has to say", room.run("lintian", "--allow-root", *packages).stdout, "")
         else:
-            print("lintian is missing: the packages were not looked at by it")
+            leave_out("lintian is missing (Debian: lintian): the packages were not looked at by it")
+    ended()
 
 
 if __name__ == "__main__":

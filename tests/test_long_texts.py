@@ -1,7 +1,7 @@
 #!/usr/bin/env -S python3 -B
 """Texts that are long in one place are answered rightly, in time that grows with their length, in little memory: the
-texts of bench/long_texts.py at a hundredth of their size. Two gigabytes of white space are 20 MB here, which already
-wouldn't fit in the memory that is allowed."""
+texts of bench/long_texts.py at a hundredth of their size. Two gigabytes are 20 MB here, which already wouldn't fit in the
+memory that is allowed."""
 
 import os
 import sys

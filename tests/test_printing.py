@@ -2,6 +2,7 @@
 """docs/printing.md: each block of shell is run as it stands, in a folder of its own, and prints what stands under it;
 what it leaves is looked at too. The blocks that need Debian packages are run by test_printing_tools.py."""
 
+import gzip
 import os
 import re
 import shutil
@@ -9,12 +10,17 @@ import stat
 import zlib
 
 from pages import blocks
-from parts import (ROOT, batch_system, box, environment, example, leave_out, main, p4_images, pixels_of_p4, pixels_of_png, run,
-                   same, text)
+from parts import (ROOT, batch_system, box, environment, example, installed, leave_out, main, p4_images, pixels_of_p4,
+                   pixels_of_png, run, same, text)
 
 PAGE = os.path.join(ROOT, "docs", "printing.md")
 TOOLS = {"python3": ["python3"], "netpbm": ["pamsplit", "pnminvert", "pnmtopng"], "gnuplot-nox": ["gnuplot"],
          "imagemagick": ["montage", "identify"], "zstd": ["zstd"], "parallel": ["parallel"], "rsync": []}
+
+
+def with_commands(env):
+    """The environment with the commands as installed."""
+    return {**env, "PATH": f"{env['PATH'].split(':')[0]}:{installed()}:{env['PATH'].split(':', 1)[1]}"}
 
 
 def content(*names):
@@ -60,7 +66,7 @@ def archive(program, folder):
     with zipfile.ZipFile(os.path.join(folder, "out.sl1")) as file:
         same(len(file.namelist()), 542, "entries")
         rows = pixels_of_png(file.read("out00017.png"))
-    same((len(rows), len(rows[0])), (1620, 2560), "canvas")
+    same((len(rows), len(rows[0])), (2560, 1620), "canvas")
 
 
 def one_layer(program, folder):
@@ -128,7 +134,7 @@ def recipes():
             continue
         follows = page[number + 1] if number + 1 < len(page) else None
         wanted = follows.body if follows and follows.language == "text" and not follows.before else None
-        refused = wanted is not None and wanted.startswith("to_sl1.py:")
+        refused = wanted is not None and wanted.startswith("stlslice-sl1: the part doesn't fit")
         check = next((name for name in LEFT if name in block.body and not refused), None)
         assert wanted is not None or check, f"{block.head}: nothing says what this block gives"
         yield number, block, wanted, check, refused
@@ -138,7 +144,7 @@ def try_recipe(program, folder, env, recipe):
     number, block, wanted, check, refused = recipe
     here = folder_of(program, folder, number)
     if block.words == ["slurm"]:
-        env = batch_system(program, folder)
+        env = with_commands(batch_system(program, folder))
     status, told, fault = run(["bash", "-c", block.body], cwd=here, env=env)
     same(status, 1 if refused else 0, f"{block.head}: status ({fault.decode()})")
     if wanted is not None:
@@ -150,7 +156,7 @@ def try_recipe(program, folder, env, recipe):
 
 
 def recipes_do_what_they_say(program, folder):
-    env = environment(program, folder)
+    env = with_commands(environment(program, folder))
     found = list(recipes())
     same({check for _, _, _, check, _ in found} - {None}, set(LEFT), "what is left by blocks")
     plain = [recipe for recipe in found if set(needs(recipe[1])) <= {"python3"}]
@@ -160,7 +166,7 @@ def recipes_do_what_they_say(program, folder):
 
 
 def recipes_with_tools_do_what_they_say(program, folder):
-    env = environment(program, folder)
+    env = with_commands(environment(program, folder))
     found = [recipe for recipe in recipes() if not set(needs(recipe[1])) <= {"python3"}]
     assert len(found) >= 5, f"only {len(found)} blocks need a package"
     for recipe in found:
@@ -172,6 +178,23 @@ def recipes_with_tools_do_what_they_say(program, folder):
             try_recipe(program, folder, env, recipe)
 
 
+def commands_of_the_tables_run(program, folder):
+    """Each whole command of stlslice-sl1 and stlslice-pngs in the tables by printer and by what people have."""
+    env = with_commands(environment(program, folder))
+    with open(PAGE, encoding="utf-8") as file:
+        tables = file.read().split("## By printer")[1].split("## An archive for the printer")[0]
+    commands = [cell.replace("\\|", "|") for line in tables.splitlines() if line.startswith("|")
+                for cell in re.findall(r"`([^`]*stlslice-(?:sl1|pngs) [^`]*)`", line) if ".." not in cell]
+    same(len(commands), 4, "commands of the tables")
+    for number, command in enumerate(commands):
+        here = folder_of(program, folder, number)
+        with open(os.path.join(here, "part.stl.gz"), "wb") as file:
+            file.write(gzip.compress(content(here, "part.stl")))
+        status, told, fault = run(["bash", "-c", command], cwd=here, env=env)
+        same((status, fault), (0, b""), command)
+        same(told.decode().split(": ")[1].split(", ")[::2], ["31.964 x 12.000 x 27.000 mm", "540 layers\n"], command)
+
+
 def recipes_follow_one_another(program, folder):
     """The page pasted from its first block to its last, in one shell and one folder, by a reader who has all packages but
     those that are missing here. Each block gives the same as alone."""
@@ -181,6 +204,7 @@ def recipes_follow_one_another(program, folder):
     os.symlink(os.path.join(ROOT, "examples"), os.path.join(here, "examples"))
     os.symlink(program, os.path.join(here, "build", "stlslice"))
     setup = next(block for block in blocks(PAGE) if block.words == ["setup"])
+    os.symlink(os.path.join(ROOT, "commands"), os.path.join(here, "commands"))
     pasted, wanted = "exec 2>&1\n" + setup.body, []
     for number, block, told, _, refused in recipes():
         if all(shutil.which(tool) for package in needs(block) for tool in TOOLS[package]):
@@ -195,7 +219,7 @@ def recipes_follow_one_another(program, folder):
 
 def old_slabs_are_not_mixed_in(program, folder):
     """The lines for Slurm, in a folder where slabs of another part stand: nothing is run."""
-    env, here = environment(program, folder), folder_of(program, folder, 0)
+    env, here = with_commands(environment(program, folder)), folder_of(program, folder, 0)
     block = next(block for block in blocks(PAGE) if block.words == ["slurm"])
     os.mkdir(os.path.join(here, "slabs"))
     status, told, fault = run(["bash", "-c", block.body], cwd=here, env=env)
@@ -209,13 +233,15 @@ def first_block_is_the_folder(program, folder):
     os.mkdir(os.path.join(folder, "build"))
     os.symlink(program, os.path.join(folder, "build", "stlslice"))
     os.symlink(os.path.join(ROOT, "examples"), os.path.join(folder, "examples"))
-    status, told, fault = run(["bash", "-c", block.body + "command -v stlslice"], cwd=folder, env={"PATH": "/usr/bin:/bin"})
-    same((status, told.decode(), fault), (0, os.path.join(folder, "build", "stlslice") + "\n", b""), "setup")
+    os.symlink(os.path.join(ROOT, "commands"), os.path.join(folder, "commands"))
+    status, told, fault = run(["bash", "-c", block.body + "command -v stlslice stlslice-sl1"], cwd=folder, env={"PATH": "/usr/bin:/bin"})
+    found = "".join(os.path.join(folder, name) + "\n" for name in ("build/stlslice", "commands/stlslice-sl1"))
+    same((status, told.decode(), fault), (0, found, b""), "setup")
     assert content(folder, "part.stl") == content(example("bracket.stl")), "another part"
 
 
 def canvas_that_is_too_small_is_refused(program, folder):
-    env, here = environment(program, folder), folder_of(program, folder, 0)
+    env, here = with_commands(environment(program, folder)), folder_of(program, folder, 0)
     block = next(block for block in blocks(PAGE) if block.head == "A fixed canvas" and block.language == "sh")
     assert block.body.count("W=2560 H=1620") == 1
     found = run(["bash", "-c", block.body.replace("W=2560 H=1620", "W=640 H=239")], cwd=here, env=env)
@@ -225,13 +251,13 @@ def canvas_that_is_too_small_is_refused(program, folder):
 
 def refused_part_stops_recipes(program, folder):
     """With a part that is no STL, and with one that is open, the slicer's line is told and no file gets its name."""
-    env = environment(program, folder)
-    heads = ("An archive for the printer", "A folder of PNGs", "One layer alone", "A fixed canvas", "Compressed streams",
+    env = with_commands(environment(program, folder))
+    heads = ("By printer", "An archive for the printer", "A folder of PNGs", "One layer alone", "A fixed canvas", "Compressed streams",
              "Many processors, many machines")
-    names = {"out.sl1", "pngs", "layer17.pbm", "canvas.pbm", "layers.zst", "layers.gz", "layers.pbm"}
+    names = {"out.sl1", "turned.sl1", "pngs", "layer17.pbm", "canvas.pbm", "layers.zst", "layers.gz", "layers.pbm"}
     seen = set()
     for number, block in enumerate(blocks(PAGE)):
-        if block.language != "sh" or block.head not in heads or block.words or "--canvas 640x200" in block.body:
+        if block.language != "sh" or block.head not in heads or block.words:
             continue
         if any(not shutil.which(tool) for package in needs(block) for tool in TOOLS[package]):
             continue
@@ -276,10 +302,12 @@ def rules_are_as_in_the_table(program, folder):
 
 
 def examples_are_executable(program, folder):
-    for name in ("to_sl1.py", "to_pngs.py", "mark_edge.py", "slabs.sh", "slabs.sbatch"):
-        assert os.stat(example(name)).st_mode & stat.S_IXUSR, f"{name} isn't executable"
+    for name in ("examples/mark_edge.py", "examples/slabs.sbatch", "commands/stlslice-sl1", "commands/stlslice-pngs",
+                 "commands/stlslice-slabs"):
+        assert os.stat(os.path.join(ROOT, name)).st_mode & stat.S_IXUSR, f"{name} isn't executable"
 
 
 if __name__ == "__main__":
-    main([recipes_do_what_they_say, recipes_follow_one_another, old_slabs_are_not_mixed_in, first_block_is_the_folder,
+    main([recipes_do_what_they_say, commands_of_the_tables_run, recipes_follow_one_another, old_slabs_are_not_mixed_in,
+          first_block_is_the_folder,
           canvas_that_is_too_small_is_refused, refused_part_stops_recipes, rules_are_as_in_the_table, examples_are_executable])

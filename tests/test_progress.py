@@ -16,6 +16,7 @@ SHOWN = r"(slicing|writing) (\d+) %, (\d+) of (\d+) (layers|bytes)(?:, \d+ s lef
 
 # Words of runs that end well and of runs that fail, with the input of each.
 RUNS = [(SLICE, PART), (SLICE + ["--workers", "4"], PART), (SLICE + ["--report"], PART), (["--box"], PART),
+        (SLICE + ["--png"], PART), (SLICE + ["--png", "--depth", "1", "--workers", "4"], PART),
         (SLICE + ["--probe", "1,1,1"], PART), (SLICE + ["--probe", "999,1,1"], PART), (["--pitch", "100"], PART),
         (SLICE, os.path.join(ROOT, "README.md")), (["--pitch", "1", "--layer", "1"], PART)]
 
@@ -89,11 +90,14 @@ def main():
     images = len(run(SLICE).stdout)
     for workers in ("1", "4"):
         lines_elsewhere(SLICE + ["--workers", workers], [("slicing", LAYERS), ("writing", images)])
+    for words in (["--png"], ["--png", "--workers", "4", "--mirror-x"]):
+        lines_elsewhere(SLICE + words, [("slicing", LAYERS), ("writing", LAYERS)])
     lines_elsewhere(SLICE + ["--report"], [("slicing", LAYERS)])
     for words in (["--box"], SLICE + ["--probe", "1,1,1"]):
         same(f"what {words[0]} shows", run(words + ["--progress"]).stderr, b"")
     line_on_a_terminal(SLICE, [""])
     line_on_a_terminal(SLICE + ["--report"], [""])
+    line_on_a_terminal(SLICE + ["--png"], [""])
     line_on_a_terminal(SLICE, ["stlslice: write failed after 0 bytes", ""], "/dev/full")
     closed = subprocess.run(["bash", "-c", '"$0" "$@" 2>&-', PROGRAM, *SLICE, "--progress"], stdin=open(PART, "rb"), stdout=subprocess.PIPE)
     same("a run with standard error closed", (closed.returncode, len(closed.stdout)), (0, images))

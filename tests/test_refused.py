@@ -13,7 +13,7 @@ import re
 import shutil
 
 from pages import blocks
-from parts import ROOT, box, environment, example, leave_out, main, run, same, text
+from parts import ROOT, box, environment, example, installed, leave_out, main, run, same, text
 
 PAGE = os.path.join(ROOT, "docs", "refused.md")
 REPORT = ["--pitch", "100", "--layer", "100", "--report"]
@@ -272,6 +272,39 @@ def too_many_facets(program, folder):
     same(lines, [found[1].strip()], "the page's line")
 
 
+def shells_are_joined(program, folder):
+    """The page's command for several shells, on a part of two that overlap."""
+    block = next(block for block in blocks(PAGE) if block.words == ["shells"])
+    env = environment(program, folder)
+    with open(os.path.join(folder, "part.stl"), "w") as file:
+        file.write(text(cube() + cube(20, 50)))
+    found = run(["bash", "-c", block.body], cwd=folder, env={**env, "PATH": f"{installed()}:{env['PATH']}"})
+    # 27 + 27 - 1 cubic centimetres
+    same(found, (0, b"out.sl1: 50.000 x 50.000 x 50.000 mm, 53.000 ml, 1000 layers\n", b""), "two shells")
+
+
+def mesh_is_made_coarser(program, folder):
+    """The page's command for a coarser mesh, on a ball and by a smaller number: it stays closed, and its volume nearly the same."""
+    if run(["/usr/bin/python3", "-c", "import open3d"])[0]:
+        return leave_out("A coarser mesh", ["python3-open3d"])
+    block = next(block for block in blocks(PAGE) if block.words == ["coarser"])
+    assert block.body.count("(1000000)") == 1
+    facets = ball(15, 5)
+    with open(os.path.join(folder, "part.stl"), "wb") as file:
+        file.write(written(facets))
+    env = environment(program, folder)
+    status, _, fault = run(["bash", "-c", block.body.replace("(1000000)", "(4000)")], cwd=folder, env=env)
+    same(status, 0, f"status ({fault.decode()})")
+    same(os.path.getsize(os.path.join(folder, "mended.stl")), 84 + 50 * 4000, "bytes of 4,000 facets")
+    volumes = []
+    for name in ("part.stl", "mended.stl"):
+        out = os.path.join(folder, name + ".sl1")
+        status, told, fault = run([installed("stlslice-sl1"), "--printer", "SL1S", "--layer", "500", os.path.join(folder, name), out])
+        same(status, 0, f"status of {name} ({fault.decode()})")
+        volumes.append(float(re.search(rb", ([\d.]+) ml,", told)[1]))
+    assert abs(volumes[0] - volumes[1]) < 0.01 * volumes[0], f"volumes {volumes}"
+
+
 def other_faults(program, folder):
     """The faults of grid, memory and devices: the run that ends so is made here."""
     page = sections()
@@ -304,7 +337,8 @@ def faults_of_words(program, folder):
     with open(PAGE, encoding="utf-8") as file:
         table = file.read().split("## Status 2")[1]
     lines = re.findall(r"^\| `([^`]+)` \|", table, flags=re.MULTILINE)
-    words = [[], ["--pitch", "50"], ["--rule", "EvenOdd"], ["--unit", "cm"], ["--grid=1,1,1,0,0"], ["--probe", "0,0"], [b"\xff"],
+    words = [[], ["--pitch", "50"], ["--rule", "EvenOdd"], ["--unit", "cm"], ["--grid=1,1,1,0,0"], ["--probe", "0,0"],
+             ["--png", "--depth", "2"], ["--depth", "8"], [b"\xff"],
              ["--pitch", "0.05", "--layer", "50"], ["--pitch", "0", "--layer", "50"], ["--grid", "-1,1,1,0,0,0"], ["part.stl"],
              ["--pitch", "50", "--pitch", "50"], ["--pitch"]]
     same(len(lines), len(words), "lines of words")
@@ -418,5 +452,5 @@ def repairs_destroy_as_told(program, folder):
 
 
 if __name__ == "__main__":
-    main([files_are_refused, files_are_mended, too_many_facets, other_faults, faults_of_words,
+    main([files_are_refused, files_are_mended, too_many_facets, shells_are_joined, other_faults, faults_of_words,
           each_line_of_the_program_is_there, place_is_found])

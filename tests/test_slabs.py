@@ -1,5 +1,5 @@
 #!/usr/bin/env -S python3 -B
-"""examples/slabs.sh and examples/slabs.sbatch: the slabs' images, joined, are those of the whole, and a slab that fails
+"""stlslice-slabs, as installed, and examples/slabs.sbatch: the slabs' images, joined, are those of the whole, and a slab that fails
 leaves nothing. What needs GNU parallel and an ssh server is in test_slabs_tools.py."""
 
 import glob
@@ -9,9 +9,9 @@ import socket
 import subprocess
 import time
 
-from parts import batch_system, box, environment, example, main, run, same, text
+from parts import batch_system, box, environment, example, installed, main, run, same, text
 
-SLABS = example("slabs.sh")
+SLABS = installed("stlslice-slabs")
 BATCH = example("slabs.sbatch")
 
 
@@ -41,6 +41,17 @@ def words_are_slabs_of_the_whole(program, folder):
         lines = told.decode().splitlines()
         same(len(lines), slabs, f"slabs of {per} layers")
         assert b"".join(whole(program, part, line.split()) for line in lines) == whole(program, part), "bytes differ"
+
+
+def words_are_pngs_of_the_whole(program, folder):
+    env, part = environment(program, folder), example("bracket.stl")
+    for pngs in (["--png"], ["--png", "--depth", "1", "--mirror-x", "--mirror-y"]):
+        status, told, fault = run([SLABS, "-p", "200", "-l", "300", *pngs, "-n", "30", "--words", part], env=env)
+        same((status, fault), (0, b""), "words")
+        lines = told.decode().splitlines()
+        same(len(lines), 3, "slabs of 30 layers")
+        wanted = whole(program, part, ["--pitch", "200", "--layer", "300", *pngs])
+        assert b"".join(whole(program, part, line.split()) for line in lines) == wanted, "bytes differ"
 
 
 def batch_of_tasks_is_the_whole(program, folder):
@@ -107,7 +118,7 @@ def part_is_not_overwritten(program, folder):
     shutil.copy(example("bracket.stl"), part)
     os.link(part, link)
     for out in (part, link):
-        same(run([SLABS, part, out], env=env), (1, b"", f"slabs.sh: {out} is the part itself\n".encode()), "the part itself")
+        same(run([SLABS, part, out], env=env), (1, b"", f"stlslice-slabs: {out} is the part itself\n".encode()), "the part itself")
     assert content(part) == content(example("bracket.stl")), "the part has changed"
 
 
@@ -134,16 +145,25 @@ def wrong_words_are_refused(program, folder):
     for words, status, line in ((["-p", "0", part, "x"], 2, "-p takes a whole number, at least 1"),
                                 (["-n", "", part, "x"], 2, "-n takes a whole number, at least 1"),
                                 (["-x", part, "x"], 2, "there is no option -x"),
+                                (["--png", "--depth", "2", part, "x"], 2, "--depth takes 8 or 1"),
+                                (["--mirror-x", part, "x"], 2, "--depth, --mirror-x and --mirror-y go with --png"),
+                                (["--depth", "8", part, "x"], 2, "--depth, --mirror-x and --mirror-y go with --png"),
                                 (["-", "x"], 2, "there is no option -"),
                                 ([part], 2, "it takes part.stl and layers.pbm, or --words and part.stl"),
                                 ([folder, "x"], 1, f"{folder} can't be read")):
-        same(run([SLABS, *words], cwd=folder, env=env), (status, b"", f"slabs.sh: {line}\n".encode()), str(words))
+        same(run([SLABS, *words], cwd=folder, env=env), (status, b"", f"stlslice-slabs: {line}\n".encode()), str(words))
     same(run([SLABS, "-r", "odd", "--words", part], cwd=folder, env=env)[0], 0, "words of a rule aren't looked at here")
     empty = os.path.join(folder, "empty.stl")
     with open(empty, "w") as file:
         file.write("solid\nendsolid\n")
-    same(run([SLABS, empty, "x"], cwd=folder, env=env), (1, b"", b"slabs.sh: the part has no facets\n"), "no facets")
-    same(sorted(os.listdir(folder)), ["empty.stl", "home", "tools"], "files")
+    same(run([SLABS, empty, "x"], cwd=folder, env=env), (1, b"", b"stlslice-slabs: the part has no facets\n"), "no facets")
+    with open(os.path.join(folder, "a b.stl"), "wb") as file:
+        file.write(b"solid".ljust(80) + (2).to_bytes(4, "little") + bytes(100))
+    line = (b"stlslice-slabs: the part is binary STL, and text is taken; convert it: admesh --no-check --write-ascii-stl=text.stl "
+            b"a\\ b.stl\n")
+    for words in (["a b.stl", "x"], ["--words", "a b.stl"]):
+        same(run([SLABS, *words], cwd=folder, env=env), (3, b"", line), "a binary STL")
+    same(sorted(os.listdir(folder)), ["a b.stl", "empty.stl", "home", "tools"], "files")
 
 
 def parallel_slabs_are_the_whole(program, folder):
@@ -234,5 +254,5 @@ def missing_tools():
 
 
 if __name__ == "__main__":
-    main([words_are_slabs_of_the_whole, part_is_not_overwritten, batch_of_tasks_is_the_whole, batch_system_runs_tasks,
-          task_that_fails_leaves_nothing, wrong_words_are_refused])
+    main([words_are_slabs_of_the_whole, words_are_pngs_of_the_whole, part_is_not_overwritten, batch_of_tasks_is_the_whole,
+          batch_system_runs_tasks, task_that_fails_leaves_nothing, wrong_words_are_refused])

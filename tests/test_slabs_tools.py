@@ -1,9 +1,9 @@
 #!/usr/bin/env -S python3 -B
-"""examples/slabs.sh with GNU parallel, on this machine and over ssh to a server of the test's own."""
+"""stlslice-slabs, as installed, with GNU parallel, on this machine and over ssh to a server of the test's own."""
 
 import os
 
-from parts import example, leave_out, main, run, same
+from parts import example, installed, leave_out, main, run, same
 from test_slabs import (first_failure_halts, missing_tools, parallel_slabs_are_the_whole, slabs_over_ssh_are_the_whole)
 
 
@@ -12,7 +12,7 @@ def outputs_are_plain_files(program, folder):
     os.mkfifo(pipe)
     os.symlink("elsewhere", link)
     for out in (pipe, link, folder):
-        status, told, fault = run(["bash", example("slabs.sh"), "-P", program, example("bracket.stl"), out])
+        status, told, fault = run(["bash", installed("stlslice-slabs"), "-P", program, example("bracket.stl"), out])
         same((status, told, f"{out} is no plain file" in fault.decode()), (1, b"", True), "an output that is no plain file")
     same(sorted(os.listdir(folder)), ["link", "pipe"], "files in the folder")
 

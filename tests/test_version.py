@@ -10,7 +10,7 @@ import shutil
 import sys
 import zipfile
 
-from common import LIBRARY, ROOT, Room, holds, same, text_of, version, why_no_library
+from common import LIBRARY, ROOT, Room, ended, holds, leave_out, same, text_of, version, why_no_library
 
 
 def number_of(text):
@@ -58,7 +58,9 @@ def main():
         told = room.run("stlslice", "--version")
         short = room.run("stlslice", "-V")
         dist = room.run("make", "-s", "-n", "-o", "build/stlslice", "dist", cwd=ROOT)
-        if shutil.which("rt"):
+        if not shutil.which("rt"):
+            leave_out("rt is missing: it comes with the Rattle toolchain")
+        else:
             # a kit's name may have a letter more: kits of one logic prove the same
             kit, logic = proved.split(" ", 1)
             here = room.run("rt", "version").stdout
@@ -70,6 +72,7 @@ def main():
         holds(f"{place} tells of {name}", name in text_of(place))
     holds("CHANGELOG.md tells of it", f"\n## [{version()}] - 20" in text_of("CHANGELOG.md"))
     holds("make dist takes it", f" {version()} " in dist.stdout)
+    ended()
 
 
 if __name__ == "__main__":

@@ -12,7 +12,7 @@ import re
 import sys
 import zipfile
 
-from common import ROOT, Room, holds, library, same, skip, text_of, version
+from common import ROOT, Room, ended, holds, leave_out, library, python_with, same, skip, text_of, version
 
 USE = """
 import hashlib, os, sys, stlslice
@@ -86,7 +86,7 @@ def from_tree(room):
 def documented(room, python):
     """The Python of README runs as it stands, and so does the preview, which shows the gear."""
     if room.run(python, "-c", "import numpy").returncode:
-        return print("numpy is missing: the lines of README and of docs/embedding.md were not run")
+        return leave_out("numpy is missing (Debian: python3-numpy): the lines of README and of docs/embedding.md were not run")
     readme = re.search(r"(?ms)^```python\n(.*?)^```$", text_of("README.md"))[1]
     os.symlink(os.path.join(ROOT, "examples", "bracket.stl"), room.file("part.stl"))
     shown = "print(mask.shape, mask.dtype, int(mask.sum()) == area > 0, image[:11], len(image), [len(it) > 2 for it in loops])"
@@ -96,7 +96,7 @@ def documented(room, python):
         count = int(re.search(r"(?m)^layer 120 loops (\d+) ", room.run("stlslice", *words, stdin=text).stdout)[1])
     wanted = f"(240, 640) bool True b'P4\\n640 240\\n' {11 + 80 * 240} {[True] * count}\n"
     same("README's lines", (ran.returncode, ran.stdout, ran.stderr), (0, wanted, ""))
-    preview = re.search(r"(?ms)^```python\n(.*?)^```$", text_of("docs/embedding.md"))[1]
+    preview = re.search(r"(?ms)^## A preview in Python\n.*?^```python\n(.*?)^```$", text_of("docs/embedding.md"))[1]
     with open(os.path.join(ROOT, "examples", "helical_gear.stl"), "rb") as part:
         ran = room.run(python, "-c", preview, stdin=part, text=False)
     same("status of the preview", (ran.returncode, ran.stderr), (0, b""))
@@ -112,13 +112,14 @@ def main():
         holds("both wheels are the same bytes", first == made(room, "another")[1])
         contents(wheel)
         python = room.file("own", "bin", "python")
-        if room.run(sys.executable, "-m", "venv", "--system-site-packages", room.file("own")).returncode:
+        if room.run(python_with(room, "numpy", "venv"), "-m", "venv", "--system-site-packages", room.file("own")).returncode:
             skip("venv is missing (Debian: python3-venv)")
         ran = room.run(python, "-m", "pip", "install", "-q", "--disable-pip-version-check", "--no-index", "--no-deps", wheel)
         same("status of pip", (ran.returncode, ran.stdout), (0, ""))
         used(room, python)
         documented(room, python)
         from_tree(room)
+    ended()
 
 
 if __name__ == "__main__":

@@ -1,0 +1,166 @@
+#!/usr/bin/env python3
+"""make check: what it proves, tries and tests for a change of a body, of a contract, of a lemma's proof, of a script and of
+nothing; and that it fails if one of these does. It is tried in a small repository, with an rt that stands in for the real one."""
+
+import os
+import re
+import shutil
+import sys
+
+from common import ROOT, Room, holds, same
+
+sys.path.insert(0, os.path.join(ROOT, "tools"))
+import check  # noqa: E402
+
+LOW = """//! A crate.
+
+/// Says one.
+pub fn one(a: u32) -> u32
+    ensures { result ≡ 1 }
+{
+    if a > 1 {
+        return 1;
+    }
+    1
+}
+"""
+# two traits whose functions have no bodies, and a function with a clause of several lines
+TRAITS = """pub trait Source {
+    fn pull(&self) -> u32
+        ensures few { result < 9 };
+}
+
+pub trait Sink {
+    fn put(&self) -> u32
+        ensures some { 0 < result };
+
+    fn end(&self) -> u32
+        ensures none {
+            result ≡ 0
+        }
+        ensures few { result < 8 }
+    {
+        4 - 4
+    }
+}
+"""
+LEMMA = """pub fact : (n : ℕ) → n ≡ n
+fact n = refl
+"""
+STAND_IN = "#!/bin/sh\necho \"$(basename \"$0\") $* in $(basename \"$PWD\")\" >> \"$LOG\"\ntest \"$*\" != \"$FAILS\"\n"
+MAKEFILE = "build/stlslice:\n\tmkdir -p build; printf '#!/bin/sh\\n' > $@; chmod 755 $@\n"
+FILES = {
+    "crates.txt": "# name: libraries\nlow:\nhigh: low\nlow_tests: low\nhigh_tests: high low\ntop:\n",
+    "crates/low/src/lib.rt": LOW,
+    "crates/low/proofs/Facts.antt": LEMMA,
+    "crates/low/specs/Lib.antt": "-- none\n",
+    "crates/low/edits/one.of_two.edit": "file: src/lib.rt\n",
+    "crates/low/must-fail/one.of_three.edit": "file: src/lib.rt\n",
+    "crates/high/src/lib.rt": LOW,
+    "crates/low_tests/src/lib.rt": "#[test]\nfn a() {}\n",
+    "crates/high_tests/src/lib.rt": "#[test]\nfn b() {}\n",
+    "crates/top/src/tests.rt": "#[test]\nfn c() {}\n",
+    "tools/script": "#!/bin/sh\n",
+    "tests/test_script.sh": "#!/bin/sh\n# tries tools/script\n",
+    "tests/test_other.sh": "#!/bin/sh\n",
+    "Makefile": MAKEFILE,
+    ".gitignore": "log\nbuild/\n__pycache__/\nbin/\n",
+}
+
+
+def put(path, text):
+    os.makedirs(os.path.dirname(path), exist_ok=True)
+    with open(path, "w", encoding="utf-8") as file:
+        file.write(text)
+    os.chmod(path, 0o755)
+
+
+class Repository:
+    def __init__(self, room):
+        self.room, self.top = room, room.file("repository")
+        for name, text in FILES.items():
+            put(f"{self.top}/{name}", text)
+        for name in ("tools/edits.py", "tools/prove.py"):
+            put(f"{self.top}/{name}", STAND_IN)
+        put(room.file("bin", "rt"), STAND_IN)
+        shutil.copy(os.path.join(ROOT, "tools", "check.py"), f"{self.top}/tools/check.py")
+        shutil.copy(os.path.join(ROOT, "tests", "run"), f"{self.top}/tests/run")
+        for words in (["init", "-q"], ["add", "-A"], ["-c", "user.name=a", "-c", "user.email=a@b", "commit", "-qm", "first"]):
+            self.run("git", *words)
+
+    def run(self, *words, **more):
+        environment = {**self.room.environment, "LOG": f"{self.top}/log", "FAILS": "", **more}
+        return self.room.run(*words, cwd=self.top, env=environment)
+
+    def check(self, **more):
+        """The commands that it ran, its verdicts, and its status; what was changed is taken back. `left` is what it says that it
+        did not try."""
+        put(f"{self.top}/log", "")
+        ran = self.run("tools/check.py", **more)
+        self.left = [line.strip() for line in ran.stdout.splitlines() if line.startswith("  ")]
+        with open(f"{self.top}/log", encoding="utf-8") as file:
+            log = sorted(file.read().splitlines())
+        self.run("git", "checkout", "-q", ".")
+        return log, re.findall(r"(?m)^(?:passed|FAILED): .*(?= \()", ran.stdout), ran.stdout.splitlines()[-1], ran.returncode
+
+
+def bodies():
+    """Of a source all can be seen from above but bodies; of proofs/ statements, and definitions that can be unfolded."""
+    seen = check.seen_from_above("crates/low/src/lib.rt", TRAITS)
+    same("what is seen of traits", seen.replace("{}", "{\n        4 - 4\n    }"), TRAITS)
+    holds("no body is", "4 - 4" not in seen)
+    seen = check.seen_from_above("crates/low/proofs/Facts.antt", f"{LEMMA}\nabbrev pub one : ℕ\none = 1\n")
+    holds("a definition that can be unfolded is seen, and no proof", "one = 1" in seen and "n ≡ n" in seen and "refl" not in seen)
+
+
+def main():
+    bodies()
+    with Room() as room:
+        it = Repository(room)
+        same("nothing changed", it.check(),
+             ([], [], "nothing has changed: name an older revision (make check BASE=REV)", 0))
+
+        put(f"{it.top}/crates/low/src/lib.rt", LOW.replace("return 1;", "return 2 - 1;"))
+        body = ["edits.py --changed crates/low/src/lib.rt in repository", "prove.py crates/low_tests in repository",
+                "rt check in low", "rt test in low_tests"]
+        steps = ["proof of low", "libraries below low_tests", "tests of low_tests", "the program", "2 tests in tests/"]
+        tried = "edits --changed crates/low/src/lib.rt"
+        same("a body", it.check(), (body, [f"passed: {step}" for step in [*steps, tried]], "6 passed, 0 failed", 0))
+        same("what a body leaves", it.left, ["proofs of high, top", "tests of high_tests, top", "edits but those of crates/low/src/lib.rt", "0 of 2 tests in tests/"])
+
+        put(f"{it.top}/crates/low/src/lib.rt", LOW.replace("return 1;", "return 2 - 1;"))
+        same("an edit that is proved", it.check(FAILS="--changed crates/low/src/lib.rt")[1:],
+             ([*[f"passed: {step}" for step in steps], f"FAILED: {tried}"], "5 passed, 1 failed", 1))
+
+        put(f"{it.top}/crates/low/src/lib.rt", LOW.replace("≡ 1", "≡ 2"))
+        same("a contract", it.check()[0], sorted([*body, "rt check in high"]))
+
+        put(f"{it.top}/crates/low/proofs/Facts.antt", LEMMA.replace("= refl", "= (refl)"))
+        same("a lemma's proof", it.check()[0], [line for line in body if not line.startswith("edits.py")])
+        same("what a lemma's proof leaves", it.left[2], "edits")
+
+        put(f"{it.top}/crates/low/proofs/Facts.antt", LEMMA.replace("n ≡ n", "n + 0 ≡ n"))
+        same("a lemma's statement", it.check()[0], sorted([*[line for line in body if not line.startswith("edits.py")], "rt check in high"]))
+
+        put(f"{it.top}/crates/low/specs/Lib.antt", "-- one\npub one : ℕ\none = 1\n")
+        same("a definition", it.check()[0], sorted(["edits.py low in repository", *body[1:], "rt check in high"]))
+
+        put(f"{it.top}/crates/high/src/lib.rt", LOW.replace("return 1;", "return 2 - 1;"))
+        same("a proof that fails ends it", it.check(FAILS="check"), (["rt check in high"], ["FAILED: proof of high"], "0 passed, 1 failed", 1))
+        same("what it leaves then", it.left, ["proofs of low, top", "tests of low_tests, high_tests, top", "edits", "2 of 2 tests in tests/"])
+
+        for name in ("edits/one.of_two", "must-fail/one.of_three"):
+            put(f"{it.top}/crates/low/{name}.edit", "file: src/lib.rt\nold: 1\nnew: 2\n")
+            same(f"{name} alone", it.check()[:2], ([f"edits.py --changed crates/low/{name}.edit in repository"], [f"passed: edits --changed crates/low/{name}.edit"]))
+        put(f"{it.top}/crates/low/must-fail/one.of_three.edit", "file: src/lib.rt\nold: 1\nnew: 2\n")
+        put(f"{it.top}/crates/low/specs/Lib.antt", "-- one\npub one : ℕ\none = 1\n")
+        edits = [line for line in it.check()[0] if line.startswith("edits.py")]
+        same("a definition and an edit", edits, ["edits.py --changed crates/low/must-fail/one.of_three.edit in repository", "edits.py low in repository"])
+
+        put(f"{it.top}/tools/script", "#!/bin/sh\n#\n")
+        it.run("make", "build/stlslice")
+        same("a script", it.check(), ([], ["passed: 1 tests in tests/"], "1 passed, 0 failed", 0))
+
+
+if __name__ == "__main__":
+    main()

@@ -1,0 +1,558 @@
+#!/usr/bin/env python3
+"""The tool that tries wrong bodies together: which functions an edit is of, which edits go together, what it refuses to try, and
+how it reads what a check says. The checks are those of a stand-in for the toolchain, whose lines are rattle's. And each edit
+of the repository can be applied, and is of a function."""
+
+import contextlib
+import os
+import shutil
+import sys
+
+from common import ROOT, Room, holds, same
+
+sys.path.insert(0, os.path.join(ROOT, "tools"))
+import edits
+
+# what the tool uses of the toolchain's library
+LIBRARY = '''
+import os
+
+RATTLE = os.path.join(os.path.dirname(os.path.abspath(__file__)), "rattle")
+
+
+class Crate:
+    name = "thing"
+
+    def __init__(self, root):
+        self.folder = f"{root}/crates/thing"
+
+    def below(self):
+        return []
+
+    def count(self, pattern):
+        return 10
+
+    def words(self, flags, keeps):
+        return [*flags, "src/lib.rt"]
+
+    def stamp(self):
+        with open(f"{self.folder}/src/parts.rt") as it:
+            return it.read()
+
+
+def crates_below(root):
+    return [Crate(root)]
+
+
+def guarded():
+    return []
+
+
+def fits(*needs):
+    return True
+'''
+
+# It judges each function that it is asked for by a word in its body. The forms of the lines are those of rattle-kit-13f.
+RATTLE = r'''#!/usr/bin/env python3
+import os, re, sys
+
+asked = [name for flag, name in zip(sys.argv, sys.argv[1:]) if flag == "--only"]
+text = "".join(open(f"src/{name}").read() for name in sorted(os.listdir("src")))
+specs = open("specs/Laws.antt").read()
+for line, row in enumerate(open("src/parts.rt").read().split("\n"), 1):
+    if "SYNTAX" in row:
+        print(f"src/parts.rt:{line}:5: error[syntax]: expected an expression")
+        sys.exit(1)
+with open(os.environ["ASKED"], "a") as it:
+    print(*asked, file=it)
+kept = sys.argv[sys.argv.index("--incremental") + 1]
+with open(os.environ["ASKED"] + ".kept", "a") as it:
+    print(len(os.listdir(kept)), file=it)
+open(f"{kept}/{len(os.listdir(kept))}", "w").close()
+for line, row in enumerate(open("src/parts.rt").read().split("\n"), 1):
+    if "UNKNOWN" in row:
+        print(f"src/parts.rt:{line}:5: error: `ensures-value`: `UNKNOWN` is not in scope")
+lines = []
+for name in asked:
+    path, last = name.replace("::", "/"), name.rpartition("::")[2]
+    body = text.partition(f"fn {last}(")[2].partition("fn ")[0]
+    goal = "note: src/parts.rt:1:1: it is not proved that what the function ensures holds when it returns (`{0}`); `search` gave up at one of its limits\n"
+    own = f"fn thing::{name}: not proved; it stands on `Rattle.thing.proofs.{name.replace('::', '.')}.Answers.{{0}}`, which antt refuses"
+    if "let _same" in body:
+        said = f"fn thing::{name}: {os.environ['CONTROL']}"
+        holds_proof = os.path.exists(f"proofs/{path}/Proof.antt")
+        said = f"fn thing::{name}: depends on a hole" if holds_proof else said
+        said = "" if os.environ["CONTROL"] == "missing" else said
+    elif "HIDDEN" in body and "BREAKS" in text:
+        said = f"fn thing::{name}: no proof: the borrow checker's part in its proof is not made yet: a call of `thing::parts::looped`, which has no proof"
+    elif "SEARCHED" in body or "HIDDEN" in body:
+        said = goal.format("returns-clause-value") + f"fn thing::{name}: no proof: expected answers in ./proofs/{path}/Answers.antt; `search` did not prove `returns-clause-value`"
+    elif last == "looped" and re.search("LIMIT: u32 = [56]", text):
+        lemma = "limit-is" if "LIMIT: u32 = 5" in text else "limit-fits"
+        print(f"./proofs/lemmas/Limits.antt:3:1: error: `{lemma}`: expected type `LIMIT ≡ 4`")
+        said = f"fn thing::{name}: not proved; it stands on `Rattle.thing.proofs.lemmas.Limits.{lemma}`, which antt refuses"
+    elif last == "law" and "lemma" in specs:
+        print(f"./proofs/lemmas/Laws.antt:3:1: error: `law-holds`: as printed, the two types differ only where one has `a`")
+        said = f"fn thing::{name}: not proved; it stands on `Rattle.thing.proofs.lemmas.Laws.law-holds`, which antt refuses"
+    elif "ANSWERED" in body or last == "law" and "false" in specs:
+        print(f"./proofs/{path}/Answers.antt:8:25: error: `returns-in-Some`: as printed, the two types differ only where one has `a`")
+        said = own.format("returns-in-Some")
+    elif "LOOP" in body:
+        said = goal.format("loop-facet-preserved") + f"fn thing::{name}: no proof: `search` did not prove `loop-facet-preserved`; it calls `thing::parts::other`, which is not proved"
+    elif "LABEL" in body:
+        said = goal.format("add-preserved") + f"fn thing::{name}: no proof: `search` did not prove `add-preserved`"
+    elif "WAITS" in body:
+        said = f"fn thing::{name}: no proof: expected a measure in ./proofs/{path}/Invariants.antt"
+    elif "SMALLER" in body:
+        said = goal.format("add-smaller") + f"fn thing::{name}: no proof: `search` did not prove `add-smaller`"
+    elif "LEMMA" in body or "BESIDE" in body:
+        lemma = "sum_is" if "LEMMA" in body else "inside"
+        print(f"./proofs/{path}/Answers.antt:8:25: error: `{lemma}`: as printed, the two types differ only where one has `a`")
+        said = own.format(lemma)
+    elif "CLOSURE" in body:
+        inner = name.replace("::", "::fn::", 1) + "::each"
+        lines.append(goal.format("returns-2") + f"fn thing::{inner}: no proof: `search` did not prove `returns-2`")
+        said = f"fn thing::{name}: no proof: it calls `thing::{inner}+Fn::call`, which is not proved"
+    elif "INVARIANT" in body:
+        said = f"fn thing::{name}: no proof: expected answers in ./proofs/{path}/Answers.antt; `search` did not prove `invariant_of-shared`; it calls `thing::parts::other`, which is not proved"
+    elif "MEASURE" in body:
+        said = goal.format("loop-facet-smaller") + f"fn thing::{name}: no proof: `search` did not prove `loop-facet-smaller`"
+    elif "OVERFLOW" in body:
+        said = goal.format("overflow_add-gap") + f"fn thing::{name}: no proof: `search` did not prove `overflow_add-gap`"
+    elif "NAMES" in body:
+        print(f"./proofs/{path}/Answers.antt:8:75: error: `returns`: record `Rattle.thing.proofs.After` has no field `grown`")
+        said = own.format("returns")
+    elif "CALLS" in body or "UNKNOWN" in body:
+        said = f"fn thing::{name}: not proved; it calls `thing::parts::other`, which is not proved"
+    else:
+        said = f"fn thing::{name}: no holes"
+    lines.append(said)
+print("\n".join(lines))
+print(f"only={len(asked)} holes=0")
+sys.exit(1)
+'''
+
+SOURCE = """//! A part.
+ghost use Rattle.thing.specs.Laws.{IsLaw};
+
+const LIMIT: u32 = 4;
+
+/// It has a loop.
+pub fn looped(n: u32) -> u32
+    ensures value { result ≡ n }
+    ensures many {
+        result ≡ n
+    }
+{
+    let mut sum = 1;
+    'add: while sum < n {
+        sum += 1;
+    }
+    sum
+}
+
+pub struct Part {
+    n: u32,
+}
+
+impl<A: Allocator> Part<A> {
+    /// A part.
+    pub fn of(
+        n: u32,
+    ) -> Part
+        ensures { result.n ≡ n }
+    {
+        let part = 2;
+        Part { n: part }
+    }
+
+    pub fn n(&self) -> u32
+        ensures { result ≡ self.now.n }
+    {
+        self.n
+    }
+}
+
+impl From<Vec<u32>> for Part {
+    fn from(_n: Vec<u32>) -> Part {
+        let from = 3;
+        Part { n: from }
+    }
+}
+
+fn plain(n: u32) -> u32
+    ensures { result ≡ n }
+{
+    let plain = n;
+    plain
+}
+
+/// A law.
+pub fn law()
+    ensures held { IsLaw }
+{}
+"""
+
+SPECS = """-- Laws.
+use Rattle.std.specs.Prelude.{ℕ}
+
+-- A law, by another definition.
+pub IsLaw : Type
+IsLaw = HoldsOf 1
+
+pub HoldsOf : ℕ → Type
+HoldsOf n =
+  true
+"""
+
+# of these lemmas one is only for a clause, the other also for what a call requires; `limit-twice` is by the first
+LIMITS = """use Rattle.thing.specs.declared.parts.TheConstants.{LIMIT}
+
+pub limit-is : LIMIT ≡ 4
+limit-is = refl
+
+pub limit-fits : LIMIT < 10
+limit-fits = lit
+
+pub limit-twice : 2 * LIMIT ≡ 8
+limit-twice = ap twice limit-is
+"""
+
+# of the lemmas of these answers one is only for clauses, the other also for what a call requires
+ANSWERS = """use Rattle.thing.proofs.lemmas.Limits.{limit-fits, limit-twice}
+use Rattle.thing.proofs.parts.looped.Goals as goal
+
+inside : (c : goal.After) → c.sum < c.n
+inside c = omega c.if-n
+
+sum_is : (c : goal.After) → c.sum ≡ c.n
+sum_is c = c.called.ensures
+
+more : (c : goal.After) → c.more ≡ c.n
+more c = sum_is c
+
+pub index-requires : goal.index-requires
+index-requires c = inside c limit-fits
+
+pub returns-clause-many : goal.returns-clause-many
+returns-clause-many c = more c
+
+pub returns-clause-value : goal.returns-clause-value
+returns-clause-value c = (inside c, sum_is c, limit-twice)
+"""
+
+# an edit of each function, and what it plants there
+PLANTS = {"looped": "let mut sum = 1;", "of": "let part = 2;", "from": "let from = 3;"}
+
+
+def written(room, name, file, *pairs):
+    path = room.file("crates", "thing", "edits", f"{name}.edit")
+    with open(path, "w", encoding="utf-8") as it:
+        it.write("\n".join([f"file: {file}", *(f"{word}: {text}" for pair in pairs for word, text in zip(("old", "new"), pair))]))
+    return path
+
+
+def planted(room, name, word):
+    """An edit of the function that is named first, in which the stand-in finds the word."""
+    line = PLANTS[name.partition(".")[0]]
+    return written(room, name, "src/parts.rt", (line, f"{line} {word}();"))
+
+
+def emptied(room):
+    folder = room.file("crates", "thing", "edits")
+    shutil.rmtree(folder, ignore_errors=True)
+    shutil.rmtree(room.file("build"), ignore_errors=True)
+    with contextlib.suppress(FileNotFoundError):
+        os.remove(room.file("asked"))
+    os.mkdir(folder)
+
+
+def tries(room, *words, control="no holes"):
+    """What the tool does: its status, and the lines of its two outputs. `control` is what the check says of the harmless edit."""
+    room.environment.update(CONTROL=control, ASKED=room.file("asked"))
+    ran = room.run(sys.executable, "tools/edits.py", *words, cwd=room.path)
+    holds("the tool ends well", "Traceback" not in ran.stderr or sys.exit(ran.stderr))
+    return ran.returncode, ran.stdout.splitlines(), ran.stderr.splitlines()
+
+
+def crate_in(room):
+    for name, text, mode in (("rt", "#!/bin/sh\n", 0o755), ("rtlib.py", LIBRARY, 0o644), ("rattle", RATTLE, 0o755)):
+        with open(room.file("bin", name), "w", encoding="utf-8") as it:
+            it.write(text)
+        os.chmod(room.file("bin", name), mode)
+    for folder in ("src", "specs", "proofs", "edits"):
+        os.makedirs(room.file("crates", "thing", folder))
+    for file, text in (("src/parts.rt", SOURCE), ("src/lib.rt", "mod parts;\n"), ("specs/Laws.antt", SPECS)):
+        with open(room.file("crates", "thing", file), "w", encoding="utf-8") as it:
+            it.write(text)
+    for file, text in (("parts/looped/Answers.antt", ANSWERS), ("lemmas/Limits.antt", LIMITS)):
+        path = room.file("crates", "thing", "proofs", file)
+        os.makedirs(os.path.dirname(path))
+        with open(path, "w", encoding="utf-8") as it:
+            it.write(text)
+    os.mkdir(room.file("tools"))
+    for name in ("edits.py", "prove.py"):
+        shutil.copy(os.path.join(ROOT, "tools", name), room.file("tools"))
+
+
+def functions():
+    found = {it.symbol: it for it in edits.functions_of("src/parts.rt", SOURCE, {"Part": ["home"]})}
+    same("functions", list(found), ["parts::looped", "home::Part::of", "home::Part::n", "parts::PartFromVec::from", "parts::plain",
+                                    "parts::law"])
+    rows = SOURCE.split("\n")
+    same("body", rows[found["home::Part::of"].opens : found["home::Part::of"].last + 1],
+         ["    {", "        let part = 2;", "        Part { n: part }", "    }"])
+    same("tests aside", edits.functions_of("src/lib.rt", "#[test]\nfn tried() {\n    it();\n}\n", {}), [])
+    same("body of a law", rows[found["parts::law"].opens], "{}")
+    asking = edits.functions_of("src/a.rt", "fn read() -> Result<u32, Fault> {\n    Ok(number()?)\n}\n", {})[0]
+    same("words of a body; a question mark calls `from`", sorted(asking.words()), ["Ok", "from", "number"])
+    trait = "pub trait Sink {\n    fn put(&mut self) -> u32\n        ensures { result ≡ 1 };\n\n    fn end(&self) {\n        1\n    }\n}\n"
+    same("a trait", [(it.symbol, it.may_be_left_out()) for it in edits.functions_of("src/a/b.rt", trait, {})], [("a::b::Sink::put", False), ("a::b::Sink::end", True)])
+    for head, name in (("impl<'a, A: Allocator + Copy> Layout<'a, A>", "Layout"), ("impl<T: Write> Sink for Counted<T>", "CountedSink"),
+                       ("impl<T: Drop> From<AllocFailed<T>> for StlFault", "StlFaultFromAllocFailed"), ("impl Debug for Point", "PointDebug"),
+                       ("unsafe impl<B: Allocator> Allocator for ShortMemory<B>", "ShortMemoryAllocator"), ("pub trait Gate<A: Allocator>", "Gate")):
+        same(head, edits.owner(head), name)
+
+
+def each_kind(room):
+    emptied(room)
+    for name, word in (("looped.a", "SEARCHED"), ("looped.b", "LOOP"), ("looped.c", "OVERFLOW"), ("of.a", "ANSWERED"), ("of.b", "NAMES"),
+                       ("of.c", "CALLS"), ("from.a", "SEARCHED"), ("from.b", "HARMLESS"), ("from.c", "MEASURE"), ("looped.d", "INVARIANT"),
+                       ("looped.e", "LABEL"), ("looped.f", "SMALLER"), ("looped.g", "LEMMA"), ("looped.h", "BESIDE"), ("looped.i", "CLOSURE"), ("looped.j", "WAITS")):
+        planted(room, name, word)
+    written(room, "law_of_two", "specs/Laws.antt", ("  true", "  false"))
+    written(room, "looped.old_twice", "src/parts.rt", ("-> u32", "-> u64"))
+    written(room, "limit_of_5", "src/parts.rt", ("LIMIT: u32 = 4", "LIMIT: u32 = 5"))
+    status, lines, _ = tries(room)
+    wanted = ["thing/looped.a: refused by `returns-clause-value`", "thing/looped.b: refused by `loop-facet-preserved`", "thing/looped.d: refused by `invariant_of-shared`",
+              "thing/looped.e: refused by `add-preserved`", "thing/looped.g: refused by `returns-clause-many`",
+              "thing/looped.i: refused by `returns-2`",
+              "thing/of.a: refused by `returns-in-Some`", "thing/from.a: refused by `returns-clause-value`",
+              "thing/law_of_two: refused by `returns-in-Some`"]
+    for line in wanted:
+        holds(line, line in lines)
+    for start in ("thing/looped.c: REFUSED OTHERWISE: by `overflow_add-gap`", "thing/of.b: REFUSED OTHERWISE: by `names`",
+                  "thing/looped.f: REFUSED OTHERWISE: by `add-smaller`", "thing/looped.h: REFUSED OTHERWISE: by `inside`",
+                  "thing/looped.j: REFUSED OTHERWISE: by `measure`",
+                  "thing/of.c: NOT REFUSED: not proved; it calls", "thing/from.c: REFUSED OTHERWISE: by `loop-facet-smaller`", "thing/from.b: NOT REFUSED: no holes",
+                  "thing/looped.old_twice: BAD EDIT: ", "thing/limit_of_5: BAD EDIT: "):
+        holds(start, any(line.startswith(start) for line in lines))
+    same("last line", (status, lines[-1]), (1, "9 passed, 10 failed"))
+    with open(room.file("tools", "edits_refused_otherwise.txt"), "w", encoding="utf-8") as it:
+        it.write("# listed\nthing/looped.c: overflow_add-gap: the sum has no other bound\nthing/looped.a: overflow_add-gap: an old line\n")
+    status, lines, _ = tries(room)
+    holds("one that is listed", "thing/looped.c: REFUSED OTHERWISE: by `overflow_add-gap`: the sum has no other bound" in lines)
+    holds("one that a clause refuses is not to be listed", any(it.startswith("thing/looped.a: refused by `returns-clause-value`, a clause: take") for it in lines))
+    same("last line with a list", (status, lines[-1]), (1, "9 passed, 10 failed"))
+    os.remove(room.file("tools", "edits_refused_otherwise.txt"))
+
+
+def refused_batches(room):
+    emptied(room)
+    one, two = planted(room, "of.a", "ANSWERED"), planted(room, "of.b", "SEARCHED")
+    wrong = planted(room, "looped.a", "SEARCHED")
+    constant = written(room, "of.limit_of_5", "src/parts.rt", ("LIMIT: u32 = 4", "LIMIT: u32 = 5"))
+    twice = written(room, "looped.old_twice", "src/parts.rt", ("-> u32", "-> u64"))
+    for what, batch in (("two edits of one function", [one, two]), ("a constant in a batch", [wrong, constant]), ("an `old` that stands twice", [one, twice])):
+        status, lines, said = tries(room, "--batch", *batch)
+        same(what, (status, lines, len(said)), (2, [], 1))
+    same("a batch", tries(room, "--batch", wrong, one)[1][-1], "2 passed, 0 failed")
+    same("a constant alone", tries(room, "--batch", constant)[1][-1], "0 passed, 1 failed")
+    same("a crate that isn't there", tries(room, "nothing")[0], 2)
+    source = edits.Source(room.file("crates", "thing"))
+    groups = edits.grouped([edits.Edit(path, "thing", source) for path in (one, two, wrong)])
+    names = sorted(sorted(it.name for it in group if it.functions[0].name == "of") for group in groups)
+    same("two edits of a function are never together", names, [["thing/of.a"], ["thing/of.b"]])
+
+
+def control(room):
+    emptied(room)
+    planted(room, "of.a", "ANSWERED")
+    planted(room, "looped.a", "SEARCHED")
+    for how in ("not proved; it calls `thing::parts::other`, which is not proved", "missing"):
+        status, lines, _ = tries(room, control=how)
+        holds(f"a harmless edit that is {how.partition(';')[0]}", sum("NOT TRIED: the harmless edit of" in it for it in lines) == 2)
+        same("last line", (status, lines[-1]), (1, "0 passed, 2 failed"))
+
+
+def a_law(room):
+    emptied(room)
+    planted(room, "of.a", "ANSWERED")
+    written(room, "law_by_a_lemma", "specs/Laws.antt", ("  true", "  lemma"))
+    same("a law that a lemma proves", sorted(tries(room)[1][:2]), ["thing/law_by_a_lemma: refused by `law-holds`", "thing/of.a: refused by `returns-in-Some`"])
+    with open(room.file("asked")) as it:
+        same("it is tried without the others", [sorted(line.split()[1:]) for line in it], [["parts::Part::of"], ["parts::law"]])
+
+
+def a_constant(room):
+    """One that a lemma computes with counts for the goals that rest on the lemma."""
+    emptied(room)
+    written(room, "looped.limit_of_5", "src/parts.rt", ("LIMIT: u32 = 4", "LIMIT: u32 = 5"))
+    written(room, "looped.limit_of_6", "src/parts.rt", ("LIMIT: u32 = 4", "LIMIT: u32 = 6"))
+    same("a constant", sorted(tries(room)[1][:2]), ["thing/looped.limit_of_5: refused by `returns-clause-value`",
+                                                    "thing/looped.limit_of_6: REFUSED OTHERWISE: by `limit-fits`, which is no clause and no invariant"])
+
+
+def one_that_hides_another(room):
+    emptied(room)
+    planted(room, "looped.a", "SEARCHED_BREAKS")
+    planted(room, "of.a", "HIDDEN")
+    same("two, of which one hides the other", sorted(tries(room)[1][:2]), ["thing/looped.a: refused by `returns-clause-value`", "thing/of.a: refused by `returns-clause-value`"])
+    with open(room.file("asked")) as it:
+        same("then that one is tried without it", [sorted(line.split()[1:]) for line in it], [["parts::Part::of", "parts::looped"], ["parts::Part::of"]])
+
+
+def one_that_does_not_compile(room):
+    emptied(room)
+    planted(room, "of.a", "ANSWERED")
+    planted(room, "looped.a", "SYNTAX")
+    status, lines, _ = tries(room)
+    holds("it is named", any(it.startswith("thing/looped.a: BAD EDIT: error[syntax]") for it in lines))
+    holds("the others are tried", "thing/of.a: refused by `returns-in-Some`" in lines)
+    same("last line", (status, lines[-1]), (1, "1 passed, 1 failed"))
+
+
+def one_whose_names_are_unknown(room):
+    emptied(room)
+    planted(room, "of.a", "UNKNOWN")
+    planted(room, "looped.a", "SEARCHED")
+    status, lines, _ = tries(room)
+    holds("it is named", any(it.startswith("thing/of.a: BAD EDIT: error: `ensures-value`: `UNKNOWN` is not in scope") for it in lines))
+    holds("the other one is judged", "thing/looped.a: refused by `returns-clause-value`" in lines)
+
+
+def checks_that_begin_with_the_last(room):
+    emptied(room)
+    for fault in "abc":
+        planted(room, f"of.{fault}", "ANSWERED")
+    with contextlib.suppress(FileNotFoundError):
+        os.remove(room.file("asked.kept"))
+    same("three checks", tries(room)[1][-1], "3 passed, 0 failed")
+    with open(room.file("asked.kept")) as it:
+        same("each begins with what the last one kept", it.read().split(), ["0", "1", "2"])
+
+
+def folders_of_checks():
+    """Checks side by side share the files of modules, which none changes, and nothing else."""
+    kept = edits.Kept()
+    first = kept.begin()
+    for name in ("module.oantt", "list"):
+        with open(f"{first.name}/{name}", "w") as it:
+            it.write("first")
+    kept.end(first)
+    one, other = kept.begin(), kept.begin()
+    with open(f"{one.name}/list", "a") as it:
+        it.write(" and one")
+    for folder in (first, other):
+        with open(f"{folder.name}/list") as it:
+            same("a list that another check changes", it.read(), "first")
+    holds("a module is one file", os.path.samefile(f"{one.name}/module.oantt", f"{other.name}/module.oantt"))
+
+
+def by_file(room):
+    emptied(room)
+    planted(room, "of.a", "ANSWERED")
+    written(room, "law_of_two", "specs/Laws.antt", ("  true", "  false"))
+    same("a changed source", tries(room, "--changed", "crates/thing/src/parts.rt")[1][-1], "1 passed, 0 failed")
+    same("a changed definition", tries(room, "--changed", "crates/thing/specs/Laws.antt")[1][-1], "1 passed, 0 failed")
+    same("a changed proof", tries(room, "--changed", "crates/thing/proofs/parts/Part/of/Answers.antt")[1][-1], "1 passed, 0 failed")
+    same("another file", tries(room, "--changed", "README.md")[1][-1], "0 passed, 0 failed")
+
+
+def alone(room):
+    """What a batch can't judge has to be refused by a clause alone too."""
+    emptied(room)
+    batch, = edits.batches_of_crate(StandIn(room), [planted(room, "of.a", "ANSWERED")])
+    checked, own, no_clause = edits.check, "fn thing::parts::Part::of: no proof: `search` did not prove `{}`\nlogic=not-proved", "which is no clause and no invariant"
+    for status, said, wanted in (
+        (0, "logic=proved", (False, "NOT REFUSED, alone either")),
+        (1, own.format("returns-2"), (True, "refused by `returns-2` (tried alone)")),
+        (1, own.format("overflow_add"), (False, f"REFUSED OTHERWISE: by `overflow_add`, {no_clause} (tried alone)")),
+        (1, "fn thing::parts::plain: no proof: `search` did not prove `returns`\nlogic=not-proved", (False, f"REFUSED OTHERWISE: by `elsewhere`, {no_clause} (tried alone)")),
+        (1, "src/parts.rt:1:1: error", (False, "NOT TRIED: its check ended with status 1: src/parts.rt:1:1: error")),
+        (3, "rattle: no verdict", (False, f"REFUSED OTHERWISE: by `limit`, {no_clause} (tried alone)"))):
+        edits.check = lambda *_: edits.Check(status, said, 0, 0)  # noqa: B023
+        same(f"alone: {said}", edits.try_alone(batch.edits[0], batch, room.path), wanted)
+    with open(room.file("tools", "edits_refused_otherwise.txt"), "w", encoding="utf-8") as it:
+        it.write("thing/of.a: limit: no check of it ends\n")
+    same("one that is listed", edits.try_alone(batch.edits[0], batch, room.path), (True, "REFUSED OTHERWISE: by `limit`: no check of it ends (tried alone)"))
+    edits.check = checked
+    os.remove(room.file("tools", "edits_refused_otherwise.txt"))
+
+
+class StandIn:
+    name = "thing"
+
+    def __init__(self, room):
+        self.folder = room.file("crates", "thing")
+
+    def count(self, _):
+        return 10
+
+    def stamp(self):
+        with open(f"{self.folder}/src/parts.rt") as it:
+            return it.read()
+
+
+def kept(room):
+    emptied(room)
+    one = planted(room, "of.a", "ANSWERED")
+    said = tries(room)[1]
+    same("results of a batch that passed are kept", tries(room, control="missing")[1], said)
+    planted(room, "of.a", "SEARCHED")
+    same("another edit", tries(room, control="missing")[1][-1], "0 passed, 1 failed")
+    planted(room, "of.a", "ANSWERED")
+    with open(room.file("crates", "thing", "src", "parts.rt"), "a") as it:
+        it.write("// changed\n")
+    same("another source", tries(room, control="missing")[1][-1], "0 passed, 1 failed")
+    same("what failed isn't kept", tries(room)[1][0], "thing/of.a: refused by `returns-in-Some`")
+    os.remove(one)
+    planted(room, "of.a", "ANSWERED")
+    batch, = edits.batches_of_crate(StandIn(room), [room.file("crates", "thing", "edits", "of.a.edit")])
+    with open(room.file("crates", "thing", "src", "parts.rt"), "a") as it:
+        it.write("// changed after it was read\n")
+    tried, edits.try_batch = edits.try_batch, lambda *_: ([(it, True, "refused") for it in batch.edits], 0)
+    edits.try_or_recall(batch, room.path)
+    edits.try_batch = tried
+    same("another source", tries(room, control="missing")[1][-1], "0 passed, 1 failed")
+
+
+def the_repository_s_own():
+    """Each edit can be applied, and it is known which function has to be refused."""
+    count, bad, names = 0, [], set()
+    for name in sorted(os.listdir(os.path.join(ROOT, "crates"))):
+        folder = os.path.join(ROOT, "crates", name)
+        source = edits.Source(folder)
+        for part in ("edits", "must-fail"):
+            for file in sorted(os.listdir(f"{folder}/{part}")) if os.path.isdir(f"{folder}/{part}") else []:
+                count += 1
+                edit = edits.Edit(f"{folder}/{part}/{file}", name, source)
+                bad += [f"{edit.name}: {edit.bad}"] * bool(edit.bad)
+                names.add(edit.name)
+    same("edits that can't be tried", bad, [])
+    same("edits that are listed and aren't there", sorted({*edits.listed_otherwise(ROOT)} - names), [])
+    holds(f"{count} edits, 756 or more", count >= 756)
+
+
+def main():
+    functions()
+    folders_of_checks()
+    with Room() as room:
+        crate_in(room)
+        each_kind(room)
+        refused_batches(room)
+        control(room)
+        a_law(room)
+        a_constant(room)
+        one_that_hides_another(room)
+        one_that_does_not_compile(room)
+        one_whose_names_are_unknown(room)
+        checks_that_begin_with_the_last(room)
+        by_file(room)
+        kept(room)
+        alone(room)
+    the_repository_s_own()
+
+
+if __name__ == "__main__":
+    main()

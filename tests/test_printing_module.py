@@ -1,0 +1,307 @@
+#!/usr/bin/env -S python3 -B
+"""The module behind the commands, as installed, function by function: shortest decimals, PNGs cut from a stream and joined, the
+text of binary STL, turning and multiplying, shells, pixels that aren't square, the table of printers."""
+
+import ast
+import decimal
+import functools
+import glob
+import io
+import itertools
+import os
+import random
+import re
+import struct
+import sys
+from fractions import Fraction
+
+from parts import box, installed, leave_out, main, pixels_of_p4, pixels_of_png, png_of_p4, same, text
+
+SHARE = os.path.join(os.path.dirname(os.path.dirname(installed())), "share", "stlslice")
+sys.path.insert(0, SHARE)
+
+from stlslice_commands import floats, images, parts, printers, shells, slicing, stl, words  # noqa: E402
+from stlslice_commands.faults import Refused  # noqa: E402
+from stlslice_commands.program import next_png  # noqa: E402
+
+PROFILES = "/usr/share/PrusaSlicer/profiles/PrusaResearch.ini"
+
+
+def single(bits):
+    return struct.unpack("<f", struct.pack("<I", bits))[0]
+
+
+def reads_back(word, number):
+    """Whether the decimal lies nearer to this number of single precision than to the two beside it, by fractions alone; a
+    tie goes to the even one."""
+    bits = struct.unpack("<I", struct.pack("<f", abs(number)))[0]
+    value, size = abs(Fraction(word)), Fraction(abs(number))
+    low = (size + Fraction(single(bits - 1))) / 2 if bits else -1
+    high = (size + Fraction(single(bits + 1))) / 2
+    return low <= value <= high if bits % 2 == 0 else low < value < high
+
+
+def digits_needed(number):
+    """The fewest digits of a decimal that reads back, found by trying those on both sides of the number."""
+    for digits in range(1, 10):
+        for side in (decimal.ROUND_DOWN, decimal.ROUND_UP):
+            if reads_back(str(decimal.Context(prec=digits, rounding=side).create_decimal_from_float(number)), number):
+                return digits
+    raise AssertionError(f"{number!r} needs more than nine digits")
+
+
+def decimals_are_shortest(program, folder):
+    draw = random.Random(5)
+    numbers = [single(draw.randrange(1, 0x7F7FFFFF)) for _ in range(4000)]
+    numbers += [-single(draw.randrange(0x3A000000, 0x43800000)) for _ in range(8000)]
+    numbers += [single(exponent << 23) for exponent in range(1, 255)] + [single(bits) for bits in range(1, 300)]
+    numbers += [single(0x7F7FFFFE), 16777216.0, 33554432.0, 0.1, 12.7, 25.4, 1e-3]
+    for number in [struct.unpack("<f", struct.pack("<f", it))[0] for it in numbers]:
+        word = floats.shortest(number)
+        assert reads_back(word, number) and (number < 0) == word.startswith("-"), f"{number!r} became {word}"
+        digits = len(decimal.Decimal(word).normalize().as_tuple().digits)
+        same(digits, digits_needed(number), f"digits of {word}")
+    same([floats.shortest(struct.unpack("<f", struct.pack("<f", it))[0]) for it in (0.1, -25.4, 3.0, 0.0)],
+         ["0.1", "-25.4", "3", "0"], "known numbers")
+    # nearer to the greater number, so this is no spelling of the lesser
+    same((floats.is_nearest("16777217", 16777216.0), floats.is_nearest("16777217", 16777218.0)), (True, False), "a tie")
+    same(floats.is_nearest("16777217.0000000001", 16777216.0), False, "just above a tie")
+
+
+def rows_of(kind, columns, rows, draw):
+    """Bits of an image: dark, lit, drawn, of few runs, of many."""
+    stride = (columns + 7) // 8
+    spare, whole = 8 * stride - columns, (1 << columns) - 1
+    image = b""
+    for j in range(rows):
+        bits = {"dark": 0, "lit": whole, "drawn": draw.getrandbits(columns), "many": whole // 3 if j % 3 else 0, "runs": 0}[kind]
+        for _ in range(draw.randrange(6) if kind == "runs" else 0):
+            ends = sorted(draw.randrange(columns + 1) for _ in range(2))
+            bits ^= (1 << ends[1]) - (1 << ends[0])
+        image += (bits << spare).to_bytes(stride, "big") * (3 if j % 5 == 0 else 1)
+    return image[:stride * rows]
+
+
+def pngs_are_cut_by_their_chunks(program, folder):
+    draw = random.Random(3)
+    made = [png_of_p4((331, 7, rows_of(kind, 331, 7, draw)), 8) for kind in ("dark", "lit", "drawn")]
+    # the name of the last chunk within the data of another, and two IDATs
+    made.append(made[0][:33] + images.chunk(b"IDAT", b"\0\0\0\0IEND\xae\x42\x60\x82") + images.chunk(b"IDAT", b"") + made[0][-12:])
+    head, stream = images.head_of((331, 7), 8), io.BytesIO(b"".join(made))
+    same([next_png(stream, head) for _ in range(5)], [*made, None], "PNGs of a stream")
+    for end in range(len(made[0])):
+        same(next_png(io.BytesIO(made[0][:end]), head), None, f"a stream of {end} bytes")
+    for other in (images.head_of((331, 7), 1), images.head_of((7, 331), 8), b"P4\n331 7\n".ljust(33)):
+        refused(lambda: next_png(io.BytesIO(other + made[0][33:]), head), 1, "the program's output isn't a stream of PNGs")
+
+
+def pngs_are_joined(program, folder):
+    """Images of several texts are joined pixel by pixel, in blocks that end anywhere in a row."""
+    draw, kept = random.Random(7), images.BLOCK
+    try:
+        for images.BLOCK, columns, rows in ((1, 9, 2), (1000, 9, 2), (1000, 331, 20), (kept, 1, 1), (kept, 331, 20), (kept, 2560, 3)):
+            bits = [rows_of(kind, columns, rows, draw) for kind in ("drawn", "runs", "lit", "dark", "many")]
+            for some in (bits[:1], bits[:2], bits[1:4], bits[3:4], bits):
+                for rule, depth in itertools.product(("positive", "nonzero", "evenodd"), (1, 8)):
+                    join_and_compare(some, columns, rows, rule, depth)
+    finally:
+        images.BLOCK = kept
+    # one that alone is lit is taken as it is, and so is one where all are dark
+    dark, lit = (png_of_p4((64, 9, rows_of(kind, 64, 9, draw)), 8) for kind in ("dark", "lit"))
+    for pngs, areas, wanted in (([dark, lit], [0, 576], (lit, 576)), ([dark, dark], [0, 0], (dark, 0))):
+        same(images.joined(pngs, areas, "evenodd"), wanted, "one that alone is lit")
+
+
+def join_and_compare(some, columns, rows, rule, depth):
+    numbers = [int.from_bytes(it, "big") for it in some]
+    wanted = functools.reduce(int.__xor__ if rule == "evenodd" else int.__or__, numbers)
+    png, lit = images.joined([png_of_p4((columns, rows, it), depth) for it in some], list(map(ones, numbers)), rule)
+    what = f"{len(some)} images of {columns} x {rows}, {rule}, {depth} bits, blocks of {images.BLOCK}"
+    assert pixels_of_png(png) == pixels_of_p4((columns, rows, wanted.to_bytes(len(some[0]), "big"))), f"{what}: pixels differ"
+    same((lit, png[:33]), (ones(wanted), images.head_of((columns, rows), depth)), f"{what}: lit pixels and head")
+
+
+def ones(number):
+    return bin(number).count("1")
+
+
+def pngs_are_made_smaller(program, folder):
+    draw = random.Random(9)
+    for kind in ("dark", "drawn", "runs"):
+        for depth in (1, 8):
+            png = png_of_p4((331, 203, rows_of(kind, 331, 203, draw)), depth, level=1)
+            found = images.smaller(png)
+            same((pixels_of_png(found), found[:33]), (pixels_of_png(png), png[:33]), "pixels and head")
+            assert kind == "drawn" or len(found) < len(png), f"{kind}: {len(found)} bytes of {len(png)}"
+
+
+def binary(corners, header=b"made by a tool"):
+    facets = b"".join(struct.pack("<12fH", 0, 0, 1, *(x for corner in facet for x in corner), 7) for facet in corners)
+    return header.ljust(80, b"\0") + struct.pack("<I", len(corners)) + facets
+
+
+def binary_is_written_out(program, folder):
+    corners = [tuple(tuple(0.1 * x for x in corner) for corner in facet) for facet in box((0, -3, 1), (7, 0, 2.5))]
+    for header in (b"made by a tool", b"solid made by a tool"):
+        data = io.BytesIO(binary(corners, header))
+        same(stl.facets_of_binary(data), 12, "facets")
+        found = [tuple(tuple(map(float, corner.split())) for corner in facet) for facet in stl.corners_of_binary(data)]
+        rounded = lambda facets: [[struct.pack("<3f", *corner) for corner in facet] for facet in facets]
+        same(rounded(found), rounded(corners), "numbers")
+        written = stl.text_of(stl.corners_of_binary(data))
+        written.seek(0)
+        body = written.read()
+        same((body.count(b"facet normal 0 0 0\n"), b"0.25" in body, b"-0.3" in body), (12, True, True), "the text")
+        same(list(stl.corners_of_text(written)), list(stl.corners_of_binary(data)), "the text read again")
+    for bad in (b"", b"solid", binary(corners)[:-1], binary(corners) + b"\0"):
+        same(stl.facets_of_binary(io.BytesIO(bad)), None, "no binary STL")
+    for number in (float("nan"), float("inf")):
+        facets = corners[:5] + [((0, 0, number), (0, 0, 0), (1, 1, 1))]
+        refused(lambda: list(stl.corners_of_binary(io.BytesIO(binary(facets)))), 3,
+                "facet 5 of the binary STL has a coordinate that is no number")
+
+
+def refused(made, status, line):
+    try:
+        made()
+    except Refused as fault:
+        assert fault.status == status and line in fault.line, f"{fault.status}: {fault.line}"
+        return
+    raise AssertionError(f"not refused: {line}")
+
+
+def text_is_changed_exactly(program, folder):
+    spelled = [(".5", "-1.250", "+3e0"), ("-.75E+1", "4.", "-0"), ("0.1000000000000000000000000000000000000001", "+7", "8")]
+    source = io.BytesIO(text([tuple(spelled)], "vertex 1 of vertex").replace("vertex -.75", "VERTEX\t-.75").encode())
+
+    def corners(quarters, times):
+        changed = stl.changed(source, 1, quarters, times)
+        changed.seek(0)
+        body = changed.read()
+        assert body.startswith(b"solid vertex 1 of vertex\nfacet normal 0 0 0\n"), body[:60]
+        return [tuple(word.decode() for word in corner.split()) for facet in stl.corners_of_text(changed) for corner in facet]
+
+    same(corners(0, (1, 1, 1)), spelled, "unchanged")
+    same(corners(1, (1, 1, 1)), [("1.250", ".5", "+3e0"), ("-4.", "-.75E+1", "-0"),
+                                 ("-7", "0.1000000000000000000000000000000000000001", "8")], "turned by a quarter")
+    for quarters in range(4):
+        for times in ((1, 1, 1), (24, 19, 1), (200, 189, 1), (1000, 1000, 1000)):
+            found = [tuple(map(Fraction, corner)) for corner in corners(quarters, times)]
+            wanted = []
+            for x, y, z in (map(Fraction, corner) for corner in spelled):
+                for _ in range(quarters):
+                    x, y = -y, x
+                wanted.append((x * times[0], y * times[1], z * times[2]))
+            same(found, wanted, f"{quarters} quarters, times {times}")
+    refused(lambda: stl.changed(io.BytesIO(text([]).encode()), 1, 1, (1, 1, 1)), 1, "a corner that can't be turned")
+
+
+def blocks_cut_no_facet(program, folder):
+    body = text(box((0, 0, 0), ("1.5", 2, 3)) * 30).encode()
+    kept = stl.BLOCK
+    try:
+        for stl.BLOCK in (1, 7, 64, 1000, 1 << 20):
+            found = list(stl.blocks(io.BytesIO(body)))
+            same(b"".join(found), body, "blocks joined")
+            assert all(block.count(b"vertex") % 3 == 0 for block in found), "a facet is cut"
+    finally:
+        stl.BLOCK = kept
+
+
+def shells_are_kept_together(program, folder):
+    bodies = [box((5 * k, 0, 0), (5 * k + 3, 3, 3)) for k in range(7)]
+    mixed = [facet for facets in zip(*bodies) for facet in facets]
+    spelled = text(mixed).replace("vertex 5 ", "vertex 5.0 ", 40).replace("vertex 8 ", "vertex 0.8e1 ", 9)
+    for source in (io.BytesIO(spelled.encode()), io.BytesIO(binary(mixed))):
+        found = shells.shells(source)
+        same(len(set(found)), 7, "shells")
+        same(all(len({found[k] for k in range(n, len(mixed), 7)}) == 1 for n in range(7)), True, "facets of a shell")
+        kept = shells.LIMIT
+        try:
+            for shells.LIMIT, sizes in ((84, [84]), (36, [36, 36, 12]), (12, [12] * 7), (40, [36, 36, 12])):
+                texts = list(shells.groups(source))
+                same([len(list(stl.corners_of_text(it))) for it in texts], sizes, "facets of the groups")
+            shells.LIMIT = 11
+            refused(lambda: shells.groups(source), 3, "one of its shells has 12 facets alone")
+        finally:
+            shells.LIMIT = kept
+    # long strips whose facets stand in any order, so that pieces of a strip that were found apart are joined later
+    strips = [[((k, 1, 9 * strip), (k, 0, 9 * strip), (k + 1, 0, 9 * strip)) for k in range(300)] for strip in range(3)]
+    mixed = [(facet, strip) for strip in range(3) for facet in strips[strip]]
+    random.Random(11).shuffle(mixed)
+    found = shells.shells(io.BytesIO(text([facet for facet, _ in mixed]).encode()))
+    same(len(set(zip(found, (strip for _, strip in mixed)))), 3, "strips, each one shell")
+    same(len(set(found)), 3, "strips")
+    same(shells.packed({"a": 5, "b": shells.LIMIT - 2, "c": 2, "d": 3}), ({"a": 0, "b": 1, "c": 0, "d": 0}, 2), "first fit")
+
+
+def formats_are_told(program, folder):
+    packed = b"PK\x03\x04" + b"." * 26
+    for head, kind in ((packed + b"[Content_Types].xml", "3MF"), (packed + b"part.stl", "zip"), (b"\x1f\x8b\x08\0", "gzip"),
+                       (b"ply\nformat ascii 1.0\n", "PLY"), (b"OFF\n8 6 0\n", "OFF"),
+                       (b"# made by a tool\n\nmtllib a.mtl\nv 1 2 3\n", "OBJ"), (b"v 1 2 3\n", "OBJ"), (b"o part\n", "OBJ"),
+                       (b"solid part\nfacet normal 0 0 1\n", None), (b"  SOLID\n", None), (b"facet", None),
+                       (b"", None), (b"\xef\xbb\xbfsolid", None)):
+        same(parts.kind_of(head), kind, f"{head!r}")
+
+
+def pitches_become_whole(program, folder):
+    for word, wanted in (("50", (50, [1, 1])), ("47.25", (189, [4, 4])), ("19x24", (456, [24, 19])), ("47.25x50", (9450, [200, 189])),
+                         ("16.8x24.8", (2604, [155, 105])), ("28.500x28.5", (57, [2, 2]))):
+        sides = words.pitch(word)
+        same(slicing.common_pitch(sides), wanted, word)
+        same([side * by for side, by in zip(sides, wanted[1])], [wanted[0]] * 2, f"{word}: sides")
+    refused(lambda: slicing.common_pitch(words.pitch("22.345x24.321")), 1, "a pixel of 22.345 x 24.321 micrometres can't be made square")
+
+
+def profile_of(text, kind, name):
+    """A section of PrusaSlicer's profiles, with what it inherits."""
+    found = {}
+    body = re.search(rf"(?m)^\[{kind}:{re.escape(name)}\]\n((?:[^\[\n].*\n|\n)*)", text)[1]
+    pairs = dict(line.split(" = ", 1) for line in body.splitlines() if " = " in line and not line.startswith("#"))
+    for above in pairs.pop("inherits", "").split(";"):
+        found.update(profile_of(text, kind, above.strip()) if above.strip() else {})
+    return {**found, **pairs}
+
+
+def printers_are_those_of_prusaslicer(program, folder):
+    known = printers.printers()
+    same(sorted(known), ["SL1", "SL1S"], "printers")
+    listed = printers.listed()
+    for model, it in known.items():
+        assert it.source and it.source in listed and it.name in listed, f"{model} has no source"
+    if not os.path.exists(PROFILES):
+        return leave_out("the table of printers beside PrusaSlicer's profiles", ["prusa-slicer"])
+    with open(PROFILES, encoding="utf-8") as file:
+        text_of_profiles = file.read()
+    # what PrusaSlicer takes where a profile is silent
+    usual = {"display_mirror_x": "1", "display_mirror_y": "0", "fast_tilt_time": "5", "slow_tilt_time": "8", "area_fill": "50"}
+    for model, it in known.items():
+        name = re.search(r"\[printer:([^\]]+)\]", it.source)[1]
+        screen = {**usual, **profile_of(text_of_profiles, "printer", name)}
+        resin = profile_of(text_of_profiles, "sla_material", it.material)
+        same((screen["printer_model"], name, screen["default_sla_material_profile"]), (model, it.name, it.material), "names")
+        found = [Fraction(screen[key]) for key in ("display_pixels_x", "display_pixels_y", "display_width", "display_height",
+                                                   "display_mirror_x", "display_mirror_y", "max_print_height", "fast_tilt_time",
+                                                   "slow_tilt_time", "area_fill")]
+        found += [Fraction(resin[key]) for key in ("exposure_time", "initial_exposure_time", "initial_layer_height")]
+        same([it.columns, it.rows, it.width / 1000, it.depth / 1000, it.mirror_x, it.mirror_y, it.height / 1000,
+              Fraction(str(it.fast_tilt)), Fraction(str(it.slow_tilt)), it.area_fill, Fraction(str(it.exposure)),
+              Fraction(str(it.first_exposure)), Fraction(it.layer, 1000)], found, f"figures of {model}")
+        same("portrait" if it.is_portrait else "landscape", screen["display_orientation"], "orientation")
+
+
+def sources_are_for_old_python(program, folder):
+    """Python 3.8 can read them, as the documents say; the commands' folder has no other file."""
+    commands = map(installed, ("stlslice-sl1", "stlslice-pngs", "stlslice-page"))
+    sources = [*glob.glob(os.path.join(SHARE, "stlslice_commands", "*.py")), *commands]
+    assert len(sources) > 10, sources
+    for source in sources:
+        with open(source, encoding="utf-8") as file:
+            ast.parse(file.read(), source, feature_version=(3, 8))
+
+
+if __name__ == "__main__":
+    main([decimals_are_shortest, pngs_are_cut_by_their_chunks, pngs_are_joined, pngs_are_made_smaller, binary_is_written_out,
+          text_is_changed_exactly, blocks_cut_no_facet, shells_are_kept_together, formats_are_told, pitches_become_whole,
+          printers_are_those_of_prusaslicer, sources_are_for_old_python])

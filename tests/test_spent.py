@@ -1,0 +1,40 @@
+#!/usr/bin/env python3
+"""tools/spent.py: a check of the prover below this process is told with its part, crate and seconds, another process isn't; and
+the table has the parts and what took longest."""
+
+import os
+import subprocess
+import sys
+import tempfile
+
+from common import ROOT, holds, same
+
+sys.path.insert(0, os.path.join(ROOT, "tools"))
+import spent  # noqa: E402
+
+BUSY = "import time\nend = time.monotonic() + 2.5\nwhile time.monotonic() < end: pass"
+
+
+def busy(name, *words, folder=ROOT):
+    return subprocess.Popen([name, "-c", BUSY, *words], executable=sys.executable, cwd=folder)
+
+
+def main():
+    with tempfile.TemporaryDirectory(prefix="rt-edit-1-") as room, tempfile.TemporaryDirectory(prefix="edits-") as other:
+        times = spent.Spent()
+        for child in [busy("rattle", "--crate-name", "low"), busy("rattle", "--crate-name", "low", "--test"),
+                      busy("rattle", "--crate-name", "high", folder=room), busy("rattle", "--crate-name", "high", folder=other),
+                      busy("another", "--crate-name", "high"), busy("rattle", "doc")]:
+            child.wait()
+        times.stop()
+    found = times.by_check()
+    same("parts and crates", sorted(found), sorted([(spent.PROOFS, "low"), (spent.TESTS, "low"), (spent.MUST_FAIL, "high"), (spent.BATCHES, "high")]))
+    holds("each took some time, and no more than it had", all(0 < it < 3 for it in found.values()))
+    holds("by the clock it is the time that the check was seen", all(0 < times.clock(part) < 10 for part, _ in found))
+    lines = list(spent.table([("a part", 60, 90)], [(2, "slow"), (3, "slower"), *[(1, "quick")] * 9]))
+    same("a part's minutes", lines[1].split(), ["a", "part", "1.0", "1.5"])
+    same("the ten slowest", [line.split()[1] for line in lines[3:]], ["slower", "slow", *["quick"] * 8])
+
+
+if __name__ == "__main__":
+    main()

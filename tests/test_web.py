@@ -1,0 +1,52 @@
+#!/usr/bin/env python3
+"""If the page that slices is built, it shows in a browser what the program and the library return (library/web/test); and
+docs/embedding.md has the right numbers of lines that are trusted beside what is proved."""
+
+import os
+import re
+import subprocess
+import sys
+
+from common import PROGRAM, ROOT, Room, holds, library, same, skip, text_of
+
+sys.path.append(os.path.join(ROOT, "library", "web"))
+
+import browser  # noqa: E402
+
+PAGE = "build/web/preview.html"
+OF_C = ["library/edge.c", "library/web/heap.c", "library/web/runtime.c"]
+OF_SCRIPT = ["library/web/worker.js", "library/web/page.js"]
+
+
+def lines_told():
+    """The document's numbers of lines are right to the next ten."""
+    section = text_of("docs/embedding.md").split("\n## A page that slices\n")[1]
+    told = re.search(r"(\d+) lines of C\b.*?(\d+) of JavaScript", section)
+    for number, names in zip(told.groups(), (OF_C, OF_SCRIPT)):
+        lines = sum(text_of(name).count("\n") for name in names)
+        holds(f"{number} lines, as {names} have {lines}", abs(int(number) - lines) < 10)
+
+
+def is_old():
+    words = {name: value for name, value in os.environ.items() if name not in ("MAKEFLAGS", "MFLAGS", "MAKELEVEL")}
+    return subprocess.run(["make", "-q", PAGE], cwd=ROOT, env=words, stdout=subprocess.DEVNULL, stderr=subprocess.DEVNULL).returncode
+
+
+def main():
+    lines_told()
+    if not os.path.exists(os.path.join(ROOT, PAGE)):
+        skip("the page isn't built (make web)")
+    folder = os.path.dirname(library())
+    if is_old():
+        skip("the page is older than its sources (make web)")
+    if not browser.program():
+        skip("chromium is missing (Debian: chromium)")
+    with Room() as room:
+        ran = room.run(sys.executable, "library/web/test", PAGE, PROGRAM, folder, room.file("pictures"))
+        print(ran.stdout + ran.stderr)
+        same("status and last line of library/web/test", (ran.returncode, ran.stdout.splitlines()[-1:]), (0, ["passed"]))
+        holds("pictures of the page", len(os.listdir(room.file("pictures"))) == 8)
+
+
+if __name__ == "__main__":
+    main()
