@@ -11,16 +11,20 @@ ghost use Rattle.exact_cut.specs.Laws.{AheadIsAbove, CornerTurnsAreOpposite, Cro
 /// - A step that passes no point of a facet keeps its hit.
 /// - A fraction is rounded to the nearest whole number, halves upward.
 pub fn hold_laws()
+    // turns and windings
     ensures turns { TurnsAreOpposite }
     ensures winds { WindsAreUnits }
     ensures meets { CrossedLinesMeet }
+    // crossings of a row
     ensures ahead { AheadIsAbove }
     ensures columns { CrossingsSplitRows }
     ensures walks { WalksTellHits }
     ensures uncrossed { UncrossedRowsHaveNoHits }
+    // rays, and steps between them
     ensures rays { RaysDifferByEdges }
     ensures corners { CornerTurnsAreOpposite }
     ensures steps_x { StepsAlongXKeepHits }
     ensures steps_y { StepsAlongYKeepHits }
+    // rounding
     ensures nearest { NearestIsNear }
 {}

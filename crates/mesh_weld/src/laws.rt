@@ -11,15 +11,19 @@ ghost use Rattle.mesh_weld.specs.Laws.{AmountsCancel, DegenerateFacetsAreClosed,
 /// them a closed mesh is closed. The edges of all facets can be numbered. A crate that calls it can use its clauses; it does
 /// nothing at run time.
 pub fn hold_mesh_laws()
+    // sums over the facets of a closed mesh
     ensures amounts { AmountsCancel }
     ensures winds { WindsCancel }
     ensures winds_along_y { WindsAlongYCancel }
     ensures from_the_left { RayFromTheLeft }
+    // facets with two equal corners
     ensures degenerate { DegenerateFacetsAreMissed }
     ensures own { DegenerateFacetsAreClosed }
     ensures kept { KeptRaysAreAll }
     ensures closed { KeptAreClosed }
+    // edges
     ensures numbered { EdgesHaveNumbers }
+    // rays from one centre, and from the next
     ensures agree { RaysAgree }
     ensures steps { StepsKeepRays }
 {}

@@ -147,11 +147,13 @@ impl<A: Allocator + Copy> Claims<A> {
     /// of them have ended too, they were given all numbers below `stripes`, each once.
     pub fn close(self, passes: Vec<Pass, A>) -> u64
         requires { All (IsOwned self) passes.items }
+        // for any passes of these claims
         ensures machine { HasGathered self passes.items result }
         ensures once { (x : ℕ) → times x (found_by_all passes.items) ≤ once_below x result }
         ensures count { length (found_by_all passes.items) ≤ result }
         ensures ended { Any (λ p. p.has_ended ≡ true) passes.items → self.stripes < result }
         ensures most { result ≤ self.stripes + self.passes }
+        // for all passes that were opened
         ensures whole { length passes.items ≡ self.passes → IsEachOnce result (found_by_all passes.items) }
         ensures all { length passes.items ≡ self.passes → length (found_by_all passes.items) ≡ result }
         ensures given { length passes.items ≡ self.passes → All (λ p. p.has_ended ≡ true) passes.items → IsEachOnce self.stripes (given self.stripes (found_by_all passes.items)) }
