@@ -97,7 +97,7 @@ pub(crate) fn command<'a>(alloc: Global) -> Result<Command<'a>, AllocError> {
         .arg(flag(
             alloc,
             PROGRESS,
-            "Show on standard error how far slicing is: layers made,\nbytes of images written, and the time left",
+            "Show on standard error how far slicing is: layers made,\nimages written, and the time left",
         ))
 }
 
