@@ -15,12 +15,16 @@ pub record Layer : Type 0 where
   pub spans : List Span
   pub area : ℕ
 
+-- the segments in which the plane of layer k cuts a job's mesh
+abbrev pub layer_segments : Job → ℕ → List Segment
+layer_segments job k = segments job.solid.facets (plane job.grid k)
+
 -- The layer is what the job makes at place k. Its loops are those of the plane, closed, with each segment in exactly one. A
 -- pixel lies in a span exactly if its voxel is filled.
 pub record IsLawful (job : Job) (k : ℕ) (layer : Layer) : Type 0 where
   pub number : layer.number ≡ k
-  pub loops_are : layer.loops ≡ loops (segments job.solid.facets (plane job.grid k))
-  pub closed : AreLoops (segments job.solid.facets (plane job.grid k)) layer.loops
+  pub loops_are : layer.loops ≡ loops (layer_segments job k)
+  pub closed : AreLoops (layer_segments job k) layer.loops
   pub spans : AreSpans job.grid.columns job.grid.rows layer.spans
   pub filled : (i j : ℕ) → i < job.grid.columns → j < job.grid.rows
       → covers layer.spans i j ≡ is_filled job.rule job.solid.facets (centre job.grid i j k)

@@ -132,8 +132,8 @@ impl<'m, A: Allocator + Copy + Send + Sync> Book<'m, A> {
         ensures count { result ≡ filed_count self.now.places }
         ensures lawful { IsLawfulBook self.now }
     {
-        // wakes the invariant: there are as many places as layers
-        let _layers = self.job.grid().layers();
+        // there are as many places as layers
+        self.job.grid().hold_limits();
         filed_count(self.places.as_slice())
     }
 
@@ -141,10 +141,8 @@ impl<'m, A: Allocator + Copy + Send + Sync> Book<'m, A> {
     pub fn total_area(&self) -> u64
         ensures { result ≡ total_area self.now.places }
     {
-        // wakes the invariant: the counts of layers, columns and rows bound the sum
-        let _layers = self.job.grid().layers();
-        let _columns = self.job.grid().columns();
-        let _rows = self.job.grid().rows();
+        // they bound the sum
+        self.job.grid().hold_limits();
         total_area(self.places.as_slice())
     }
 

@@ -64,10 +64,8 @@ impl<'m, A: Allocator> Build<'m, A> {
     pub fn total_area(&self) -> u64
         ensures { result ≡ layers_area self.now.layers }
     {
-        // wakes the invariant: the counts of layers, columns and rows bound the sum
-        let _layers = self.job.grid().layers();
-        let _columns = self.job.grid().columns();
-        let _rows = self.job.grid().rows();
+        // they bound the sum
+        self.job.grid().hold_limits();
         layers_area(self.layers.as_slice())
     }
 

@@ -177,8 +177,7 @@ fn filled_area<A: Allocator>(job: &Job<A>, k: u32, spans: &[Span]) -> u64
         → covers spans.now i j ≡ is_filled job.now.rule job.now.solid.facets (centre job.now.grid i j k) }
     ensures { result ≡ area_of job.now.grid job.now.rule job.now.solid.facets k }
 {
-    // wakes the invariant: `area` requires counts within their limits
-    let _columns = job.grid().columns();
-    let _rows = job.grid().rows();
+    // `area` requires counts within their limits
+    job.grid().hold_limits();
     area(spans)
 }

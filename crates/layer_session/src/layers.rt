@@ -2,7 +2,8 @@
 ghost use Rattle.std.specs.Prelude.{◌≡◌, ◌<◌, All, IfOk, OnOk};
 ghost use Rattle.std.specs.Io.KnownBytes.{Appends};
 ghost use Rattle.build_book.specs.Job.{stripe_count};
-ghost use Rattle.plane_segments.specs.Segment.{HasOrderedNodes, segments};
+ghost use Rattle.build_book.specs.Layer.{layer_segments};
+ghost use Rattle.plane_segments.specs.Segment.{HasOrderedNodes};
 ghost use Rattle.contour.specs.Loops.{AreLoops, loops};
 ghost use Rattle.contour.specs.Outlines.{outlines};
 ghost use Rattle.layer_png.specs.Depth.{bits};
@@ -27,8 +28,8 @@ pub(crate) fn layer_loops<A: Allocator + Copy + Send + Sync>(
     k: u32,
 ) -> Result<Loops<A>, AllocError>
     requires { k < job.now.grid.layers }
-    ensures loops { IfOk result (λ found. found ≡ loops (segments job.now.solid.facets (plane job.now.grid k))) }
-    ensures closed { IfOk result (AreLoops (segments job.now.solid.facets (plane job.now.grid k))) }
+    ensures loops { IfOk result (λ found. found ≡ loops (layer_segments job.now k)) }
+    ensures closed { IfOk result (AreLoops (layer_segments job.now k)) }
     ensures ordered { IfOk result (All (All HasOrderedNodes)) }
 {
     let list = segments(alloc, job.solid(), job.grid().plane(k))?;
@@ -78,9 +79,8 @@ pub(crate) fn layer_area<A: Allocator + Copy + Send + Sync>(
     ensures { IfOk result (λ area. area ≡ area_of job.now.grid job.now.rule job.now.solid.facets k) }
 {
     let spans = layer_spans(alloc, job, k)?;
-    // wakes the invariant: `area` requires counts within their limits
-    let _columns = job.grid().columns();
-    let _rows = job.grid().rows();
+    // `area` requires counts within their limits
+    job.grid().hold_limits();
     Ok(area(spans.as_slice()))
 }
 

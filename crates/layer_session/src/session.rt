@@ -1,8 +1,9 @@
 //! Sessions: a closed mesh in its grid, with a rule, asked layer by layer.
 ghost use Rattle.std.specs.Prelude.{◌≡◌, ◌<◌, ◌≤◌, ◌*◌, All, Err, IfErr, IfOk, OnOk, length, vec_len, ℕ};
 ghost use Rattle.build_book.specs.Job.{stripe_count};
+ghost use Rattle.build_book.specs.Layer.{layer_segments};
 ghost use Rattle.build_book.specs.declared.limits.TheConstants.{MOST_STRIPES, STRIPE_LAYERS};
-ghost use Rattle.plane_segments.specs.Segment.{HasOrderedNodes, segments};
+ghost use Rattle.plane_segments.specs.Segment.{HasOrderedNodes};
 ghost use Rattle.contour.specs.Loops.{AreLoops, loops};
 ghost use Rattle.contour.specs.Outlines.{outlines};
 ghost use Rattle.geometry.specs.declared.limits.TheConstants.{FACET_LIMIT, LAYER_LIMIT};
@@ -262,8 +263,8 @@ impl<A: Allocator + Copy + Send + Sync> Session<A> {
     /// # Errors
     /// `Outside` exactly if there is no such layer; `Memory` only if an allocation failed.
     pub fn loops(&self, k: u32) -> Result<Loops<A>, SessionFault>
-        ensures loops { IfOk result (λ found. found ≡ loops (segments self.now.job.solid.facets (plane self.now.job.grid k))) }
-        ensures closed { IfOk result (AreLoops (segments self.now.job.solid.facets (plane self.now.job.grid k))) }
+        ensures loops { IfOk result (λ found. found ≡ loops (layer_segments self.now.job k)) }
+        ensures closed { IfOk result (AreLoops (layer_segments self.now.job k)) }
         ensures ordered { IfOk result (All (All HasOrderedNodes)) }
         ensures within { OnOk result (k < self.now.job.grid.layers) }
         ensures fault { IfErr result (IsLayerFault self.now.job.grid k) }

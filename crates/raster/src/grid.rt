@@ -176,6 +176,12 @@ impl Grid {
         self.layers
     }
 
+    /// States the limits of every grid: of its counts, and of its centres. A caller can use the clause. It does nothing at run
+    /// time.
+    pub fn hold_limits(&self)
+        ensures { IsGrid self.now }
+    {}
+
     /// The centre of the voxel of column i, row j and layer k, each below the grid's count, from 0: columns along x,
     /// rows along y, layers along z.
     pub fn centre(&self, i: u32, j: u32, k: u32) -> Centre

@@ -4,6 +4,8 @@
 -- - `IsReading`: the reader has read a text up to the bytes ahead, which are its last ones
 -- - `ReadsOn`: the reader goes on to bytes further on
 -- - `IsAfter`: the reader was fed these bytes
+-- - `WhateverFed`: something holds of whatever the reader was fed
+-- - `Feeds`: the reader was fed these bytes too
 -- - `StandsAt`: the state of the reading of a text after a word
 -- - `EndsAt`: the state at the end of the text
 use Rattle.std.specs.Prelude.{◌≡◌, ◌≢◌, ℕ, ◌+◌, ◌<◌, Bool, true, false, not, List, [], ◌++◌, length}
@@ -78,6 +80,14 @@ ReadsOn old ahead new rest = (limit : ℕ) (unit : LengthUnit) (taken : List Fac
 -- the reader was fed these bytes, and these facets were taken off it
 abbrev pub IsAfter : ℕ → LengthUnit → List Facet → TextReader → List ℕ → Type 0
 IsAfter limit unit taken p fed = IsReading limit unit taken p fed []
+
+-- this holds of whatever limit, unit, text and facets: the reader was fed the text, and the facets were taken off it
+abbrev pub WhateverFed : TextReader → (ℕ → LengthUnit → List Facet → List ℕ → Type 0) → Type 0
+WhateverFed p holds = (limit : ℕ) (unit : LengthUnit) (taken : List Facet) (fed : List ℕ) → IsAfter limit unit taken p fed → holds limit unit taken fed
+
+-- whatever the reader was fed before, it was fed these bytes after that
+abbrev pub Feeds : TextReader → TextReader → List ℕ → Type 0
+Feeds old new chunk = WhateverFed old (λ limit unit taken fed. IsAfter limit unit taken new (fed ++ chunk))
 
 abbrev pub at_line : Stage → ReaderState
 at_line stage = state.Line stage

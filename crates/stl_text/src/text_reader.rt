@@ -7,7 +7,7 @@ ghost use Rattle.stl_text.specs.declared.stl_fault.StlFault.TheVariants.{Memory}
 ghost use Rattle.stl_text.specs.Text.{IsFaultOf, Reads};
 ghost use Rattle.stl_text.specs.FacetRun.{IsFacetRun};
 ghost use Rattle.stl_text.specs.Stage.{AtWord, in_facets, word_front};
-ghost use Rattle.stl_text.specs.TextReader.{EndsAt, IsAfter, IsReading, ReadsOn, StandsAt, at_line, at_word};
+ghost use Rattle.stl_text.specs.TextReader.{EndsAt, Feeds, IsAfter, IsReading, ReadsOn, StandsAt, WhateverFed, at_line, at_word};
 
 use crate::chunk_parts::{ChunkParts, FacetRuns};
 use crate::facet_run::{FacetRun, layout_within};
@@ -142,8 +142,7 @@ impl<A: Allocator + Copy> TextReader<A> {
 impl<A: Allocator> TextReader<A> {
     /// Reads the next chunk of the text. Chunks may be cut anywhere.
     pub fn feed(&mut self, chunk: &[u8])
-        ensures { (limit : ℕ) (unit : LengthUnit) (taken : List Facet) (fed : List ℕ) → IsAfter limit unit taken self.old fed
-            → IsAfter limit unit taken self.new (fed ++ chunk.now) }
+        ensures { Feeds self.old self.new chunk.now }
     {
         self.count_chunk(chunk);
         let rest = self.resume(chunk);
@@ -153,8 +152,7 @@ impl<A: Allocator> TextReader<A> {
     /// Reads the next chunk of the text, in which runs of facets were found. The result is that of [`TextReader::feed`] with
     /// this chunk, whichever runs they are.
     pub fn feed_runs(&mut self, found: FacetRuns<'_, A>)
-        ensures { (limit : ℕ) (unit : LengthUnit) (taken : List Facet) (fed : List ℕ) → IsAfter limit unit taken self.old fed
-            → IsAfter limit unit taken self.new (fed ++ found.entry.bytes) }
+        ensures { Feeds self.old self.new found.entry.bytes }
     {
         let is_own = found.unit() == self.unit;
         let (chunk, runs) = found.in_order();
@@ -167,10 +165,9 @@ impl<A: Allocator> TextReader<A> {
 
     /// Reads the next chunk of the text. Some of its runs are known, in the order in which they begin.
     fn read_by_runs<'p>(&mut self, chunk: &'p [u8], runs: &[FacetRun<'p, A>])
-        ensures { (limit : ℕ) (unit : LengthUnit) (taken : List Facet) (fed : List ℕ)
-            → IsAfter limit unit taken self.old fed
-            → All (λ run. IsFacetRun unit chunk.now run.facets.items run.from.now run.to.now) runs.now
-            → IsAfter limit unit taken self.new (fed ++ chunk.now) }
+        ensures { WhateverFed self.old (λ limit unit taken fed.
+            All (λ run. IsFacetRun unit chunk.now run.facets.items run.from.now run.to.now) runs.now
+            → IsAfter limit unit taken self.new (fed ++ chunk.now)) }
     {
         self.count_chunk(chunk);
         let layout = layout_within(chunk);
@@ -227,8 +224,7 @@ impl<A: Allocator> TextReader<A> {
     /// serves the facets to come. Facets that were taken still count for the limit. They are facets of the text only if
     /// [`TextReader::finish`] reports no fault either.
     pub fn take_facets(&mut self, list: &mut Vec<Facet, A>)
-        ensures after { (limit : ℕ) (unit : LengthUnit) (taken : List Facet) (fed : List ℕ) → IsAfter limit unit taken self.old fed
-            → IsAfter limit unit (taken ++ self.old.facets) self.new fed }
+        ensures after { WhateverFed self.old (λ limit unit taken fed. IsAfter limit unit (taken ++ self.old.facets) self.new fed) }
         ensures none { self.new.facets ≡ [] }
         ensures given { list.new.items ≡ self.old.facets }
     {
@@ -243,13 +239,10 @@ impl<A: Allocator> TextReader<A> {
     /// A text that does not read as facets has exactly one fault, that of [`read_stl_at_most`](crate::read_stl_at_most). It is
     /// returned unless memory runs out. The fault `Memory` comes only if an allocation failed, or after `usize::MAX` bytes.
     pub fn finish(self) -> Result<Vec<Facet, A>, StlFault>
-        ensures found { (limit : ℕ) (unit : LengthUnit) (taken : List Facet) (fed : List ℕ) → IsAfter limit unit taken self fed
-            → IfOk result (λ facets. Reads limit unit fed (taken ++ facets.items)) }
-        ensures only { (limit : ℕ) (unit : LengthUnit) (taken : List Facet) (fed : List ℕ) → IsAfter limit unit taken self fed
-            → (facets : List Facet) → Reads limit unit fed facets
-            → MatchResult result (λ found. taken ++ found.items ≡ facets) (λ fault. fault ≡ Memory) }
-        ensures fault { (limit : ℕ) (unit : LengthUnit) (taken : List Facet) (fed : List ℕ) → IsAfter limit unit taken self fed
-            → IfErr result (λ fault. fault ≢ Memory → IsFaultOf limit unit fed fault) }
+        ensures found { WhateverFed self (λ limit unit taken fed. IfOk result (λ facets. Reads limit unit fed (taken ++ facets.items))) }
+        ensures only { WhateverFed self (λ limit unit taken fed. (facets : List Facet) → Reads limit unit fed facets
+            → MatchResult result (λ found. taken ++ found.items ≡ facets) (λ fault. fault ≡ Memory)) }
+        ensures fault { WhateverFed self (λ limit unit taken fed. IfErr result (λ fault. fault ≢ Memory → IsFaultOf limit unit fed fault)) }
     {
         let mut reader = self;
         let state = reader.close();
@@ -264,8 +257,7 @@ impl<A: Allocator> TextReader<A> {
 
     /// Counts the bytes of a chunk.
     fn count_chunk(&mut self, chunk: &[u8])
-        ensures { (limit : ℕ) (unit : LengthUnit) (taken : List Facet) (fed : List ℕ) → IsAfter limit unit taken self.old fed
-            → IsReading limit unit taken self.new (fed ++ chunk.now) chunk.now }
+        ensures { WhateverFed self.old (λ limit unit taken fed. IsReading limit unit taken self.new (fed ++ chunk.now) chunk.now) }
     {
         match self.count.checked_add(chunk.len()) {
             Some(count) => self.count = count,
@@ -388,8 +380,7 @@ impl<A: Allocator> TextReader<A> {
 
     /// Reads the last word of the text. Returns the state at the end of the text.
     fn close(&mut self) -> ReaderState
-        ensures { (limit : ℕ) (unit : LengthUnit) (taken : List Facet) (fed : List ℕ) → IsAfter limit unit taken self.old fed
-            → EndsAt limit unit result (taken ++ self.new.facets) fed }
+        ensures { WhateverFed self.old (λ limit unit taken fed. EndsAt limit unit result (taken ++ self.new.facets) fed) }
     {
         let ReaderState::Word(last) = self.state else {
             return self.state;
@@ -440,8 +431,7 @@ impl<A: Allocator + Copy + Send + Sync> TextReader<A> {
     /// Reads the next chunk of the text. A long one is read in parts by up to `workers` workers at the same time. The result is
     /// that of [`TextReader::feed`], for every number of workers.
     pub fn feed_by<R: Threads + Sync>(&mut self, rt: &R, chunk: &[u8], workers: u32)
-        ensures { (limit : ℕ) (unit : LengthUnit) (taken : List Facet) (fed : List ℕ)
-            → IsAfter limit unit taken self.old fed → IsAfter limit unit taken self.new (fed ++ chunk.now) }
+        ensures { Feeds self.old self.new chunk.now }
     {
         let parts = self.parts(chunk, workers);
         self.feed_runs(parts.runs_by(rt, workers));

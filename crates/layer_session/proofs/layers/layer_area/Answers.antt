@@ -1,6 +1,18 @@
-use Rattle.std.proofs.Common.{◌∙◌}
+use Rattle.std.proofs.Common.{◌∙◌, subst}
+use Rattle.raster.specs.Grid.{IsGrid}
 use Rattle.build_book.proofs.lemmas.Areas.{span_area-is}
 use Rattle.layer_session.proofs.layers.layer_area.Goals as goal
+
+pub area-requires : goal.area-requires
+area-requires g c =
+    let limits = subst IsGrid c.grid.ensures c.hold_limits.ensures in
+    record {
+      columns = c.args.job.now.grid.columns;
+      rows = c.args.job.now.grid.rows;
+      few_columns = limits.columns_high;
+      few_rows = limits.rows_high;
+      form = rw c.as_slice.ensures.value c.in_ok-spans.ensures.form;
+    }
 
 pub returns : goal.returns
 returns g c =
