@@ -51,7 +51,7 @@ SLICED_ALONE_UNDER_LOCK = """    let sliced = {
         shared.gate.made(worker, &piece);
         shared.book.lock(shared.rt).file(piece);
     }"""
-COUNTED = "crates/raster/src/devices.rt"
+COUNTED = "crates/devices/src/counted.rt"
 TAKEN = "            Ok(count) => Ok(count),\n"
 FAILED = "            Ok(_) => Err(self.fail()),\n"
 AFTER_READ = "            Err(_) => Err(self.fail()),\n        }\n    }\n}\n\nimpl<T: Write> Sink"

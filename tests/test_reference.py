@@ -114,7 +114,7 @@ def believed(pages):
             ("believe-run.html", "stlslice", "run", ["stlslice.Run.IsRun", "stlslice.Outcome.IsOutcome", "stl_text.Text.Reads",
                                                      "mesh_weld.Balance.IsBalanced", "geometry.Winding.ray",
                                                      "geometry.TieRule.is_below", "raster.Rule.is_inside", "contour.Loops.loops",
-                                                     "micro_num.Micrometres.micro", "raster.Source", "raster.Sink"]),
+                                                     "micro_num.Micrometres.micro", "devices.Source", "devices.Sink"]),
             ("believe-mask.html", "stlslice_c", "stlslice_mask", ["stlslice_c.Answers.IsMaskAnswer", "raster.Image.layer_image",
                                                                   "geometry.Winding.ray", "raster.Rule.is_inside"])):
         text, marks = pages[page]

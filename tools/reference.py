@@ -90,8 +90,8 @@ class Names:
         """The item that a crate makes public by a name, in that crate or in the one below that it comes from."""
         for place, public in crate.public:
             if public == name:
-                below = self.crates.get(place)
-                return self.origin(below, name) if below and below is not crate else crate.items.get(name)
+                is_below = place in crate.below and place in self.crates
+                return self.origin(self.crates[place], name) if is_below else crate.items.get(name)
         return None
 
     def in_comment(self, crate, name):
@@ -213,7 +213,7 @@ def section(names, entry, crate):
 
 def public_entries(names, crate):
     """The public items of a crate in the order of its files, each type followed by its methods."""
-    own = {name for place, name in crate.public if place not in names.crates or place == crate.name}
+    own = {name for place, name in crate.public if place not in crate.below}
     for key, entry in crate.items.items():
         if entry.path and (entry.owner or key) in own:
             yield entry
@@ -226,7 +226,7 @@ def crate_page(names, crate):
     body = [f"<h1>{crate.name}</h1>", prose(names, crate, crate.front)]
     if crate.definitions:
         body.append(f'<p><a href="{crate.name}.specs.html">Definitions of {crate.name}</a></p>')
-    handed = [names.origin(crate, name) for place, name in crate.public if place in names.crates and place != crate.name]
+    handed = [names.origin(crate, name) for place, name in crate.public if place in crate.below and place in names.crates]
     if handed:
         links = ", ".join(f'<a href="{names.place(it)}"><code>{it.name}</code></a>' for it in handed)
         body.append(f"<p>From crates below: {links}.</p>")

@@ -1,4 +1,3 @@
 pub mod Extent
-pub mod Transcript
 pub mod Round
 pub mod Loading

@@ -8,13 +8,13 @@ use Rattle.mesh_weld.specs.Welder.{Welder, welder_of}
 use Rattle.mesh_weld.specs.Solid.{Solid, solid_of}
 use Rattle.mesh_weld.specs.declared.weld_fault.WeldFault.TheVariants as weld
 use Rattle.micro_num.specs.declared.unit.Unit.{Unit as LengthUnit}
-use Rattle.raster.specs.Devices.{Fails}
+use Rattle.devices.specs.Devices.{Fails}
 use Rattle.stl_text.specs.TextReader.{IsAfter, TextReader}
 use Rattle.stl_text.specs.Text.{IsFaultOf, Reads}
 use Rattle.stl_text.specs.declared.stl_fault.StlFault.{StlFault}
 use Rattle.mesh_reading.specs.Extent.{extent_of}
 use Rattle.mesh_reading.specs.Round.{Round}
-use Rattle.mesh_reading.specs.Transcript.{Transcript}
+use Rattle.devices.specs.Transcript.{Transcript}
 use Rattle.mesh_reading.specs.declared.extent.Extent.{Extent}
 use Rattle.mesh_reading.specs.declared.read_fault.ReadFault.{ReadFault}
 use Rattle.mesh_reading.specs.declared.read_fault.ReadFault.TheVariants as fault

@@ -3,9 +3,9 @@ ghost use Rattle.std.specs.Prelude.{◌≡◌, ◌≤◌, ◌++◌, IfErr, List,
 ghost use Rattle.std.specs.Io.KnownBytes.{IsAtEnd};
 ghost use Rattle.geometry.specs.Facet.{Facet};
 ghost use Rattle.micro_num.specs.declared.unit.Unit.{Unit as LengthUnit};
-ghost use Rattle.raster.specs.Devices.{Fails};
+ghost use Rattle.devices.specs.Devices.{Fails};
 ghost use Rattle.mesh_reading.specs.Loading.{IsAllWelded, IsFedBySource, IsLoadFault, IsLoaded, IsMisread, IsReadAs, IsReadToEnd, IsSolidOf, IsTextExtent, OfText};
-ghost use Rattle.mesh_reading.specs.Transcript.{transcript};
+ghost use Rattle.devices.specs.Transcript.{transcript};
 ghost use Rattle.mesh_reading.specs.declared.read_fault.ReadFault.TheVariants.{Read};
 
 use crate::extent::Extent;
@@ -13,10 +13,10 @@ use crate::read_fault::ReadFault;
 use crate::round::Round;
 use crate::round_work::{read_and_weld, weld_next};
 use crate::window::{LEAST_READ, WINDOW_LEN, fill};
+use devices::Source;
 use geometry::{FACET_LIMIT, Facet};
 use mesh_weld::{Solid, Welder};
 use micro_num::Unit;
-use raster::Source;
 use std::alloc::Allocator;
 use std::mem::swap;
 use std::thread::Threads;

@@ -1,13 +1,13 @@
 //! A round: the bytes of a text that several workers read at the same time, filled straight from its source.
 ghost use Rattle.std.specs.Prelude.{◌≡◌, ◌≤◌, ◌+◌, IfErr, IfOk, List, Ok, OnOk, Option, [], length, take, true, ℕ};
 ghost use Rattle.std.specs.Io.KnownBytes.{Consumes, IsAtEnd};
-ghost use Rattle.raster.specs.Devices.{Fails};
+ghost use Rattle.devices.specs.Devices.{Fails};
 ghost use Rattle.mesh_reading.specs.Loading.{IsFilled};
 ghost use Rattle.mesh_reading.specs.declared.read_fault.ReadFault.TheVariants.{Read};
 
 use crate::read_fault::ReadFault;
 use crate::window::{LEAST_READ, WINDOW_LEN, fill};
-use raster::Source;
+use devices::Source;
 use std::alloc::{AllocError, Allocator};
 use std::marker::Model;
 

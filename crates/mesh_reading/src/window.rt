@@ -1,11 +1,11 @@
 //! The window: what one call of a source may give.
 ghost use Rattle.std.specs.Prelude.{◌≡◌, ◌≤◌, IfErr, IfOk, Ok, OnOk, length, take};
 ghost use Rattle.std.specs.Io.KnownBytes.{Consumes, IsAtEnd};
-ghost use Rattle.raster.specs.Devices.{Fails};
+ghost use Rattle.devices.specs.Devices.{Fails};
 ghost use Rattle.mesh_reading.specs.declared.read_fault.ReadFault.TheVariants.{Read};
 
 use crate::read_fault::ReadFault;
-use raster::Source;
+use devices::Source;
 
 /// The length of a window, in bytes.
 pub(crate) const WINDOW_LEN: usize = 65_536;

@@ -1,4 +1,3 @@
-pub mod Devices
 pub mod Grid
 pub mod Placing
 pub mod Rule

@@ -17,9 +17,8 @@
 //! - [`ImageWriter`]: writes images one after another, by few calls of the sink; [`write_layer`] writes one; [`image_len`]:
 //!   the length of an image, in bytes.
 //! - [`Page`]: a few images that are drawn before they are written.
-//! - [`Source`], [`Sink`]: the devices that are read and written. A call of them that fails returns [`Failed`], and
-//!   [`Failures`] counts these. [`Counted`] makes a device of any reader or writer.
-//! - [`put_all`]: writes a whole chunk of bytes; [`WriteFault`]: how many went out before a failure.
+//! - [`Source`], [`Sink`], [`Failures`], [`Failed`], [`Counted`], [`put_all`], [`WriteFault`]: the devices that are read and
+//!   written, re-exported from `devices`.
 //!
 //! Lengths are in micrometres. Coordinates of centres and planes are in half-micrometres, so that they are whole. Columns, rows
 //! and layers count from 0 along x, y and z.
@@ -27,7 +26,6 @@
 
 mod column_sums;
 mod crossings;
-mod devices;
 mod filler;
 mod grid;
 mod pbm;

@@ -1,8 +1,8 @@
 -- What a run promises, by what is left of its source and what its sink holds.
 use Rattle.std.specs.Prelude.{◌≡◌, ◌≢◌, ◌⊎◌, ℕ, ◌≤◌, Bool, List, MatchResult, Result, Err, IfErr, IfSome, Ok, OnOk, length, true}
 use Rattle.std.specs.Io.KnownBytes.{Appends, IsAtEnd, Keeps}
-use Rattle.raster.specs.Devices.{AppendsFirst, Fails}
-use Rattle.mesh_reading.specs.Transcript.{Transcript}
+use Rattle.devices.specs.Devices.{AppendsFirst, Fails}
+use Rattle.devices.specs.Transcript.{Transcript}
 use Rattle.task_words.specs.declared.task.Task.{Task}
 use Rattle.stlslice.specs.declared.run_fault.RunFault.{RunFault}
 use Rattle.stlslice.specs.declared.run_fault.RunFault.TheVariants as cause

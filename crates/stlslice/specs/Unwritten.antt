@@ -1,8 +1,8 @@
 -- What a run does to its sink if it fails.
 use Rattle.std.specs.Prelude.{◌≡◌, ◌≤◌, ℕ, List, length}
 use Rattle.std.specs.Io.KnownBytes.{Keeps}
-use Rattle.raster.specs.Devices.{AppendsFirst, Fails}
-use Rattle.mesh_reading.specs.Transcript.{Transcript}
+use Rattle.devices.specs.Devices.{AppendsFirst, Fails}
+use Rattle.devices.specs.Transcript.{Transcript}
 use Rattle.stlslice.specs.declared.run_fault.RunFault.{RunFault}
 use Rattle.stlslice.specs.declared.run_fault.RunFault.TheVariants as fault
 

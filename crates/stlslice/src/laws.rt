@@ -2,7 +2,7 @@
 ghost use Rattle.std.specs.Prelude.{◌≡◌, ◌↔◌, Bool, List, Ok, Option, Result, Some, ℕ};
 ghost use Rattle.std.specs.Io.KnownBytes.{Appends};
 ghost use Rattle.micro_num.specs.declared.unit.Unit.{Unit as LengthUnit};
-ghost use Rattle.mesh_reading.specs.Transcript.{Transcript};
+ghost use Rattle.devices.specs.Transcript.{Transcript};
 ghost use Rattle.raster.specs.declared.rule.Rule.{Rule};
 ghost use Rattle.task_words.specs.declared.task.Given.{Given};
 ghost use Rattle.task_words.specs.declared.task.Task.{Task};

@@ -1,6 +1,6 @@
 //! A run: reads the whole input, does the task, writes its outcome.
 ghost use Rattle.std.specs.Prelude.{◌≡◌, Err, IfErr, IfOk, Ok};
-ghost use Rattle.mesh_reading.specs.Transcript.{transcript};
+ghost use Rattle.devices.specs.Transcript.{transcript};
 ghost use Rattle.stlslice.specs.Outcome.{grid_for, placing_of, slicing};
 ghost use Rattle.stlslice.specs.Run.{IsRun};
 ghost use Rattle.stlslice.specs.declared.run_fault.RunFault.TheVariants as run_fault;

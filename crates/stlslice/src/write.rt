@@ -2,7 +2,7 @@
 //! flushed by [`flush`]. This module chooses among the outputs of slicing.
 ghost use Rattle.std.specs.Prelude.{◌≡◌, ◌⊎◌, IfErr, OnOk, true};
 ghost use Rattle.std.specs.Io.KnownBytes.{Appends};
-ghost use Rattle.mesh_reading.specs.Transcript.{transcript};
+ghost use Rattle.devices.specs.Transcript.{transcript};
 ghost use Rattle.stlslice.specs.declared.run_fault.RunFault.TheVariants.{Memory};
 ghost use Rattle.stlslice.specs.Unwritten.{IsUntouched, IsUnwritten};
 ghost use Rattle.stlslice.specs.SlicedText.{output_of, sliced_text};

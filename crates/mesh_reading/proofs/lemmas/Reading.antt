@@ -7,7 +7,7 @@ use Rattle.std.proofs.lemmas.Result.{IfErr-at_err, IfErr-weaker, IfOk-weaker}
 use Rattle.geometry.specs.Facet.{Facet}
 use Rattle.geometry.specs.declared.limits.TheConstants.{FACET_LIMIT}
 use Rattle.micro_num.specs.declared.unit.Unit.{Unit as LengthUnit}
-use Rattle.raster.specs.Devices.{Fails}
+use Rattle.devices.specs.Devices.{Fails}
 use Rattle.stl_text.specs.Text.{Reads}
 use Rattle.stl_text.specs.TextReader.{IsAfter, TextReader}
 use Rattle.stl_text.proofs.lemmas.OneReading.{one_reading}
@@ -18,7 +18,7 @@ use Rattle.mesh_weld.specs.Welding.{IsWeldFault}
 use Rattle.mesh_weld.specs.declared.weld_fault.WeldFault.{WeldFault}
 use Rattle.mesh_weld.specs.declared.weld_fault.WeldFault.TheVariants as weld
 use Rattle.mesh_reading.specs.Loading.{AreWelded, HasWelded, IsFedBySource, IsInput, IsInputFault, IsLoadFault, IsLoaded, IsMisread, IsReadAs, IsReadToEnd, IsSolidOf, IsTextExtent, IsWeldedAsFed, OfText}
-use Rattle.mesh_reading.specs.Transcript.{Transcript, transcript}
+use Rattle.devices.specs.Transcript.{Transcript, transcript}
 use Rattle.mesh_reading.specs.declared.extent.Extent.{Extent}
 use Rattle.mesh_reading.proofs.lemmas.Faults.{IsReadingFault, not_read, passed_on, unclosed}
 use Rattle.mesh_reading.specs.declared.read_fault.ReadFault.{ReadFault}

@@ -4,7 +4,7 @@ use Rattle.std.specs.Prelude.{Err, IfErr, IfOk, IsErrAnd, IsOk, Ok, OnOk, Result
 use Rattle.std.specs.Io.KnownBytes.{Consumes, IsAtEnd}
 use Rattle.std.proofs.Math.Seq.{take-append_seam, take-take}
 use Rattle.std.proofs.lemmas.List.{length-take-le}
-use Rattle.raster.specs.Devices.{Fails}
+use Rattle.devices.specs.Devices.{Fails}
 use Rattle.mesh_reading.specs.Loading.{IsFilled}
 use Rattle.mesh_reading.specs.Round.{Round}
 use Rattle.mesh_reading.specs.declared.read_fault.ReadFault.{ReadFault}

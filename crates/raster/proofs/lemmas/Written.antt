@@ -9,7 +9,7 @@ use Rattle.std.specs.Io.KnownBytes.{Appends}
 use Rattle.std.proofs.lemmas.List.{append-nil, drop-append-le, drop-drop, reverse-append, take-append-drop, take-append-le}
 use Rattle.std.proofs.lemmas.List.Concat.{flat_map-cons}
 use Rattle.std.proofs.Math.Seq.{take-add}
-use Rattle.raster.specs.Devices.{AppendsFirst}
+use Rattle.devices.specs.Devices.{AppendsFirst}
 use Rattle.raster.specs.Filler.{below}
 use Rattle.raster.specs.Image.{packed_byte, row_bytes}
 

@@ -2,7 +2,7 @@
 ghost use Rattle.std.specs.Prelude.{◌≡◌, ◌<◌, ◌≤◌, ◌+◌, ◌-◌, [], ◌++◌, drop, length, OnOk, OnErr, IfErr, IfOk};
 ghost use Rattle.std.specs.Int.{div_ceil};
 ghost use Rattle.std.specs.Io.KnownBytes.{Appends};
-ghost use Rattle.raster.specs.Devices.{AppendsFirst, Fails, greatest_count};
+ghost use Rattle.devices.specs.Devices.{AppendsFirst, Fails, greatest_count};
 ghost use Rattle.raster.specs.Image.{header, row_bytes};
 ghost use Rattle.raster.specs.Rows.{IsRowStart};
 ghost use Rattle.raster.specs.Span.{AreSpans, covers};
@@ -10,11 +10,11 @@ ghost use Rattle.raster.specs.declared.pbm.chunk.TheConstants.{CHUNK_LEN};
 ghost use Rattle.raster.specs.declared.pbm.header.TheConstants.{HEADER_LIMIT};
 ghost use Rattle.geometry.specs.declared.limits.TheConstants.{COLUMN_LIMIT};
 
-use crate::devices::{Sink, WriteFault, put_all};
 use crate::grid::Grid;
 use crate::pbm::header::{HEADER_LIMIT, Header};
 use crate::pbm::rows::draw_layer_row;
 use crate::span::Span;
+use devices::{Sink, WriteFault, put_all};
 use geometry::COLUMN_LIMIT;
 use std::marker::Model;
 

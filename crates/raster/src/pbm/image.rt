@@ -1,14 +1,14 @@
 //! Writes the image of one layer, and computes the length of an image.
 ghost use Rattle.std.specs.Prelude.{◌≡◌, ◌<◌, ◌≤◌, ℕ, Bool, decimal, length, IfErr, OnErr, OnOk};
 ghost use Rattle.std.specs.Io.KnownBytes.{Appends};
-ghost use Rattle.raster.specs.Devices.{AppendsFirst, Fails};
+ghost use Rattle.devices.specs.Devices.{AppendsFirst, Fails};
 ghost use Rattle.raster.specs.Span.{AreSpans, covers};
 ghost use Rattle.raster.specs.Image.{image_limit, image_of_pixels};
 
-use crate::devices::{Sink, WriteFault};
 use crate::grid::Grid;
 use crate::pbm::image_writer::ImageWriter;
 use crate::span::Span;
+use devices::{Sink, WriteFault};
 
 /// Writes the image of a layer in raw PBM ("P4", pbm(5)). The pixels in the spans are black, and the row of the greatest number
 /// is at the top. The spans are those of one layer of the grid: in it, by ascending row, then column, not empty and not

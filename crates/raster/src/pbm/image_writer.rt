@@ -2,16 +2,16 @@
 //! stack.
 ghost use Rattle.std.specs.Prelude.{◌≡◌, ◌<◌, ◌≤◌, ◌+◌, ◌-◌, [], ◌++◌, drop, length, IfErr, IfOk, OnErr, OnOk};
 ghost use Rattle.std.specs.Io.KnownBytes.{Appends};
-ghost use Rattle.raster.specs.Devices.{AppendsFirst, Fails, greatest_count};
+ghost use Rattle.devices.specs.Devices.{AppendsFirst, Fails, greatest_count};
 ghost use Rattle.raster.specs.Span.{AreSpans, covers};
 ghost use Rattle.raster.specs.Image.{image_limit};
 ghost use Rattle.raster.specs.ImageWriter.{pending};
 
-use crate::devices::{Sink, WriteFault};
 use crate::grid::Grid;
 use crate::pbm::chunk::Chunk;
 use crate::pbm::header::HEADER_LIMIT;
 use crate::span::Span;
+use devices::{Sink, WriteFault};
 use std::marker::Model;
 
 /// Writes images of layers in raw PBM ("P4", pbm(5)) one after another. It gathers their bytes in a chunk. So one call of the

@@ -4,14 +4,14 @@ use Rattle.std.specs.Prelude.{Bool, true, Err, IfErr, IfSome, IsErrAnd, MatchRes
 use Rattle.std.specs.Io.KnownBytes.{Appends, IsAtEnd, Keeps}
 use Rattle.micro_num.specs.declared.unit.Unit.{Unit as LengthUnit}
 use Rattle.mesh_weld.specs.Solid.{Solid}
-use Rattle.raster.specs.Devices.{AppendsFirst, Fails}
+use Rattle.devices.specs.Devices.{AppendsFirst, Fails}
 use Rattle.raster.specs.Grid.{Grid}
 use Rattle.raster.specs.declared.rule.Rule.{Rule}
 use Rattle.build_book.specs.Job.{Job}
 use Rattle.task_words.specs.declared.task.Given.{Given}
 use Rattle.task_words.specs.declared.task.Task.{Task}
 use Rattle.mesh_reading.specs.Loading.{IsInput, IsInputFault, IsReadAs, IsSolidOf}
-use Rattle.mesh_reading.specs.Transcript.{Transcript}
+use Rattle.devices.specs.Transcript.{Transcript}
 use Rattle.mesh_reading.specs.declared.read_fault.ReadFault.{ReadFault}
 use Rattle.mesh_reading.specs.declared.read_fault.ReadFault.TheVariants as read
 use Rattle.stlslice.specs.declared.run_fault.RunFault.{RunFault}

@@ -9,8 +9,8 @@ use Rattle.std.proofs.Math.Nat.{mul-le-mul_left}
 use Rattle.std.specs.Io.KnownBytes.{Appends}
 use Rattle.geometry.specs.declared.limits.TheConstants.{COLUMN_LIMIT, LAYER_LIMIT}
 use Rattle.raster.proofs.lemmas.Written.{IsUnderWay, all-counted, all-out, begun, more-out, moved, taken-on, written-within}
-use Rattle.raster.specs.Devices.{AppendsFirst, greatest_count}
-use Rattle.raster.specs.declared.devices.WriteFault.{WriteFault}
+use Rattle.devices.specs.Devices.{AppendsFirst, greatest_count}
+use Rattle.devices.specs.declared.writing.WriteFault.{WriteFault}
 use Rattle.raster.specs.Grid.{Grid, centre}
 use Rattle.raster.specs.Filler.{is_filled}
 use Rattle.raster.specs.Image.{image_of_pixels, images, images_limit, layer_image}

@@ -7,7 +7,7 @@ use Rattle.geometry.specs.BoundingBox.{Bounds, bounds}
 use Rattle.geometry.specs.Facet.{Facet}
 use Rattle.geometry.specs.declared.limits.TheConstants.{COLUMN_LIMIT, LAYER_LIMIT}
 use Rattle.raster.proofs.lemmas.Written.{IsUnderWay, all-counted, more-out, written-within}
-use Rattle.raster.specs.Devices.{AppendsFirst, greatest_count}
+use Rattle.devices.specs.Devices.{AppendsFirst, greatest_count}
 use Rattle.raster.specs.Filler.{is_filled}
 use Rattle.raster.specs.Grid.{Grid, centre, grid_with, has_no_cells, is_too_large, reaches_too_far}
 use Rattle.raster.specs.Grid as grids

@@ -4,11 +4,11 @@ use Rattle.std.specs.Prelude.{IfErr, IsErrAnd, Result}
 use Rattle.std.specs.Io.KnownBytes.{Appends, Keeps}
 use Rattle.std.proofs.lemmas.List.{take_all}
 use Rattle.std.proofs.lemmas.Result.{IfErr-weaker}
-use Rattle.raster.specs.Devices.{AppendsFirst, Fails}
+use Rattle.devices.specs.Devices.{AppendsFirst, Fails}
 use Rattle.raster.specs.Image.{images_limit}
 use Rattle.std.proofs.KnownBytes.{Appends-kept}
 use Rattle.raster.proofs.lemmas.Written.{IsUnderWay, all-counted, all-out, more-out, written-within}
-use Rattle.mesh_reading.specs.Transcript.{Transcript}
+use Rattle.devices.specs.Transcript.{Transcript}
 use Rattle.mesh_reading.proofs.lemmas.Faults.{passed_on}
 use Rattle.build_book.specs.Job.{Job}
 use Rattle.stlslice.specs.Pages.{images_of}

@@ -26,7 +26,7 @@ use Rattle.raster.specs.declared.rule.Rule.{Rule}
 use Rattle.raster.proofs.lemmas.Rules.{inside_decides}
 use Rattle.build_book.specs.Promise.{IsClosed, pixel_count}
 use Rattle.build_book.proofs.lemmas.Promise.{cycles-closed}
-use Rattle.mesh_reading.specs.Transcript.{Transcript}
+use Rattle.devices.specs.Transcript.{Transcript}
 use Rattle.task_words.specs.declared.task.Given.{Given}
 use Rattle.task_words.specs.declared.task.Task.{Task}
 use Rattle.stlslice.specs.Run.{IsRun}

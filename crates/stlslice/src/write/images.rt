@@ -1,7 +1,7 @@
 //! The output of slicing: the images of all layers, one after the other.
 ghost use Rattle.std.specs.Prelude.{◌≡◌, IfErr, OnOk, true};
 ghost use Rattle.std.specs.Io.KnownBytes.{Appends};
-ghost use Rattle.mesh_reading.specs.Transcript.{transcript};
+ghost use Rattle.devices.specs.Transcript.{transcript};
 ghost use Rattle.stlslice.specs.Pages.{images_of};
 ghost use Rattle.stlslice.specs.Unwritten.{IsUnwritten};
 

@@ -1,7 +1,7 @@
 //! Writes the images of all layers of a build by several workers, and decides whether these draw at the same time.
 ghost use Rattle.std.specs.Prelude.{◌≡◌, ◌<◌, IfErr, OnOk, true, vec_len};
 ghost use Rattle.std.specs.Io.KnownBytes.{Appends};
-ghost use Rattle.mesh_reading.specs.Transcript.{transcript};
+ghost use Rattle.devices.specs.Transcript.{transcript};
 ghost use Rattle.stlslice.specs.Pages.{ArePageSets, images_of};
 ghost use Rattle.stlslice.specs.Unwritten.{IsUnwritten};
 

@@ -1,7 +1,7 @@
 //! Images of several layers that are drawn at the same time, while those drawn before are written in order.
 ghost use Rattle.std.specs.Prelude.{◌≡◌, ◌<◌, ◌≤◌, ◌+◌, ◌-◌, ◌*◌, All, [], IfErr, IfOk, OnErr, OnOk, length, min, vec_len};
 ghost use Rattle.std.specs.Io.KnownBytes.{Appends};
-ghost use Rattle.raster.specs.Devices.{AppendsFirst, Fails, greatest_count};
+ghost use Rattle.devices.specs.Devices.{AppendsFirst, Fails, greatest_count};
 ghost use Rattle.stlslice.specs.Pages.{ArePageSets, image_size, images_between, images_of, pages_text};
 
 use crate::write::flush::put_more;

@@ -5,7 +5,7 @@ use Rattle.std.proofs.KnownBytes.{Consumes-trans}
 use Rattle.std.proofs.lemmas.List.{append-nil}
 use Rattle.geometry.specs.Facet.{Facet}
 use Rattle.geometry.specs.declared.limits.TheConstants.{FACET_LIMIT}
-use Rattle.raster.specs.Devices.{Fails}
+use Rattle.devices.specs.Devices.{Fails}
 use Rattle.stl_text.specs.TextReader.{IsAfter}
 use Rattle.mesh_reading.specs.Loading.{AreWelded, HasWelded}
 use Rattle.mesh_reading.specs.declared.read_fault.ReadFault.TheVariants.{Read}

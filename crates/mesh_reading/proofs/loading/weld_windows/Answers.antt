@@ -1,5 +1,5 @@
 use Rattle.std.proofs.Common.{◌≡◌, ◌∙◌, inl, inr, refl, rules, subst, sym}
-use Rattle.raster.specs.Devices.{Fails}
+use Rattle.devices.specs.Devices.{Fails}
 use Rattle.mesh_reading.specs.declared.read_fault.ReadFault.TheVariants.{Memory, Read}
 use Rattle.mesh_reading.proofs.lemmas.Reading.{ended_early, short_of_memory, welded_on}
 use Rattle.mesh_reading.proofs.loading.weld_windows.Goals as goal

@@ -1,6 +1,6 @@
 use Rattle.std.proofs.Common.{◌≡◌, ◌∙◌, ◌+◌, ap, arith, length, subst, take, true}
 use Rattle.std.specs.Vec.{vec_len}
-use Rattle.raster.specs.Devices.{Fails}
+use Rattle.devices.specs.Devices.{Fails}
 use Rattle.mesh_reading.proofs.lemmas.Rounds.{enough, filled_round, grown_front, not_filled, taken_on, within_on}
 use Rattle.mesh_reading.proofs.round.Round.fill.Goals as goal
 

@@ -4,7 +4,7 @@ use Rattle.raster.specs.Image.{images_limit, layer_image}
 use Rattle.raster.specs.ImageWriter.{ImageWriter, pending}
 use Rattle.std.proofs.KnownBytes.{Appends-kept}
 use Rattle.raster.proofs.lemmas.Written.{IsUnderWay, moved}
-use Rattle.mesh_reading.specs.Transcript.{Transcript}
+use Rattle.devices.specs.Transcript.{Transcript}
 use Rattle.mesh_reading.proofs.lemmas.Reading.{transcript_of}
 use Rattle.build_book.specs.Job.{Job}
 use Rattle.stlslice.specs.Pages.{images_of}

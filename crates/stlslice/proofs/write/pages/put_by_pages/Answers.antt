@@ -2,7 +2,7 @@ use Rattle.std.proofs.Common.{◌≡◌, ◌≤◌, ◌<◌, ◌*◌, ◌∙◌,
 use Rattle.std.specs.Prelude.{vec_items}
 use Rattle.std.proofs.lemmas.List.Elements.{All-same}
 use Rattle.std.proofs.lemmas.Result.{on_err_weaker, on_ok_weaker}
-use Rattle.raster.specs.Devices.{Fails}
+use Rattle.devices.specs.Devices.{Fails}
 use Rattle.raster.specs.Page.{Page}
 use Rattle.build_book.specs.Job.{Job}
 use Rattle.build_book.specs.Layer.{Layer}

@@ -1,7 +1,7 @@
 use Rattle.std.proofs.Common.{◌≡◌, ◌+◌, ◌∙◌, ◌++◌, ◌<◌, List, ℕ, [], arith, length, subst, sym}
 use Rattle.mesh_reading.proofs.lemmas.Faults.{passed_on}
-use Rattle.raster.specs.Devices.{AppendsFirst}
-use Rattle.raster.specs.declared.devices.WriteFault.{WriteFault}
+use Rattle.devices.specs.Devices.{AppendsFirst}
+use Rattle.devices.specs.declared.writing.WriteFault.{WriteFault}
 use Rattle.raster.proofs.lemmas.Written.{all-counted}
 use Rattle.build_book.specs.Job.{Job}
 use Rattle.stlslice.specs.Pngs.{pngs_of}

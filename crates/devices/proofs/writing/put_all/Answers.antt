@@ -2,7 +2,7 @@ use Rattle.std.proofs.Common.{◌-◌, take, drop, length, length-drop, ◌∙�
 use Rattle.std.proofs.lemmas.List.{take_all}
 use Rattle.std.proofs.Math.Seq.{take-add}
 use Rattle.std.proofs.KnownBytes.{Appends-trans}
-use Rattle.raster.proofs.devices.put_all.Goals as goal
+use Rattle.devices.proofs.writing.put_all.Goals as goal
 
 pub loop-written-preserved : goal.loop-written-preserved
 loop-written-preserved g c =
