@@ -124,14 +124,18 @@ impl<A: Allocator> RowCrossings<A> {
         columns: &mut ColumnSums<A>,
         out: &mut Vec<Span, A>,
     ) -> Result<(), AllocError>
+        // a row within the columns, which leaves the mesh as often as it enters it
         requires row { row < length self.old }
         requires within { list_all (λ m. nat_le m.column width) (crossings_in self.old row) ≡ true }
         requires balanced { signs (crossings_in self.old row) ≡ pos 0 }
+        // all sums are 0 between two rows
         requires between_rows { AreZero columns.old.sums.items }
         ensures between_rows { AreZero columns.new.sums.items }
+        // the crossings stay, those of this row perhaps in another order
         ensures rows { length self.new ≡ length self.old }
         ensures here { IsPermutation (crossings_in self.old row) (crossings_in self.new row) }
         ensures elsewhere { (j : ℕ) → j ≢ row → crossings_in self.new j ≡ crossings_in self.old j }
+        // the spans of the row come after those before
         ensures kept { OnOk result (take (length out.old.items) out.new.items ≡ out.old.items) }
         ensures added { OnOk result (AreRowSpans rule row (crossings_in self.old row) (drop (length out.old.items) out.new.items)) }
     {

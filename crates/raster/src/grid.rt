@@ -269,14 +269,17 @@ fn reaches_too_far(
     pitch: u32,
     layer_height: u32,
 ) -> bool
+    // the sides of a voxel
     requires pitch { pitch ≤ STEP_LIMIT }
     requires height { layer_height ≤ STEP_LIMIT }
+    // the numbers of voxels
     requires columns { 1 ≤ columns }
     requires columns_high { columns ≤ COLUMN_LIMIT }
     requires rows { 1 ≤ rows }
     requires rows_high { rows ≤ COLUMN_LIMIT }
     requires layers { 1 ≤ layers }
     requires layers_high { layers ≤ LAYER_LIMIT }
+    // the answer
     ensures { result ≡ reaches_too_far (grid_with origin pitch layer_height columns rows layers) }
 {
     is_beyond(origin.x(), pitch, columns)

@@ -18,7 +18,7 @@ use Rattle.mesh_weld.specs.Welding.{IsWeldFault}
 use Rattle.mesh_weld.specs.declared.weld_fault.WeldFault.{WeldFault}
 use Rattle.mesh_weld.specs.declared.weld_fault.WeldFault.TheVariants as weld
 use Rattle.mesh_reading.specs.Loading.{AreWelded, HasWelded, IsFedBySource, IsInput, IsInputFault, IsLoadFault, IsLoaded, IsMisread, IsReadAs, IsReadToEnd, IsSolidOf, IsTextExtent, IsWeldedAsFed, OfText}
-use Rattle.devices.specs.Transcript.{Transcript, transcript}
+use Rattle.devices.specs.Transcript.{Transcript}
 use Rattle.mesh_reading.specs.declared.extent.Extent.{Extent}
 use Rattle.mesh_reading.proofs.lemmas.Faults.{IsReadingFault, not_read, passed_on, unclosed}
 use Rattle.mesh_reading.specs.declared.read_fault.ReadFault.{ReadFault}
@@ -28,10 +28,6 @@ use Rattle.mesh_reading.specs.declared.read_fault.ReadFault.TheVariants as fault
 pub at_start : (unit : LengthUnit) (reader : TextReader) (start : Option (List ℕ)) → IsAfter FACET_LIMIT unit [] reader []
     → IsFedBySource unit [] reader start start
 at_start unit reader start is = ([], Consumes-nil start, is)
-
--- what is known of a device before and after calls of it, by its bytes and by its count of failed calls
-abbrev pub transcript_of : {S : Type 0} → (S → Option (List ℕ)) → (S → ℕ) → S → S → Transcript
-transcript_of bytes failure_count old new = transcript (bytes old) (bytes new) (failure_count old) (failure_count new)
 
 pub none_made : {T : Type 0} (r : Result T ReadFault) (P : ReadFault → Type 0) (Q : T → Type 0) → IsErrAnd r P → IfOk r Q
 none_made (Ok x) P Q h = absurd h

@@ -1,8 +1,10 @@
 //! The bytes of images on their way to a sink, gathered so that one call of the sink takes many rows and images.
-ghost use Rattle.std.specs.Prelude.{◌≡◌, ◌<◌, ◌≤◌, ◌+◌, ◌-◌, [], ◌++◌, drop, length, OnOk, OnErr, IfErr, IfOk};
+ghost use Rattle.std.specs.Prelude.{◌≡◌, ◌≤◌, ◌+◌, ◌-◌, [], ◌++◌, drop, length, OnOk, IfErr, IfOk};
 ghost use Rattle.std.specs.Int.{div_ceil};
 ghost use Rattle.std.specs.Io.KnownBytes.{Appends};
-ghost use Rattle.devices.specs.Devices.{AppendsFirst, Fails, greatest_count};
+ghost use Rattle.devices.specs.Devices.{greatest_count};
+ghost use Rattle.devices.specs.Sent.{IsCutOff, IsSentTo};
+ghost use Rattle.devices.specs.Transcript.{transcript_of};
 ghost use Rattle.raster.specs.Image.{header, row_bytes};
 ghost use Rattle.raster.specs.Rows.{IsRowStart};
 ghost use Rattle.raster.specs.Span.{AreSpans, covers};
@@ -107,14 +109,8 @@ impl Chunk {
         requires count { before + length self.old ≤ greatest_count }
         ensures room { OnOk result (length self.new + needed ≤ CHUNK_LEN) }
         ensures kept { IfOk result (λ total. self.new ≡ drop (total - before) self.old) }
-        ensures ok { IfOk result (λ total. AppendsFirst (W.contents w.old) (W.contents w.new) (total - before) self.old) }
-        ensures low { IfOk result (λ total. before ≤ total) }
-        ensures high { IfOk result (λ total. total ≤ before + length self.old) }
-        ensures same { OnOk result (W.Failures.failure_count w.new ≡ W.Failures.failure_count w.old) }
-        ensures written { IfErr result (λ fault. AppendsFirst (W.contents w.old) (W.contents w.new) (fault.written - before) self.old) }
-        ensures some { IfErr result (λ fault. before ≤ fault.written) }
-        ensures within { IfErr result (λ fault. fault.written < before + length self.old) }
-        ensures failed { OnErr result (Fails (W.Failures.failure_count w.old) (W.Failures.failure_count w.new)) }
+        ensures ok { IfOk result (IsSentTo (transcript_of W.contents W.Failures.failure_count w.old w.new) self.old before) }
+        ensures err { IfErr result (λ fault. IsCutOff (transcript_of W.contents W.Failures.failure_count w.old w.new) self.old before fault.written) }
     {
         if self.free_room() < needed {
             self.send(w, before)
@@ -131,10 +127,7 @@ impl Chunk {
         ensures ok { OnOk result (Appends (W.contents w.old) (W.contents w.new) self.old) }
         ensures total { IfOk result (λ total. total ≡ before + length self.old) }
         ensures same { OnOk result (W.Failures.failure_count w.new ≡ W.Failures.failure_count w.old) }
-        ensures written { IfErr result (λ fault. AppendsFirst (W.contents w.old) (W.contents w.new) (fault.written - before) self.old) }
-        ensures some { IfErr result (λ fault. before ≤ fault.written) }
-        ensures within { IfErr result (λ fault. fault.written < before + length self.old) }
-        ensures failed { OnErr result (Fails (W.Failures.failure_count w.old) (W.Failures.failure_count w.new)) }
+        ensures err { IfErr result (λ fault. IsCutOff (transcript_of W.contents W.Failures.failure_count w.old w.new) self.old before fault.written) }
     {
         let filled = self.filled;
         match put_all(w, &self.bytes[..filled]) {

@@ -1,8 +1,10 @@
 //! Writes the images of layers one after another, each row by row from the greatest row to the least, through one chunk on the
 //! stack.
-ghost use Rattle.std.specs.Prelude.{◌≡◌, ◌<◌, ◌≤◌, ◌+◌, ◌-◌, [], ◌++◌, drop, length, IfErr, IfOk, OnErr, OnOk};
+ghost use Rattle.std.specs.Prelude.{◌≡◌, ◌≤◌, ◌+◌, ◌-◌, [], ◌++◌, drop, length, IfErr, IfOk, OnOk};
 ghost use Rattle.std.specs.Io.KnownBytes.{Appends};
-ghost use Rattle.devices.specs.Devices.{AppendsFirst, Fails, greatest_count};
+ghost use Rattle.devices.specs.Devices.{greatest_count};
+ghost use Rattle.devices.specs.Sent.{IsCutOff, IsSentTo};
+ghost use Rattle.devices.specs.Transcript.{transcript_of};
 ghost use Rattle.raster.specs.Span.{AreSpans, covers};
 ghost use Rattle.raster.specs.Image.{image_limit};
 ghost use Rattle.raster.specs.ImageWriter.{pending};
@@ -54,19 +56,13 @@ impl ImageWriter {
     pub fn add<W: Sink>(&mut self, g: &Grid, spans: &[Span], w: &mut W) -> Result<(), WriteFault>
         requires form { AreSpans g.now.columns g.now.rows spans.now }
         requires count { self.old.sent + length self.old.held + image_limit ≤ greatest_count }
-        ensures low { OnOk result (self.old.sent ≤ self.new.sent) }
-        ensures high { OnOk result (self.new.sent ≤ self.old.sent + length (pending self.old.held g.now spans.now)) }
-        ensures ok { OnOk result (AppendsFirst (W.contents w.old) (W.contents w.new) (self.new.sent - self.old.sent)
-            (pending self.old.held g.now spans.now)) }
+        ensures ok { OnOk result (IsSentTo (transcript_of W.contents W.Failures.failure_count w.old w.new)
+            (pending self.old.held g.now spans.now) self.old.sent self.new.sent) }
         ensures held { OnOk result (self.new.held ≡ drop (self.new.sent - self.old.sent)
             (pending self.old.held g.now spans.now)) }
         ensures few { OnOk result (self.new.sent + length self.new.held ≤ self.old.sent + length self.old.held + image_limit) }
-        ensures same { OnOk result (W.Failures.failure_count w.new ≡ W.Failures.failure_count w.old) }
-        ensures written { IfErr result (λ fault. AppendsFirst (W.contents w.old) (W.contents w.new) (fault.written - self.old.sent)
-            (pending self.old.held g.now spans.now)) }
-        ensures some { IfErr result (λ fault. self.old.sent ≤ fault.written) }
-        ensures within { IfErr result (λ fault. fault.written < self.old.sent + length (pending self.old.held g.now spans.now)) }
-        ensures failed { OnErr result (Fails (W.Failures.failure_count w.old) (W.Failures.failure_count w.new)) }
+        ensures err { IfErr result (λ fault. IsCutOff (transcript_of W.contents W.Failures.failure_count w.old w.new)
+            (pending self.old.held g.now spans.now) self.old.sent fault.written) }
     {
         self.sent = push_image(&mut self.chunk, g, spans, w, self.sent)?;
         Ok(())
@@ -78,10 +74,7 @@ impl ImageWriter {
         ensures ok { OnOk result (Appends (W.contents w.old) (W.contents w.new) self.held) }
         ensures total { IfOk result (λ total. total ≡ self.sent + length self.held) }
         ensures same { OnOk result (W.Failures.failure_count w.new ≡ W.Failures.failure_count w.old) }
-        ensures written { IfErr result (λ fault. AppendsFirst (W.contents w.old) (W.contents w.new) (fault.written - self.sent) self.held) }
-        ensures some { IfErr result (λ fault. self.sent ≤ fault.written) }
-        ensures within { IfErr result (λ fault. fault.written < self.sent + length self.held) }
-        ensures failed { OnErr result (Fails (W.Failures.failure_count w.old) (W.Failures.failure_count w.new)) }
+        ensures err { IfErr result (λ fault. IsCutOff (transcript_of W.contents W.Failures.failure_count w.old w.new) self.held self.sent fault.written) }
     {
         let ImageWriter { mut chunk, sent } = self;
         chunk.send(w, sent)
@@ -99,19 +92,11 @@ fn push_image<W: Sink>(
 ) -> Result<u64, WriteFault>
     requires form { AreSpans g.now.columns g.now.rows spans.now }
     requires count { before + length chunk.old + image_limit ≤ greatest_count }
-    ensures low { IfOk result (λ total. before ≤ total) }
-    ensures high { IfOk result (λ total. total ≤ before + length (pending chunk.old g.now spans.now)) }
-    ensures ok { IfOk result (λ total. AppendsFirst (W.contents w.old) (W.contents w.new) (total - before)
-        (pending chunk.old g.now spans.now)) }
+    ensures ok { IfOk result (IsSentTo (transcript_of W.contents W.Failures.failure_count w.old w.new) (pending chunk.old g.now spans.now) before) }
     ensures held { IfOk result (λ total. chunk.new ≡ drop (total - before)
         (pending chunk.old g.now spans.now)) }
     ensures few { IfOk result (λ total. total + length chunk.new ≤ before + length chunk.old + image_limit) }
-    ensures same { OnOk result (W.Failures.failure_count w.new ≡ W.Failures.failure_count w.old) }
-    ensures written { IfErr result (λ fault. AppendsFirst (W.contents w.old) (W.contents w.new) (fault.written - before)
-        (pending chunk.old g.now spans.now)) }
-    ensures some { IfErr result (λ fault. before ≤ fault.written) }
-    ensures within { IfErr result (λ fault. fault.written < before + length (pending chunk.old g.now spans.now)) }
-    ensures failed { OnErr result (Fails (W.Failures.failure_count w.old) (W.Failures.failure_count w.new)) }
+    ensures err { IfErr result (λ fault. IsCutOff (transcript_of W.contents W.Failures.failure_count w.old w.new) (pending chunk.old g.now spans.now) before fault.written) }
 {
     let needed = g.columns().div_ceil(8) as usize;
     let mut written = chunk.make_room(HEADER_LIMIT, w, before)?;

@@ -4,9 +4,9 @@ use Rattle.std.specs.Io.KnownBytes.{IsAtEnd}
 use Rattle.geometry.specs.Facet.{Facet}
 use Rattle.geometry.specs.declared.limits.TheConstants.{FACET_LIMIT}
 use Rattle.mesh_reading.specs.Extent.{IsExtentOf}
-use Rattle.devices.specs.Transcript.{Transcript}
+use Rattle.devices.specs.Transcript.{Transcript, transcript_of}
 use Rattle.mesh_reading.proofs.lemmas.Faults.{passed_on, told}
-use Rattle.mesh_reading.proofs.lemmas.Reading.{at_start, extent_read, none_made, transcript_of}
+use Rattle.mesh_reading.proofs.lemmas.Reading.{at_start, extent_read, none_made}
 use Rattle.mesh_reading.proofs.loading.read_extent.Goals as goal
 
 pub loop-init : goal.loop-init

@@ -1,9 +1,9 @@
 use Rattle.std.proofs.Common.{◌≡◌, [], ap}
 use Rattle.std.specs.Prelude.{Err}
 use Rattle.mesh_reading.specs.Loading.{IsLoadFault, IsSolidOf, IsWeldedAsFed}
-use Rattle.devices.specs.Transcript.{Transcript}
+use Rattle.devices.specs.Transcript.{Transcript, transcript_of}
 use Rattle.mesh_reading.specs.declared.read_fault.ReadFault.TheVariants.{Read}
-use Rattle.mesh_reading.proofs.lemmas.Reading.{at_start, solid_read, stopped_as, transcript_of}
+use Rattle.mesh_reading.proofs.lemmas.Reading.{at_start, solid_read, stopped_as}
 use Rattle.mesh_reading.proofs.loading.read_solid.Goals as goal
 
 pub returns : goal.returns

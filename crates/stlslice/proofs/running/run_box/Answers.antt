@@ -1,8 +1,7 @@
 use Rattle.std.proofs.Common.{List, ℕ, refl}
 use Rattle.std.specs.Prelude.{string_bytes}
 use Rattle.mesh_reading.specs.Loading.{IsMisread, IsTextExtent}
-use Rattle.devices.specs.Transcript.{Transcript}
-use Rattle.mesh_reading.proofs.lemmas.Reading.{transcript_of}
+use Rattle.devices.specs.Transcript.{Transcript, transcript_of}
 use Rattle.stlslice.proofs.lemmas.Faults.{box_there, misread_box}
 use Rattle.task_words.specs.declared.task.Task.TheVariants as task
 use Rattle.stlslice.specs.declared.run_fault.RunFault.TheVariants as fault

@@ -1,8 +1,7 @@
 use Rattle.std.proofs.Common.{List, ℕ, refl}
 use Rattle.std.specs.Prelude.{Ok, string_bytes}
 use Rattle.mesh_reading.specs.Loading.{IsLoadFault, IsSolidOf}
-use Rattle.devices.specs.Transcript.{Transcript}
-use Rattle.mesh_reading.proofs.lemmas.Reading.{transcript_of}
+use Rattle.devices.specs.Transcript.{Transcript, transcript_of}
 use Rattle.stlslice.proofs.lemmas.Faults.{probed_fault, probed_there, unloaded, unplaced}
 use Rattle.task_words.specs.declared.task.Task.TheVariants as task
 use Rattle.stlslice.proofs.lemmas.Ends.{ended_early, keeps_self, ran_line, unready}

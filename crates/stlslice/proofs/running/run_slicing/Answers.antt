@@ -1,7 +1,6 @@
 use Rattle.std.proofs.Common.{◌∙◌, List, ℕ, refl}
 use Rattle.mesh_reading.specs.Loading.{IsLoadFault, IsSolidOf}
-use Rattle.devices.specs.Transcript.{Transcript}
-use Rattle.mesh_reading.proofs.lemmas.Reading.{transcript_of}
+use Rattle.devices.specs.Transcript.{Transcript, transcript_of}
 use Rattle.stlslice.proofs.lemmas.Slicing.{unloaded_slicing, unplaced_slicing}
 use Rattle.build_book.specs.Job.{Job}
 use Rattle.stlslice.specs.SlicedText.{sliced_text}

@@ -10,18 +10,18 @@ returns-in_err-finish-clause-written g c =
     let p = err_from_is_err_and c.from_residual-in_err-finish.result c.from_residual-in_err-finish.ensures.1 in
     let at = c.args.g.now in
     let all : c.add.new.self.sent - 0 ≡ c.add.new.self.sent = omega arith in
-    let ok = rw (c.new-writer.ensures, all) at c.in_ok-add.ensures.ok in
+    let ok = rw (c.new-writer.ensures, all) at c.in_ok-add.ensures.ok.out in
     let held = rw (c.new-writer.ensures, all) at c.in_ok-add.ensures.held in
     rw (p.1, p.2)
     (first-out (g.W.Sink.contents c.args.w.now) (g.W.Sink.contents c.add.new.w) (g.W.Sink.contents c.finish.new.w)
     (image_of_pixels at.columns at.rows (covers c.args.spans.now)) c.add.new.self.held c.add.new.self.sent c.in_err-finish.field-0.0.written
-    ok held c.in_err-finish.ensures.some c.in_err-finish.ensures.written)
+    ok held c.in_err-finish.ensures.err.low c.in_err-finish.ensures.err.out)
 
 pub returns-clause-ok : goal.returns-clause-ok
 returns-clause-ok g c =
     let at = c.args.g.now in
     let all : c.add.new.self.sent - 0 ≡ c.add.new.self.sent = omega arith in
-    let ok = rw (c.new-writer.ensures, all) at c.in_ok-add.ensures.ok in
+    let ok = rw (c.new-writer.ensures, all) at c.in_ok-add.ensures.ok.out in
     let held = rw (c.new-writer.ensures, all) at c.in_ok-add.ensures.held in
     whole-out (g.W.Sink.contents c.args.w.now) (g.W.Sink.contents c.add.new.w) (g.W.Sink.contents c.finish.new.w)
     (image_of_pixels at.columns at.rows (covers c.args.spans.now)) c.add.new.self.held c.add.new.self.sent ok held c.in_ok-finish.ensures.ok

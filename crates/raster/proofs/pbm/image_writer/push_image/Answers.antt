@@ -1,5 +1,6 @@
 use Rattle.std.proofs.Common.{◌-◌, ◌∙◌, ◌≤◌, ℕ, arith, subst}
 use Rattle.std.proofs.lemmas.Result.{err_from_is_err_and}
+use Rattle.devices.specs.Devices.{Fails}
 use Rattle.geometry.specs.declared.limits.TheConstants.{COLUMN_LIMIT}
 use Rattle.raster.specs.Image.{row_bytes}
 use Rattle.raster.specs.ImageWriter.{pending}
@@ -26,24 +27,22 @@ returns-clause-few g c =
     (subst (λ (n : ℕ). n ≤ COLUMN_LIMIT) c.columns.ensures.value c.columns.ensures.high)
     (subst (λ (n : ℕ). n ≤ COLUMN_LIMIT) c.rows.ensures.value c.rows.ensures.high) c.loop-row.invariant.text
 
-pub returns-in_err-written-2-clause-written : goal.returns-in_err-written-2-clause-written
-returns-in_err-written-2-clause-written g c =
+pub returns-in_err-written-2-clause-err : goal.returns-in_err-written-2-clause-err
+returns-in_err-written-2-clause-err g c =
     let p = err_from_is_err_and c.from_residual-in_err-written-2.result c.from_residual-in_err-written-2.ensures.1 in
     let at = c.args.g.now in
+    let cut = c.in_err-written-2.ensures.err in
+    let rest = lower_rows at.columns (covers c.args.spans.now) c.loop-row.row in
     rw (p.1, p.2)
-    (more-out (g.W.Sink.contents c.args.w.now) (g.W.Sink.contents c.loop-row.w) (g.W.Sink.contents c.make_room-in-loop-row.new.w)
-    (pending c.args.chunk.now at c.args.spans.now) c.args.before c.loop-row.written c.in_err-written-2.field-0.0.written c.loop-row.chunk
-    (lower_rows at.columns (covers c.args.spans.now) c.loop-row.row)
-    c.loop-row.invariant.text c.in_err-written-2.ensures.some (omega (arith, c.in_err-written-2.ensures.within)) c.in_err-written-2.ensures.written)
-
-pub returns-in_err-written-2-clause-within : goal.returns-in_err-written-2-clause-within
-returns-in_err-written-2-clause-within g c =
-    let p = err_from_is_err_and c.from_residual-in_err-written-2.result c.from_residual-in_err-written-2.ensures.1 in
-    let at = c.args.g.now in
-    rw (p.1, p.2)
-    (written-within (g.W.Sink.contents c.args.w.now) (g.W.Sink.contents c.loop-row.w) (pending c.args.chunk.now at c.args.spans.now)
-    c.args.before c.loop-row.written c.in_err-written-2.field-0.0.written c.loop-row.chunk
-    (lower_rows at.columns (covers c.args.spans.now) c.loop-row.row) c.loop-row.invariant.text c.in_err-written-2.ensures.within)
+    (record {
+      low = omega (arith, c.loop-row.invariant.text.low, cut.low);
+      high = written-within (g.W.Sink.contents c.args.w.now) (g.W.Sink.contents c.loop-row.w) (pending c.args.chunk.now at c.args.spans.now)
+          c.args.before c.loop-row.written c.in_err-written-2.field-0.0.written c.loop-row.chunk rest c.loop-row.invariant.text cut.high;
+      out = more-out (g.W.Sink.contents c.args.w.now) (g.W.Sink.contents c.loop-row.w) (g.W.Sink.contents c.make_room-in-loop-row.new.w)
+          (pending c.args.chunk.now at c.args.spans.now) c.args.before c.loop-row.written c.in_err-written-2.field-0.0.written c.loop-row.chunk
+          rest c.loop-row.invariant.text cut.low (omega (arith, cut.high)) cut.out;
+      failed = subst (λ (n : ℕ). Fails n (g.W.Failures.failure_count c.make_room-in-loop-row.new.w)) c.loop-row.invariant.same cut.failed;
+    })
 
 pub loop-row-preserved : goal.loop-row-preserved
 loop-row-preserved g c =
@@ -53,7 +52,7 @@ loop-row-preserved g c =
     let rest = lower_rows at.columns (covers c.args.spans.now) c.loop-row.row in
     let now = moved (g.W.Sink.contents c.args.w.now) (g.W.Sink.contents c.loop-row.w) (g.W.Sink.contents c.make_room-in-loop-row.new.w)
     (pending c.args.chunk.now at c.args.spans.now) c.args.before c.loop-row.written c.in_ok-written-2.written c.loop-row.chunk
-    c.make_room-in-loop-row.new.self rest inv.text out.low out.high out.ok out.kept in
+    c.make_room-in-loop-row.new.self rest inv.text out.ok.low out.ok.high out.ok.out out.kept in
     record {
       needed = inv.needed;
       rows = omega (arith, inv.rows);
@@ -63,5 +62,5 @@ loop-row-preserved g c =
           c.push_row-end.new.self (row_bytes at.columns (λ i. covers c.args.spans.now i (c.loop-row.row - 1)))
           (lower_rows at.columns (covers c.args.spans.now) (c.loop-row.row - 1)) rest now
           (next-row at.columns c.loop-row.row (c.loop-row.row - 1) (covers c.args.spans.now) (omega arith)) c.push_row-end.ensures.drawn;
-      same = out.same ∙ inv.same;
+      same = out.ok.same ∙ inv.same;
     }

@@ -4,8 +4,7 @@ use Rattle.raster.specs.Image.{images_limit, layer_image}
 use Rattle.raster.specs.ImageWriter.{ImageWriter, pending}
 use Rattle.std.proofs.KnownBytes.{Appends-kept}
 use Rattle.raster.proofs.lemmas.Written.{IsUnderWay, moved}
-use Rattle.devices.specs.Transcript.{Transcript}
-use Rattle.mesh_reading.proofs.lemmas.Reading.{transcript_of}
+use Rattle.devices.specs.Transcript.{Transcript, transcript_of}
 use Rattle.build_book.specs.Job.{Job}
 use Rattle.stlslice.specs.Pages.{images_of}
 use Rattle.stlslice.specs.SlicedText.{image}
@@ -59,8 +58,8 @@ loop-layer-preserved g c =
           (with_image job k writer.sent old now writer.held (image c.grid-grid.result.now c.spans.result.now)
           (layer_below job c.args.build.now.layers c.layers-layer-items.result.now k all.value all.complete c.loop-layer-test.true) here
           c.loop-layer.invariant.text)
-          out.low out.high out.ok out.held;
-      counted = out.same ∙ c.loop-layer.invariant.counted;
+          out.ok.low out.ok.high out.ok.out out.held;
+      counted = out.ok.same ∙ c.loop-layer.invariant.counted;
     }
 
 pub returns-in_err-add-clause-err : goal.returns-in_err-add-clause-err
@@ -69,7 +68,7 @@ returns-in_err-add-clause-err g c =
     let now = g.O.Sink.contents c.loop-layer.sink in
     let k : ℕ = c.loop-layer.layer-index in
     let writer : ImageWriter = c.loop-layer.writer in
-    let out = c.in_err-add.ensures in
+    let cut = c.in_err-add.ensures.err in
     let all = c.layers-layer-items.ensures in
     let sink : Transcript = transcript_of g.O.Sink.contents g.O.Failures.failure_count c.args.sink.now c.add.new.w in
     let here : image c.grid-grid.result.now c.spans.result.now ≡ layer_image job.grid job.rule job.solid.facets k =
@@ -81,7 +80,7 @@ returns-in_err-add-clause-err g c =
     (with_image job k writer.sent (g.O.Sink.contents c.args.sink.now) now writer.held (image c.grid-grid.result.now c.spans.result.now)
     (layer_below job c.args.build.now.layers c.layers-layer-items.result.now k all.value all.complete c.loop-layer-test.true) here
     c.loop-layer.invariant.text)
-    out.some out.within out.written c.loop-layer.invariant.counted out.failed c.from_residual.ensures.1
+    cut.low cut.high cut.out c.loop-layer.invariant.counted cut.failed c.from_residual.ensures.1
 
 pub finish-requires : goal.finish-requires
 finish-requires g c =
@@ -97,12 +96,12 @@ finish-requires g c =
 pub returns-in_err-written-clause-err : goal.returns-in_err-written-clause-err
 returns-in_err-written-clause-err g c =
     let job : Job = c.args.build.now.job in
-    let out = c.in_err-written.ensures in
+    let cut = c.in_err-written.ensures.err in
     let sink : Transcript = transcript_of g.O.Sink.contents g.O.Failures.failure_count c.args.sink.now c.finish.new.w in
     chunk_failed c.from_residual-in_err-written.result sink (images_of job) (g.O.Sink.contents c.loop-layer.sink) c.loop-layer.writer.sent
     c.in_err-written.field-0.0.written (g.O.Failures.failure_count c.loop-layer.sink) c.loop-layer.writer.held
     (images_from job c.loop-layer.layer-index) c.loop-layer.invariant.text
-    out.some out.within out.written c.loop-layer.invariant.counted out.failed c.from_residual-in_err-written.ensures.1
+    cut.low cut.high cut.out c.loop-layer.invariant.counted cut.failed c.from_residual-in_err-written.ensures.1
 
 pub returns-clause-ok : goal.returns-clause-ok
 returns-clause-ok g c =

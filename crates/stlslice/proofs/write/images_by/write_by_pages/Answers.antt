@@ -2,9 +2,8 @@ use Rattle.std.proofs.Common.{◌≡◌, arith}
 use Rattle.std.proofs.lemmas.Result.{on_ok_weaker}
 use Rattle.std.proofs.KnownBytes.{Appends-kept}
 use Rattle.build_book.specs.Job.{Job}
-use Rattle.devices.specs.Transcript.{Transcript}
+use Rattle.devices.specs.Transcript.{Transcript, transcript_of}
 use Rattle.mesh_reading.proofs.lemmas.Faults.{passed_on}
-use Rattle.mesh_reading.proofs.lemmas.Reading.{transcript_of}
 use Rattle.stlslice.specs.Pages.{images_of}
 use Rattle.stlslice.specs.Unwritten.{IsUnwritten}
 use Rattle.stlslice.specs.declared.run_fault.RunFault.TheVariants as fault
