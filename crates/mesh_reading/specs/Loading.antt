@@ -1,5 +1,5 @@
 -- The result of reading an input to its end: what its text spells, or the fault that it ends with.
-use Rattle.std.specs.Prelude.{◌≡◌, ◌≢◌, ◌≤◌, ◌⊎◌, ◌++◌, ℕ, Bool, Err, IfErr, IfOk, IfSome, List, Ok, OnOk, Option, Result, false, length, true}
+use Rattle.std.specs.Prelude.{◌≡◌, ◌≢◌, ◌≤◌, ◌⊎◌, ◌++◌, ℕ, Err, IfErr, IfOk, IfSome, List, OnOk, Option, Result, false, length, true}
 use Rattle.std.specs.Io.KnownBytes.{Consumes, IsAtEnd}
 use Rattle.geometry.specs.Facet.{Facet}
 use Rattle.geometry.specs.declared.limits.TheConstants.{FACET_LIMIT}
@@ -83,17 +83,17 @@ pub record IsReadAs {T : Type 0} (is_made : List ℕ → T → Type 0) (is_own :
   pub unread : result ≡ Err fault.Read → Fails source.failed_before source.failed
   pub sound : result ≢ Err fault.Read → source.failed ≡ source.failed_before
 
--- What a call promises of a round. It fills the round from a source if there is more, and leaves it empty otherwise. It returns
--- whether there is more after it. `before` and `after` are the round.
-pub record IsFilled {S : Type 0} (remaining : S → Option (List ℕ)) (failure_count : S → ℕ) (old new : S) (is_more : Bool) (before after : Round)
-    (result : Result Bool ReadFault) : Type 0 where
+-- What a call promises that fills a round anew from a source. `before` and `after` are the round.
+pub record IsFilled {S : Type 0} (remaining : S → Option (List ℕ)) (failure_count : S → ℕ) (old new : S) (before after : Round)
+    (result : Result (Unit {0}) ReadFault) : Type 0 where
   -- the round has what was taken off the source, exactly once and in its order
   pub taken : OnOk result (Consumes (remaining old) (remaining new) after.bytes)
-  -- if there is more, the round has all that it waits for
-  pub full : result ≡ Ok true → after.wanted ≤ length after.bytes
+  -- unless it is the last, the round has all that it waits for
+  pub full : OnOk result (after.is_last ≡ false → after.wanted ≤ length after.bytes)
   pub waits : after.wanted ≡ before.wanted
-  pub kept : is_more ≡ false → new ≡ old
-  pub whole : result ≡ Ok false → is_more ≡ true → IsAtEnd (remaining new)
+  -- nothing is read after the last round
+  pub kept : before.is_last ≡ true → (new ≡ old) × (after.is_last ≡ true)
+  pub whole : OnOk result (before.is_last ≡ false → after.is_last ≡ true → IsAtEnd (remaining new))
   -- exactly one call of the source failed if a failed read is the result, else none
   pub unread : result ≡ Err fault.Read → Fails (failure_count old) (failure_count new)
   pub sound : result ≢ Err fault.Read → failure_count new ≡ failure_count old

@@ -1,5 +1,5 @@
 //! Reads a text to its end: the facets that it spells, and the closed mesh that they make.
-ghost use Rattle.std.specs.Prelude.{◌≡◌, ◌≤◌, ◌++◌, IfErr, List, Ok, OnOk, Option, [], false, length, ℕ};
+ghost use Rattle.std.specs.Prelude.{◌≡◌, ◌≤◌, ◌++◌, IfErr, List, Ok, OnOk, Option, false, length, ℕ};
 ghost use Rattle.std.specs.Io.KnownBytes.{IsAtEnd};
 ghost use Rattle.geometry.specs.Facet.{Facet};
 ghost use Rattle.micro_num.specs.declared.unit.Unit.{Unit as LengthUnit};
@@ -10,7 +10,7 @@ ghost use Rattle.mesh_reading.specs.declared.read_fault.ReadFault.TheVariants.{R
 
 use crate::extent::Extent;
 use crate::read_fault::ReadFault;
-use crate::round::Round;
+use crate::round::Rounds;
 use crate::round_work::{read_and_weld, weld_next};
 use crate::window::{LEAST_READ, WINDOW_LEN, fill};
 use devices::Source;
@@ -18,7 +18,6 @@ use geometry::{FACET_LIMIT, Facet};
 use mesh_weld::{Solid, Welder};
 use micro_num::Unit;
 use std::alloc::Allocator;
-use std::mem::swap;
 use std::thread::Threads;
 use stl_text::TextReader;
 
@@ -90,7 +89,7 @@ pub fn read_solid_by<R: Threads + Sync, A: Allocator + Copy + Send + Sync, I: So
     }
     let mut reader = TextReader::new(alloc, FACET_LIMIT, unit);
     let mut welder = Welder::new(alloc);
-    weld_by_workers(rt, alloc, source, workers, &mut reader, &mut welder)?;
+    weld_by_workers(rt, workers, alloc, source, &mut reader, &mut welder)?;
     weld_end_by(rt, reader, welder)
 }
 
@@ -120,65 +119,22 @@ fn weld_windows<A: Allocator + Copy + Send + Sync, I: Source>(
 /// The same as [`weld_windows`], in rounds that up to `workers` workers read at the same time.
 fn weld_by_workers<R: Threads + Sync, A: Allocator + Copy + Send + Sync, I: Source>(
     rt: &R,
+    workers: u32,
     alloc: A,
     source: &mut I,
-    workers: u32,
     reader: &mut TextReader<A>,
     welder: &mut Welder<A>,
 ) -> Result<(), ReadFault>
     ensures { IsReadToEnd I.remaining I.Failures.failure_count source.old source.new reader.old reader.new welder.old welder.new result }
 {
-    let mut round = Round::new(alloc, round_len(workers))?;
-    let mut next = Round::new(alloc, round_len(workers))?;
-    let mut facets = Vec::new(alloc);
-    weld_rounds(
-        rt,
-        source,
-        workers,
-        reader,
-        welder,
-        &mut round,
-        &mut next,
-        &mut facets,
-    )
-}
-
-/// The same as [`weld_by_workers`]. The caller made the two rounds, and the list for the facets of one. `round` and `facets`
-/// are empty; what `next` has does not matter.
-fn weld_rounds<R: Threads + Sync, A: Allocator + Copy + Send + Sync, I: Source>(
-    rt: &R,
-    source: &mut I,
-    workers: u32,
-    reader: &mut TextReader<A>,
-    welder: &mut Welder<A>,
-    round: &mut Round<A>,
-    next: &mut Round<A>,
-    facets: &mut Vec<Facet, A>,
-) -> Result<(), ReadFault>
-    requires round { round.old.bytes ≡ [] }
-    requires facets { facets.old.items ≡ [] }
-    ensures { IsReadToEnd I.remaining I.Failures.failure_count source.old source.new reader.old reader.new welder.old welder.new result }
-{
-    let mut is_more = true;
+    let mut rounds = Rounds::new(alloc, round_len(workers))?;
     // the bound proves that the loop ends; no input is that long
     for _ in 0..u64::MAX {
-        let is_next = read_and_weld(
-            rt,
-            workers,
-            reader,
-            round.bytes(),
-            welder,
-            facets.as_slice(),
-            source,
-            next,
-            is_more,
-        )?;
-        reader.take_facets(facets);
-        if !is_more {
-            return weld_next(welder, facets.as_slice());
+        read_and_weld(rt, workers, source, reader, welder, &mut rounds)?;
+        if rounds.round.is_last() {
+            return weld_next(welder, rounds.facets.as_slice());
         }
-        swap(round, next);
-        is_more = is_next;
+        rounds.turn();
     }
     // never reached
     Err(ReadFault::Memory)

@@ -1,15 +1,18 @@
 //! A round: the bytes of a text that several workers read at the same time, filled straight from its source.
-ghost use Rattle.std.specs.Prelude.{◌≡◌, ◌≤◌, ◌+◌, IfErr, IfOk, List, Ok, OnOk, Option, [], length, take, true, ℕ};
+ghost use Rattle.std.specs.Prelude.{◌≡◌, ◌≤◌, ◌+◌, IfErr, IfOk, List, Ok, OnOk, Option, [], length, take, ℕ};
 ghost use Rattle.std.specs.Io.KnownBytes.{Consumes, IsAtEnd};
 ghost use Rattle.devices.specs.Devices.{Fails};
 ghost use Rattle.mesh_reading.specs.Loading.{IsFilled};
+ghost use Rattle.mesh_reading.specs.Round.{no_round};
 ghost use Rattle.mesh_reading.specs.declared.read_fault.ReadFault.TheVariants.{Read};
 
 use crate::read_fault::ReadFault;
 use crate::window::{LEAST_READ, WINDOW_LEN, fill};
+use geometry::Facet;
 use devices::Source;
 use std::alloc::{AllocError, Allocator};
 use std::marker::Model;
+use std::mem::swap;
 
 /// The bytes of a round, in room that is kept from one filling to the next. It grows by a window if what is left of it is too
 /// little for a read. So a short text touches no more memory than it needs. What follows the first `len` bytes is not part of
@@ -20,6 +23,8 @@ pub(crate) struct Round<A: Allocator> {
     len: usize,
     /// The number of bytes that the round waits for if the source has that much.
     wanted: usize,
+    /// Whether the source has no more after the round.
+    is_last: bool,
 }
 
 impl<A: Allocator> Model for Round<A> {
@@ -28,21 +33,21 @@ impl<A: Allocator> Model for Round<A> {
 
     ghost Value = { Round };
 
-    ghost view = { λ r. record { bytes = take r.len r.room.items; wanted = r.wanted } };
+    ghost view = { λ r. record { bytes = take r.len r.room.items; wanted = r.wanted; is_last = r.is_last } };
 
     ghost invariant = { λ r. r.len ≤ length r.room.items };
 }
 
 impl<A: Allocator> Round<A> {
-    /// A round without bytes, which is to be filled with `wanted` bytes and up to a window more.
-    pub(crate) fn new(alloc: A, wanted: usize) -> Result<Round<A>, AllocError>
-        ensures empty { IfOk result (λ round. round.bytes ≡ []) }
-        ensures wanted { IfOk result (λ round. round.wanted ≡ wanted) }
+    /// A round without bytes, which is to be filled with `wanted` bytes and up to a window more. It is not the last one.
+    fn new(alloc: A, wanted: usize) -> Result<Round<A>, AllocError>
+        ensures { IfOk result (λ round. round ≡ no_round wanted) }
     {
         Ok(Round {
             room: Vec::with_capacity(alloc, wanted.saturating_add(WINDOW_LEN))?,
             len: 0,
             wanted,
+            is_last: false,
         })
     }
 
@@ -54,28 +59,69 @@ impl<A: Allocator> Round<A> {
         bytes
     }
 
-    /// Removes all bytes.
-    pub(crate) fn clear(&mut self)
-        ensures empty { self.new.bytes ≡ [] }
-        ensures wanted { self.new.wanted ≡ self.old.wanted }
+    /// Whether the source has no more after the round.
+    pub(crate) fn is_last(&self) -> bool
+        ensures { result ≡ self.now.is_last }
     {
-        self.len = 0;
+        self.is_last
     }
 
-    /// Fills the round anew with what a source has next. Returns `false` at the end of the source.
-    pub(crate) fn fill<I: Source>(&mut self, source: &mut I) -> Result<bool, ReadFault>
-        ensures { IsFilled I.remaining I.Failures.failure_count source.old source.new true self.old self.new result }
+    /// Fills the round anew with what a source has next. At the end of the source it becomes the last round. If it is the last
+    /// already, it is left empty, and the source is not read.
+    pub(crate) fn fill<I: Source>(&mut self, source: &mut I) -> Result<(), ReadFault>
+        ensures { IsFilled I.remaining I.Failures.failure_count source.old source.new self.old self.new result }
     {
         self.len = 0;
+        if self.is_last {
+            return Ok(());
+        }
         'round: while self.len < self.wanted {
             make_room(&mut self.room, self.len)?;
             let count = fill_after(source, self.room.as_mut_slice(), self.len)?;
             if count == 0 {
-                return Ok(false);
+                self.is_last = true;
+                return Ok(());
             }
             self.len += count;
         }
-        Ok(true)
+        Ok(())
+    }
+}
+
+/// What several workers read, and what is done meanwhile.
+#[derive(Drop)]
+pub(crate) struct Rounds<A: Allocator> {
+    /// The facets of the round before, which are not welded yet.
+    pub(crate) facets: Vec<Facet, A>,
+    /// The round that is to be read.
+    pub(crate) round: Round<A>,
+    /// The round after it, which is to be filled.
+    pub(crate) next: Round<A>,
+}
+
+impl<A: Allocator + Copy> Rounds<A> {
+    /// Two rounds without bytes, of which each waits for `wanted` bytes, and no facets.
+    pub(crate) fn new(alloc: A, wanted: usize) -> Result<Rounds<A>, AllocError>
+        ensures facets { IfOk result (λ rounds. rounds.facets.items ≡ []) }
+        ensures round { IfOk result (λ rounds. rounds.round ≡ no_round wanted) }
+        ensures next { IfOk result (λ rounds. rounds.next ≡ no_round wanted) }
+    {
+        Ok(Rounds {
+            facets: Vec::new(alloc),
+            round: Round::new(alloc, wanted)?,
+            next: Round::new(alloc, wanted)?,
+        })
+    }
+
+    /// Makes the next round the one that is to be read. The other is to be filled after it, so it is the last too if this one is.
+    pub(crate) fn turn(&mut self)
+        ensures round { self.new.round ≡ self.old.next }
+        ensures wanted { self.new.next.wanted ≡ self.old.round.wanted }
+        ensures last { self.new.next.is_last ≡ self.old.next.is_last }
+        ensures facets { self.new.facets.items ≡ self.old.facets.items }
+    {
+        swap(&mut self.round, &mut self.next);
+        self.next.is_last = self.round.is_last;
     }
 }
 

@@ -1,6 +1,7 @@
 -- A round that is filled while facets are welded.
-use Rattle.std.proofs.Common.{◌≡◌, ◌⊎◌, ◌∙◌, ◌+◌, ◌≤◌, ◌++◌, Bool, ℕ, List, Option, ap, arith, drop, false, inl, inr, length, subst, sym, take, true}
-use Rattle.std.specs.Prelude.{Err, IfErr, IfOk, IsErrAnd, IsOk, Ok, OnOk, Result}
+use Rattle.std.proofs.Common.{◌≡◌, ◌∙◌, ◌+◌, ◌≤◌, ◌++◌, ℕ, List, Option, ap, arith, drop, false, inl, inr, length, subst, sym, take, true}
+use Rattle.std.specs.Prelude.{Err, IfErr, IsErrAnd, Ok, OnOk, Result}
+use Rattle.std.specs.Result.{result_and}
 use Rattle.std.specs.Io.KnownBytes.{Consumes, IsAtEnd}
 use Rattle.std.proofs.Math.Seq.{take-append_seam, take-take}
 use Rattle.std.proofs.lemmas.List.{length-take-le}
@@ -10,42 +11,27 @@ use Rattle.mesh_reading.specs.Round.{Round}
 use Rattle.mesh_reading.specs.declared.read_fault.ReadFault.{ReadFault}
 use Rattle.mesh_reading.specs.declared.read_fault.ReadFault.TheVariants as fault
 
--- what is returned if both were done: the fault of filling, if there is one, else that of welding
-abbrev IsFirstFault : Result Bool ReadFault → Result (Unit {0}) ReadFault → Result Bool ReadFault → Type 0
-IsFirstFault filled welded r = IfOk r (λ is_more. (filled ≡ Ok is_more) × (welded ≡ Ok tt))
-    × IfErr r (λ f. (filled ≡ Err f) ⊎ (IsOk filled × (welded ≡ Err f)))
-
 -- welding fails only if memory runs out, so what filling says of the source holds of the result of both
-pub filled_anyway : {S : Type 0} (remaining : S → Option (List ℕ)) (failure_count : S → ℕ) (old new : S) (is_more : Bool) (before after : Round)
-    (filled : Result Bool ReadFault) (welded : Result (Unit {0}) ReadFault) (r : Result Bool ReadFault) → IsFirstFault filled welded r
-    → IfErr welded (λ f. f ≡ fault.Memory) → IsFilled remaining failure_count old new is_more before after filled
-    → IsFilled remaining failure_count old new is_more before after r
-filled_anyway remaining failure_count old new is_more before after filled welded (Ok more) is only h =
-    subst (IsFilled remaining failure_count old new is_more before after) is.0.0 h
-filled_anyway remaining failure_count old new is_more before after filled welded (Err f) is only h = told filled welded h only is.1
-  where
-    told : (filled : Result Bool ReadFault) (welded : Result (Unit {0}) ReadFault)
-        → IsFilled remaining failure_count old new is_more before after filled → IfErr welded (λ f. f ≡ fault.Memory)
-        → (filled ≡ Err f) ⊎ (IsOk filled × (welded ≡ Err f)) → IsFilled remaining failure_count old new is_more before after (Err f)
-    told filled welded h only (inl e) = subst (IsFilled remaining failure_count old new is_more before after) e h
-    told (Ok more) welded h only (inr (is, e)) =
-        let short : f ≡ fault.Memory = subst (λ w. IfErr w (λ x. x ≡ fault.Memory)) e only in record {
-          taken = tt;
-          full = λ e. cc;
-          waits = h.waits;
-          kept = h.kept;
-          whole = λ e. cc;
-          unread = λ e. cc;
-          sound = λ _. h.sound (λ e. cc);
-          only = inr short;
-        }
-    told (Err x) welded h only (inr (is, e)) = cc
+pub filled_anyway : {S : Type 0} (remaining : S → Option (List ℕ)) (failure_count : S → ℕ) (old new : S) (before after : Round)
+    (filled welded : Result (Unit {0}) ReadFault) → IfErr welded (λ f. f ≡ fault.Memory) → IsFilled remaining failure_count old new before after filled
+    → IsFilled remaining failure_count old new before after (result_and filled welded)
+filled_anyway remaining failure_count old new before after (Ok x) (Ok y) only h = h
+filled_anyway remaining failure_count old new before after (Ok x) (Err f) only h = record {
+  taken = tt;
+  full = tt;
+  waits = h.waits;
+  kept = h.kept;
+  whole = tt;
+  unread = λ e. cc;
+  sound = λ _. h.sound (λ e. cc);
+  only = inr only;
+}
+filled_anyway remaining failure_count old new before after (Err f) welded only h = h
 
 -- if the result is no fault, the facets were welded
-pub welded_too : (filled : Result Bool ReadFault) (welded : Result (Unit {0}) ReadFault) (r : Result Bool ReadFault) (H : Type 0)
-    → IsFirstFault filled welded r → OnOk welded H → OnOk r H
-welded_too filled welded (Ok more) H is h = subst (λ w. OnOk w H) is.0.1 h
-welded_too filled welded (Err f) H is h = tt
+pub welded_too : (filled welded : Result (Unit {0}) ReadFault) (H : Type 0) → OnOk welded H → OnOk (result_and filled welded) H
+welded_too (Ok x) welded H h = h
+welded_too (Err f) welded H h = tt
 
 -- Filling a round.
 
@@ -70,30 +56,31 @@ within_on k n bytes items size within = subst (λ b. k ≤ length b) (sym (writt
 pub enough : (wanted len : ℕ) (items : List ℕ) → len ≤ length items → wanted ≤ len → wanted ≤ length (take len items)
 enough wanted len items within h = omega (arith, length-take-le len items within)
 
-module _ {S : Type 0} (remaining : S → Option (List ℕ)) (failure_count : S → ℕ) (old new : S) (before after : Round) where
-  pub filled_round : (is_more : Bool) → Consumes (remaining old) (remaining new) after.bytes → after.wanted ≡ before.wanted
-      → failure_count new ≡ failure_count old → (is_more ≡ true → after.wanted ≤ length after.bytes) → (is_more ≡ false → IsAtEnd (remaining new))
-      → IsFilled remaining failure_count old new true before after (Ok is_more)
-  filled_round is_more taken waits sound full end = record {
+module _ {S : Type 0} (remaining : S → Option (List ℕ)) (failure_count : S → ℕ) (old new : S) (before after : Round) (more : before.is_last ≡ false)
+    (waits : after.wanted ≡ before.wanted) where
+  pub filled_round : Consumes (remaining old) (remaining new) after.bytes → failure_count new ≡ failure_count old
+      → (after.is_last ≡ false → after.wanted ≤ length after.bytes) → (after.is_last ≡ true → IsAtEnd (remaining new))
+      → IsFilled remaining failure_count old new before after (Ok tt)
+  filled_round taken sound full end = record {
     taken = taken;
-    full = λ e. full (cc);
+    full = full;
     waits = waits;
-    kept = λ e. cc;
-    whole = λ e _. end (cc);
+    kept = λ e. (cc, cc);
+    whole = λ _. end;
     unread = λ e. cc;
     sound = λ _. sound;
     only = tt;
   }
 
-  pub not_filled : (r : Result Bool ReadFault) (f : ReadFault) → IsErrAnd r (λ own. own ≡ f) → f ≡ fault.Read → after.wanted ≡ before.wanted
-      → Fails (failure_count old) (failure_count new) → IsFilled remaining failure_count old new true before after r
-  not_filled (Ok x) f is read waits fails = absurd is
-  not_filled (Err own) f is read waits fails = record {
+  pub not_filled : (r : Result (Unit {0}) ReadFault) (f : ReadFault) → IsErrAnd r (λ own. own ≡ f) → f ≡ fault.Read
+      → Fails (failure_count old) (failure_count new) → IsFilled remaining failure_count old new before after r
+  not_filled (Ok x) f is read fails = absurd is
+  not_filled (Err own) f is read fails = record {
     taken = tt;
-    full = λ e. cc;
+    full = tt;
     waits = waits;
-    kept = λ e. cc;
-    whole = λ e. cc;
+    kept = λ e. (cc, cc);
+    whole = tt;
     unread = λ _. fails;
     sound = λ other. absurd (other (ap Err (is ∙ read)));
     only = inl (is ∙ read);

@@ -4,12 +4,11 @@ use Rattle.mesh_reading.proofs.round_work.weld_and_fill.Goals as goal
 
 pub returns-then-workers-lt3-clause-welded : goal.returns-then-workers-lt3-clause-welded
 returns-then-workers-lt3-clause-welded g c =
-    welded_too c.fill_first-found.result.1 c.weld_next-welded.result c.read_before_memory.result
-    (HasWelded c.args.facets.now c.args.welder.now c.weld_next-welded.new.welder)
-    (c.read_before_memory.ensures.ok, c.read_before_memory.ensures.err) c.weld_next-welded.ensures.welded
+    rw c.and.ensures (welded_too c.fill_first-found.result.1 c.weld_next-welded.result
+    (HasWelded c.args.facets.now c.args.welder.now c.weld_next-welded.new.welder) c.weld_next-welded.ensures.welded)
 
 pub returns-then-workers-lt3-clause-filled : goal.returns-then-workers-lt3-clause-filled
 returns-then-workers-lt3-clause-filled g c =
-    filled_anyway g.I.Source.remaining g.I.Failures.failure_count c.args.source.now c.fill_first-found.new.source c.args.is_more c.args.round.now
-    c.fill_first-found.new.round c.fill_first-found.result.1 c.weld_next-welded.result c.read_before_memory.result
-    (c.read_before_memory.ensures.ok, c.read_before_memory.ensures.err) c.weld_next-welded.ensures.only c.fill_first-found.ensures.filled
+    rw c.and.ensures (filled_anyway g.I.Source.remaining g.I.Failures.failure_count c.args.source.now c.fill_first-found.new.source c.args.next.now
+    c.fill_first-found.new.next c.fill_first-found.result.1 c.weld_next-welded.result
+    c.weld_next-welded.ensures.only c.fill_first-found.ensures.filled)

@@ -1,4 +1,4 @@
-use Rattle.std.proofs.Common.{◌≡◌, ◌∙◌, ◌+◌, ap, arith, length, subst, take, true}
+use Rattle.std.proofs.Common.{◌≡◌, ◌∙◌, ◌+◌, ap, arith, false, length, subst, sym, take, true}
 use Rattle.std.specs.Vec.{vec_len}
 use Rattle.devices.specs.Devices.{Fails}
 use Rattle.mesh_reading.proofs.lemmas.Rounds.{enough, filled_round, grown_front, not_filled, taken_on, within_on}
@@ -22,20 +22,23 @@ round-preserved g c =
       within = within_on (len + c.in_ok-count.count) (vec_len room) c.fill_after.new.bytes room.items size
           (omega (arith, c.in_ok-count.ensures.within, c.in_ok-count.ensures.len));
       wanted = c.round.invariant.wanted;
+      more = c.round.invariant.more;
     }
 
 pub returns-in_err-count : goal.returns-in_err-count
 returns-in_err-count g c =
     not_filled g.I.Source.remaining g.I.Failures.failure_count c.args.source.now c.fill_after.new.source c.args.self.now _
+    (ap (λ r. r.is_last) (sym c.self.view_is) ∙ c.if-self.false) (c.round.invariant.wanted ∙ ap (λ r. r.wanted) c.self.view_is)
     c.from_residual-in_err-count.result c.in_err-count.field-0.0 c.from_residual-in_err-count.ensures.1 c.in_err-count.ensures.err.0
-    (c.round.invariant.wanted ∙ ap (λ r. r.wanted) c.self.view_is)
     (subst (λ n. Fails n (g.I.Failures.failure_count c.fill_after.new.source)) c.round.invariant.counted c.in_err-count.ensures.err.1)
 
 pub returns : goal.returns
 returns g c =
-    filled_round g.I.Source.remaining g.I.Failures.failure_count c.args.source.now c.round.source c.args.self.now _ true c.round.invariant.taken
-    (c.round.invariant.wanted ∙ ap (λ r. r.wanted) c.self.view_is) c.round.invariant.counted
-    (λ _. enough c.round.self-inside.wanted c.round.self-inside.len c.round.self-inside.room.items c.round.invariant.within c.round-test.false) (λ e. cc)
+    filled_round g.I.Source.remaining g.I.Failures.failure_count c.args.source.now c.round.source c.args.self.now _
+    (ap (λ r. r.is_last) (sym c.self.view_is) ∙ c.if-self.false) (c.round.invariant.wanted ∙ ap (λ r. r.wanted) c.self.view_is)
+    c.round.invariant.taken c.round.invariant.counted
+    (λ _. enough c.round.self-inside.wanted c.round.self-inside.len c.round.self-inside.room.items c.round.invariant.within c.round-test.false)
+    (λ e. (let no : false ≡ true = sym c.round.invariant.more ∙ e in cc))
 
 pub round-smaller : goal.round-smaller
 round-smaller g c = omega (arith, c.round-test.true, c.if-count-eq0.false)

@@ -1,4 +1,4 @@
-use Rattle.std.proofs.Common.{◌≡◌, ◌≤◌, ◌-◌, length}
+use Rattle.std.proofs.Common.{◌≡◌, ◌≤◌, ◌-◌, false, length}
 use Rattle.std.specs.Prelude.{take}
 use Rattle.std.specs.Io.KnownBytes.{Consumes}
 use Rattle.mesh_reading.proofs.round.Round.fill.Given as goal
@@ -9,6 +9,7 @@ invariant-round g l = record {
   counted : g.I.Failures.failure_count l.source ≡ g.I.Failures.failure_count l.initial.source;
   within : l.self-inside.len ≤ length l.self-inside.room.items;
   wanted : l.self-inside.wanted ≡ l.initial.self-inside.wanted;
+  more : l.self-inside.is_last ≡ false;
 }
 
 abbrev pub decreases-round : goal.decreases-round
