@@ -8,8 +8,8 @@ ghost use Rattle.mesh_reading.specs.declared.read_fault.ReadFault.TheVariants.{R
 
 use crate::read_fault::ReadFault;
 use crate::window::{LEAST_READ, WINDOW_LEN, fill};
-use geometry::Facet;
 use devices::Source;
+use geometry::Facet;
 use std::alloc::{AllocError, Allocator};
 use std::marker::Model;
 use std::mem::swap;

@@ -10,9 +10,9 @@ ghost use Rattle.mesh_reading.specs.declared.read_fault.ReadFault.TheVariants.{M
 
 use crate::read_fault::ReadFault;
 use crate::round::{Round, Rounds};
+use devices::Source;
 use geometry::{FACET_LIMIT, Facet};
 use mesh_weld::Welder;
-use devices::Source;
 use std::alloc::Allocator;
 use std::thread::{Threads, join_mut};
 use stl_text::{ChunkParts, FacetRuns, TextReader};
