@@ -5,9 +5,8 @@ use Rattle.geometry.specs.Winding.{ray, ray_y}
 use Rattle.raster.specs.Filler.{is_filled}
 use Rattle.raster.specs.Grid.{Grid, centre, is_voxel}
 use Rattle.raster.specs.Image.{layer_image}
-use Rattle.layer_png.specs.Depth.{bits}
 use Rattle.layer_png.specs.Layer.{column_at, row_at}
-use Rattle.layer_png.specs.Text.{png_text}
+use Rattle.layer_png.specs.Text.{layer_png}
 use Rattle.layer_png.specs.declared.depth.Depth.{Depth}
 use Rattle.layer_png.specs.declared.mirrors.Mirrors.{Mirrors}
 use Rattle.build_book.specs.Job.{Job, stripe_count, stripe_length, stripe_start}
@@ -26,7 +25,7 @@ is_white job k mirrors x y =
 
 -- the PNG of layer k of a job
 abbrev pub png_of : Job → ℕ → Depth → Mirrors → List ℕ
-png_of job k depth mirrors = png_text (bits depth) job.grid.columns job.grid.rows (is_white job k mirrors)
+png_of job k depth mirrors = layer_png job.grid job.rule job.solid.facets depth mirrors k
 
 -- the images of the layers of stripe s, from the lowest up
 abbrev pub stripe_images : Job → ℕ → List ℕ

@@ -1,5 +1,5 @@
-//! Tests of sessions and of their outlines. They are in a crate of their own, because a crate's
-//! tests are proved with the whole crate once more.
+//! Tests of sessions and of their outlines, and of the zlib streams that PNGs have. They are in a
+//! crate of their own, because a crate's tests are proved with the whole crate once more.
 #![tactic(auto)]
 
 #[cfg(test)]
@@ -12,3 +12,5 @@ mod session_chunks;
 mod session_pngs;
 #[cfg(test)]
 mod sessions;
+#[cfg(test)]
+mod zlib_streams;
