@@ -15,7 +15,7 @@ use stlslice::RunFault;
 use test_meshes::{BOX, CORNERS, CUBE, Part, text_of};
 
 /// How a run ends as usual, and what it has written then.
-type Usual<'a> = (Result<(), RunFault>, &'a [u8]);
+pub(crate) type Usual<'a> = (Result<(), RunFault>, &'a [u8]);
 
 /// Whether a run with this end and this text had no allocation that failed. `None` if it ended neither as usual nor out of
 /// memory with nothing written.
@@ -50,7 +50,7 @@ fn is_free_turn<R: Threads + Wait + Sync + AllocGlobal>(
 
 /// Fails each allocation in turn until none is left to fail, and returns the first turn at which none failed. 0 if a
 /// run ends otherwise.
-fn first_free_turn<R: Threads + Wait + Sync + AllocGlobal>(
+pub(crate) fn first_free_turn<R: Threads + Wait + Sync + AllocGlobal>(
     rt: &R,
     line: &str,
     input: &str,

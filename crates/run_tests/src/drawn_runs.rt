@@ -94,7 +94,7 @@ fn sets_of_long_images(rt: HostRuntime) -> Result<(), Fail> {
 
 /// Whether a run that slices a text by a line of words fills a writer up to its room, and ends with one failure unless
 /// all images fit.
-fn is_filled<R: Threads + Wait + Sync + AllocGlobal>(
+pub(crate) fn is_filled<R: Threads + Wait + Sync + AllocGlobal>(
     rt: &R,
     line: &str,
     input: &str,

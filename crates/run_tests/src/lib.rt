@@ -14,6 +14,8 @@ mod byte_runs;
 #[cfg(test)]
 mod device_runs;
 #[cfg(test)]
+mod drawn_png_runs;
+#[cfg(test)]
 mod drawn_runs;
 #[cfg(test)]
 mod lines;

@@ -4,6 +4,7 @@ pub mod Faults
 pub mod OneAnswer
 pub mod Pages
 pub mod Pngs
+pub mod Put
 pub mod Slicing
 pub mod Stream
 pub mod Unwritten

@@ -2,6 +2,7 @@ pub mod RunFault
 pub mod SlicedText
 pub mod Outcome
 pub mod Unwritten
+pub mod Put
 pub mod Loading
 pub mod Run
 pub mod WrittenPixels

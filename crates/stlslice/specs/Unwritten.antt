@@ -1,6 +1,6 @@
--- What a run does to its sink if it fails.
-use Rattle.std.specs.Prelude.{◌≡◌, ◌≤◌, ℕ, List, length}
-use Rattle.std.specs.Io.KnownBytes.{Keeps}
+-- What a run does to its sink if it fails, and if it may fail.
+use Rattle.std.specs.Prelude.{◌≡◌, ◌≤◌, ◌⊎◌, ℕ, Bool, true, List, IfErr, OnOk, Result, length}
+use Rattle.std.specs.Io.KnownBytes.{Appends, Keeps}
 use Rattle.devices.specs.Devices.{AppendsFirst, Fails}
 use Rattle.devices.specs.Transcript.{Transcript}
 use Rattle.stlslice.specs.declared.run_fault.RunFault.{RunFault}
@@ -15,3 +15,17 @@ abbrev pub IsUnwritten : Transcript → List ℕ → RunFault → Type 0
 IsUnwritten transcript text f =
     (written : ℕ) × (f ≡ fault.Write written) × (written ≤ length text) × AppendsFirst transcript.old transcript.new written text
     × Fails transcript.failed_before transcript.failed
+
+-- a text was written and flushed as a whole, or one call failed
+pub record IsWritten {T : Type 0} (result : Result T RunFault) (sink : Transcript) (is_settled : Bool) (text : List ℕ) : Type 0 where
+  pub flushed : OnOk result (is_settled ≡ true)
+  pub ok : OnOk result (Appends sink.old sink.new text)
+  pub same : OnOk result (sink.failed ≡ sink.failed_before)
+  pub err : IfErr result (IsUnwritten sink text)
+
+-- the same of a text that takes memory: without it nothing is written
+pub record IsMadeAndWritten {T : Type 0} (result : Result T RunFault) (sink : Transcript) (is_settled : Bool) (text : List ℕ) : Type 0 where
+  pub flushed : OnOk result (is_settled ≡ true)
+  pub ok : OnOk result (Appends sink.old sink.new text)
+  pub same : OnOk result (sink.failed ≡ sink.failed_before)
+  pub err : IfErr result (λ f. ((f ≡ fault.Memory) × IsUntouched sink) ⊎ IsUnwritten sink text f)

@@ -73,8 +73,8 @@ pub fn run_watched<
         (transcript (O.contents sink.old) (O.contents sink.new) (O.Failures.failure_count sink.old) (O.Failures.failure_count sink.new))
         (O.is_settled sink.new) }
 {
-    match task {
-        Task::Box { unit } => run_box(alloc, *unit, source, sink),
+    match *task {
+        Task::Box { unit } => run_box(alloc, unit, source, sink),
         Task::Probe {
             unit,
             pitch,
@@ -83,16 +83,16 @@ pub fn run_watched<
             i,
             j,
             k,
-        } => run_probe(
-            alloc,
-            *unit,
-            *pitch,
-            *layer,
-            *grid,
-            (*i, *j, *k),
-            source,
-            sink,
-        ),
+        } => {
+            let probe = Probe {
+                unit,
+                pitch,
+                layer,
+                given: grid,
+                voxel: (i, j, k),
+            };
+            run_probe(alloc, probe, source, sink)
+        }
         Task::Slice {
             unit,
             pitch,
@@ -101,20 +101,18 @@ pub fn run_watched<
             workers,
             report,
             grid,
-        } => run_slicing(
-            rt,
-            alloc,
-            *unit,
-            *pitch,
-            *layer,
-            *grid,
-            *rule,
-            Output::of(*report),
-            *workers,
-            source,
-            sink,
-            gate,
-        ),
+        } => {
+            let slicing = Slicing {
+                unit,
+                pitch,
+                layer,
+                given: grid,
+                rule,
+                output: Output::of(report),
+                workers,
+            };
+            run_slicing(rt, alloc, slicing, source, sink, gate)
+        }
         Task::Png {
             unit,
             pitch,
@@ -125,16 +123,40 @@ pub fn run_watched<
             depth,
             mirrors,
         } => {
-            let output = Output::Pngs {
-                depth: *depth,
-                mirrors: *mirrors,
+            let slicing = Slicing {
+                unit,
+                pitch,
+                layer,
+                given: grid,
+                rule,
+                output: Output::Pngs { depth, mirrors },
+                workers,
             };
-            run_slicing(
-                rt, alloc, *unit, *pitch, *layer, *grid, *rule, output, *workers, source, sink,
-                gate,
-            )
+            run_slicing(rt, alloc, slicing, source, sink, gate)
         }
     }
+}
+
+/// A task of slicing, whatever its output. Lengths are in micrometres.
+#[derive(Clone, Copy)]
+struct Slicing {
+    unit: Unit,
+    pitch: u32,
+    layer: u32,
+    given: Option<Given>,
+    rule: Rule,
+    output: Output,
+    workers: u32,
+}
+
+/// A task of a probe. Lengths are in micrometres, and the voxel is given by its column, row and layer.
+#[derive(Clone, Copy)]
+struct Probe {
+    unit: Unit,
+    pitch: u32,
+    layer: u32,
+    given: Option<Given>,
+    voxel: (u32, u32, u32),
 }
 
 /// Writes and flushes an output of slicing, and tells a gate of the workers that slice.
@@ -144,31 +166,18 @@ fn run_slicing<
     I: Source,
     O: Sink,
     G: Gate<A> + Sync,
->(
-    rt: &R,
-    alloc: A,
-    unit: Unit,
-    pitch: u32,
-    layer: u32,
-    given: Option<Given>,
-    rule: Rule,
-    output: Output,
-    workers: u32,
-    source: &mut I,
-    sink: &mut O,
-    gate: &G,
-) -> Result<(), RunFault>
-    requires { AreInRange pitch layer workers }
-    ensures { IsRun (slicing unit pitch layer rule workers given output) result
+>(rt: &R, alloc: A, asked: Slicing, source: &mut I, sink: &mut O, gate: &G) -> Result<(), RunFault>
+    requires { AreInRange asked.pitch asked.layer asked.workers }
+    ensures { IsRun (slicing asked.unit asked.pitch asked.layer asked.rule asked.workers asked.given asked.output) result
         (transcript (I.remaining source.old) (I.remaining source.new) (I.Failures.failure_count source.old) (I.Failures.failure_count source.new))
         (transcript (O.contents sink.old) (O.contents sink.new) (O.Failures.failure_count sink.old) (O.Failures.failure_count sink.new))
         (O.is_settled sink.new) }
 {
-    let solid = read_solid_by(rt, alloc, source, unit, workers)?;
-    let grid = grid_for(&solid, given, pitch, layer)?;
-    let job = Job::new(solid, grid, rule);
-    let build = build(rt, alloc, &job, workers, gate)?;
-    write_build(rt, alloc, &build, output, workers, sink)
+    let solid = read_solid_by(rt, alloc, source, asked.unit, asked.workers)?;
+    let grid = grid_for(&solid, asked.given, asked.pitch, asked.layer)?;
+    let job = Job::new(solid, grid, asked.rule);
+    let build = build(rt, alloc, &job, asked.workers, gate)?;
+    write_build(rt, alloc, &build, asked.output, asked.workers, sink)
 }
 
 /// Writes and flushes the box line of the input. It takes no handle, so it is proved to return.
@@ -188,27 +197,22 @@ fn run_box<A: Allocator + Copy + Send + Sync, I: Source, O: Sink>(
     write_all(sink, line.as_bytes())
 }
 
-/// Writes and flushes the rays at a voxel, which is given by its column, row and layer. It takes no handle, so it is
-/// proved to return.
+/// Writes and flushes the rays at the voxel of a probe. It takes no handle, so it is proved to return.
 fn run_probe<A: Allocator + Copy + Send + Sync, I: Source, O: Sink>(
     alloc: A,
-    unit: Unit,
-    pitch: u32,
-    layer: u32,
-    given: Option<Given>,
-    voxel: (u32, u32, u32),
+    asked: Probe,
     source: &mut I,
     sink: &mut O,
 ) -> Result<(), RunFault>
-    requires { IsInRange (task.Probe unit pitch layer given voxel.0 voxel.1 voxel.2) }
-    ensures { IsRun (task.Probe unit pitch layer given voxel.0 voxel.1 voxel.2) result
+    requires { IsInRange (task.Probe asked.unit asked.pitch asked.layer asked.given asked.voxel.0 asked.voxel.1 asked.voxel.2) }
+    ensures { IsRun (task.Probe asked.unit asked.pitch asked.layer asked.given asked.voxel.0 asked.voxel.1 asked.voxel.2) result
         (transcript (I.remaining source.old) (I.remaining source.new) (I.Failures.failure_count source.old) (I.Failures.failure_count source.new))
         (transcript (O.contents sink.old) (O.contents sink.new) (O.Failures.failure_count sink.old) (O.Failures.failure_count sink.new))
         (O.is_settled sink.new) }
 {
-    let (i, j, k) = voxel;
-    let solid = read_solid(alloc, source, unit)?;
-    let grid = grid_for(&solid, given, pitch, layer)?;
+    let (i, j, k) = asked.voxel;
+    let solid = read_solid(alloc, source, asked.unit)?;
+    let grid = grid_for(&solid, asked.given, asked.pitch, asked.layer)?;
     let line = probe_line(alloc, &solid, &grid, i, j, k)?;
     write_all(sink, line.as_bytes())
 }

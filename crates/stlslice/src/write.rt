@@ -1,25 +1,26 @@
-//! What a run writes. Each output has a module of its own (`images`; for several workers `images_by` and `pages`), and all are
-//! flushed by [`flush`]. This module chooses among the outputs of slicing.
-ghost use Rattle.std.specs.Prelude.{◌≡◌, ◌⊎◌, IfErr, OnOk, true};
-ghost use Rattle.std.specs.Io.KnownBytes.{Appends};
+//! What a run writes. Each output has a module of its own, and all are flushed by [`flush`]. For several workers `images_by` and
+//! `pngs_by` draw by [`pages`]. This module chooses among the outputs of slicing.
+ghost use Rattle.std.specs.Prelude.{◌≡◌};
 ghost use Rattle.devices.specs.Transcript.{transcript};
-ghost use Rattle.stlslice.specs.declared.run_fault.RunFault.TheVariants.{Memory};
-ghost use Rattle.stlslice.specs.Unwritten.{IsUntouched, IsUnwritten};
 ghost use Rattle.stlslice.specs.SlicedText.{output_of, sliced_text};
+ghost use Rattle.stlslice.specs.Unwritten.{IsMadeAndWritten};
 
 pub(crate) mod box_line;
 pub(crate) mod flush;
+pub(crate) mod image_pages;
 pub(crate) mod images;
 pub(crate) mod images_by;
 pub(crate) mod pages;
+pub(crate) mod png_pages;
 pub(crate) mod pngs;
+pub(crate) mod pngs_by;
 pub(crate) mod probe_line;
 pub(crate) mod report;
 
 use crate::run_fault::RunFault;
 use crate::write::flush::write_all;
 use crate::write::images_by::write_images_by;
-use crate::write::pngs::write_pngs;
+use crate::write::pngs_by::write_pngs_by;
 use crate::write::report::report;
 use build_book::Build;
 use layer_png::{Depth, Mirrors};
@@ -52,8 +53,8 @@ impl Output {
 }
 
 /// Writes and flushes an output of a build, by up to `workers` workers. A report is made as a whole before its first byte is
-/// written. Images are written one after another if there is no memory to draw them first. PNGs are made one after another, in
-/// memory that is allocated before the first byte is written.
+/// written. Images are written one after another if there is no memory to draw them first. PNGs are made in memory that is
+/// allocated before the first byte is written.
 pub(crate) fn write_build<R: Threads + Sync, A: Allocator + Copy + Send + Sync, O: Sink>(
     rt: &R,
     alloc: A,
@@ -62,15 +63,9 @@ pub(crate) fn write_build<R: Threads + Sync, A: Allocator + Copy + Send + Sync, 
     workers: u32,
     sink: &mut O,
 ) -> Result<(), RunFault>
-    ensures flushed { OnOk result (O.is_settled sink.new ≡ true) }
-    ensures ok { OnOk result (Appends (O.contents sink.old) (O.contents sink.new)
-        (sliced_text output build.now.job.grid build.now.job.rule build.now.job.solid.facets)) }
-    ensures same { OnOk result (O.Failures.failure_count sink.new ≡ O.Failures.failure_count sink.old) }
-    ensures err { IfErr result (λ fault. ((fault ≡ Memory) × IsUntouched
-        (transcript (O.contents sink.old) (O.contents sink.new) (O.Failures.failure_count sink.old) (O.Failures.failure_count sink.new)))
-        ⊎ IsUnwritten
+    ensures { IsMadeAndWritten result
         (transcript (O.contents sink.old) (O.contents sink.new) (O.Failures.failure_count sink.old) (O.Failures.failure_count sink.new))
-        (sliced_text output build.now.job.grid build.now.job.rule build.now.job.solid.facets) fault) }
+        (O.is_settled sink.new) (sliced_text output build.now.job.grid build.now.job.rule build.now.job.solid.facets) }
 {
     match output {
         Output::Images => write_images_by(rt, alloc, build, sink, workers),
@@ -78,6 +73,8 @@ pub(crate) fn write_build<R: Threads + Sync, A: Allocator + Copy + Send + Sync, 
             let text = report(alloc, build)?;
             write_all(sink, text.as_bytes())
         }
-        Output::Pngs { depth, mirrors } => write_pngs(alloc, build, depth, mirrors, sink),
+        Output::Pngs { depth, mirrors } => write_pngs_by(
+            rt, alloc, build, depth, mirrors, workers, sink,
+        ),
     }
 }

@@ -3,11 +3,11 @@ use Rattle.std.proofs.Common.{◌≡◌, ◌∙◌, ℕ, inl, inr, zero, suc, �
 use Rattle.std.specs.Prelude.{Err, Ok, Result, flat_map, if◌then◌else◌}
 use Rattle.std.specs.List.{range_with_len}
 use Rattle.std.proofs.lemmas.List.Concat.{flat_map-cons}
+use Rattle.std.proofs.Math.Nat.{mul-le-mul_left}
 use Rattle.geometry.specs.BoundingBox.{Bounds, bounds}
 use Rattle.geometry.specs.Facet.{Facet}
 use Rattle.geometry.specs.declared.limits.TheConstants.{COLUMN_LIMIT, LAYER_LIMIT}
-use Rattle.raster.proofs.lemmas.Written.{IsUnderWay, all-counted, more-out, written-within}
-use Rattle.devices.specs.Devices.{AppendsFirst, greatest_count}
+use Rattle.devices.specs.Devices.{greatest_count}
 use Rattle.raster.specs.Filler.{is_filled}
 use Rattle.raster.specs.Grid.{Grid, centre, grid_with, has_no_cells, is_too_large, reaches_too_far}
 use Rattle.raster.specs.Grid as grids
@@ -16,7 +16,7 @@ use Rattle.raster.specs.declared.grid.GridFault.TheVariants.{FarCentre, NoCells}
 use Rattle.raster.specs.declared.span.Span.{Span}
 use Rattle.layer_png.specs.Depth.{bits}
 use Rattle.layer_png.specs.Layer.{column_at, row_at, shown}
-use Rattle.layer_png.specs.Text.{png_text}
+use Rattle.layer_png.specs.Text.{most_png_bytes, png_text}
 use Rattle.layer_png.specs.declared.depth.Depth.{Depth}
 use Rattle.layer_png.specs.declared.mirrors.Mirrors.{Mirrors}
 use Rattle.layer_png.proofs.lemmas.Pixels.{file-limit, layer-read, same-file}
@@ -25,12 +25,11 @@ use Rattle.build_book.specs.Layer.{IsLawful, Layer}
 use Rattle.build_book.specs.Build.{IsComplete}
 use Rattle.task_words.specs.declared.task.Given.{Given}
 use Rattle.stlslice.specs.Outcome.{grid_for}
-use Rattle.stlslice.specs.Pngs.{pngs_of}
+use Rattle.stlslice.specs.Pngs.{HasRoom, pngs_of}
 use Rattle.stlslice.specs.SlicedText.{layer_png}
 use Rattle.stlslice.specs.WrittenPixels.{ArePngs}
 use Rattle.stlslice.specs.declared.write.Output.{Output}
 use Rattle.stlslice.specs.declared.write.Output.TheVariants as output
-use Rattle.stlslice.proofs.lemmas.Pages.{with-part}
 use Rattle.stlslice.proofs.lemmas.Stream.{layer_at, layer_below}
 
 -- ---- the size of an image
@@ -167,7 +166,7 @@ png_next job depth mirrors k h =
     ∙ flat_map-cons (layer_png job.grid job.rule job.solid.facets depth mirrors) k (range_with_len (k + 1) (job.grid.layers - (k + 1)))
 
 -- the same, by the build's grid and layers as they were handed out
-png_there : (job held : Job) (grid : Grid) (spans : List Span) (layers xs : List Layer) (i : ℕ) (x : Layer) (depth : Depth) (mirrors : Mirrors)
+pub png_there : (job held : Job) (grid : Grid) (spans : List Span) (layers xs : List Layer) (i : ℕ) (x : Layer) (depth : Depth) (mirrors : Mirrors)
     → held ≡ job → grid ≡ held.grid → spans ≡ x.spans → xs ≡ layers → IsComplete job layers → i < length xs → x ≡ slice_index_or xs i x
     → png_text (bits depth) grid.columns grid.rows (shown mirrors grid.columns grid.rows spans)
     ≡ layer_png job.grid job.rule job.solid.facets depth mirrors i
@@ -192,27 +191,9 @@ no_pngs job depth mirrors k h =
     let none : job.grid.layers - k ≡ 0 = omega (arith, h) in
     ap (λ (n : ℕ). flat_map (layer_png job.grid job.rule job.solid.facets depth mirrors) (range_with_len k n)) none
 
--- where a part could not be written, the front of a text went out
-pub first_out : (old now new : Option (List ℕ)) (text part rest left : List ℕ) (written total : ℕ) → IsUnderWay old now text 0 written [] left
-    → left ≡ part ++ rest → written ≤ total → total < written + length part → AppendsFirst now new (total - written) part
-    → AppendsFirst old new total text × (total < length text)
-first_out old now new text part rest left written total h next low high out =
-    let ahead : IsUnderWay old now text 0 written part rest = with-part old now text 0 written part rest left h next in
-    let all : total - 0 ≡ total = omega arith in
-    let less : total < 0 + length text = written-within old now text 0 written total part rest ahead high in (
-      subst (λ (n : ℕ). AppendsFirst old new n text) all (more-out old now new text 0 written total part rest ahead low (omega (arith, high)) out),
-      omega (arith, less),
-    )
-
--- a part and what is out can be counted
-pub part_counted : (old now : Option (List ℕ)) (text part rest left : List ℕ) (written : ℕ) → IsUnderWay old now text 0 written [] left
-    → left ≡ part ++ rest → length text ≤ pngs_limit → written + length part ≤ greatest_count
-part_counted old now text part rest left written h next few =
-    omega (
-      arith,
-      few,
-      all-counted old now text 0 written part rest (with-part old now text 0 written part rest left h next),
-    )
+-- the bytes of all PNGs can be counted
+pub pngs_countable : (n : ℕ) → n ≤ pngs_limit → n ≤ greatest_count
+pngs_countable n few = omega (arith, few)
 
 -- ---- the room for each
 
@@ -228,3 +209,24 @@ pub same_place : (xs : List Layer) (i : ℕ) (d x : Layer) → i < length xs →
 same_place [] i d x h is = absurd (omega (arith, h))
 same_place (y ∷ ys) zero d x h is = sym is
 same_place (y ∷ ys) (suc i) d x h is = same_place ys i d x (omega (arith, h)) is
+
+-- a layer's PNG has the room that is enough for each
+pub room_at : (grid taken : Grid) (depth : Depth) (layers xs : List Layer) (i : ℕ) (x : Layer) (spans : List Span) (room : ℕ) → taken ≡ grid
+    → xs ≡ layers → spans ≡ x.spans → i < length xs → x ≡ slice_index_or xs i x → HasRoom grid depth layers room
+    → most_png_bytes (bits depth) taken.columns taken.rows (length spans) ≤ room
+room_at grid taken depth layers xs i x spans room of same spans-are low is h =
+    let most : Grid → List Span → ℕ = λ g s. most_png_bytes (bits depth) g.columns g.rows (length s) in
+    let there : most grid (slice_index_or xs i x).spans ≤ room = subst (λ (l : List Layer). HasRoom grid depth l room) (sym same) h i x low in
+    let here : most taken spans ≡ most grid (slice_index_or xs i x).spans =
+    ap (λ (g : Grid). most g spans) of ∙ ap (λ (s : List Span). most grid s) (spans-are ∙ ap (λ (y : Layer). y.spans) is) in
+    omega (arith, there, here)
+
+-- the next of up to `per` PNGs fits
+pub next_fits : (m per room len most taken free : ℕ) → len ≤ m * room → m < per → most ≤ room → per * room ≤ taken → taken ≤ free → len + most ≤ free
+next_fits m per room len most taken free few more small all kept =
+    let rows : room * suc m ≤ room * per = mul-le-mul_left room (omega (arith, more)) in
+    omega (arith, few, small, all, kept, rows)
+
+-- and is not too long for those after it
+pub longer : (m n old new most room : ℕ) → n ≡ suc m → old ≤ m * room → new ≤ old + most → most ≤ room → new ≤ n * room
+longer m n old new most room next few more small = rw next (omega (arith, few, more, small))

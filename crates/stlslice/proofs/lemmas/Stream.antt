@@ -11,7 +11,7 @@ use Rattle.raster.specs.Filler.{area_of, below}
 use Rattle.raster.specs.Grid.{Grid, plane}
 use Rattle.raster.specs.Image.{images, layer_image}
 use Rattle.raster.specs.declared.span.Span.{Span}
-use Rattle.raster.proofs.lemmas.Written.{IsUnderWay, taken-on}
+use Rattle.raster.proofs.lemmas.Written.{IsUnderWay, begun, taken-on}
 use Rattle.build_book.specs.Layer.{AreLawfulFrom, IsLawful, Layer, layers_area}
 use Rattle.build_book.specs.Build.{IsComplete}
 use Rattle.build_book.specs.Job.{Job}
@@ -81,6 +81,15 @@ image_next job k h =
     ap (λ (n : ℕ). flat_map image (range_with_len k n)) more
     ∙ flat_map-cons image k (range_with_len (k + 1) (job.grid.layers - (k + 1)))
 
+-- nothing is out, and all images are to go
+pub images-begun : (job : Job) (now : Option (List ℕ)) → IsUnderWay now now (images job.grid job.rule job.solid.facets) 0 0 [] (images_from job 0)
+images-begun job now =
+    let all : List ℕ = images job.grid job.rule job.solid.facets in
+    let size : job.grid.layers ≡ job.grid.layers - 0 = omega arith in
+    let same : all ≡ images_from job 0 =
+    ap (λ (n : ℕ). flat_map (layer_image job.grid job.rule job.solid.facets) (range_with_len 0 n)) size in
+    subst (λ (l : List ℕ). IsUnderWay now now all 0 0 [] l) same (begun now 0 [] all)
+
 -- after the last layer
 pub none_left : (job : Job) (k : ℕ) → job.grid.layers ≤ k → images_from job k ≡ []
 none_left job k h =
@@ -114,3 +123,8 @@ layer_below job layers xs i same complete h =
 pub layers_end : (job : Job) (layers xs : List Layer) (i : ℕ) → xs ≡ layers → IsComplete job layers → length xs ≤ i → job.grid.layers ≤ i
 layers_end job layers xs i same complete h =
     subst (λ (n : ℕ). n ≤ i) (ap (λ (l : List Layer). length l) same ∙ complete.whole) h
+
+-- a layer of a number that the grid has is there
+pub layer_among : (job : Job) (layers xs : List Layer) (i end : ℕ) → xs ≡ layers → IsComplete job layers → i < end → end ≤ job.grid.layers → i < length xs
+layer_among job layers xs i end same complete h within =
+    subst (λ (n : ℕ). i < n) (sym (ap (λ (l : List Layer). length l) same ∙ complete.whole)) (omega (arith, h, within))

@@ -1,7 +1,10 @@
 //! How an output goes out, as a whole or part by part, and ends: the sink is flushed.
-ghost use Rattle.std.specs.Prelude.{◌≡◌, ◌<◌, ◌≤◌, ◌+◌, ◌-◌, IfErr, IfOk, OnErr, OnOk, length, true, ℕ};
-ghost use Rattle.std.specs.Io.KnownBytes.{Appends, Keeps};
-ghost use Rattle.devices.specs.Devices.{AppendsFirst, Fails, greatest_count};
+ghost use Rattle.std.specs.Prelude.{◌≡◌, ◌≤◌, ◌+◌, IfErr, OnOk, length, true};
+ghost use Rattle.std.specs.Io.KnownBytes.{Keeps};
+ghost use Rattle.devices.specs.Transcript.{transcript};
+ghost use Rattle.devices.specs.Devices.{Fails, greatest_count};
+ghost use Rattle.stlslice.specs.Put.{IsPut};
+ghost use Rattle.stlslice.specs.Unwritten.{IsWritten};
 ghost use Rattle.stlslice.specs.declared.run_fault.RunFault.TheVariants.{Write};
 
 use crate::run_fault::RunFault;
@@ -9,12 +12,9 @@ use raster::{Sink, WriteFault, put_all};
 
 /// Writes a whole text, and flushes it. On a fault its first `written` bytes went out; these are all if the flush failed.
 pub(crate) fn write_all<O: Sink>(sink: &mut O, text: &[u8]) -> Result<(), RunFault>
-    ensures flushed { OnOk result (O.is_settled sink.new ≡ true) }
-    ensures ok { OnOk result (Appends (O.contents sink.old) (O.contents sink.new) text.now) }
-    ensures same { OnOk result (O.Failures.failure_count sink.new ≡ O.Failures.failure_count sink.old) }
-    ensures err { IfErr result (λ fault. (written : ℕ) × (fault ≡ Write written) × (written ≤ length text.now)
-        × AppendsFirst (O.contents sink.old) (O.contents sink.new) written text.now
-        × Fails (O.Failures.failure_count sink.old) (O.Failures.failure_count sink.new)) }
+    ensures { IsWritten result
+        (transcript (O.contents sink.old) (O.contents sink.new) (O.Failures.failure_count sink.old) (O.Failures.failure_count sink.new))
+        (O.is_settled sink.new) text.now }
 {
     put_all(sink, text)?;
     settle(sink, text.len() as u64)
@@ -23,13 +23,9 @@ pub(crate) fn write_all<O: Sink>(sink: &mut O, text: &[u8]) -> Result<(), RunFau
 /// Writes the next part of a text. `before` is the number of bytes that were written so far. Returns the number afterwards.
 pub(crate) fn put_more<O: Sink>(part: &[u8], sink: &mut O, before: u64) -> Result<u64, WriteFault>
     requires { before + length part.now ≤ greatest_count }
-    ensures ok { OnOk result (Appends (O.contents sink.old) (O.contents sink.new) part.now) }
-    ensures total { IfOk result (λ total. total ≡ before + length part.now) }
-    ensures same { OnOk result (O.Failures.failure_count sink.new ≡ O.Failures.failure_count sink.old) }
-    ensures written { IfErr result (λ fault. AppendsFirst (O.contents sink.old) (O.contents sink.new) (fault.written - before) part.now) }
-    ensures some { IfErr result (λ fault. before ≤ fault.written) }
-    ensures within { IfErr result (λ fault. fault.written < before + length part.now) }
-    ensures failed { OnErr result (Fails (O.Failures.failure_count sink.old) (O.Failures.failure_count sink.new)) }
+    ensures { IsPut result
+        (transcript (O.contents sink.old) (O.contents sink.new) (O.Failures.failure_count sink.old) (O.Failures.failure_count sink.new))
+        part.now before }
 {
     match put_all(sink, part) {
         Ok(()) => Ok(before + part.len() as u64),

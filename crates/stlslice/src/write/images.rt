@@ -1,9 +1,7 @@
 //! The output of slicing: the images of all layers, one after the other.
-ghost use Rattle.std.specs.Prelude.{◌≡◌, IfErr, OnOk, true};
-ghost use Rattle.std.specs.Io.KnownBytes.{Appends};
 ghost use Rattle.devices.specs.Transcript.{transcript};
 ghost use Rattle.stlslice.specs.Pages.{images_of};
-ghost use Rattle.stlslice.specs.Unwritten.{IsUnwritten};
+ghost use Rattle.stlslice.specs.Unwritten.{IsWritten};
 
 use crate::run_fault::RunFault;
 use crate::write::flush::settle;
@@ -17,10 +15,9 @@ pub(crate) fn write_images<A: Allocator, O: Sink>(
     build: &Build<'_, A>,
     sink: &mut O,
 ) -> Result<(), RunFault>
-    ensures flushed { OnOk result (O.is_settled sink.new ≡ true) }
-    ensures ok { OnOk result (Appends (O.contents sink.old) (O.contents sink.new) (images_of build.now.job)) }
-    ensures same { OnOk result (O.Failures.failure_count sink.new ≡ O.Failures.failure_count sink.old) }
-    ensures err { IfErr result (IsUnwritten (transcript (O.contents sink.old) (O.contents sink.new) (O.Failures.failure_count sink.old) (O.Failures.failure_count sink.new)) (images_of build.now.job)) }
+    ensures { IsWritten result
+        (transcript (O.contents sink.old) (O.contents sink.new) (O.Failures.failure_count sink.old) (O.Failures.failure_count sink.new))
+        (O.is_settled sink.new) (images_of build.now.job) }
 {
     let grid = build.job().grid();
     // wakes the invariant: the counts of columns, rows and layers bound the count of the bytes

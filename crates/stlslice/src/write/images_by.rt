@@ -1,16 +1,15 @@
 //! Writes the images of all layers of a build by several workers, and decides whether these draw at the same time.
-ghost use Rattle.std.specs.Prelude.{◌≡◌, ◌<◌, IfErr, OnOk, true, vec_len};
-ghost use Rattle.std.specs.Io.KnownBytes.{Appends};
+ghost use Rattle.std.specs.Prelude.{◌<◌};
 ghost use Rattle.devices.specs.Transcript.{transcript};
-ghost use Rattle.stlslice.specs.Pages.{ArePageSets, images_of};
-ghost use Rattle.stlslice.specs.Unwritten.{IsUnwritten};
+ghost use Rattle.stlslice.specs.Pages.{images_of};
+ghost use Rattle.stlslice.specs.Unwritten.{IsWritten};
 
 use crate::run_fault::RunFault;
-use crate::write::flush::settle;
+use crate::write::image_pages::{Images, page_sets};
 use crate::write::images::write_images;
-use crate::write::pages::{page_sets, put_by_pages};
+use crate::write::pages::write_by_pages;
 use build_book::Build;
-use raster::{Grid, Page, Sink, image_len};
+use raster::{Grid, Sink, image_len};
 use std::alloc::Allocator;
 use std::thread::Threads;
 
@@ -33,10 +32,9 @@ pub(crate) fn write_images_by<R: Threads + Sync, A: Allocator + Copy + Send + Sy
     sink: &mut O,
     workers: u32,
 ) -> Result<(), RunFault>
-    ensures flushed { OnOk result (O.is_settled sink.new ≡ true) }
-    ensures ok { OnOk result (Appends (O.contents sink.old) (O.contents sink.new) (images_of build.now.job)) }
-    ensures same { OnOk result (O.Failures.failure_count sink.new ≡ O.Failures.failure_count sink.old) }
-    ensures err { IfErr result (IsUnwritten (transcript (O.contents sink.old) (O.contents sink.new) (O.Failures.failure_count sink.old) (O.Failures.failure_count sink.new)) (images_of build.now.job)) }
+    ensures { IsWritten result
+        (transcript (O.contents sink.old) (O.contents sink.new) (O.Failures.failure_count sink.old) (O.Failures.failure_count sink.new))
+        (O.is_settled sink.new) (images_of build.now.job) }
 {
     let per = drawn_a_page(build, workers);
     if per == 0 {
@@ -68,10 +66,9 @@ fn write_drawn_images<R: Threads + Sync, A: Allocator + Copy + Send + Sync, O: S
     sink: &mut O,
 ) -> Result<(), RunFault>
     requires { 0 < per }
-    ensures flushed { OnOk result (O.is_settled sink.new ≡ true) }
-    ensures ok { OnOk result (Appends (O.contents sink.old) (O.contents sink.new) (images_of build.now.job)) }
-    ensures same { OnOk result (O.Failures.failure_count sink.new ≡ O.Failures.failure_count sink.old) }
-    ensures err { IfErr result (IsUnwritten (transcript (O.contents sink.old) (O.contents sink.new) (O.Failures.failure_count sink.old) (O.Failures.failure_count sink.new)) (images_of build.now.job)) }
+    ensures { IsWritten result
+        (transcript (O.contents sink.old) (O.contents sink.new) (O.Failures.failure_count sink.old) (O.Failures.failure_count sink.new))
+        (O.is_settled sink.new) (images_of build.now.job) }
 {
     let pages = build
         .layers()
@@ -80,31 +77,9 @@ fn write_drawn_images<R: Threads + Sync, A: Allocator + Copy + Send + Sync, O: S
         .min(workers as usize)
         .max(1);
     match page_sets(alloc, build.job().grid(), per, pages) {
-        Ok((drawn, free)) => write_by_pages(rt, build, per, drawn, free, sink),
+        Ok((drawn, free)) => write_by_pages(rt, &Images { build, per }, drawn, free, sink),
         Err(_) => write_images(build, sink),
     }
-}
-
-/// Writes the images of all layers of a build, drawn into two sets of pages as [`put_by_pages`] does, and flushes them.
-fn write_by_pages<R: Threads + Sync, A: Allocator + Copy + Send + Sync, O: Sink>(
-    rt: &R,
-    build: &Build<'_, A>,
-    per: usize,
-    drawn: Vec<Page<A>, A>,
-    free: Vec<Page<A>, A>,
-    sink: &mut O,
-) -> Result<(), RunFault>
-    requires per { 0 < per }
-    requires sets { ArePageSets build.now.job.grid per drawn.items free.items }
-    requires some_drawn { 0 < vec_len drawn }
-    requires some_free { 0 < vec_len free }
-    ensures flushed { OnOk result (O.is_settled sink.new ≡ true) }
-    ensures ok { OnOk result (Appends (O.contents sink.old) (O.contents sink.new) (images_of build.now.job)) }
-    ensures same { OnOk result (O.Failures.failure_count sink.new ≡ O.Failures.failure_count sink.old) }
-    ensures err { IfErr result (IsUnwritten (transcript (O.contents sink.old) (O.contents sink.new) (O.Failures.failure_count sink.old) (O.Failures.failure_count sink.new)) (images_of build.now.job)) }
-{
-    let written = put_by_pages(rt, build, per, drawn, free, sink)?;
-    settle(sink, written)
 }
 
 /// The number of images of this grid that a page has, if a set has a page for each of these workers. It is 0 if an image is too

@@ -1,104 +1,111 @@
 //! Images of several layers that are drawn at the same time, while those drawn before are written in order.
-ghost use Rattle.std.specs.Prelude.{◌≡◌, ◌<◌, ◌≤◌, ◌+◌, ◌-◌, ◌*◌, All, [], IfErr, IfOk, OnErr, OnOk, length, min, vec_len};
-ghost use Rattle.std.specs.Io.KnownBytes.{Appends};
-ghost use Rattle.devices.specs.Devices.{AppendsFirst, Fails, greatest_count};
-ghost use Rattle.stlslice.specs.Pages.{ArePageSets, image_size, images_between, images_of, pages_text};
+ghost use Rattle.std.specs.Prelude.{◌≡◌, ◌<◌, ◌≤◌, ◌+◌, ◌*◌, ℕ, All, List, flat_map, length, min, vec_len};
+ghost use Rattle.devices.specs.Transcript.{transcript};
+ghost use Rattle.devices.specs.Devices.{greatest_count};
+ghost use Rattle.stlslice.specs.Pages.{ArePageSets, all_images, images_between};
+ghost use Rattle.stlslice.specs.Put.{IsPut};
+ghost use Rattle.stlslice.specs.Unwritten.{IsWritten};
 
-use crate::write::flush::put_more;
-use build_book::Build;
-use raster::{Grid, Page, Sink, WriteFault, image_len};
-use std::alloc::{AllocError, Allocator};
+use crate::run_fault::RunFault;
+use crate::write::flush::{put_more, settle};
+use raster::{Sink, WriteFault};
+use std::alloc::Allocator;
 use std::mem::swap;
 use std::thread::{Threads, for_each_mut, join_mut};
 
-/// Two sets of `count` pages without images. Exactly `per` images of this grid fit each page.
-pub(crate) fn page_sets<A: Allocator + Copy>(
-    alloc: A,
-    grid: &Grid,
-    per: usize,
-    count: usize,
-) -> Result<(Vec<Page<A>, A>, Vec<Page<A>, A>), AllocError>
-    ensures count_drawn { IfOk result (λ sets. vec_len sets.0 ≡ count) }
-    ensures count_free { IfOk result (λ sets. vec_len sets.1 ≡ count) }
-    ensures blank_drawn { IfOk result (λ sets. All (λ page. page.bytes ≡ []) sets.0.items) }
-    ensures blank_free { IfOk result (λ sets. All (λ page. page.bytes ≡ []) sets.1.items) }
-    ensures room_drawn { IfOk result (λ sets. All (λ page. page.room ≡ per * image_size grid.now) sets.0.items) }
-    ensures room_free { IfOk result (λ sets. All (λ page. page.room ≡ per * image_size grid.now) sets.1.items) }
-{
-    let drawn = blank_pages(alloc, grid, per, count)?;
-    let free = blank_pages(alloc, grid, per, count)?;
-    Ok((drawn, free))
+/// The images of all layers of a build in a format, and how they are drawn into pages, up to `per` a page. A page is memory for
+/// the images of a few layers, one after the other.
+pub(crate) trait Drawing<P> {
+    /// The number of layers.
+    ghost layers: { Self → ℕ };
+
+    /// The image of each layer.
+    ghost image: { Self → ℕ → List ℕ };
+
+    /// The greatest number of images of a page.
+    ghost per: { Self → ℕ };
+
+    /// The images that a page has.
+    ghost bytes: { P → List ℕ };
+
+    /// Whether the images of any `per` layers fit a page.
+    ghost fits: { Self → P → Type 0 };
+
+    /// The number of layers. The bytes of all images can be counted.
+    fn layers(&self) -> usize
+        ensures value { result ≡ layers self.now }
+        ensures few { length (all_images (image self.now) (layers self.now)) ≤ greatest_count };
+
+    /// The greatest number of images of a page.
+    fn per(&self) -> usize
+        ensures value { result ≡ per self.now }
+        ensures some { 0 < per self.now };
+
+    /// Draws the images of the layers from `start` up to, but not including, `end`, in place of those that the page has.
+    fn draw(&self, start: usize, end: usize, page: &mut P)
+        requires order { start ≤ end }
+        requires within { end ≤ layers self.now }
+        requires few { end ≤ start + per self.now }
+        requires room { fits self.now page.old }
+        ensures images { bytes page.new ≡ images_between (image self.now) start end }
+        ensures room { fits self.now page.new };
+
+    /// The bytes of a page's images.
+    fn bytes(page: &P) -> &[u8]
+        ensures { result.now ≡ bytes page.now };
 }
 
-/// Pages without images. Exactly `per` images of this grid fit each.
-fn blank_pages<A: Allocator + Copy>(
-    alloc: A,
-    grid: &Grid,
-    per: usize,
-    count: usize,
-) -> Result<Vec<Page<A>, A>, AllocError>
-    ensures count { IfOk result (λ pages. vec_len pages ≡ count) }
-    ensures blank { IfOk result (λ pages. All (λ page. page.bytes ≡ []) pages.items) }
-    ensures room { IfOk result (λ pages. All (λ page. page.room ≡ per * image_size grid.now) pages.items) }
-{
-    let mut pages = Vec::with_capacity(alloc, count)?;
-    for _ in 0..count {
-        let page = blank_page(alloc, grid, per)?;
-        pages.push(page)?;
-    }
-    Ok(pages)
-}
-
-/// A page without images. Exactly `per` images of this grid fit it.
-fn blank_page<A: Allocator>(alloc: A, grid: &Grid, per: usize) -> Result<Page<A>, AllocError>
-    ensures blank { IfOk result (λ page. page.bytes ≡ []) }
-    ensures room { IfOk result (λ page. page.room ≡ per * image_size grid.now) }
-{
-    match image_len(grid).checked_mul(per as u64) {
-        Some(room) => Page::new(alloc, room as usize),
-        // no memory is that large
-        None => Err(AllocError),
-    }
-}
-
-/// Writes the images of all layers of a build, and returns the number of bytes written. They are drawn into the pages `free`,
-/// `per` a page, by one worker a page. Meanwhile those in the pages `drawn`, which have none at first, are written.
-pub(crate) fn put_by_pages<R: Threads + Sync, A: Allocator + Copy + Send + Sync, O: Sink>(
-    rt: &R,
-    build: &Build<'_, A>,
-    per: usize,
-    mut drawn: Vec<Page<A>, A>,
-    mut free: Vec<Page<A>, A>,
-    sink: &mut O,
-) -> Result<u64, WriteFault>
-    requires per { 0 < per }
-    requires sets { ArePageSets build.now.job.grid per drawn.items free.items }
+/// Writes the images of all layers, drawn into two sets of pages as [`put_by_pages`] does, and flushes them.
+pub(crate) fn write_by_pages<
+    R: Threads + Sync,
+    P: Send + Sync + Drop,
+    D: Drawing<P> + Sync,
+    A: Allocator + Copy + Send + Sync,
+    O: Sink,
+>(rt: &R, drawing: &D, drawn: Vec<P, A>, free: Vec<P, A>, sink: &mut O) -> Result<(), RunFault>
+    requires sets { ArePageSets D.bytes (D.fits drawing.now) drawn.items free.items }
     requires some_drawn { 0 < vec_len drawn }
     requires some_free { 0 < vec_len free }
-    ensures ok { OnOk result (Appends (O.contents sink.old) (O.contents sink.new)
-        (images_of build.now.job)) }
-    ensures total { IfOk result (λ total. total ≡ length (images_of build.now.job)) }
-    ensures same { OnOk result (O.Failures.failure_count sink.new ≡ O.Failures.failure_count sink.old) }
-    ensures written { IfErr result (λ fault. AppendsFirst (O.contents sink.old) (O.contents sink.new) fault.written
-        (images_of build.now.job)) }
-    ensures within { IfErr result (λ fault. fault.written < length (images_of build.now.job)) }
-    ensures failed { OnErr result (Fails (O.Failures.failure_count sink.old) (O.Failures.failure_count sink.new)) }
+    ensures { IsWritten result
+        (transcript (O.contents sink.old) (O.contents sink.new) (O.Failures.failure_count sink.old) (O.Failures.failure_count sink.new))
+        (O.is_settled sink.new) (all_images (D.image drawing.now) (D.layers drawing.now)) }
 {
-    // wakes the invariant: the counts of columns, rows and layers bound the count of the bytes
-    let grid = build.job().grid();
-    let _columns = grid.columns();
-    let _rows = grid.rows();
-    let _layers = grid.layers();
-    let count = build.layers().len();
+    let written = put_by_pages(rt, drawing, drawn, free, sink)?;
+    settle(sink, written)
+}
+
+/// Writes the images of all layers, and returns the number of bytes written. They are drawn into the pages `free`, by one worker
+/// a page. Meanwhile those in the pages `drawn`, which have none at first, are written.
+fn put_by_pages<
+    R: Threads + Sync,
+    P: Send + Sync + Drop,
+    D: Drawing<P> + Sync,
+    A: Allocator + Copy + Send + Sync,
+    O: Sink,
+>(
+    rt: &R,
+    drawing: &D,
+    mut drawn: Vec<P, A>,
+    mut free: Vec<P, A>,
+    sink: &mut O,
+) -> Result<u64, WriteFault>
+    requires sets { ArePageSets D.bytes (D.fits drawing.now) drawn.items free.items }
+    requires some_drawn { 0 < vec_len drawn }
+    requires some_free { 0 < vec_len free }
+    ensures { IsPut result
+        (transcript (O.contents sink.old) (O.contents sink.new) (O.Failures.failure_count sink.old) (O.Failures.failure_count sink.new))
+        (all_images (D.image drawing.now) (D.layers drawing.now)) 0 }
+{
+    let count = drawing.layers();
+    let per = drawing.per();
     let mut first = 0;
     let mut written = 0;
     while first < count {
         let end = end_of_set(&free, first, per, count);
         written = draw_and_put(
             rt,
-            build,
+            drawing,
             first,
-            per,
             &mut free,
             drawn.as_slice(),
             sink,
@@ -107,111 +114,103 @@ pub(crate) fn put_by_pages<R: Threads + Sync, A: Allocator + Copy + Send + Sync,
         swap(&mut drawn, &mut free);
         first = end;
     }
-    put_pages(drawn.as_slice(), sink, written)
+    put_pages::<P, D, O>(drawn.as_slice(), sink, written)
 }
 
-/// Draws the images of the layers from `first` on into the pages `free`, `per` a page, while the pages `drawn` are written.
-/// The number of bytes that were written so far is `before`. Returns the number afterwards.
-fn draw_and_put<R: Threads + Sync, A: Allocator + Copy + Send + Sync, O: Sink>(
+/// Draws the images of the layers from `first` on into the pages `free`, while the pages `drawn` are written. The number of
+/// bytes that were written so far is `before`. Returns the number afterwards.
+fn draw_and_put<
+    R: Threads + Sync,
+    P: Send + Sync + Drop,
+    D: Drawing<P> + Sync,
+    A: Allocator + Copy + Send + Sync,
+    O: Sink,
+>(
     rt: &R,
-    build: &Build<'_, A>,
+    drawing: &D,
     first: usize,
-    per: usize,
-    free: &mut Vec<Page<A>, A>,
-    drawn: &[Page<A>],
+    free: &mut Vec<P, A>,
+    drawn: &[P],
     sink: &mut O,
     before: u64,
 ) -> Result<u64, WriteFault>
-    requires low { first ≤ build.now.job.grid.layers }
+    requires low { first ≤ D.layers drawing.now }
     requires some { 0 < vec_len free.old }
-    requires room { All (λ page. per * image_size build.now.job.grid ≤ page.room) free.old.items }
-    requires count { before + length (pages_text drawn.now) ≤ greatest_count }
-    ensures images { pages_text free.new.items ≡ images_between build.now.job first (min (first + vec_len free.old * per) build.now.job.grid.layers) }
-    ensures room { All (λ page. per * image_size build.now.job.grid ≤ page.room) free.new.items }
+    requires room { All (D.fits drawing.now) free.old.items }
+    requires count { before + length (flat_map D.bytes drawn.now) ≤ greatest_count }
+    ensures images { flat_map D.bytes free.new.items ≡ images_between (D.image drawing.now) first
+        (min (first + vec_len free.old * D.per drawing.now) (D.layers drawing.now)) }
+    ensures room { All (D.fits drawing.now) free.new.items }
     ensures count { vec_len free.new ≡ vec_len free.old }
-    ensures ok { OnOk result (Appends (O.contents sink.old) (O.contents sink.new) (pages_text drawn.now)) }
-    ensures total { IfOk result (λ total. total ≡ before + length (pages_text drawn.now)) }
-    ensures same { OnOk result (O.Failures.failure_count sink.new ≡ O.Failures.failure_count sink.old) }
-    ensures written { IfErr result (λ fault. AppendsFirst (O.contents sink.old) (O.contents sink.new) (fault.written - before) (pages_text drawn.now)) }
-    ensures some { IfErr result (λ fault. before ≤ fault.written) }
-    ensures within { IfErr result (λ fault. fault.written < before + length (pages_text drawn.now)) }
-    ensures failed { OnErr result (Fails (O.Failures.failure_count sink.old) (O.Failures.failure_count sink.new)) }
+    ensures put { IsPut result
+        (transcript (O.contents sink.old) (O.contents sink.new) (O.Failures.failure_count sink.old) (O.Failures.failure_count sink.new))
+        (flat_map D.bytes drawn.now) before }
 {
     let ((), put) = join_mut(
         rt,
         &mut ||
-            requires low { first ≤ build.now.job.grid.layers }
+            requires low { first ≤ D.layers drawing.now }
             requires some { 0 < vec_len free.now }
-            requires room { All (λ page. per * image_size build.now.job.grid ≤ page.room) free.now.items }
-        { draw_set(rt, build, first, per, free) },
-        &mut || put_pages(drawn, sink, before),
+            requires room { All (D.fits drawing.now) free.now.items }
+        { draw_set(rt, drawing, first, free) },
+        &mut || put_pages::<P, D, O>(drawn, sink, before),
     );
     put
 }
 
 /// The same as [`draw_pages`], for a whole set of pages.
-fn draw_set<R: Threads + Sync, A: Allocator + Copy + Send + Sync>(
-    rt: &R,
-    build: &Build<'_, A>,
-    first: usize,
-    per: usize,
-    set: &mut Vec<Page<A>, A>,
-)
-    requires low { first ≤ build.now.job.grid.layers }
+fn draw_set<
+    R: Threads + Sync,
+    P: Send + Sync + Drop,
+    D: Drawing<P> + Sync,
+    A: Allocator + Copy + Send + Sync,
+>(rt: &R, drawing: &D, first: usize, set: &mut Vec<P, A>)
+    requires low { first ≤ D.layers drawing.now }
     requires some { 0 < vec_len set.old }
-    requires room { All (λ page. per * image_size build.now.job.grid ≤ page.room) set.old.items }
-    ensures images { pages_text set.new.items ≡ images_between build.now.job first (min (first + vec_len set.old * per) build.now.job.grid.layers) }
-    ensures room { All (λ page. per * image_size build.now.job.grid ≤ page.room) set.new.items }
+    requires room { All (D.fits drawing.now) set.old.items }
+    ensures images { flat_map D.bytes set.new.items ≡ images_between (D.image drawing.now) first
+        (min (first + vec_len set.old * D.per drawing.now) (D.layers drawing.now)) }
+    ensures room { All (D.fits drawing.now) set.new.items }
     ensures count { vec_len set.new ≡ vec_len set.old }
 {
-    draw_pages(rt, build, first, per, set.as_mut_slice());
+    draw_pages(rt, drawing, first, set.as_mut_slice());
 }
 
-/// Draws the images of the layers from `first` on into pages, `per` a page, each page by a worker of its own.
-fn draw_pages<R: Threads + Sync, A: Allocator + Copy + Send + Sync>(
+/// Draws the images of the layers from `first` on into pages, each page by a worker of its own.
+fn draw_pages<R: Threads + Sync, P: Send + Sync + Drop, D: Drawing<P> + Sync>(
     rt: &R,
-    build: &Build<'_, A>,
+    drawing: &D,
     first: usize,
-    per: usize,
-    pages: &mut [Page<A>],
+    pages: &mut [P],
 )
-    requires low { first ≤ build.now.job.grid.layers }
+    requires low { first ≤ D.layers drawing.now }
     requires some { 0 < length pages.old }
-    requires room { All (λ page. per * image_size build.now.job.grid ≤ page.room) pages.old }
-    ensures images { pages_text pages.new ≡ images_between build.now.job first (min (first + length pages.old * per) build.now.job.grid.layers) }
-    ensures room { All (λ page. per * image_size build.now.job.grid ≤ page.room) pages.new }
+    requires room { All (D.fits drawing.now) pages.old }
+    ensures images { flat_map D.bytes pages.new ≡ images_between (D.image drawing.now) first
+        (min (first + length pages.old * D.per drawing.now) (D.layers drawing.now)) }
+    ensures room { All (D.fits drawing.now) pages.new }
 {
     let workers = pages.len();
     for_each_mut(
         rt,
         pages,
         workers,
-        &|i, page| draw_page(build, first, per, i, page),
+        &|i, page| draw_page(drawing, first, i, page),
     );
 }
 
-/// Draws the images of page `i` in place of those that the page has. Page 0 begins with layer `first`, and each has up to `per`
-/// images.
-fn draw_page<A: Allocator>(
-    build: &Build<'_, A>,
-    first: usize,
-    per: usize,
-    i: usize,
-    page: &mut Page<A>,
-)
-    requires { per * image_size build.now.job.grid ≤ page.old.room }
-    ensures images { let layers = build.now.job.grid.layers in let start = min (first + i * per) layers in
-        page.new.bytes ≡ images_between build.now.job start (min (start + per) layers) }
-    ensures room { page.new.room ≡ page.old.room }
+/// Draws the images of page `i` in place of those that the page has. Page 0 begins with layer `first`.
+fn draw_page<P, D: Drawing<P>>(drawing: &D, first: usize, i: usize, page: &mut P)
+    requires { D.fits drawing.now page.old }
+    ensures images { let layers = D.layers drawing.now in let start = min (first + i * D.per drawing.now) layers in
+        D.bytes page.new ≡ images_between (D.image drawing.now) start (min (start + D.per drawing.now) layers) }
+    ensures room { D.fits drawing.now page.new }
 {
-    let grid = build.job().grid();
-    let layers = build.layers();
-    let start = start_of_page(first, per, i, layers.len());
-    let end = start_of_page(start, per, 1, layers.len());
-    page.clear();
-    for k in start..end {
-        page.draw(grid, layers[k].spans());
-    }
+    let count = drawing.layers();
+    let per = drawing.per();
+    let start = start_of_page(first, per, i, count);
+    let end = start_of_page(start, per, 1, count);
+    drawing.draw(start, end, page);
 }
 
 /// The first layer of page `i`. Page 0 begins with layer `first`, and each page has `per` layers. There are `count` layers: a
@@ -223,48 +222,26 @@ fn start_of_page(first: usize, per: usize, i: usize, count: usize) -> usize
 }
 
 /// The layer after the last one of a set of pages that begins with layer `first`.
-fn end_of_set<A: Allocator>(set: &Vec<Page<A>, A>, first: usize, per: usize, count: usize) -> usize
+fn end_of_set<P, A: Allocator>(set: &Vec<P, A>, first: usize, per: usize, count: usize) -> usize
     ensures { result ≡ min (first + vec_len set.now * per) count }
 {
     start_of_page(first, per, set.len(), count)
 }
 
 /// Writes pages one after another. `before` is the number of bytes that were written so far. Returns the number afterwards.
-fn put_pages<A: Allocator, O: Sink>(
-    pages: &[Page<A>],
+fn put_pages<P, D: Drawing<P>, O: Sink>(
+    pages: &[P],
     sink: &mut O,
     before: u64,
 ) -> Result<u64, WriteFault>
-    requires { before + length (pages_text pages.now) ≤ greatest_count }
-    ensures ok { OnOk result (Appends (O.contents sink.old) (O.contents sink.new) (pages_text pages.now)) }
-    ensures total { IfOk result (λ total. total ≡ before + length (pages_text pages.now)) }
-    ensures same { OnOk result (O.Failures.failure_count sink.new ≡ O.Failures.failure_count sink.old) }
-    ensures written { IfErr result (λ fault. AppendsFirst (O.contents sink.old) (O.contents sink.new) (fault.written - before) (pages_text pages.now)) }
-    ensures some { IfErr result (λ fault. before ≤ fault.written) }
-    ensures within { IfErr result (λ fault. fault.written < before + length (pages_text pages.now)) }
-    ensures failed { OnErr result (Fails (O.Failures.failure_count sink.old) (O.Failures.failure_count sink.new)) }
+    requires { before + length (flat_map D.bytes pages.now) ≤ greatest_count }
+    ensures { IsPut result
+        (transcript (O.contents sink.old) (O.contents sink.new) (O.Failures.failure_count sink.old) (O.Failures.failure_count sink.new))
+        (flat_map D.bytes pages.now) before }
 {
     let mut written = before;
     for page in pages {
-        written = put_page(page, sink, written)?;
+        written = put_more(D::bytes(page), sink, written)?;
     }
     Ok(written)
-}
-
-/// Writes a page. `before` is the number of bytes that were written so far. Returns the number afterwards.
-fn put_page<A: Allocator, O: Sink>(
-    page: &Page<A>,
-    sink: &mut O,
-    before: u64,
-) -> Result<u64, WriteFault>
-    requires { before + length page.now.bytes ≤ greatest_count }
-    ensures ok { OnOk result (Appends (O.contents sink.old) (O.contents sink.new) page.now.bytes) }
-    ensures total { IfOk result (λ total. total ≡ before + length page.now.bytes) }
-    ensures same { OnOk result (O.Failures.failure_count sink.new ≡ O.Failures.failure_count sink.old) }
-    ensures written { IfErr result (λ fault. AppendsFirst (O.contents sink.old) (O.contents sink.new) (fault.written - before) page.now.bytes) }
-    ensures some { IfErr result (λ fault. before ≤ fault.written) }
-    ensures within { IfErr result (λ fault. fault.written < before + length page.now.bytes) }
-    ensures failed { OnErr result (Fails (O.Failures.failure_count sink.old) (O.Failures.failure_count sink.new)) }
-{
-    put_more(page.bytes(), sink, before)
 }

@@ -1,15 +1,13 @@
 //! The output of `--png`: the PNGs of all layers, one after the other.
-ghost use Rattle.std.specs.Prelude.{◌≡◌, ◌<◌, ◌≤◌, ◌⊎◌, All, IfErr, IfOk, OnErr, OnOk, length, max, true, vec_capacity};
-ghost use Rattle.std.specs.Io.KnownBytes.{Appends};
+ghost use Rattle.std.specs.Prelude.{◌≡◌, ◌≤◌, ◌+◌, ◌++◌, length, max, vec_capacity, vec_len};
 ghost use Rattle.layer_png.specs.Depth.{bits};
 ghost use Rattle.layer_png.specs.Layer.{shown};
 ghost use Rattle.layer_png.specs.Text.{most_png_bytes, png_text};
 ghost use Rattle.devices.specs.Transcript.{transcript};
-ghost use Rattle.devices.specs.Devices.{AppendsFirst, Fails};
 ghost use Rattle.raster.specs.Span.{AreSpans};
 ghost use Rattle.stlslice.specs.Pngs.{HasRoom, pngs_of};
-ghost use Rattle.stlslice.specs.Unwritten.{IsUntouched, IsUnwritten};
-ghost use Rattle.stlslice.specs.declared.run_fault.RunFault.TheVariants.{Memory};
+ghost use Rattle.stlslice.specs.Put.{IsPut};
+ghost use Rattle.stlslice.specs.Unwritten.{IsMadeAndWritten};
 
 use crate::run_fault::RunFault;
 use crate::write::flush::{put_more, settle};
@@ -28,14 +26,9 @@ pub(crate) fn write_pngs<A: Allocator + Copy + Send + Sync, O: Sink>(
     mirrors: Mirrors,
     sink: &mut O,
 ) -> Result<(), RunFault>
-    ensures flushed { OnOk result (O.is_settled sink.new ≡ true) }
-    ensures ok { OnOk result (Appends (O.contents sink.old) (O.contents sink.new) (pngs_of build.now.job depth mirrors)) }
-    ensures same { OnOk result (O.Failures.failure_count sink.new ≡ O.Failures.failure_count sink.old) }
-    ensures err { IfErr result (λ fault. ((fault ≡ Memory) × IsUntouched
-        (transcript (O.contents sink.old) (O.contents sink.new) (O.Failures.failure_count sink.old) (O.Failures.failure_count sink.new)))
-        ⊎ IsUnwritten
+    ensures { IsMadeAndWritten result
         (transcript (O.contents sink.old) (O.contents sink.new) (O.Failures.failure_count sink.old) (O.Failures.failure_count sink.new))
-        (pngs_of build.now.job depth mirrors) fault) }
+        (O.is_settled sink.new) (pngs_of build.now.job depth mirrors) }
 {
     let room = room_for_png(build, depth);
     let buffer = Vec::with_capacity(alloc, room)?;
@@ -44,7 +37,7 @@ pub(crate) fn write_pngs<A: Allocator + Copy + Send + Sync, O: Sink>(
 }
 
 /// A number of bytes that is enough for the PNG of each layer of a build.
-fn room_for_png<A: Allocator>(build: &Build<'_, A>, depth: Depth) -> usize
+pub(crate) fn room_for_png<A: Allocator>(build: &Build<'_, A>, depth: Depth) -> usize
     ensures { HasRoom build.now.job.grid depth build.now.layers result }
 {
     let grid = build.job().grid();
@@ -71,12 +64,9 @@ fn put_pngs<A: Allocator, O: Sink>(
     sink: &mut O,
 ) -> Result<u64, WriteFault>
     requires { HasRoom build.now.job.grid depth build.now.layers (vec_capacity buffer) }
-    ensures ok { OnOk result (Appends (O.contents sink.old) (O.contents sink.new) (pngs_of build.now.job depth mirrors)) }
-    ensures total { IfOk result (λ total. total ≡ length (pngs_of build.now.job depth mirrors)) }
-    ensures same { OnOk result (O.Failures.failure_count sink.new ≡ O.Failures.failure_count sink.old) }
-    ensures written { IfErr result (λ fault. AppendsFirst (O.contents sink.old) (O.contents sink.new) fault.written (pngs_of build.now.job depth mirrors)) }
-    ensures within { IfErr result (λ fault. fault.written < length (pngs_of build.now.job depth mirrors)) }
-    ensures failed { OnErr result (Fails (O.Failures.failure_count sink.old) (O.Failures.failure_count sink.new)) }
+    ensures { IsPut result
+        (transcript (O.contents sink.old) (O.contents sink.new) (O.Failures.failure_count sink.old) (O.Failures.failure_count sink.new))
+        (pngs_of build.now.job depth mirrors) 0 }
 {
     let grid = build.job().grid();
     // wakes the invariant: the counts of columns, rows and layers bound the count of the bytes
@@ -85,25 +75,26 @@ fn put_pngs<A: Allocator, O: Sink>(
     let _layers = grid.layers();
     let mut written = 0;
     for layer in build.layers() {
-        buffer = png_in(buffer, grid, layer.spans(), depth, mirrors);
+        buffer.clear();
+        buffer = add_png(buffer, grid, layer.spans(), depth, mirrors);
         written = put_more(buffer.as_slice(), sink, written)?;
     }
     Ok(written)
 }
 
-/// The PNG of a layer, in place of what the buffer holds. It fits the buffer, so that no memory is allocated.
-fn png_in<A: Allocator>(
-    mut buffer: Vec<u8, A>,
+/// What the buffer holds, and behind it the PNG of a layer. It fits the buffer, so that no memory is allocated.
+pub(crate) fn add_png<A: Allocator>(
+    buffer: Vec<u8, A>,
     grid: &Grid,
     spans: &[Span],
     depth: Depth,
     mirrors: Mirrors,
 ) -> Vec<u8, A>
     requires form { AreSpans grid.now.columns grid.now.rows spans.now }
-    requires room { most_png_bytes (bits depth) grid.now.columns grid.now.rows (length spans.now) ≤ vec_capacity buffer }
-    ensures text { result.items ≡ png_text (bits depth) grid.now.columns grid.now.rows (shown mirrors grid.now.columns grid.now.rows spans.now) }
+    requires room { vec_len buffer + most_png_bytes (bits depth) grid.now.columns grid.now.rows (length spans.now) ≤ vec_capacity buffer }
+    ensures text { result.items ≡ buffer.items ++ png_text (bits depth) grid.now.columns grid.now.rows (shown mirrors grid.now.columns grid.now.rows spans.now) }
+    ensures most { vec_len result ≤ vec_len buffer + most_png_bytes (bits depth) grid.now.columns grid.now.rows (length spans.now) }
     ensures capacity { vec_capacity buffer ≤ vec_capacity result }
 {
-    buffer.clear();
     write_png(buffer, grid, spans, depth, mirrors).unwrap()
 }

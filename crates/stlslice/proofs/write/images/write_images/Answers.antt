@@ -1,16 +1,18 @@
-use Rattle.std.proofs.Common.{◌≡◌, ◌∙◌, ◌+◌, ◌≤◌, ℕ, [], arith, length, refl, subst, sym}
-use Rattle.std.proofs.lemmas.Result.{on_ok_weaker}
+use Rattle.std.proofs.Common.{◌≡◌, ◌∙◌, ◌+◌, ◌≤◌, ℕ, arith, length, refl, subst, sym}
+use Rattle.std.specs.Prelude.{Ok}
 use Rattle.raster.specs.Image.{images_limit, layer_image}
 use Rattle.raster.specs.ImageWriter.{ImageWriter, pending}
-use Rattle.std.proofs.KnownBytes.{Appends-kept}
 use Rattle.raster.proofs.lemmas.Written.{IsUnderWay, moved}
-use Rattle.devices.specs.Transcript.{Transcript, transcript_of}
+use Rattle.devices.specs.Transcript.{Transcript, transcript, transcript_of}
 use Rattle.build_book.specs.Job.{Job}
 use Rattle.stlslice.specs.Pages.{images_of}
 use Rattle.stlslice.specs.SlicedText.{image}
-use Rattle.stlslice.proofs.lemmas.Pages.{all-begun, few-bytes}
-use Rattle.stlslice.proofs.lemmas.Stream.{image_there, images_from, layer_at, layer_below, layers_end, with_image}
-use Rattle.stlslice.proofs.lemmas.Unwritten.{chunk_failed, flush_failed, held_few, held_out, held_whole}
+use Rattle.stlslice.specs.Put.{IsPut}
+use Rattle.stlslice.specs.declared.run_fault.RunFault.TheVariants as fault
+use Rattle.stlslice.proofs.lemmas.Pages.{few-bytes}
+use Rattle.stlslice.proofs.lemmas.Put.{written-all, written-not}
+use Rattle.stlslice.proofs.lemmas.Stream.{image_there, images-begun, images_from, layer_at, layer_below, layers_end, with_image}
+use Rattle.stlslice.proofs.lemmas.Unwritten.{chunk_failed, held_few, held_out, held_whole}
 use Rattle.stlslice.proofs.write.images.write_images.Goals as goal
 
 pub loop-layer-init : goal.loop-layer-init
@@ -19,7 +21,7 @@ loop-layer-init g c =
     let now = g.O.Sink.contents c.args.sink.now in
     record {
       text = subst (λ (w : ImageWriter). IsUnderWay now now (images_of job) 0 w.sent w.held (images_from job 0)) (sym c.new-writer.ensures)
-          (all-begun job now [] refl);
+          (images-begun job now);
       counted = refl;
     }
 
@@ -62,8 +64,8 @@ loop-layer-preserved g c =
       counted = out.ok.same ∙ c.loop-layer.invariant.counted;
     }
 
-pub returns-in_err-add-clause-err : goal.returns-in_err-add-clause-err
-returns-in_err-add-clause-err g c =
+pub returns-in_err-add : goal.returns-in_err-add
+returns-in_err-add g c =
     let job : Job = c.args.build.now.job in
     let now = g.O.Sink.contents c.loop-layer.sink in
     let k : ℕ = c.loop-layer.layer-index in
@@ -74,13 +76,15 @@ returns-in_err-add-clause-err g c =
     let here : image c.grid-grid.result.now c.spans.result.now ≡ layer_image job.grid job.rule job.solid.facets k =
     image_there job c.job.result.now c.grid-grid.result.now c.spans.result.now c.args.build.now.layers c.layers-layer-items.result.now k
     c.layer-item.result c.job.ensures c.grid-grid.ensures c.spans.ensures all.value all.complete c.loop-layer-test.true c.layer-item.is in
-    chunk_failed c.from_residual.result sink (images_of job) now writer.sent c.in_err-add.field-0.0.written
+    written-not (λ f. f ≡ fault.Write c.in_err-add.field-0.0.written) c.from_residual.result sink (g.O.Sink.is_settled c.add.new.w) (images_of job)
+    c.from_residual.ensures.1
+    (chunk_failed c.from_residual.result sink (images_of job) now writer.sent c.in_err-add.field-0.0.written
     (g.O.Failures.failure_count c.loop-layer.sink)
     (pending writer.held c.grid-grid.result.now c.spans.result.now) (images_from job (k + 1))
     (with_image job k writer.sent (g.O.Sink.contents c.args.sink.now) now writer.held (image c.grid-grid.result.now c.spans.result.now)
     (layer_below job c.args.build.now.layers c.layers-layer-items.result.now k all.value all.complete c.loop-layer-test.true) here
     c.loop-layer.invariant.text)
-    cut.low cut.high cut.out c.loop-layer.invariant.counted cut.failed c.from_residual.ensures.1
+    cut.low cut.high cut.out c.loop-layer.invariant.counted cut.failed c.from_residual.ensures.1)
 
 pub finish-requires : goal.finish-requires
 finish-requires g c =
@@ -93,34 +97,20 @@ finish-requires g c =
     c.rows-rows.ensures.high c.layers-layers.ensures.value c.layers-layers.ensures.high) c.loop-layer.invariant.text in
     omega (arith, held)
 
-pub returns-in_err-written-clause-err : goal.returns-in_err-written-clause-err
-returns-in_err-written-clause-err g c =
+pub returns-in_err-written : goal.returns-in_err-written
+returns-in_err-written g c =
     let job : Job = c.args.build.now.job in
     let cut = c.in_err-written.ensures.err in
     let sink : Transcript = transcript_of g.O.Sink.contents g.O.Failures.failure_count c.args.sink.now c.finish.new.w in
-    chunk_failed c.from_residual-in_err-written.result sink (images_of job) (g.O.Sink.contents c.loop-layer.sink) c.loop-layer.writer.sent
+    written-not (λ f. f ≡ fault.Write c.in_err-written.field-0.0.written) c.from_residual-in_err-written.result sink
+    (g.O.Sink.is_settled c.finish.new.w) (images_of job) c.from_residual-in_err-written.ensures.1
+    (chunk_failed c.from_residual-in_err-written.result sink (images_of job) (g.O.Sink.contents c.loop-layer.sink) c.loop-layer.writer.sent
     c.in_err-written.field-0.0.written (g.O.Failures.failure_count c.loop-layer.sink) c.loop-layer.writer.held
     (images_from job c.loop-layer.layer-index) c.loop-layer.invariant.text
-    cut.low cut.high cut.out c.loop-layer.invariant.counted cut.failed c.from_residual-in_err-written.ensures.1
+    cut.low cut.high cut.out c.loop-layer.invariant.counted cut.failed c.from_residual-in_err-written.ensures.1)
 
-pub returns-clause-ok : goal.returns-clause-ok
-returns-clause-ok g c =
-    let job : Job = c.args.build.now.job in
-    let old = g.O.Sink.contents c.args.sink.now in
-    let put = g.O.Sink.contents c.finish.new.w in
-    let all = c.layers-layer-items.ensures in
-    on_ok_weaker c.settle.result
-    (λ _. Appends-kept old put (g.O.Sink.contents c.settle.new.sink) (images_of job)
-    (held_out job old (g.O.Sink.contents c.loop-layer.sink) put c.loop-layer.writer.sent c.loop-layer.layer-index c.loop-layer.writer.held
-    (layers_end job c.args.build.now.layers c.layers-layer-items.result.now c.loop-layer.layer-index all.value all.complete
-    c.loop-layer-test.false) c.loop-layer.invariant.text c.in_ok-written.ensures.ok) c.settle.ensures.kept) c.settle.ensures.flushed
-
-pub returns-clause-same : goal.returns-clause-same
-returns-clause-same g c =
-    on_ok_weaker c.settle.result (λ same. same ∙ (c.in_ok-written.ensures.same ∙ c.loop-layer.invariant.counted)) c.settle.ensures.same
-
-pub returns-clause-err : goal.returns-clause-err
-returns-clause-err g c =
+pub returns : goal.returns
+returns g c =
     let job : Job = c.args.build.now.job in
     let old = g.O.Sink.contents c.args.sink.now in
     let now = g.O.Sink.contents c.loop-layer.sink in
@@ -132,7 +122,18 @@ returns-clause-err g c =
     let end : job.grid.layers ≤ k =
     layers_end job c.args.build.now.layers c.layers-layer-items.result.now k all.value all.complete c.loop-layer-test.false in
     let sink : Transcript = transcript_of g.O.Sink.contents g.O.Failures.failure_count c.args.sink.now c.settle.new.sink in
-    flush_failed c.settle.result sink (images_of job) put c.in_ok-written.written (g.O.Failures.failure_count c.finish.new.w)
-    (held_out job old now put writer.sent k writer.held end c.loop-layer.invariant.text out.ok) c.settle.ensures.kept
-    (held_whole job old now writer.sent k c.in_ok-written.written writer.held end c.loop-layer.invariant.text out.total)
-    (out.same ∙ c.loop-layer.invariant.counted) c.settle.ensures.err
+    let whole : IsPut (Ok c.in_ok-written.written) (transcript old put (g.O.Failures.failure_count c.args.sink.now) (g.O.Failures.failure_count c.finish.new.w)) (images_of job) 0 = record {
+      ok = held_out job old now put writer.sent k writer.held end c.loop-layer.invariant.text out.ok;
+      total = omega (
+        arith,
+        held_whole job old now writer.sent k c.in_ok-written.written writer.held end c.loop-layer.invariant.text out.total,
+      );
+      same = out.same ∙ c.loop-layer.invariant.counted;
+      written = tt;
+      some = tt;
+      within = tt;
+      failed = tt;
+    } in
+    let after = c.settle.ensures in
+    written-all c.settle.result sink (g.O.Sink.is_settled c.settle.new.sink) (images_of job) put (g.O.Failures.failure_count c.finish.new.w)
+    c.in_ok-written.written whole after.flushed after.kept after.same after.err

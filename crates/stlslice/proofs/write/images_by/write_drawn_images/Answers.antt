@@ -9,6 +9,6 @@ write_by_pages-requires-clause-sets g c κs within =
     let same : c.grid.result.now ≡ job.grid = c.grid.ensures ∙ ap (λ (j : Job). j.grid) c.job.ensures in
     record {
       blank = c.in-Ok.ensures.blank_drawn;
-      room_drawn = room-enough c.args.per job.grid c.grid.result.now c.in-Ok.drawn.items same c.in-Ok.ensures.room_drawn;
-      room_free = room-enough c.args.per job.grid c.grid.result.now c.in-Ok.free.items same c.in-Ok.ensures.room_free;
+      drawn_fit = room-enough c.args.per job.grid c.grid.result.now c.in-Ok.drawn.items same c.in-Ok.ensures.room_drawn;
+      free_fit = room-enough c.args.per job.grid c.grid.result.now c.in-Ok.free.items same c.in-Ok.ensures.room_free;
     }

@@ -1,22 +1,23 @@
-use Rattle.std.proofs.Common.{◌≡◌, ◌≤◌, ◌<◌, ◌*◌, ◌-◌, vec_len}
+use Rattle.std.proofs.Common.{◌≡◌, ◌≤◌, ◌<◌, ◌-◌, vec_len}
+use Rattle.std.specs.Prelude.{flat_map}
 use Rattle.std.specs.List.{All}
-use Rattle.raster.specs.Image.{images}
 use Rattle.raster.proofs.lemmas.Written.{IsUnderWay}
-use Rattle.stlslice.specs.Pages.{image_size, images_between, pages_text}
+use Rattle.stlslice.specs.Pages.{all_images, images_between}
 use Rattle.stlslice.proofs.write.pages.put_by_pages.Given as goal
 
 abbrev pub invariant-loop-first : goal.invariant-loop-first
 invariant-loop-first g l =
-    let job = l.build.job in
+    let it = g.D.Drawing in
+    let layers = it.layers l.drawing in
     record {
-      low : l.first ≤ job.grid.layers;
-      text : IsUnderWay (g.O.Sink.contents l.fn.sink) (g.O.Sink.contents l.sink) (images job.grid job.rule job.solid.facets)
-          0 l.written (pages_text l.drawn.items) (images_between job l.first job.grid.layers);
+      low : l.first ≤ layers;
+      text : IsUnderWay (g.O.Sink.contents l.fn.sink) (g.O.Sink.contents l.sink) (all_images (it.image l.drawing) layers)
+          0 l.written (flat_map it.bytes l.drawn.items) (images_between (it.image l.drawing) l.first layers);
       counted : g.O.Failures.failure_count l.sink ≡ g.O.Failures.failure_count l.fn.sink;
       some_drawn : 0 < vec_len l.drawn;
       some_free : 0 < vec_len l.free;
-      room_drawn : All (λ page. l.per * image_size job.grid ≤ page.room) l.drawn.items;
-      room_free : All (λ page. l.per * image_size job.grid ≤ page.room) l.free.items;
+      drawn_fit : All (it.fits l.drawing) l.drawn.items;
+      free_fit : All (it.fits l.drawing) l.free.items;
     }
 
 abbrev pub decreases-loop-first : goal.decreases-loop-first

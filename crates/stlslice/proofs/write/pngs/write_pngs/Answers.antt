@@ -1,37 +1,32 @@
-use Rattle.std.proofs.Common.{◌≡◌, ◌⊎◌, arith, inr}
-use Rattle.std.proofs.lemmas.Result.{IfErr-weaker, on_ok_weaker}
-use Rattle.std.proofs.KnownBytes.{Appends-kept}
-use Rattle.build_book.specs.Job.{Job}
+use Rattle.std.proofs.Common.{refl}
 use Rattle.devices.specs.Transcript.{Transcript, transcript_of}
-use Rattle.mesh_reading.proofs.lemmas.Faults.{passed_on}
 use Rattle.stlslice.specs.Pngs.{pngs_of}
-use Rattle.stlslice.specs.Unwritten.{IsUntouched, IsUnwritten}
-use Rattle.stlslice.specs.declared.run_fault.RunFault.TheVariants as fault
-use Rattle.stlslice.proofs.lemmas.Unwritten.{flush_failed}
+use Rattle.stlslice.proofs.lemmas.Ends.{keeps_self}
+use Rattle.stlslice.proofs.lemmas.Put.{made-written, not-made, written-all, written-early}
 use Rattle.stlslice.proofs.write.pngs.write_pngs.Goals as goal
 
-pub returns-in_err-written-clause-err : goal.returns-in_err-written-clause-err
-returns-in_err-written-clause-err g c =
-    let job : Job = c.args.build.now.job in
-    let out = c.in_err-written.ensures in
+pub returns-in_err-buffer : goal.returns-in_err-buffer
+returns-in_err-buffer g c =
+    let text = pngs_of c.args.build.now.job c.args.depth c.args.mirrors in
+    let sink : Transcript = transcript_of g.O.Sink.contents g.O.Failures.failure_count c.args.sink.now c.args.sink.now in
+    not-made c.from_residual.result sink (g.O.Sink.is_settled c.args.sink.now) text c.from_residual.ensures.1
+    (keeps_self (g.O.Sink.contents c.args.sink.now), refl)
+
+pub returns-in_err-written : goal.returns-in_err-written
+returns-in_err-written g c =
+    let text = pngs_of c.args.build.now.job c.args.depth c.args.mirrors in
     let sink : Transcript = transcript_of g.O.Sink.contents g.O.Failures.failure_count c.args.sink.now c.put_pngs.new.sink in
-    passed_on c.from_residual-in_err-written.result (λ f. f ≡ fault.Write c.in_err-written.field-0.0.written)
-    (λ f. ((f ≡ fault.Memory) × IsUntouched sink) ⊎ IsUnwritten sink (pngs_of job c.args.depth c.args.mirrors) f)
-    (λ f is. inr (c.in_err-written.field-0.0.written, is, omega (arith, out.within), out.written, out.failed))
-    c.from_residual-in_err-written.ensures.1
+    let is_settled = g.O.Sink.is_settled c.put_pngs.new.sink in
+    let r = c.from_residual-in_err-written.result in
+    made-written r sink is_settled text
+    (written-early r sink is_settled text c.in_err-written.field-0.0 c.in_err-written.ensures c.from_residual-in_err-written.ensures.1)
 
-pub returns-clause-ok : goal.returns-clause-ok
-returns-clause-ok g c =
-    on_ok_weaker c.settle.result
-    (λ _. Appends-kept (g.O.Sink.contents c.args.sink.now) (g.O.Sink.contents c.put_pngs.new.sink) (g.O.Sink.contents c.settle.new.sink)
-    (pngs_of c.args.build.now.job c.args.depth c.args.mirrors) c.in_ok-written.ensures.ok c.settle.ensures.kept) c.settle.ensures.flushed
-
-pub returns-clause-err : goal.returns-clause-err
-returns-clause-err g c =
-    let out = c.in_ok-written.ensures in
-    let job : Job = c.args.build.now.job in
+pub returns : goal.returns
+returns g c =
+    let text = pngs_of c.args.build.now.job c.args.depth c.args.mirrors in
     let sink : Transcript = transcript_of g.O.Sink.contents g.O.Failures.failure_count c.args.sink.now c.settle.new.sink in
-    IfErr-weaker c.settle.result (IsUnwritten sink (pngs_of job c.args.depth c.args.mirrors))
-    (λ f. ((f ≡ fault.Memory) × IsUntouched sink) ⊎ IsUnwritten sink (pngs_of job c.args.depth c.args.mirrors) f) (λ f h. inr h)
-    (flush_failed c.settle.result sink (pngs_of job c.args.depth c.args.mirrors) (g.O.Sink.contents c.put_pngs.new.sink) c.in_ok-written.written
-    (g.O.Failures.failure_count c.put_pngs.new.sink) out.ok c.settle.ensures.kept out.total out.same c.settle.ensures.err)
+    let is_settled = g.O.Sink.is_settled c.settle.new.sink in
+    let out = c.settle.ensures in
+    made-written c.settle.result sink is_settled text
+    (written-all c.settle.result sink is_settled text (g.O.Sink.contents c.put_pngs.new.sink) (g.O.Failures.failure_count c.put_pngs.new.sink)
+    c.in_ok-written.written c.in_ok-written.ensures out.flushed out.kept out.same out.err)

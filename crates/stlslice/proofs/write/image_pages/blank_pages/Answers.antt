@@ -2,7 +2,7 @@ use Rattle.std.proofs.Common.{◌≡◌, ◌*◌, [], ◌∷◌, ◌++◌, arith
 use Rattle.std.proofs.lemmas.List.Elements.{All-push, All-same}
 use Rattle.raster.specs.Page.{Page}
 use Rattle.stlslice.specs.Pages.{image_size}
-use Rattle.stlslice.proofs.write.pages.blank_pages.Goals as goal
+use Rattle.stlslice.proofs.write.image_pages.blank_pages.Goals as goal
 
 pub loop-preserved : goal.loop-preserved
 loop-preserved g c =

@@ -1,7 +1,7 @@
 use Rattle.std.proofs.Common.{◌≡◌, ◌*◌, [], vec_len}
 use Rattle.std.specs.List.{All}
 use Rattle.stlslice.specs.Pages.{image_size}
-use Rattle.stlslice.proofs.write.pages.blank_pages.Given as goal
+use Rattle.stlslice.proofs.write.image_pages.blank_pages.Given as goal
 
 abbrev pub invariant-loop : goal.invariant-loop
 invariant-loop g l =

@@ -3,7 +3,7 @@ use Rattle.std.proofs.lemmas.Result.{IfOk-weaker}
 use Rattle.raster.specs.Page.{Page}
 use Rattle.stlslice.specs.Pages.{image_size}
 use Rattle.stlslice.proofs.lemmas.Pages.{length-is}
-use Rattle.stlslice.proofs.write.pages.blank_page.Goals as goal
+use Rattle.stlslice.proofs.write.image_pages.blank_page.Goals as goal
 
 pub returns-in-Some-clause-room : goal.returns-in-Some-clause-room
 returns-in-Some-clause-room g c =

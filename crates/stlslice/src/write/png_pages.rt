@@ -1,0 +1,134 @@
+//! Pages that PNGs of several layers are made in.
+ghost use Rattle.std.specs.Prelude.{◌≡◌, ◌<◌, ◌≤◌, ◌+◌, ◌*◌, [], All, IfOk, vec_capacity, vec_len};
+ghost use Rattle.stlslice.specs.Pages.{images_between};
+ghost use Rattle.stlslice.specs.Pngs.{HasRoom};
+ghost use Rattle.stlslice.specs.SlicedText.{layer_png};
+
+use crate::write::pages::Drawing;
+use crate::write::pngs::add_png;
+use build_book::Build;
+use layer_png::{Depth, Mirrors};
+use std::alloc::{AllocError, Allocator};
+use std::mem::replace;
+
+/// The PNGs of a build, of which `per` are made in a page. Each has at most `room` bytes.
+#[derive(Drop)]
+pub(crate) struct Pngs<'a, 'b, A: Allocator> {
+    pub(crate) alloc: A,
+    pub(crate) build: &'a Build<'b, A>,
+    pub(crate) depth: Depth,
+    pub(crate) mirrors: Mirrors,
+    pub(crate) room: usize,
+    pub(crate) per: usize,
+    ghost some: { 0 < per },
+}
+
+impl<'a, 'b, A: Allocator> Pngs<'a, 'b, A> {
+    /// The PNGs of the layers from `start` up to, but not including, `end`, in place of what the memory holds. They fit it, so that
+    /// no memory is allocated.
+    fn made(&self, start: usize, end: usize, mut bytes: Vec<u8, A>) -> Vec<u8, A>
+        requires order { start ≤ end }
+        requires within { end ≤ self.now.build.now.job.grid.layers }
+        requires few { end ≤ start + self.now.per }
+        requires each { HasRoom self.now.build.now.job.grid self.now.depth self.now.build.now.layers self.now.room }
+        requires room { self.now.per * self.now.room ≤ vec_capacity bytes }
+        ensures text { result.items ≡ images_between (layer_png self.now.build.now.job.grid self.now.build.now.job.rule
+            self.now.build.now.job.solid.facets self.now.depth self.now.mirrors) start end }
+        ensures capacity { vec_capacity bytes ≤ vec_capacity result }
+    {
+        let grid = self.build.job().grid();
+        let layers = self.build.layers();
+        bytes.clear();
+        for k in start..end {
+            bytes = add_png(bytes, grid, layers[k].spans(), self.depth, self.mirrors);
+        }
+        bytes
+    }
+}
+
+impl<'a, 'b, A: Allocator + Copy + Send + Sync> Drawing<Vec<u8, A>> for Pngs<'a, 'b, A> {
+    ghost use Rattle.std.specs.Prelude.{◌≤◌, ◌*◌, vec_capacity};
+    ghost use Rattle.stlslice.specs.Pngs.{HasRoom};
+    ghost use Rattle.stlslice.specs.SlicedText.{layer_png};
+
+    ghost layers = { λ it. it.build.now.job.grid.layers };
+
+    ghost image = { λ it. layer_png it.build.now.job.grid it.build.now.job.rule it.build.now.job.solid.facets it.depth it.mirrors };
+
+    ghost per = { λ it. it.per };
+
+    ghost bytes = { λ page. page.items };
+
+    ghost fits = { λ it page. HasRoom it.build.now.job.grid it.depth it.build.now.layers it.room × (it.per * it.room ≤ vec_capacity page) };
+
+    fn layers(&self) -> usize {
+        // wakes the invariant: the counts of columns, rows and layers bound the count of the bytes
+        let grid = self.build.job().grid();
+        let _columns = grid.columns();
+        let _rows = grid.rows();
+        let _layers = grid.layers();
+        self.build.layers().len()
+    }
+
+    fn per(&self) -> usize {
+        self.per
+    }
+
+    fn draw(&self, start: usize, end: usize, page: &mut Vec<u8, A>) {
+        let bytes = replace(page, Vec::new(self.alloc));
+        *page = self.made(start, end, bytes);
+    }
+
+    fn bytes(page: &Vec<u8, A>) -> &[u8] {
+        page.as_slice()
+    }
+}
+
+/// Two sets of `count` empty pages. At least `per` PNGs of `room` bytes fit each page.
+pub(crate) fn buffer_sets<A: Allocator + Copy>(
+    alloc: A,
+    room: usize,
+    per: usize,
+    count: usize,
+) -> Result<(Vec<Vec<u8, A>, A>, Vec<Vec<u8, A>, A>), AllocError>
+    ensures count_drawn { IfOk result (λ sets. vec_len sets.0 ≡ count) }
+    ensures count_free { IfOk result (λ sets. vec_len sets.1 ≡ count) }
+    ensures blank { IfOk result (λ sets. All (λ page. page.items ≡ []) sets.0.items) }
+    ensures room_drawn { IfOk result (λ sets. All (λ page. per * room ≤ vec_capacity page) sets.0.items) }
+    ensures room_free { IfOk result (λ sets. All (λ page. per * room ≤ vec_capacity page) sets.1.items) }
+{
+    let drawn = buffers(alloc, room, per, count)?;
+    let free = buffers(alloc, room, per, count)?;
+    Ok((drawn, free))
+}
+
+/// Empty pages. At least `per` PNGs of `room` bytes fit each.
+fn buffers<A: Allocator + Copy>(
+    alloc: A,
+    room: usize,
+    per: usize,
+    count: usize,
+) -> Result<Vec<Vec<u8, A>, A>, AllocError>
+    ensures count { IfOk result (λ pages. vec_len pages ≡ count) }
+    ensures blank { IfOk result (λ pages. All (λ page. page.items ≡ []) pages.items) }
+    ensures room { IfOk result (λ pages. All (λ page. per * room ≤ vec_capacity page) pages.items) }
+{
+    let mut pages = Vec::with_capacity(alloc, count)?;
+    for _ in 0..count {
+        let page = buffer(alloc, room, per)?;
+        pages.push(page)?;
+    }
+    Ok(pages)
+}
+
+/// An empty page. At least `per` PNGs of `room` bytes fit it.
+fn buffer<A: Allocator>(alloc: A, room: usize, per: usize) -> Result<Vec<u8, A>, AllocError>
+    ensures blank { IfOk result (λ page. page.items ≡ []) }
+    ensures room { IfOk result (λ page. per * room ≤ vec_capacity page) }
+{
+    match room.checked_mul(per) {
+        Some(len) => Vec::with_capacity(alloc, len),
+        // no memory is that large
+        None => Err(AllocError),
+    }
+}
