@@ -5,13 +5,11 @@ use Rattle.plane_segments.specs.Segment.{segments}
 use Rattle.contour.specs.Loops.{loops}
 use Rattle.raster.specs.declared.rule.Rule.{Rule}
 use Rattle.raster.specs.declared.span.Span.{Span}
-use Rattle.raster.specs.Filler.{area_of, below, is_filled}
+use Rattle.raster.specs.Filler.{area_of, below}
 use Rattle.raster.specs.Span.{covers}
-use Rattle.raster.specs.Grid.{Grid, centre, plane}
+use Rattle.raster.specs.Grid.{Grid, plane}
 use Rattle.raster.specs.Image.{image_of_pixels, images}
-use Rattle.layer_png.specs.Depth.{bits}
-use Rattle.layer_png.specs.Layer.{column_at, row_at}
-use Rattle.layer_png.specs.Text.{png_text}
+use Rattle.layer_png.specs.Text.{layer_png}
 use Rattle.layer_png.specs.declared.depth.Depth.{Depth}
 use Rattle.layer_png.specs.declared.mirrors.Mirrors.{Mirrors}
 use Rattle.stlslice.specs.declared.write.Output.{Output}
@@ -36,15 +34,6 @@ total_line total = codes "total " ++ (decimal total ++ codes "\n")
 abbrev pub report_text : Grid → Rule → List Facet → List ℕ
 report_text g rule facets =
     flat_map (layer_line g rule facets) (below g.layers) ++ total_line (sum_by (area_of g rule facets) (below g.layers))
-
--- the PNG of a layer's pixels, each by its column and row in the layer
-abbrev pub png_of_pixels : Grid → Depth → Mirrors → (ℕ → ℕ → Bool) → List ℕ
-png_of_pixels g depth mirrors pixel =
-    png_text (bits depth) g.columns g.rows (λ x y. pixel (column_at mirrors g.columns x) (row_at mirrors g.rows y))
-
--- the PNG of layer k: its filled voxels
-abbrev pub layer_png : Grid → Rule → List Facet → Depth → Mirrors → ℕ → List ℕ
-layer_png g rule facets depth mirrors k = png_of_pixels g depth mirrors (λ i j. is_filled rule facets (centre g i j k))
 
 -- the PNGs of all layers, from 0 up
 abbrev pub pngs : Grid → Rule → List Facet → Depth → Mirrors → List ℕ

@@ -22,10 +22,11 @@ use Rattle.raster.specs.declared.rule.Rule.{Rule}
 use Rattle.layer_png.specs.Depth.{bits}
 use Rattle.layer_png.specs.Layer.{column_at, grey, row_at}
 use Rattle.layer_png.specs.Png.{IsPng}
+use Rattle.layer_png.specs.Text.{png_of_pixels}
 use Rattle.build_book.specs.Promise.{IsClosed, pixel_count}
 use Rattle.task_words.specs.declared.task.Given.{Given}
 use Rattle.stlslice.specs.Outcome.{grid_for}
-use Rattle.stlslice.specs.SlicedText.{line_of_layer, png_of_pixels, total_line}
+use Rattle.stlslice.specs.SlicedText.{line_of_layer, total_line}
 use Rattle.stlslice.specs.declared.write.Output.{Output}
 use Rattle.stlslice.specs.declared.write.Output.TheVariants as output
 

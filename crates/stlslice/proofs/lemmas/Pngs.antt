@@ -16,7 +16,7 @@ use Rattle.raster.specs.declared.grid.GridFault.TheVariants.{FarCentre, NoCells}
 use Rattle.raster.specs.declared.span.Span.{Span}
 use Rattle.layer_png.specs.Depth.{bits}
 use Rattle.layer_png.specs.Layer.{column_at, row_at, shown}
-use Rattle.layer_png.specs.Text.{most_png_bytes, png_text}
+use Rattle.layer_png.specs.Text.{layer_png, most_png_bytes, png_text}
 use Rattle.layer_png.specs.declared.depth.Depth.{Depth}
 use Rattle.layer_png.specs.declared.mirrors.Mirrors.{Mirrors}
 use Rattle.layer_png.proofs.lemmas.Pixels.{file-limit, layer-read, same-file}
@@ -26,7 +26,6 @@ use Rattle.build_book.specs.Build.{IsComplete}
 use Rattle.task_words.specs.declared.task.Given.{Given}
 use Rattle.stlslice.specs.Outcome.{grid_for}
 use Rattle.stlslice.specs.Pngs.{HasRoom, pngs_of}
-use Rattle.stlslice.specs.SlicedText.{layer_png}
 use Rattle.stlslice.specs.WrittenPixels.{ArePngs}
 use Rattle.stlslice.specs.declared.write.Output.{Output}
 use Rattle.stlslice.specs.declared.write.Output.TheVariants as output

@@ -24,6 +24,7 @@ use Rattle.raster.specs.Rule.{IsInside, is_inside}
 use Rattle.raster.specs.declared.grid.GridFault.{GridFault}
 use Rattle.raster.specs.declared.rule.Rule.{Rule}
 use Rattle.raster.proofs.lemmas.Rules.{inside_decides}
+use Rattle.layer_png.specs.Text.{png_of_pixels}
 use Rattle.build_book.specs.Promise.{IsClosed, pixel_count}
 use Rattle.build_book.proofs.lemmas.Promise.{cycles-closed}
 use Rattle.devices.specs.Transcript.{Transcript}
@@ -31,7 +32,7 @@ use Rattle.task_words.specs.declared.task.Given.{Given}
 use Rattle.task_words.specs.declared.task.Task.{Task}
 use Rattle.stlslice.specs.Run.{IsRun}
 use Rattle.stlslice.specs.Outcome.{IsOutcome, grid_for, sliced, slicing, with_grid}
-use Rattle.stlslice.specs.SlicedText.{line_of_layer, png_of_pixels, sliced_text, total_line}
+use Rattle.stlslice.specs.SlicedText.{line_of_layer, sliced_text, total_line}
 use Rattle.stlslice.proofs.lemmas.Pngs.{placed_size, pngs_read}
 use Rattle.stlslice.proofs.lemmas.Slicing.{of_outcome, outcome_there}
 use Rattle.stlslice.specs.WrittenPixels.{IsSlicedFrom, text_of_pixels}
