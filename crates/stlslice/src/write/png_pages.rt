@@ -2,7 +2,7 @@
 ghost use Rattle.std.specs.Prelude.{◌≡◌, ◌<◌, ◌≤◌, ◌+◌, ◌*◌, [], All, IfOk, vec_capacity, vec_len};
 ghost use Rattle.stlslice.specs.Pages.{images_between};
 ghost use Rattle.stlslice.specs.Pngs.{HasRoom};
-ghost use Rattle.stlslice.specs.SlicedText.{layer_png};
+ghost use Rattle.layer_png.specs.Text.{layer_png};
 
 use crate::write::pages::Drawing;
 use crate::write::pngs::add_png;
@@ -49,7 +49,7 @@ impl<'a, 'b, A: Allocator> Pngs<'a, 'b, A> {
 impl<'a, 'b, A: Allocator + Copy + Send + Sync> Drawing<Vec<u8, A>> for Pngs<'a, 'b, A> {
     ghost use Rattle.std.specs.Prelude.{◌≤◌, ◌*◌, vec_capacity};
     ghost use Rattle.stlslice.specs.Pngs.{HasRoom};
-    ghost use Rattle.stlslice.specs.SlicedText.{layer_png};
+    ghost use Rattle.layer_png.specs.Text.{layer_png};
 
     ghost layers = { λ it. it.build.now.job.grid.layers };
 

@@ -4,7 +4,7 @@ use Rattle.layer_png.specs.Depth.{bits}
 use Rattle.layer_png.specs.Layer.{shown}
 use Rattle.layer_png.specs.Text.{most_png_bytes, png_text}
 use Rattle.stlslice.specs.Pages.{images_between}
-use Rattle.stlslice.specs.SlicedText.{layer_png}
+use Rattle.layer_png.specs.Text.{layer_png}
 use Rattle.stlslice.proofs.lemmas.Pages.{image-drawn}
 use Rattle.stlslice.proofs.lemmas.Pngs.{longer, next_fits, png_there, room_at}
 use Rattle.stlslice.proofs.lemmas.Stream.{layer_among, layer_at}

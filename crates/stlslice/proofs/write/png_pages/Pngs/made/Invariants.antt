@@ -1,6 +1,6 @@
 use Rattle.std.proofs.Common.{◌≡◌, ◌≤◌, ◌++◌, ◌-◌, ◌*◌, vec_capacity, vec_len}
 use Rattle.stlslice.specs.Pages.{images_between}
-use Rattle.stlslice.specs.SlicedText.{layer_png}
+use Rattle.layer_png.specs.Text.{layer_png}
 use Rattle.stlslice.proofs.write.png_pages.Pngs.made.Given as goal
 
 abbrev pub invariant-loop-k : goal.invariant-loop-k
