@@ -379,9 +379,9 @@ class Edit:
             was, now = clauses_of(law.contract()), clauses_of(law.contract(self.rows))
             found |= {(law, goal) for goal in {*was, *now} if was.get(goal) != now.get(goal)}
             found |= {(law, goal) for goal in source.clauses_on(law, names)}
-        answers = [(f"proofs.{it.symbol.replace('::', '.')}.Answers", it) for it in self.judged]
-        whole = [it for module, it in answers if "goal.returns" in words_of(source.texts.get(f"{module.replace('.', '/')}.antt", ""))]
-        return set() if whole or any(law in self.judged and goal == "returns" for law, goal in found) else found
+        answers = [source.texts.get(f"proofs/{it.symbol.replace('::', '/')}/Answers.antt", "") for it in self.judged]
+        is_whole = any("goal.returns" in words_of(text) for text in answers)
+        return set() if is_whole or any((law, "returns") in found for law in self.judged) else found
 
     def differs(self, other):
         """Whether the two make different lines of one."""
