@@ -59,6 +59,7 @@ import os, re, sys
 asked = [name for flag, name in zip(sys.argv, sys.argv[1:]) if flag == "--only"]
 text = "".join(open(f"src/{name}").read() for name in sorted(os.listdir("src")))
 specs = open("specs/Laws.antt").read()
+both = open("specs/Both.antt").read()
 for line, row in enumerate(open("src/parts.rt").read().split("\n"), 1):
     if "SYNTAX" in row:
         print(f"src/parts.rt:{line}:5: error[syntax]: expected an expression")
@@ -94,6 +95,12 @@ for name in asked:
     elif last == "law" and "lemma" in specs:
         print(f"./proofs/lemmas/Laws.antt:3:1: error: `law-holds`: as printed, the two types differ only where one has `a`")
         said = f"fn thing::{name}: not proved; it stands on `Rattle.thing.proofs.lemmas.Laws.law-holds`, which antt refuses"
+    elif last == "both" and "broken" in both:
+        clauses = [it for it in ("one", "two") if f"Is_{it} = broken" in both][: 1 if "HIDES" in both else None]
+        places = {"one": ("laws.both.Answers", "returns-clause-one"), "two": ("lemmas.Both", "two-is")}
+        for place, item in (places[it] for it in clauses):
+            print(f"./proofs/{place.replace('.', '/')}.antt:5:26: error: `{item}`: as printed, the two types differ only where one has `a`")
+        said = f"fn thing::{name}: not proved; it stands on " + ", ".join(f"`Rattle.thing.proofs.{place}.{item}`" for place, item in (places[it] for it in clauses)) + ", which antt refuses"
     elif "ANSWERED" in body or last == "law" and "false" in specs:
         print(f"./proofs/{path}/Answers.antt:8:25: error: `returns-in-Some`: as printed, the two types differ only where one has `a`")
         said = own.format("returns-in-Some")
@@ -205,6 +212,41 @@ HoldsOf n =
   true
 """
 
+# a law of three clauses, of which the last rests on both definitions
+BOTH_LAWS = """//! Two laws.
+ghost use Rattle.thing.specs.Both.{Is_one, Is_two};
+
+pub fn both()
+    ensures one { Is_one }
+    ensures two { Is_two }
+    ensures more { True }
+{}
+"""
+
+BOTH_SPECS = """-- What the laws say.
+abbrev pub Is_one : Type
+Is_one = true
+
+abbrev pub Is_two : Type
+Is_two = true
+"""
+
+BOTH_LEMMAS = """use Rattle.thing.specs.Both.{Is_two}
+
+pub two-is : Is_two
+two-is = refl
+"""
+
+BOTH_ANSWERS = """use Rattle.thing.proofs.lemmas.Both.{two-is}
+use Rattle.thing.proofs.laws.both.Goals as goal
+
+pub returns-clause-one : goal.returns-clause-one
+returns-clause-one c = refl
+
+pub returns-clause-two : goal.returns-clause-two
+returns-clause-two c = two-is
+"""
+
 # of these lemmas one is only for a clause, the other also for what a call requires; `limit-twice` is by the first
 LIMITS = """use Rattle.thing.specs.declared.parts.TheConstants.{LIMIT}
 
@@ -282,12 +324,14 @@ def crate_in(room):
         os.chmod(room.file("bin", name), mode)
     for folder in ("src", "specs", "proofs", "edits"):
         os.makedirs(room.file("crates", "thing", folder))
-    for file, text in (("src/parts.rt", SOURCE), ("src/lib.rt", "mod parts;\n"), ("specs/Laws.antt", SPECS)):
+    for file, text in (("src/parts.rt", SOURCE), ("src/laws.rt", BOTH_LAWS), ("src/lib.rt", "mod laws;\nmod parts;\n"),
+                       ("specs/Laws.antt", SPECS), ("specs/Both.antt", BOTH_SPECS)):
         with open(room.file("crates", "thing", file), "w", encoding="utf-8") as it:
             it.write(text)
-    for file, text in (("parts/looped/Answers.antt", ANSWERS), ("lemmas/Limits.antt", LIMITS)):
+    for file, text in (("parts/looped/Answers.antt", ANSWERS), ("lemmas/Limits.antt", LIMITS), ("lemmas/Both.antt", BOTH_LEMMAS),
+                       ("laws/both/Answers.antt", BOTH_ANSWERS)):
         path = room.file("crates", "thing", "proofs", file)
-        os.makedirs(os.path.dirname(path))
+        os.makedirs(os.path.dirname(path), exist_ok=True)
         with open(path, "w", encoding="utf-8") as it:
             it.write(text)
     os.mkdir(room.file("tools"))
@@ -382,6 +426,53 @@ def a_law(room):
     same("a law that a lemma proves", sorted(tries(room)[1][:2]), ["thing/law_by_a_lemma: refused by `law-holds`", "thing/of.a: refused by `returns-in-Some`"])
     with open(room.file("asked")) as it:
         same("it is tried without the others", [sorted(line.split()[1:]) for line in it], [["parts::Part::of"], ["parts::law"]])
+
+
+def clauses_of_one_law(room):
+    """Edits of definitions go together where each is of another clause, and each has to be refused by that one."""
+    emptied(room)
+    written(room, "both.one", "specs/Both.antt", ("Is_one = true", "Is_one = broken"))
+    written(room, "both.two", "specs/Both.antt", ("Is_two = true", "Is_two = broken"))
+    refused = ["thing/both.one: refused by `returns-clause-one`", "thing/both.two: refused by `returns-clause-two`"]
+    same("each by its own clause", sorted(tries(room)[1][:2]), refused)
+    same("in one check", checks_in(room), [["laws::both"]])
+
+    emptied(room)
+    written(room, "both.one", "specs/Both.antt", ("Is_one = true", "Is_one = broken HIDES"))
+    written(room, "both.two", "specs/Both.antt", ("Is_two = true", "Is_two = broken"))
+    lines = tries(room)[1]
+    same("one that isn't told beside the other is tried without it", (lines[0], lines[1].partition(" by")[0]), (refused[0], "thing/both.two: refused"))
+    same("in two checks", checks_in(room), [["laws::both"]] * 2)
+
+    emptied(room)
+    written(room, "both.one", "specs/Both.antt", ("Is_one = true", "Is_one = broken"))
+    written(room, "both.two", "specs/Both.antt", ("Is_two = true", "Is_two = true true"))
+    holds("the clause of another shows nothing", any(it.startswith("thing/both.two: NOT REFUSED") for it in tries(room)[1]))
+
+    emptied(room)
+    written(room, "both.clause", "src/laws.rt", ("ensures one { Is_one }", "ensures one { Is_two }"))
+    paths = [written(room, "both.one", "specs/Both.antt", ("Is_one = true", "Is_one = broken")),
+             written(room, "both.two", "specs/Both.antt", ("Is_two = true", "Is_two = broken")),
+             written(room, "both.both", "specs/Both.antt", ("Is_one = true", "Is_one = broken"), ("Is_two = true", "Is_two = broken"))]
+    source = edits.Source(room.file("crates", "thing"))
+    groups = sorted(sorted(it.name[len("thing/both.") :] for it in group) for group in edits.grouped([edits.Edit(it, "thing", source) for it in paths]))
+    same("what is of a clause of both is tried without them", groups, [["both"], ["one", "two"]])
+    clause = edits.Edit(room.file("crates", "thing", "edits", "both.clause.edit"), "thing", source)
+    same("a clause that is another", [goal for _, goal in clause.clauses], ["returns-clause-one"])
+
+    answers = room.file("crates", "thing", "proofs", "laws", "both", "Answers.antt")
+    with open(answers, "w", encoding="utf-8") as it:
+        it.write("use Rattle.thing.proofs.laws.both.Goals as goal\n\npub returns : goal.returns\nreturns c = record {\n  one = refl;\n}\n")
+    source = edits.Source(room.file("crates", "thing"))
+    same("one answer for all clauses tells none", len(edits.grouped([edits.Edit(it, "thing", source) for it in paths])), 3)
+    with open(answers, "w", encoding="utf-8") as it:
+        it.write(BOTH_ANSWERS)
+
+
+def checks_in(room):
+    """The functions that each check was asked for, past the harmless one."""
+    with open(room.file("asked")) as it:
+        return [sorted(line.split()[1:]) for line in it]
 
 
 def a_constant(room):
@@ -543,6 +634,7 @@ def main():
         refused_batches(room)
         control(room)
         a_law(room)
+        clauses_of_one_law(room)
         a_constant(room)
         one_that_hides_another(room)
         one_that_does_not_compile(room)

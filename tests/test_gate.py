@@ -91,7 +91,7 @@ def main():
         same("an edit that is refused alone", gate(BUILDS, well, 0, [0, 0], alone="two"), ("17 passed, 0 failed", 0))
         said = "REFUSED OTHERWISE: by `names`"
         same("an edit that something else refuses", gate(BUILDS, well, 0, [0, 0], seen="three", said=said, lines=2),
-             (f"three: {said} (to be listed)\n17 passed, 0 failed", 0))
+             (f"three: {said}\n16 passed, 1 failed", 1))
         said = "refused by `returns`, a clause"
         same("one that is listed in vain", gate(BUILDS, well, 0, [0, 0], seen="three", said=said, lines=2), (f"three: {said}\n16 passed, 1 failed", 1))
         same("a tool that breaks off", gate(BUILDS, well, 0, [0, 0], hole="three", lines=2),

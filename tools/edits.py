@@ -13,8 +13,11 @@ in a copy of the crate, together with others. The functions that none of them ed
 are left out. So each edited function is judged by itself: it has to be refused by a goal of its own, or of a closure in it,
 that is a clause (`returns..`), or the invariant of a loop or of a type (`loop-..`, `invariant_of-..`; a loop that has a label
 goes by it, as in `rows-preserved`). A lemma of its answers stands for the goals that rest on it, where all of them are such.
-An edit of a definition, in specs/, has to be refused in a function whose contract cites it, a law if there is one. Where an
-edit is refused otherwise it has failed, unless tools/edits_refused_otherwise.txt names it, with the goal and the reason.
+An edit of a definition, in specs/, has to be refused in a function whose contract cites it, a law if there is one. Edits of
+laws go together where no clause rests on two of them, and each is then refused by a clause that rests on it. A definition in
+the contract of other functions stands alone, since its edit changes all that read it. So does one of a law whose answers are
+one record: then no goal names the clause. Where an edit is refused otherwise it has failed, unless
+tools/edits_refused_otherwise.txt names it, with the goal and the reason.
 
 In each check stands one edit more, which means the same as before. It has to read as proved, so that a tool that can't see
 shows.
@@ -75,6 +78,16 @@ def text_of(file):
 # ---- functions
 
 
+def clauses_of(contract):
+    """What a contract ensures: of each clause its goal, and its text. All without a name are one goal, `returns`."""
+    found = {}
+    for part in re.split(r"(?m)^\s*(?=(?:requires|ensures)\b)", contract):
+        it = re.match(r"ensures(?: (\w+))? ?\{", part)
+        goal = f"returns-clause-{it[1]}" if it and it[1] else "returns"
+        found[goal] = found.get(goal, "") + part
+    return found
+
+
 class Function:
     """A function: its path below the crate as the toolchain spells it, its lines, and the one on which its body opens."""
 
@@ -84,9 +97,11 @@ class Function:
         self.head = lines[first : (last if opens is None else opens) + 1]
         self.body = [] if opens is None else lines[opens : last + 1]
 
-    def contract(self):
-        rows = [at for at, it in enumerate(self.head) if re.match(r"\s*(requires|ensures)\b", it)]
-        return "\n".join(self.head[rows[0] :]) if rows else ""
+    def contract(self, new=None):
+        """Its clauses as they stand, or with these lines, each by its row, in place of theirs."""
+        head = [(new or {}).get((self.file, self.first + at), it) for at, it in enumerate(self.head)]
+        rows = [at for at, it in enumerate(head) if re.match(r"\s*(requires|ensures)\b", it)]
+        return "\n".join(head[rows[0] :]) if rows else ""
 
     def words(self):
         """The words of the body, without comments and strings. A question mark calls `from`."""
@@ -226,6 +241,21 @@ class Source:
             more |= {(module_of(file), name) for name in found}
         return stated, proved, more - names
 
+    def resting_on(self, names):
+        """These definitions and lemmas, and all that cite one, at once or by others."""
+        found, more = set(), set(names)
+        while more:
+            found |= more
+            more = self.citing(found)[2]
+        return found
+
+    def clauses_on(self, law, names):
+        """The clauses of a law that cite one of these definitions, or whose answers are among these. Of each the goal."""
+        words = seen_from(self.texts[law.file], names)
+        found = {goal for goal, text in clauses_of(law.contract()).items() if cites(text, words)}
+        answers = f"proofs.{law.symbol.replace('::', '.')}.Answers"
+        return found | {name for module, name in names if module == answers and name.startswith("returns")}
+
 
 def module_of(file):
     return re.sub(r"(/Lib)?\.antt$", "", file).replace("/", ".")
@@ -244,7 +274,9 @@ def seen_from(text, names):
 
 
 def words_of(text):
-    return set(re.findall(r"[^\s(){},;:]+", text))
+    """The words of a text, and of `a.b` also `a`."""
+    words = re.findall(r"[^\s(){},;:]+", text)
+    return {*words, *(it.partition(".")[0] for it in words)}
 
 
 def cites(text, words):
@@ -287,11 +319,12 @@ def reached(source, definitions):
 
 class Edit:
     """An edit as it stands in its file: which lines of which files it changes, the functions whose lines these are, those of
-    which one has to be refused, and all that it can change the proof of. It is `bad` where it can't be applied."""
+    which one has to be refused, and all that it can change the proof of. One of laws has the clauses that rest on it. It is `bad`
+    where it can't be applied."""
 
     def __init__(self, path, crate, source):
         self.path, self.name = path, f"{crate}/{os.path.basename(path)[: -len('.edit')]}"
-        self.rows, self.functions, self.definitions, self.judged, self.reach = {}, [], [], [], []
+        self.rows, self.functions, self.definitions, self.judged, self.reach, self.clauses = {}, [], [], [], [], set()
         self.is_alone = True
         self.bad = self.apply(text_of(path), source)
         if not self.bad:
@@ -335,9 +368,30 @@ class Edit:
         self.judged = [it for it in among or source.functions if it.name == named] or among
         if not self.judged:
             self.bad = "it is of no function, and its name begins with none: nothing says which one has to be refused"
+        elif not self.is_alone and all(it.is_law() for it in [*self.functions, *self.judged]):
+            self.clauses = self.clauses_of_laws(source)
+
+    def clauses_of_laws(self, source):
+        """The clauses that an edit of laws changes, or whose answers rest on what it changes. Of each the law, and the goal. None
+        where its own law has no answers by clause."""
+        found, names = set(), source.resting_on(self.definitions)
+        for law in {it for it in self.reach if it.is_law()}:
+            was, now = clauses_of(law.contract()), clauses_of(law.contract(self.rows))
+            found |= {(law, goal) for goal in {*was, *now} if was.get(goal) != now.get(goal)}
+            found |= {(law, goal) for goal in source.clauses_on(law, names)}
+        answers = [source.texts.get(f"proofs/{it.symbol.replace('::', '/')}/Answers.antt", "") for it in self.judged]
+        is_whole = any("goal.returns" in words_of(text) for text in answers)
+        return set() if is_whole or any((law, "returns") in found for law in self.judged) else found
+
+    def differs(self, other):
+        """Whether the two make different lines of one."""
+        return any(self.rows[it] != other.rows[it] for it in {*self.rows} & {*other.rows})
 
     def clash(self, other):
-        """A function for which the two can't be told apart in one check, or None."""
+        """A function for which the two can't be told apart in one check, or None. Those of laws can where no clause rests on what
+        both change."""
+        if self.clauses and other.clauses:
+            return next((law for law, _ in self.clauses & other.clauses), None)
         both = [it for it in self.reach if it in other.functions or it in other.judged]
         both += [it for it in other.reach if it in self.functions or it in self.judged]
         return both[0] if both else None
@@ -348,31 +402,36 @@ def stop_on_clash(edits):
     for at, it in enumerate(edits):
         if it.bad:
             raise Unfit(f"{it.name}: {it.bad}")
-        if len(edits) > 1 and (it.is_alone or it.definitions):
+        if len(edits) > 1 and (it.is_alone or it.definitions and not all(other.clauses for other in edits)):
             raise Unfit(f"{it.name} is of a constant, a type or a definition, so it is tried alone")
         for other in edits[:at]:
             function = it.clash(other)
-            if function or {*it.rows} & {*other.rows}:
+            if function or it.differs(other):
                 of = function.symbol if function else "one line"
                 raise Unfit(f"{other.name} and {it.name} are both of {of}, so they can't be tried together")
 
 
 def grouped(edits):
     """The edits in few lists, each about as long as the others, in which no two clash. One of a definition is tried without
-    others: a lemma that it refuses could be theirs."""
-    together = [it for it in edits if not it.bad and not it.is_alone and not it.definitions]
-    number = {}
-    for it in together:
-        for function in {*it.functions, *it.judged}:
-            number[function] = number.get(function, 0) + 1
-    lists = [[] for _ in range(max([-(-len(together) // MOST), *number.values()]))]
-    for it in sorted(together, key=lambda it: (-len(it.reach), -max(number[f] for f in it.judged), it.name)):
-        free = [one for one in lists if not any(it.clash(other) or {*it.rows} & {*other.rows} for other in one)]
+    others, since a lemma that it refuses could be theirs. Those of laws go together where no clause rests on two of them."""
+    fit = [it for it in edits if not it.bad and not it.is_alone]
+    together, of_laws = [it for it in fit if not it.definitions], [it for it in fit if it.definitions and it.clauses]
+    return [*spread(together), *spread(of_laws), *([it] for it in edits if it not in together and it not in of_laws)]
+
+
+def spread(edits):
+    """The edits in few lists, in which no two clash."""
+    number, parts = {}, {it: it.clauses or {*it.functions, *it.judged} for it in edits}
+    for part in (part for it in edits for part in parts[it]):
+        number[part] = number.get(part, 0) + 1
+    lists = [[] for _ in range(max([-(-len(edits) // MOST), *number.values()]))]
+    for it in sorted(edits, key=lambda it: (-len(it.reach), -max(number[part] for part in parts[it]), it.name)):
+        free = [one for one in lists if not any(it.clash(other) or it.differs(other) for other in one)]
         if not free:
             free = [[]]
             lists += free
         min(free, key=len).append(it)
-    return [it for it in lists if it] + [[it] for it in edits if it not in together]
+    return [it for it in lists if it]
 
 
 # ---- batches
@@ -617,13 +676,19 @@ def lemmas_of(symbol, batch, check):
 def refusal(edit, batch, check):
     """What refuses an edit, a clause or an invariant if one does, and whether it is one. Where the edit is of a definition, each
     lemma by which a law is proved counts for its clause; where it is of a constant or a type, a lemma counts for the goals that
-    rest on it. Where the edit is refused only since answers name what is no longer there, this is `names`."""
+    rest on it. Where others are of the same law, only the edit's own clauses count. Where the edit is refused only since answers
+    name what is no longer there, this is `names`."""
     of_contract, named, names = [], [], []
     for it in edit.judged:
+        is_one_of_many = any(law is it for other in batch.edits if other is not edit for law, _ in other.clauses)
         found = [(goal, said, it.shows_contract(goal)) for goal, said in goals_of(it, batch, check).items()]
         for module, lemma, said in lemmas_of(it.symbol, batch, check) if edit.definitions or edit.is_alone else []:
             goals = [lemma] if edit.definitions else refused_by(it, batch.source, module, lemma)
+            if is_one_of_many:
+                goals = sorted(batch.source.clauses_on(it, batch.source.resting_on({(module, lemma)})))
             found += [(goal, said, bool(edit.definitions) or it.shows_contract(goal)) for goal in goals]
+        if is_one_of_many:
+            found = [one for one in found if (it, one[0]) in edit.clauses]
         for goal, said, shows in found:
             (names if ONLY_NAMES.search(said) else of_contract if shows else named).append(goal)
     best = [*of_contract, *named, *["names"] * bool(names)]
@@ -673,10 +738,16 @@ def blamed(batch, check):
     return found
 
 
-def is_hidden(edit, check):
+def is_hidden(edit, batch, check):
     """Whether an edit can't be judged, since the proof of another function that is edited was not even begun: that of a loop whose
-    invariant no longer fits, say."""
-    return any("is not made yet: a call of `" in check.lines.get(it.symbol, "") for it in edit.judged)
+    invariant no longer fits, say. One of a law's definitions may be hidden by another of the same law."""
+    is_begun = not any("is not made yet: a call of `" in check.lines.get(it.symbol, "") for it in edit.judged)
+    return not is_begun or is_by_clause(edit, batch)
+
+
+def is_by_clause(edit, batch):
+    """Whether an edit of definitions is tried with others of laws."""
+    return bool(edit.definitions) and len(batch.edits) > 1
 
 
 def results_of(batch, check, control, otherwise):
@@ -690,9 +761,10 @@ def results_of(batch, check, control, otherwise):
         told = {it: told[it] for it in batch.edits if seen == "no holes" and told[it][0]}
         told.update({it: (False, said) for it, said in bad.items()})
     else:
-        # without the others they are judged; where all of them are hidden it is by something else
-        hidden = [it for it in batch.edits if not told[it][0] and is_hidden(it, check)]
-        told = {it: told[it] for it in batch.edits if it not in hidden or len(hidden) == len(batch.edits)}
+        # without the others they are judged; where all of them are hidden it is by something else, if they are of no laws
+        hidden = [it for it in batch.edits if not told[it][0] and is_hidden(it, batch, check)]
+        is_for_nothing = len(hidden) == len(batch.edits) and not any(is_by_clause(it, batch) for it in hidden)
+        told = {it: told[it] for it in batch.edits if it not in hidden or is_for_nothing}
         told.update({it: (False, said) for it, said in bad.items()})
     left = [it for it in batch.edits if it not in told]
     if len(batch.edits) == 1 and left:

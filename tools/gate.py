@@ -6,7 +6,7 @@
 1. `rt ci` proves each crate and its tests, tries the edits in must-fail/, runs the tests, and builds and runs PROGRAM.
 2. Beside it tools/edits.py tries the edits in edits/ in batches, at a lower priority: those of a crate once it is proved.
    With fewer than four processors they wait until `rt ci` has ended.
-   What a batch can't judge is tried alone. What something else than a clause refuses is told at the end, unless
+   What a batch can't judge is tried alone. What something else than a clause refuses has failed, unless
    tools/edits_refused_otherwise.txt says why.
 3. The library, and the page that has it, are built from what was proved.
 4. tests/run tests what people touch: the program, the library, packages, recipes, documents.
@@ -37,8 +37,6 @@ import spent  # noqa: E402
 LIBRARY_CRATE = "stlslice_c"
 # The memory that a batch leaves free for what runs beside it.
 RESERVE = 3_000_000_000
-# Ends the line of an edit that something else than a clause or an invariant refuses, and that no list explains yet.
-UNLISTED = " (to be listed)"
 PROVED = re.compile(r"rt: (\w+) (?:proved|is kept: .*)$")
 COUNTS = re.compile(r"(?m)^(\d+) passed, (\d+) failed$")
 FAULTS = re.compile(r"rt: FAILED: |.*(NOT PROVED|NOT REFUSED|NOT TRIED)|.*: its tests FAILED$|failed: ")
@@ -115,16 +113,14 @@ def link_or_copy(one, other):
 
 
 def tried(batch, root):
-    """What came of each edit of a batch: a line, and whether it passed. What the batch can't judge is tried alone, and what is
-    refused otherwise than the list says is told at the end. An edit that can't be read has failed. A tool that breaks off fails
-    the whole batch."""
+    """What came of each edit of a batch: a line, and whether it passed. What the batch can't judge is tried alone. An edit that
+    can't be read has failed, and so has one that is refused otherwise than the list says. A tool that breaks off fails the whole
+    batch."""
     found = []
     try:
         for edit, is_passed, text in edits.try_batch(batch, root)[0]:
             if not is_passed and not text.lower().startswith(("refused", "bad edit")):
                 is_passed, text = edits.try_alone(edit, batch, root)
-            if not is_passed and text.startswith("REFUSED OTHERWISE"):
-                is_passed, text = True, text + UNLISTED
             found.append((f"{edit.name}: {text}", is_passed))
     except Exception as fault:  # noqa: BLE001
         found += [(f"{edit.name}: NOT TRIED: {fault!r}", False) for edit in batch.edits[len(found) :]]
@@ -141,7 +137,7 @@ class Batches:
         for batch in edits.batches_of(root, folders=("edits", "must-fail")):
             self.waiting[batch.name].append(batch)
         self.processors, self.most, self.is_last = processors, processors // 2 if processors >= 4 else 0, False
-        self.begun, self.passed, self.failed, self.faults, self.unlisted = set(), 0, 0, [], []
+        self.begun, self.passed, self.failed, self.faults = set(), 0, 0, []
         self.threads = [threading.Thread(target=self.work, daemon=True) for _ in range(processors)]
         for it in self.threads:
             it.start()
@@ -178,7 +174,6 @@ class Batches:
                 faults = [text for text, is_passed in told if not is_passed]
                 self.passed, self.failed = self.passed + len(told) - len(faults), self.failed + len(faults)
                 self.faults += faults
-                self.unlisted += [text for text, _ in told if text.endswith(UNLISTED)]
                 self.change.notify_all()
             show("\n".join(text for text, _ in told))
 
@@ -253,7 +248,7 @@ def main():
     times.stop()
     passed, failed = passed + batches.passed, failed + batches.failed
     tell(times, began, built, tests)
-    for line in skipped(tests) + batches.unlisted + failures(proofs, tests) + batches.faults:
+    for line in skipped(tests) + failures(proofs, tests) + batches.faults:
         print(line)
     print(f"{passed} passed, {failed} failed")
     return 1 if failed else 0
