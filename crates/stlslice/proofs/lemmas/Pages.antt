@@ -5,10 +5,9 @@ use Rattle.std.specs.List.{All, range_with_len}
 use Rattle.std.proofs.lemmas.List.Concat.{flat_map-cons}
 use Rattle.std.proofs.Math.Seq.{drop-cons}
 use Rattle.std.proofs.Math.Nat.{mul-le-mul_left}
-use Rattle.geometry.specs.declared.limits.TheConstants.{COLUMN_LIMIT, LAYER_LIMIT}
 use Rattle.raster.proofs.lemmas.Written.{IsUnderWay, all-counted, begun}
 use Rattle.devices.specs.Devices.{greatest_count}
-use Rattle.raster.specs.Grid.{Grid, centre}
+use Rattle.raster.specs.Grid.{Grid, IsGrid, centre}
 use Rattle.raster.specs.Filler.{is_filled}
 use Rattle.raster.specs.Image.{image_of_pixels, images_limit, layer_image}
 use Rattle.raster.specs.Page.{Page}
@@ -159,15 +158,10 @@ image-drawn f k end bytes new image text h is added before =
     ∙ before
 
 -- the bytes of all images of a grid can be counted
-pub few-bytes : (job held : Job) (grid : Grid) (columns rows layers : ℕ) → held ≡ job → grid ≡ held.grid
-    → columns ≡ grid.columns → columns ≤ COLUMN_LIMIT → rows ≡ grid.rows → rows ≤ COLUMN_LIMIT → layers ≡ grid.layers → layers ≤ LAYER_LIMIT
-    → length (images_of job) ≤ images_limit
-few-bytes job held grid columns rows layers same of columns-are narrow rows-are short layers-are few =
-    let is : grid ≡ job.grid = of ∙ ap (λ (j : Job). j.grid) same in
-    small-images job.grid job.rule job.solid.facets
-    (subst (λ (n : ℕ). n ≤ COLUMN_LIMIT) (columns-are ∙ ap (λ (g : Grid). g.columns) is) narrow)
-    (subst (λ (n : ℕ). n ≤ COLUMN_LIMIT) (rows-are ∙ ap (λ (g : Grid). g.rows) is) short)
-    (subst (λ (n : ℕ). n ≤ LAYER_LIMIT) (layers-are ∙ ap (λ (g : Grid). g.layers) is) few)
+pub few-bytes : (job held : Job) (grid : Grid) → held ≡ job → grid ≡ held.grid → IsGrid grid → length (images_of job) ≤ images_limit
+few-bytes job held grid same of given =
+    let limits : IsGrid job.grid = subst IsGrid (of ∙ ap (λ (j : Job). j.grid) same) given in
+    small-images job.grid job.rule job.solid.facets limits.columns_high limits.rows_high limits.layers_high
 
 -- what is out and what goes out next can be counted
 pub next-counted : (old now : Option (List ℕ)) (text : List ℕ) (written : ℕ) (part left : List ℕ) → length text ≤ greatest_count

@@ -9,7 +9,7 @@ use Rattle.geometry.specs.Facet.{Facet}
 use Rattle.geometry.specs.declared.limits.TheConstants.{COLUMN_LIMIT, LAYER_LIMIT}
 use Rattle.devices.specs.Devices.{greatest_count}
 use Rattle.raster.specs.Filler.{is_filled}
-use Rattle.raster.specs.Grid.{Grid, centre, grid_with, has_no_cells, is_too_large, reaches_too_far}
+use Rattle.raster.specs.Grid.{Grid, IsGrid, centre, grid_with, has_no_cells, is_too_large, reaches_too_far}
 use Rattle.raster.specs.Grid as grids
 use Rattle.raster.specs.declared.grid.GridFault.{GridFault}
 use Rattle.raster.specs.declared.grid.GridFault.TheVariants.{FarCentre, NoCells}
@@ -141,15 +141,11 @@ few_pngs job depth mirrors narrow low few =
     )
 
 -- the same, by the counts as they were handed out
-pub pngs_counted : (job held : Job) (grid : Grid) (columns rows layers : ℕ) (depth : Depth) (mirrors : Mirrors) → held ≡ job → grid ≡ held.grid
-    → columns ≡ grid.columns → columns ≤ COLUMN_LIMIT → rows ≡ grid.rows → rows ≤ COLUMN_LIMIT → layers ≡ grid.layers → layers ≤ LAYER_LIMIT
+pub pngs_counted : (job held : Job) (grid : Grid) (depth : Depth) (mirrors : Mirrors) → held ≡ job → grid ≡ held.grid → IsGrid grid
     → length (pngs_of job depth mirrors) ≤ pngs_limit
-pngs_counted job held grid columns rows layers depth mirrors same of columns-are narrow rows-are low layers-are few =
-    let is : grid ≡ job.grid = of ∙ ap (λ (j : Job). j.grid) same in
-    few_pngs job depth mirrors
-    (subst (λ (n : ℕ). n ≤ COLUMN_LIMIT) (columns-are ∙ ap (λ (g : Grid). g.columns) is) narrow)
-    (subst (λ (n : ℕ). n ≤ COLUMN_LIMIT) (rows-are ∙ ap (λ (g : Grid). g.rows) is) low)
-    (subst (λ (n : ℕ). n ≤ LAYER_LIMIT) (layers-are ∙ ap (λ (g : Grid). g.layers) is) few)
+pngs_counted job held grid depth mirrors same of given =
+    let limits : IsGrid job.grid = subst IsGrid (of ∙ ap (λ (j : Job). j.grid) same) given in
+    few_pngs job depth mirrors limits.columns_high limits.rows_high limits.layers_high
 
 -- ---- the PNGs that are still to go out
 

@@ -31,11 +31,8 @@ impl<'a, 'b, A: Allocator + Copy + Send + Sync> Drawing<Page<A>> for Images<'a, 
     ghost fits = { λ it page. it.per * image_size it.build.now.job.grid ≤ page.room };
 
     fn layers(&self) -> usize {
-        // wakes the invariant: the counts of columns, rows and layers bound the count of the bytes
-        let grid = self.build.job().grid();
-        let _columns = grid.columns();
-        let _rows = grid.rows();
-        let _layers = grid.layers();
+        // they bound the count of the bytes
+        self.build.job().grid().hold_limits();
         self.build.layers().len()
     }
 

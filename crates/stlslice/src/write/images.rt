@@ -20,10 +20,8 @@ pub(crate) fn write_images<A: Allocator, O: Sink>(
         (O.is_settled sink.new) (images_of build.now.job) }
 {
     let grid = build.job().grid();
-    // wakes the invariant: the counts of columns, rows and layers bound the count of the bytes
-    let _columns = grid.columns();
-    let _rows = grid.rows();
-    let _layers = grid.layers();
+    // they bound the count of the bytes
+    grid.hold_limits();
     let mut writer = ImageWriter::new();
     for layer in build.layers() {
         writer.add(grid, layer.spans(), sink)?;

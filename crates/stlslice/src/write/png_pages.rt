@@ -62,11 +62,8 @@ impl<'a, 'b, A: Allocator + Copy + Send + Sync> Drawing<Vec<u8, A>> for Pngs<'a,
     ghost fits = { λ it page. HasRoom it.build.now.job.grid it.depth it.build.now.layers it.room × (it.per * it.room ≤ vec_capacity page) };
 
     fn layers(&self) -> usize {
-        // wakes the invariant: the counts of columns, rows and layers bound the count of the bytes
-        let grid = self.build.job().grid();
-        let _columns = grid.columns();
-        let _rows = grid.rows();
-        let _layers = grid.layers();
+        // they bound the count of the bytes
+        self.build.job().grid().hold_limits();
         self.build.layers().len()
     }
 

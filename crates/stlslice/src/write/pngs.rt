@@ -69,10 +69,8 @@ fn put_pngs<A: Allocator, O: Sink>(
         (pngs_of build.now.job depth mirrors) 0 }
 {
     let grid = build.job().grid();
-    // wakes the invariant: the counts of columns, rows and layers bound the count of the bytes
-    let _columns = grid.columns();
-    let _rows = grid.rows();
-    let _layers = grid.layers();
+    // they bound the count of the bytes
+    grid.hold_limits();
     let mut written = 0;
     for layer in build.layers() {
         buffer.clear();

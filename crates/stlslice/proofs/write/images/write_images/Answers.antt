@@ -37,9 +37,7 @@ add-requires-clause-count g c =
     let held : c.loop-layer.writer.sent + length c.loop-layer.writer.held ≤ images_limit =
     held_few job (g.O.Sink.contents c.args.sink.now) (g.O.Sink.contents c.loop-layer.sink) c.loop-layer.writer.sent c.loop-layer.layer-index
     c.loop-layer.writer.held
-    (few-bytes job c.job.result.now c.grid-grid.result.now c.columns-columns.result c.rows-rows.result c.layers-layers.result
-    c.job.ensures c.grid-grid.ensures c.columns-columns.ensures.value c.columns-columns.ensures.high c.rows-rows.ensures.value
-    c.rows-rows.ensures.high c.layers-layers.ensures.value c.layers-layers.ensures.high) c.loop-layer.invariant.text in
+    (few-bytes job c.job.result.now c.grid-grid.result.now c.job.ensures c.grid-grid.ensures c.hold_limits.ensures) c.loop-layer.invariant.text in
     omega (arith, held)
 
 pub loop-layer-preserved : goal.loop-layer-preserved
@@ -92,9 +90,7 @@ finish-requires g c =
     let held : c.loop-layer.writer.sent + length c.loop-layer.writer.held ≤ images_limit =
     held_few job (g.O.Sink.contents c.args.sink.now) (g.O.Sink.contents c.loop-layer.sink) c.loop-layer.writer.sent c.loop-layer.layer-index
     c.loop-layer.writer.held
-    (few-bytes job c.job.result.now c.grid-grid.result.now c.columns-columns.result c.rows-rows.result c.layers-layers.result
-    c.job.ensures c.grid-grid.ensures c.columns-columns.ensures.value c.columns-columns.ensures.high c.rows-rows.ensures.value
-    c.rows-rows.ensures.high c.layers-layers.ensures.value c.layers-layers.ensures.high) c.loop-layer.invariant.text in
+    (few-bytes job c.job.result.now c.grid-grid.result.now c.job.ensures c.grid-grid.ensures c.hold_limits.ensures) c.loop-layer.invariant.text in
     omega (arith, held)
 
 pub returns-in_err-written : goal.returns-in_err-written

@@ -35,9 +35,8 @@ put_more-requires g c =
     c.layer-item.result c.args.depth c.args.mirrors part (c.as_slice.ensures.value ∙ c.add_png-buffer.ensures.text ∙ ap (λ (l : List ℕ). l ++ png) c.clear.ensures.items) c.job.ensures
     c.grid-grid.ensures c.spans.ensures all.value all.complete c.loop-layer-test.true c.layer-item.is in
     next-counted old now text c.loop-layer.written part rest
-    (pngs_countable (length text) (pngs_counted job c.job.result.now c.grid-grid.result.now c.columns-columns.result c.rows-rows.result
-    c.layers-layers.result c.args.depth c.args.mirrors c.job.ensures c.grid-grid.ensures c.columns-columns.ensures.value
-    c.columns-columns.ensures.high c.rows-rows.ensures.value c.rows-rows.ensures.high c.layers-layers.ensures.value c.layers-layers.ensures.high))
+    (pngs_countable (length text) (pngs_counted job c.job.result.now c.grid-grid.result.now c.args.depth c.args.mirrors c.job.ensures c.grid-grid.ensures
+    c.hold_limits.ensures))
     (with-part old now text 0 c.loop-layer.written part rest left c.loop-layer.invariant.text next)
 
 pub loop-layer-preserved : goal.loop-layer-preserved

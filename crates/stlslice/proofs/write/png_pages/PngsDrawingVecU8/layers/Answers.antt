@@ -7,6 +7,4 @@ pub returns-clause-few : goal.returns-clause-few
 returns-clause-few g c =
     let it = c.args.self.now in
     pngs_countable (length (pngs_of it.build.now.job it.depth it.mirrors))
-    (pngs_counted it.build.now.job c.job.result.now c.grid-grid.result.now c.columns-columns.result c.rows-rows.result c.layers-layers.result
-    it.depth it.mirrors c.job.ensures c.grid-grid.ensures c.columns-columns.ensures.value c.columns-columns.ensures.high
-    c.rows-rows.ensures.value c.rows-rows.ensures.high c.layers-layers.ensures.value c.layers-layers.ensures.high)
+    (pngs_counted it.build.now.job c.job.result.now c.grid.result.now it.depth it.mirrors c.job.ensures c.grid.ensures c.hold_limits.ensures)
