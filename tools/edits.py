@@ -363,7 +363,8 @@ class Edit:
         self.is_alone = any(not file.startswith("specs/") for file, _ in others)
         stated, every = reached(source, self.definitions)
         self.reach = [*self.functions, *every]
-        named = self.name.rpartition("/")[2].partition(".")[0]
+        # the name is FUNCTION.FAULT, or MODULE.FUNCTION.FAULT
+        named = self.name.rpartition("/")[2].rpartition(".")[0].rpartition(".")[2]
         among = (not others and self.functions) or stated
         self.judged = [it for it in among or source.functions if it.name == named] or among
         if not self.judged:
