@@ -3,7 +3,7 @@ ghost use Rattle.std.specs.Prelude.{◌≡◌, ◌<◌, ◌≤◌, ◌≤ℤ◌,
 ghost use Rattle.exact_int.specs.Bounds.{IsAtMost};
 ghost use Rattle.geometry.specs.BoundingBox.{IsBox};
 ghost use Rattle.geometry.specs.Limits.{IsStep};
-ghost use Rattle.raster.specs.Grid.{cell_count, centre, exceeds, fitted_grid, given_grid, grid_of_box, grid_with, middle, plane, reaches_too_far};
+ghost use Rattle.raster.specs.Grid.{IsGrid, cell_count, centre, exceeds, fitted_grid, given_grid, grid_of_box, grid_with, middle, plane, reaches_too_far};
 ghost use Rattle.geometry.specs.declared.limits.TheConstants.{CENTRE_LIMIT, COLUMN_LIMIT, COORDINATE_LIMIT, LAYER_LIMIT, STEP_LIMIT};
 
 use exact_cut::{Centre, Lattice};

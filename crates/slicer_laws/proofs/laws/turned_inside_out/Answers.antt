@@ -16,12 +16,20 @@ evenodd-filled facets p = ap (is_inside EvenOdd) (ray-turned facets p) ∙ eveno
 nonzero-filled : (facets : List Facet) (p : Point) → is_filled NonZero (inside_out facets) p ≡ is_filled NonZero facets p
 nonzero-filled facets p = ap (is_inside NonZero) (ray-turned facets p) ∙ nonzero-neg (ray facets p)
 
-pub returns : goal.returns
-returns c = record {
-  rays = ray-turned;
-  rays_along_y = ray_y-turned;
-  evenodd = λ g facets. same_images g EvenOdd (inside_out facets) facets (evenodd-filled facets);
-  evenodd_areas = λ g facets k. same_areas g EvenOdd (inside_out facets) facets k (evenodd-filled facets);
-  nonzero = λ g facets. same_images g NonZero (inside_out facets) facets (nonzero-filled facets);
-  nonzero_areas = λ g facets k. same_areas g NonZero (inside_out facets) facets k (nonzero-filled facets);
-}
+pub returns-clause-rays : goal.returns-clause-rays
+returns-clause-rays c = ray-turned
+
+pub returns-clause-rays_along_y : goal.returns-clause-rays_along_y
+returns-clause-rays_along_y c = ray_y-turned
+
+pub returns-clause-evenodd : goal.returns-clause-evenodd
+returns-clause-evenodd c = λ g facets. same_images g EvenOdd (inside_out facets) facets (evenodd-filled facets)
+
+pub returns-clause-evenodd_areas : goal.returns-clause-evenodd_areas
+returns-clause-evenodd_areas c = λ g facets k. same_areas g EvenOdd (inside_out facets) facets k (evenodd-filled facets)
+
+pub returns-clause-nonzero : goal.returns-clause-nonzero
+returns-clause-nonzero c = λ g facets. same_images g NonZero (inside_out facets) facets (nonzero-filled facets)
+
+pub returns-clause-nonzero_areas : goal.returns-clause-nonzero_areas
+returns-clause-nonzero_areas c = λ g facets k. same_areas g NonZero (inside_out facets) facets k (nonzero-filled facets)
