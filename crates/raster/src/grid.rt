@@ -180,7 +180,10 @@ impl Grid {
     /// time.
     pub fn hold_limits(&self)
         ensures { IsGrid self.now }
-    {}
+    {
+        // wakes the invariant
+        let _columns = self.columns;
+    }
 
     /// The centre of the voxel of column i, row j and layer k, each below the grid's count, from 0: columns along x,
     /// rows along y, layers along z.
