@@ -16,11 +16,15 @@ pub struct Adler {
 }
 
 impl Model for Adler {
+    ghost use Rattle.std.specs.Prelude.{◌<◌};
+    ghost use Rattle.deflate.specs.Adler.{Sums};
+    ghost use Rattle.deflate.specs.declared.adler.TheConstants.{MODULUS};
+
     ghost Value = { Sums };
 
     ghost view = { λ s. record { a = s.a; b = s.b } };
 
-    ghost invariant = { λ s. (s.a < 65521) × (s.b < 65521) };
+    ghost invariant = { λ s. (s.a < MODULUS) × (s.b < MODULUS) };
 }
 
 impl Adler {

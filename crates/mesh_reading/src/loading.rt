@@ -5,7 +5,7 @@ ghost use Rattle.geometry.specs.Facet.{Facet};
 ghost use Rattle.micro_num.specs.declared.unit.Unit.{Unit as LengthUnit};
 ghost use Rattle.devices.specs.Devices.{Fails};
 ghost use Rattle.mesh_reading.specs.Loading.{IsAllWelded, IsFedBySource, IsLoadFault, IsLoaded, IsMisread, IsReadAs, IsReadToEnd, IsSolidOf, IsTextExtent, OfText};
-ghost use Rattle.devices.specs.Transcript.{transcript};
+ghost use Rattle.devices.specs.Transcript.{transcript_of};
 ghost use Rattle.mesh_reading.specs.declared.read_fault.ReadFault.TheVariants.{Read};
 
 use crate::extent::Extent;
@@ -60,7 +60,7 @@ pub fn read_solid<A: Allocator + Copy + Send + Sync, I: Source>(
     unit: Unit,
 ) -> Result<Solid<A>, ReadFault>
     ensures { IsReadAs (IsSolidOf unit) (IsLoadFault unit) result
-        (transcript (I.remaining source.old) (I.remaining source.new) (I.Failures.failure_count source.old) (I.Failures.failure_count source.new)) }
+        (transcript_of I.remaining I.Failures.failure_count source.old source.new) }
 {
     let mut fresh = Vec::new(alloc);
     let mut reader = TextReader::new(alloc, FACET_LIMIT, unit);
@@ -82,7 +82,7 @@ pub fn read_solid_by<R: Threads + Sync, A: Allocator + Copy + Send + Sync, I: So
     workers: u32,
 ) -> Result<Solid<A>, ReadFault>
     ensures { IsReadAs (IsSolidOf unit) (IsLoadFault unit) result
-        (transcript (I.remaining source.old) (I.remaining source.new) (I.Failures.failure_count source.old) (I.Failures.failure_count source.new)) }
+        (transcript_of I.remaining I.Failures.failure_count source.old source.new) }
 {
     if workers < 2 {
         return read_solid(alloc, source, unit);
@@ -192,7 +192,7 @@ pub fn read_extent<A: Allocator + Copy + Send + Sync, I: Source>(
     unit: Unit,
 ) -> Result<Extent, ReadFault>
     ensures { IsReadAs (IsTextExtent unit) (IsMisread unit) result
-        (transcript (I.remaining source.old) (I.remaining source.new) (I.Failures.failure_count source.old) (I.Failures.failure_count source.new)) }
+        (transcript_of I.remaining I.Failures.failure_count source.old source.new) }
 {
     let mut reader = TextReader::new(alloc, FACET_LIMIT, unit);
     let mut extent = Extent::none();

@@ -5,7 +5,7 @@ use Rattle.devices.specs.Devices.{AppendsFirst, Fails}
 use Rattle.devices.specs.declared.writing.WriteFault.{WriteFault}
 use Rattle.devices.specs.Transcript.{Transcript}
 
--- A part was put after `before` bytes. The result is the number of bytes that are out then, also where it is a fault.
+-- A part was put after `before` bytes. The result, or the fault's `written`, is the number of bytes that are out then.
 pub record IsPut (result : Result ℕ WriteFault) (sink : Transcript) (part : List ℕ) (before : ℕ) : Type 0 where
   -- all of it went out
   pub ok : OnOk result (Appends sink.old sink.new part)

@@ -1,6 +1,6 @@
 //! A run: reads the whole input, does the task, writes its outcome.
 ghost use Rattle.std.specs.Prelude.{◌≡◌, Err, IfErr, IfOk, Ok};
-ghost use Rattle.devices.specs.Transcript.{transcript};
+ghost use Rattle.devices.specs.Transcript.{transcript_of};
 ghost use Rattle.stlslice.specs.Outcome.{grid_for, placing_of, slicing};
 ghost use Rattle.stlslice.specs.Run.{IsRun};
 ghost use Rattle.stlslice.specs.declared.run_fault.RunFault.TheVariants as run_fault;
@@ -52,8 +52,8 @@ pub fn run<R: Threads + Wait + Sync, A: Allocator + Copy + Send + Sync, I: Sourc
 ) -> Result<(), RunFault>
     requires { IsInRange task.now }
     ensures { IsRun task.now result
-        (transcript (I.remaining source.old) (I.remaining source.new) (I.Failures.failure_count source.old) (I.Failures.failure_count source.new))
-        (transcript (O.contents sink.old) (O.contents sink.new) (O.Failures.failure_count sink.old) (O.Failures.failure_count sink.new))
+        (transcript_of I.remaining I.Failures.failure_count source.old source.new)
+        (transcript_of O.contents O.Failures.failure_count sink.old sink.new)
         (O.is_settled sink.new) }
 {
     run_watched(rt, alloc, task, source, sink, &OpenGate)
@@ -69,8 +69,8 @@ pub fn run_watched<
 >(rt: &R, alloc: A, task: &Task, source: &mut I, sink: &mut O, gate: &G) -> Result<(), RunFault>
     requires { IsInRange task.now }
     ensures { IsRun task.now result
-        (transcript (I.remaining source.old) (I.remaining source.new) (I.Failures.failure_count source.old) (I.Failures.failure_count source.new))
-        (transcript (O.contents sink.old) (O.contents sink.new) (O.Failures.failure_count sink.old) (O.Failures.failure_count sink.new))
+        (transcript_of I.remaining I.Failures.failure_count source.old source.new)
+        (transcript_of O.contents O.Failures.failure_count sink.old sink.new)
         (O.is_settled sink.new) }
 {
     match *task {
@@ -169,8 +169,8 @@ fn run_slicing<
 >(rt: &R, alloc: A, asked: Slicing, source: &mut I, sink: &mut O, gate: &G) -> Result<(), RunFault>
     requires { AreInRange asked.pitch asked.layer asked.workers }
     ensures { IsRun (slicing asked.unit asked.pitch asked.layer asked.rule asked.workers asked.given asked.output) result
-        (transcript (I.remaining source.old) (I.remaining source.new) (I.Failures.failure_count source.old) (I.Failures.failure_count source.new))
-        (transcript (O.contents sink.old) (O.contents sink.new) (O.Failures.failure_count sink.old) (O.Failures.failure_count sink.new))
+        (transcript_of I.remaining I.Failures.failure_count source.old source.new)
+        (transcript_of O.contents O.Failures.failure_count sink.old sink.new)
         (O.is_settled sink.new) }
 {
     let solid = read_solid_by(rt, alloc, source, asked.unit, asked.workers)?;
@@ -188,8 +188,8 @@ fn run_box<A: Allocator + Copy + Send + Sync, I: Source, O: Sink>(
     sink: &mut O,
 ) -> Result<(), RunFault>
     ensures { IsRun (task.Box unit) result
-        (transcript (I.remaining source.old) (I.remaining source.new) (I.Failures.failure_count source.old) (I.Failures.failure_count source.new))
-        (transcript (O.contents sink.old) (O.contents sink.new) (O.Failures.failure_count sink.old) (O.Failures.failure_count sink.new))
+        (transcript_of I.remaining I.Failures.failure_count source.old source.new)
+        (transcript_of O.contents O.Failures.failure_count sink.old sink.new)
         (O.is_settled sink.new) }
 {
     let extent = read_extent(alloc, source, unit)?;
@@ -206,8 +206,8 @@ fn run_probe<A: Allocator + Copy + Send + Sync, I: Source, O: Sink>(
 ) -> Result<(), RunFault>
     requires { IsInRange (task.Probe asked.unit asked.pitch asked.layer asked.given asked.voxel.0 asked.voxel.1 asked.voxel.2) }
     ensures { IsRun (task.Probe asked.unit asked.pitch asked.layer asked.given asked.voxel.0 asked.voxel.1 asked.voxel.2) result
-        (transcript (I.remaining source.old) (I.remaining source.new) (I.Failures.failure_count source.old) (I.Failures.failure_count source.new))
-        (transcript (O.contents sink.old) (O.contents sink.new) (O.Failures.failure_count sink.old) (O.Failures.failure_count sink.new))
+        (transcript_of I.remaining I.Failures.failure_count source.old source.new)
+        (transcript_of O.contents O.Failures.failure_count sink.old sink.new)
         (O.is_settled sink.new) }
 {
     let (i, j, k) = asked.voxel;

@@ -1,7 +1,7 @@
 //! What a run writes. Each output has a module of its own, and all are flushed by [`flush`]. For several workers `images_by` and
 //! `pngs_by` draw by [`pages`]. This module chooses among the outputs of slicing.
 ghost use Rattle.std.specs.Prelude.{◌≡◌};
-ghost use Rattle.devices.specs.Transcript.{transcript};
+ghost use Rattle.devices.specs.Transcript.{transcript_of};
 ghost use Rattle.stlslice.specs.SlicedText.{output_of, sliced_text};
 ghost use Rattle.stlslice.specs.Unwritten.{IsMadeAndWritten};
 
@@ -53,8 +53,8 @@ impl Output {
 }
 
 /// Writes and flushes an output of a build, by up to `workers` workers. A report is made as a whole before its first byte is
-/// written. Images are written one after another if there is no memory to draw them first. PNGs are made in memory that is
-/// allocated before the first byte is written.
+/// written. Images and PNGs are written one after another if there is no memory to draw several first. PNGs are made in memory
+/// that is allocated before the first byte is written.
 pub(crate) fn write_build<R: Threads + Sync, A: Allocator + Copy + Send + Sync, O: Sink>(
     rt: &R,
     alloc: A,
@@ -64,7 +64,7 @@ pub(crate) fn write_build<R: Threads + Sync, A: Allocator + Copy + Send + Sync, 
     sink: &mut O,
 ) -> Result<(), RunFault>
     ensures { IsMadeAndWritten result
-        (transcript (O.contents sink.old) (O.contents sink.new) (O.Failures.failure_count sink.old) (O.Failures.failure_count sink.new))
+        (transcript_of O.contents O.Failures.failure_count sink.old sink.new)
         (O.is_settled sink.new) (sliced_text output build.now.job.grid build.now.job.rule build.now.job.solid.facets) }
 {
     match output {

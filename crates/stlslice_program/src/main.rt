@@ -1,10 +1,14 @@
 //! The program `stlslice`: slices the mesh on standard input, and writes to standard output.
 #![tactic(auto)]
 
+mod png_count;
+#[cfg(test)]
+mod png_streams;
 mod progress;
 #[cfg(test)]
 mod progress_texts;
 
+use crate::png_count::PngCount;
 use crate::progress::{Progress, ProgressWriter};
 use clap::Error as Refusal;
 use clap::error::ErrorKind as RefusalKind;
@@ -58,6 +62,7 @@ fn main(rt: HostRuntime) -> ExitCode {
         let mut sink = Counted::new(ProgressWriter {
             to: rt.stdout(),
             progress: &progress,
+            pngs: PngCount::new(),
         });
         let end = run_watched(&rt, alloc, &task, &mut source, &mut sink, &progress);
         progress.end();

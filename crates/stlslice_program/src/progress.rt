@@ -1,5 +1,6 @@
 //! How far slicing is, shown on standard error: the layers that are made, then the bytes of their images, or the PNGs, that
 //! are written.
+use crate::png_count::PngCount;
 use std::alloc::Allocator;
 use std::fmt::{self, Display, Formatter};
 use std::io::{self, Write};
@@ -237,6 +238,7 @@ impl<'r, A: Allocator, R: Clock + Eprint + Wait> Gate<A> for Progress<'r, R> {
 pub(crate) struct ProgressWriter<'p, 'r, W, R> {
     pub(crate) to: W,
     pub(crate) progress: &'p Progress<'r, R>,
+    pub(crate) pngs: PngCount,
 }
 
 impl<'p, 'r, W: Write, R: Clock + Eprint + Wait> Write for ProgressWriter<'p, 'r, W, R> {
@@ -247,8 +249,7 @@ impl<'p, 'r, W: Write, R: Clock + Eprint + Wait> Write for ProgressWriter<'p, 'r
         self.progress.begin_writing(phase);
         let count = self.to.write(buf)?;
         self.progress.wrote(match phase {
-            // a PNG comes as a whole, so it is written once its rest was taken
-            Phase::WritingPngs => u64::from(count == buf.len()),
+            Phase::WritingPngs => self.pngs.take(buf.get(..count).unwrap_or(buf)),
             _ => count as u64,
         });
         Ok(count)

@@ -126,7 +126,10 @@ impl<A: Allocator + Copy> Claims<A> {
         requires { IsOwned self.now pass.old }
         ensures owned { IsOwned self.now pass.new }
         ensures ended { pass.old.has_ended ≡ true → (result ≡ None) × (pass.new ≡ pass.old) }
-        ensures drawn { pass.old.has_ended ≡ false → (x : ℕ) × (pass.new.found ≡ pass.old.found ++ x ∷ []) × All (λ y. y < x) pass.old.found × (result ≡ (if nat_lt x self.now.stripes then Some x else None)) × HasReached self.now (hand 1 pass.new.found) (x + 1) }
+        ensures drawn { pass.old.has_ended ≡ false → (x : ℕ)
+            × (pass.new.found ≡ pass.old.found ++ x ∷ []) × All (λ y. y < x) pass.old.found
+            × (result ≡ (if nat_lt x self.now.stripes then Some x else None))
+            × HasReached self.now (hand 1 pass.new.found) (x + 1) }
         ensures ends { pass.new.has_ended ≡ is_none result }
         ensures below { IfSome result (λ x. x < self.now.stripes) }
     {

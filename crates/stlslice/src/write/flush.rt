@@ -1,7 +1,7 @@
 //! How an output goes out, as a whole or part by part, and ends: the sink is flushed.
 ghost use Rattle.std.specs.Prelude.{◌≡◌, ◌≤◌, ◌+◌, IfErr, OnOk, length, true};
 ghost use Rattle.std.specs.Io.KnownBytes.{Keeps};
-ghost use Rattle.devices.specs.Transcript.{transcript};
+ghost use Rattle.devices.specs.Transcript.{transcript_of};
 ghost use Rattle.devices.specs.Devices.{Fails, greatest_count};
 ghost use Rattle.stlslice.specs.Put.{IsPut};
 ghost use Rattle.stlslice.specs.Unwritten.{IsWritten};
@@ -13,7 +13,7 @@ use raster::{Sink, WriteFault, put_all};
 /// Writes a whole text, and flushes it. On a fault its first `written` bytes went out; these are all if the flush failed.
 pub(crate) fn write_all<O: Sink>(sink: &mut O, text: &[u8]) -> Result<(), RunFault>
     ensures { IsWritten result
-        (transcript (O.contents sink.old) (O.contents sink.new) (O.Failures.failure_count sink.old) (O.Failures.failure_count sink.new))
+        (transcript_of O.contents O.Failures.failure_count sink.old sink.new)
         (O.is_settled sink.new) text.now }
 {
     put_all(sink, text)?;
@@ -24,7 +24,7 @@ pub(crate) fn write_all<O: Sink>(sink: &mut O, text: &[u8]) -> Result<(), RunFau
 pub(crate) fn put_more<O: Sink>(part: &[u8], sink: &mut O, before: u64) -> Result<u64, WriteFault>
     requires { before + length part.now ≤ greatest_count }
     ensures { IsPut result
-        (transcript (O.contents sink.old) (O.contents sink.new) (O.Failures.failure_count sink.old) (O.Failures.failure_count sink.new))
+        (transcript_of O.contents O.Failures.failure_count sink.old sink.new)
         part.now before }
 {
     match put_all(sink, part) {

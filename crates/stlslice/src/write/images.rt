@@ -1,5 +1,5 @@
 //! The output of slicing: the images of all layers, one after the other.
-ghost use Rattle.devices.specs.Transcript.{transcript};
+ghost use Rattle.devices.specs.Transcript.{transcript_of};
 ghost use Rattle.stlslice.specs.Pages.{images_of};
 ghost use Rattle.stlslice.specs.Unwritten.{IsWritten};
 
@@ -16,7 +16,7 @@ pub(crate) fn write_images<A: Allocator, O: Sink>(
     sink: &mut O,
 ) -> Result<(), RunFault>
     ensures { IsWritten result
-        (transcript (O.contents sink.old) (O.contents sink.new) (O.Failures.failure_count sink.old) (O.Failures.failure_count sink.new))
+        (transcript_of O.contents O.Failures.failure_count sink.old sink.new)
         (O.is_settled sink.new) (images_of build.now.job) }
 {
     let grid = build.job().grid();

@@ -1,26 +1,20 @@
 //! Writes the images of all layers of a build by several workers, and decides whether these draw at the same time.
 ghost use Rattle.std.specs.Prelude.{◌<◌};
-ghost use Rattle.devices.specs.Transcript.{transcript};
+ghost use Rattle.devices.specs.Transcript.{transcript_of};
 ghost use Rattle.stlslice.specs.Pages.{images_of};
 ghost use Rattle.stlslice.specs.Unwritten.{IsWritten};
 
 use crate::run_fault::RunFault;
 use crate::write::image_pages::{Images, page_sets};
 use crate::write::images::write_images;
-use crate::write::pages::write_by_pages;
+use crate::write::pages::{SET_LEN, has_many_spans, write_by_pages};
 use build_book::Build;
 use raster::{Grid, Sink, image_len};
 use std::alloc::Allocator;
 use std::thread::Threads;
 
-/// The greatest number of bytes of images in a set of pages, unless one image a page takes more.
-const SET_LEN: usize = 1 << 24;
-
 /// The greatest length of an image that is drawn into a page.
 const DRAWN_LIMIT: u64 = 1 << 20;
-
-/// If a row has more spans than this on average, drawing images takes longer than writing them.
-const FEW_SPANS: u64 = 8;
 
 /// The same as [`write_images`], for a build by several workers. If the layers have many spans, drawing takes longer than
 /// writing. Then up to `workers` workers draw images at the same time, beside the thread that writes those drawn before. The
@@ -33,7 +27,7 @@ pub(crate) fn write_images_by<R: Threads + Sync, A: Allocator + Copy + Send + Sy
     workers: u32,
 ) -> Result<(), RunFault>
     ensures { IsWritten result
-        (transcript (O.contents sink.old) (O.contents sink.new) (O.Failures.failure_count sink.old) (O.Failures.failure_count sink.new))
+        (transcript_of O.contents O.Failures.failure_count sink.old sink.new)
         (O.is_settled sink.new) (images_of build.now.job) }
 {
     let per = drawn_a_page(build, workers);
@@ -67,7 +61,7 @@ fn write_drawn_images<R: Threads + Sync, A: Allocator + Copy + Send + Sync, O: S
 ) -> Result<(), RunFault>
     requires { 0 < per }
     ensures { IsWritten result
-        (transcript (O.contents sink.old) (O.contents sink.new) (O.Failures.failure_count sink.old) (O.Failures.failure_count sink.new))
+        (transcript_of O.contents O.Failures.failure_count sink.old sink.new)
         (O.is_settled sink.new) (images_of build.now.job) }
 {
     let pages = build
@@ -93,15 +87,4 @@ fn images_a_page(grid: &Grid, workers: u32) -> usize {
     (SET_LEN / workers.max(1) as usize / (len as usize).max(1))
         .min(share)
         .max(1)
-}
-
-/// Whether the rows of a build have more than `FEW_SPANS` spans on average, so that drawing takes longer than writing.
-fn has_many_spans<A: Allocator>(build: &Build<'_, A>) -> bool {
-    let grid = build.job().grid();
-    let rows = u64::from(grid.rows()).saturating_mul(u64::from(grid.layers()));
-    let mut spans: u64 = 0;
-    for layer in build.layers() {
-        spans = spans.saturating_add(layer.spans().len() as u64);
-    }
-    spans > rows.saturating_mul(FEW_SPANS)
 }

@@ -1,6 +1,6 @@
 //! Images of several layers that are drawn at the same time, while those drawn before are written in order.
 ghost use Rattle.std.specs.Prelude.{◌≡◌, ◌<◌, ◌≤◌, ◌+◌, ◌*◌, ℕ, All, List, flat_map, length, min, vec_len};
-ghost use Rattle.devices.specs.Transcript.{transcript};
+ghost use Rattle.devices.specs.Transcript.{transcript_of};
 ghost use Rattle.devices.specs.Devices.{greatest_count};
 ghost use Rattle.stlslice.specs.Pages.{ArePageSets, all_images, images_between};
 ghost use Rattle.stlslice.specs.Put.{IsPut};
@@ -8,10 +8,17 @@ ghost use Rattle.stlslice.specs.Unwritten.{IsWritten};
 
 use crate::run_fault::RunFault;
 use crate::write::flush::{put_more, settle};
+use build_book::Build;
 use raster::{Sink, WriteFault};
 use std::alloc::Allocator;
 use std::mem::swap;
 use std::thread::{Threads, for_each_mut, join_mut};
+
+/// The greatest number of bytes of images in a set of pages, unless one image a page takes more.
+pub(crate) const SET_LEN: usize = 1 << 24;
+
+/// If a row has more spans than this on average, drawing images takes longer than writing them.
+const FEW_SPANS: u64 = 8;
 
 /// The images of all layers of a build in a format, and how they are drawn into pages, up to `per` a page. A page is memory for
 /// the images of a few layers, one after the other.
@@ -67,7 +74,7 @@ pub(crate) fn write_by_pages<
     requires some_drawn { 0 < vec_len drawn }
     requires some_free { 0 < vec_len free }
     ensures { IsWritten result
-        (transcript (O.contents sink.old) (O.contents sink.new) (O.Failures.failure_count sink.old) (O.Failures.failure_count sink.new))
+        (transcript_of O.contents O.Failures.failure_count sink.old sink.new)
         (O.is_settled sink.new) (all_images (D.image drawing.now) (D.layers drawing.now)) }
 {
     let written = put_by_pages(rt, drawing, drawn, free, sink)?;
@@ -93,7 +100,7 @@ fn put_by_pages<
     requires some_drawn { 0 < vec_len drawn }
     requires some_free { 0 < vec_len free }
     ensures { IsPut result
-        (transcript (O.contents sink.old) (O.contents sink.new) (O.Failures.failure_count sink.old) (O.Failures.failure_count sink.new))
+        (transcript_of O.contents O.Failures.failure_count sink.old sink.new)
         (all_images (D.image drawing.now) (D.layers drawing.now)) 0 }
 {
     let count = drawing.layers();
@@ -143,7 +150,7 @@ fn draw_and_put<
     ensures room { All (D.fits drawing.now) free.new.items }
     ensures count { vec_len free.new ≡ vec_len free.old }
     ensures put { IsPut result
-        (transcript (O.contents sink.old) (O.contents sink.new) (O.Failures.failure_count sink.old) (O.Failures.failure_count sink.new))
+        (transcript_of O.contents O.Failures.failure_count sink.old sink.new)
         (flat_map D.bytes drawn.now) before }
 {
     let ((), put) = join_mut(
@@ -236,7 +243,7 @@ fn put_pages<P, D: Drawing<P>, O: Sink>(
 ) -> Result<u64, WriteFault>
     requires { before + length (flat_map D.bytes pages.now) ≤ greatest_count }
     ensures { IsPut result
-        (transcript (O.contents sink.old) (O.contents sink.new) (O.Failures.failure_count sink.old) (O.Failures.failure_count sink.new))
+        (transcript_of O.contents O.Failures.failure_count sink.old sink.new)
         (flat_map D.bytes pages.now) before }
 {
     let mut written = before;
@@ -244,4 +251,15 @@ fn put_pages<P, D: Drawing<P>, O: Sink>(
         written = put_more(D::bytes(page), sink, written)?;
     }
     Ok(written)
+}
+
+/// Whether the rows of a build have more than `FEW_SPANS` spans on average, so that drawing takes longer than writing.
+pub(crate) fn has_many_spans<A: Allocator>(build: &Build<'_, A>) -> bool {
+    let grid = build.job().grid();
+    let rows = u64::from(grid.rows()).saturating_mul(u64::from(grid.layers()));
+    let mut spans: u64 = 0;
+    for layer in build.layers() {
+        spans = spans.saturating_add(layer.spans().len() as u64);
+    }
+    spans > rows.saturating_mul(FEW_SPANS)
 }

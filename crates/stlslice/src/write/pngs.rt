@@ -3,7 +3,7 @@ ghost use Rattle.std.specs.Prelude.{◌≡◌, ◌≤◌, ◌+◌, ◌++◌, len
 ghost use Rattle.layer_png.specs.Depth.{bits};
 ghost use Rattle.layer_png.specs.Layer.{shown};
 ghost use Rattle.layer_png.specs.Text.{most_png_bytes, png_text};
-ghost use Rattle.devices.specs.Transcript.{transcript};
+ghost use Rattle.devices.specs.Transcript.{transcript_of};
 ghost use Rattle.raster.specs.Span.{AreSpans};
 ghost use Rattle.stlslice.specs.Pngs.{HasRoom, pngs_of};
 ghost use Rattle.stlslice.specs.Put.{IsPut};
@@ -27,7 +27,7 @@ pub(crate) fn write_pngs<A: Allocator + Copy + Send + Sync, O: Sink>(
     sink: &mut O,
 ) -> Result<(), RunFault>
     ensures { IsMadeAndWritten result
-        (transcript (O.contents sink.old) (O.contents sink.new) (O.Failures.failure_count sink.old) (O.Failures.failure_count sink.new))
+        (transcript_of O.contents O.Failures.failure_count sink.old sink.new)
         (O.is_settled sink.new) (pngs_of build.now.job depth mirrors) }
 {
     let room = room_for_png(build, depth);
@@ -65,7 +65,7 @@ fn put_pngs<A: Allocator, O: Sink>(
 ) -> Result<u64, WriteFault>
     requires { HasRoom build.now.job.grid depth build.now.layers (vec_capacity buffer) }
     ensures { IsPut result
-        (transcript (O.contents sink.old) (O.contents sink.new) (O.Failures.failure_count sink.old) (O.Failures.failure_count sink.new))
+        (transcript_of O.contents O.Failures.failure_count sink.old sink.new)
         (pngs_of build.now.job depth mirrors) 0 }
 {
     let grid = build.job().grid();

@@ -1,11 +1,11 @@
 //! Writes the PNGs of all layers of a build by several workers, and decides whether these make them at the same time.
 ghost use Rattle.std.specs.Prelude.{◌<◌};
-ghost use Rattle.devices.specs.Transcript.{transcript};
+ghost use Rattle.devices.specs.Transcript.{transcript_of};
 ghost use Rattle.stlslice.specs.Pngs.{HasRoom, pngs_of};
 ghost use Rattle.stlslice.specs.Unwritten.{IsMadeAndWritten};
 
 use crate::run_fault::RunFault;
-use crate::write::pages::write_by_pages;
+use crate::write::pages::{SET_LEN, has_many_spans, write_by_pages};
 use crate::write::png_pages::{Pngs, buffer_sets};
 use crate::write::pngs::{room_for_png, write_pngs};
 use build_book::Build;
@@ -14,16 +14,10 @@ use raster::Sink;
 use std::alloc::Allocator;
 use std::thread::Threads;
 
-/// The greatest number of bytes of a set of pages.
-const SET_LEN: usize = 1 << 24;
-
 /// The greatest number of bytes of a page, unless one PNG takes more. So a worker is done in some milliseconds, and others write.
 const PAGE_LEN: usize = 1 << 20;
 
-/// If all PNGs take no more bytes than this, one worker has made them before others begin.
-const SHORT_LEN: usize = 1 << 20;
-
-/// The same as [`write_pngs`], for a build by several workers. If the layers have many spans, up to `workers` workers make PNGs
+/// The same as [`write_pngs`], for a build by several workers. If rows have many spans, up to `workers` workers make PNGs
 /// at the same time, beside the thread that writes those made before. The memory for that is allocated before the first byte is
 /// written; if there is none, one worker does all.
 pub(crate) fn write_pngs_by<R: Threads + Sync, A: Allocator + Copy + Send + Sync, O: Sink>(
@@ -36,7 +30,7 @@ pub(crate) fn write_pngs_by<R: Threads + Sync, A: Allocator + Copy + Send + Sync
     sink: &mut O,
 ) -> Result<(), RunFault>
     ensures { IsMadeAndWritten result
-        (transcript (O.contents sink.old) (O.contents sink.new) (O.Failures.failure_count sink.old) (O.Failures.failure_count sink.new))
+        (transcript_of O.contents O.Failures.failure_count sink.old sink.new)
         (O.is_settled sink.new) (pngs_of build.now.job depth mirrors) }
 {
     let room = room_for_png(build, depth);
@@ -66,7 +60,7 @@ fn write_made_pngs<R: Threads + Sync, A: Allocator + Copy + Send + Sync, O: Sink
 ) -> Result<(), RunFault>
     requires { HasRoom pngs.now.build.now.job.grid pngs.now.depth pngs.now.build.now.layers pngs.now.room }
     ensures { IsMadeAndWritten result
-        (transcript (O.contents sink.old) (O.contents sink.new) (O.Failures.failure_count sink.old) (O.Failures.failure_count sink.new))
+        (transcript_of O.contents O.Failures.failure_count sink.old sink.new)
         (O.is_settled sink.new) (pngs_of pngs.now.build.now.job pngs.now.depth pngs.now.mirrors) }
 {
     let count = pngs
@@ -83,10 +77,10 @@ fn write_made_pngs<R: Threads + Sync, A: Allocator + Copy + Send + Sync, O: Sink
 }
 
 /// The number of workers that make PNGs at the same time. It is 0 if one makes them all: if there is one, a set of pages has no
-/// room for two, or the PNGs are short.
+/// room for two, or rows have few spans.
 fn makers<A: Allocator>(build: &Build<'_, A>, room: usize, workers: u32) -> usize {
     let makers = (workers as usize).min(SET_LEN / room.max(1));
-    if makers > 1 && build.layers().len().saturating_mul(room) > SHORT_LEN {
+    if makers > 1 && has_many_spans(build) {
         makers
     } else {
         0
