@@ -43,7 +43,7 @@ output, from the lowest layer up, with nothing between them. A pixel is 1 where
 its centre is inside the mesh. The first row of an image is that of the greatest
 y, the first pixel of a row that of the least x. Lengths in options and output
 are whole micrometres. With --png the images are PNGs. Binary STL is refused;
-stlslice-sl1 and stlslice-pngs read it.";
+stlslice-sl1, stlslice-pngs and stlslice-page read it.";
 
 const EXAMPLES: &str = "Examples:
   stlslice --pitch 50 --layer 100 < part.stl > layers.pbm

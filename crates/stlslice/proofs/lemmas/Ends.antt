@@ -55,7 +55,7 @@ sliced_there unit pitch layer rule workers given out input solid g job s placed 
     slicing_there unit pitch layer rule workers given out input solid (Ok (sliced_text out job.grid job.rule job.solid.facets)) s
     (rw placed (ap (λ (w : Job). Ok (sliced_text out w.grid w.rule w.solid.facets)) is))
 
--- where writing an outcome failed, a part of it was written, or nothing for want of memory
+-- where writing an outcome failed, a part of it was written, or nothing since memory ran out
 ended : (t : Task) (input : List ℕ) (transcript : Transcript) (text : List ℕ) (f : RunFault) → IsOutcome t input (Ok text)
     → ((f ≡ fault.Memory) × IsUntouched transcript) ⊎ IsUnwritten transcript text f → IsRunEnd t input transcript f
 ended t input transcript text f outcome (inl h) = inl (no_memory t input f h.0, h.1)
@@ -102,7 +102,7 @@ refused_end : (t : Task) (input : List ℕ) (transcript : Transcript) (f own : R
 refused_end t input transcript f own is (inl h) = own_fault t input f own is h.0
 refused_end t input transcript f own is (inr h) = absurd (no_text t input h.0 own is h.1)
 
--- a run that has read its input ends with this fault, or for want of memory
+-- a run that has read its input ends with this fault, or out of memory
 refused : {T : Type 0} (r : Result T RunFault) (t : Task) (input : List ℕ) (old new : Option (List ℕ)) (transcript : Transcript)
     → OnOk r ((text : List ℕ) × IsOutcome t input (Ok text) × Appends old new text) → IfErr r (IsRunEnd t input transcript)
     → (own : RunFault) → IsOutcome t input (Err own) → IsRefusal r own
