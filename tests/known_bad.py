@@ -87,9 +87,9 @@ BAD = {
           "    let _spans = Filler::new(alloc).fill(s, g, rule, k, list);\n    Err(AllocError)\n")],
         "filling_tests", "layers_of", "filling::layers_of_two_cubes"),
     "a run_watched that always answers out of memory": Bad(
-        [("crates/stlslice/src/running.rt", "    match task {\n        Task::Box { unit } => run_box(",
+        [("crates/stlslice/src/running.rt", "    match *task {\n        Task::Box { unit } => run_box(",
           "    let end: Result<(), RunFault> = Err(RunFault::Memory);\n    if end.is_err() {\n        return end;\n    }\n"
-          "    match task {\n        Task::Box { unit } => run_box(")],
+          "    match *task {\n        Task::Box { unit } => run_box(")],
         "run_tests", "box_runs::boxes", "box_runs::boxes"),
     "a Counted whose reads always fail": Bad(
         [(COUNTED, TAKEN + AFTER_READ, FAILED + AFTER_READ)],

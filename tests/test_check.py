@@ -50,7 +50,8 @@ fact n = refl
 STAND_IN = "#!/bin/sh\necho \"$(basename \"$0\") $* in $(basename \"$PWD\")\" >> \"$LOG\"\ntest \"$*\" != \"$FAILS\"\n"
 MAKEFILE = "build/stlslice:\n\tmkdir -p build; printf '#!/bin/sh\\n' > $@; chmod 755 $@\n"
 FILES = {
-    "crates.txt": "# name: libraries\nlow:\nhigh: low\nlow_tests: low\nhigh_tests: high low\ntop:\n",
+    "crates.txt": "# name: libraries\nbase:\nlow: base\nhigh: low\nlow_tests: low\nhigh_tests: high low\ntop:\n",
+    "crates/base/src/lib.rt": LOW,
     "crates/low/src/lib.rt": LOW,
     "crates/low/proofs/Facts.antt": LEMMA,
     "crates/low/specs/Lib.antt": "-- none\n",
@@ -126,7 +127,7 @@ def main():
         steps = ["proof of low", "libraries below low_tests", "tests of low_tests", "the program", "2 tests in tests/"]
         tried = "edits --changed crates/low/src/lib.rt"
         same("a body", it.check(), (body, [f"passed: {step}" for step in [*steps, tried]], "6 passed, 0 failed", 0))
-        same("what a body leaves", it.left, ["proofs of high, top", "tests of high_tests, top", "edits but those of crates/low/src/lib.rt", "0 of 2 tests in tests/"])
+        same("what a body leaves", it.left, ["proofs of base, high, top", "tests of high_tests, top", "edits but those of crates/low/src/lib.rt", "0 of 2 tests in tests/"])
 
         put(f"{it.top}/crates/low/src/lib.rt", LOW.replace("return 1;", "return 2 - 1;"))
         same("an edit that is proved", it.check(FAILS="--changed crates/low/src/lib.rt")[1:],
@@ -143,11 +144,17 @@ def main():
         same("a lemma's statement", it.check()[0], sorted([*[line for line in body if not line.startswith("edits.py")], "rt check in high"]))
 
         put(f"{it.top}/crates/low/specs/Lib.antt", "-- one\npub one : ℕ\none = 1\n")
-        same("a definition", it.check()[0], sorted(["edits.py low in repository", *body[1:], "rt check in high"]))
+        same("a definition", it.check()[0], sorted(["edits.py --changed crates/low/specs/Lib.antt in repository", *body[1:], "rt check in high"]))
+
+        put(f"{it.top}/crates/high/src/lib.rt", LOW.replace("return 1;", "return 2 - 1;"))
+        same("the tests of a library above others", [line for line in it.check()[0] if line.startswith("rt test")], ["rt test in high_tests"])
+
+        put(f"{it.top}/crates/base/src/lib.rt", LOW.replace("return 1;", "return 2 - 1;"))
+        same("tests that use it by others", [line for line in it.check()[0] if line.startswith("rt test")], ["rt test in low_tests"])
 
         put(f"{it.top}/crates/high/src/lib.rt", LOW.replace("return 1;", "return 2 - 1;"))
         same("a proof that fails ends it", it.check(FAILS="check"), (["rt check in high"], ["FAILED: proof of high"], "0 passed, 1 failed", 1))
-        same("what it leaves then", it.left, ["proofs of low, top", "tests of low_tests, high_tests, top", "edits", "2 of 2 tests in tests/"])
+        same("what it leaves then", it.left, ["proofs of base, low, top", "tests of low_tests, high_tests, top", "edits", "2 of 2 tests in tests/"])
 
         for name in ("edits/one.of_two", "must-fail/one.of_three"):
             put(f"{it.top}/crates/low/{name}.edit", "file: src/lib.rt\nold: 1\nnew: 2\n")
@@ -155,7 +162,7 @@ def main():
         put(f"{it.top}/crates/low/must-fail/one.of_three.edit", "file: src/lib.rt\nold: 1\nnew: 2\n")
         put(f"{it.top}/crates/low/specs/Lib.antt", "-- one\npub one : ℕ\none = 1\n")
         edits = [line for line in it.check()[0] if line.startswith("edits.py")]
-        same("a definition and an edit", edits, ["edits.py --changed crates/low/must-fail/one.of_three.edit in repository", "edits.py low in repository"])
+        same("a definition and an edit", edits, ["edits.py --changed crates/low/must-fail/one.of_three.edit crates/low/specs/Lib.antt in repository"])
 
         put(f"{it.top}/tools/script", "#!/bin/sh\n#\n")
         it.run("make", "build/stlslice")

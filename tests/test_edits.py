@@ -622,7 +622,7 @@ def the_repository_s_own():
                 names.add(edit.name)
     same("edits that can't be tried", bad, [])
     same("edits that are listed and aren't there", sorted({*edits.listed_otherwise(ROOT)} - names), [])
-    holds(f"{count} edits, 756 or more", count >= 756)
+    holds(f"{count} edits, 900 or more", count >= 900)
 
 
 def main():

@@ -109,8 +109,11 @@ SPELLED = {
         ("docs/decisions/pages-for-dense-images.md", "A set has {M} MiB (`SET_LEN`)"),
     ],
     "stlslice::DRAWN_LIMIT": [
-        ("docs/usage.md", "an image has at most {M} mebibyte"),
+        ("docs/usage.md", "An image of more than {M} mebibyte"),
         ("docs/decisions/pages-for-dense-images.md", "larger images than {M} mebibyte (`DRAWN_LIMIT`)"),
+    ],
+    "stlslice::PAGE_LEN": [
+        ("docs/decisions/pages-for-dense-images.md", "has at most {M} mebibyte (`PAGE_LEN`)"),
     ],
     "stlslice::FEW_SPANS": [
         ("docs/decisions/pages-for-dense-images.md", "more than {} spans a row on average"),

@@ -385,7 +385,7 @@ def memory_is_small(program, folder):
     same(status, 0, f"status ({fault.decode()})")
     most = int(told.split()[-1])
     print(f"memory: {most} KiB")
-    assert 20_000 < most < 200_000, f"{most} KiB"
+    assert 20_000 < most < 195_000, f"{most} KiB"
 
 
 if __name__ == "__main__":

@@ -100,21 +100,21 @@ class Change:
         above = [it for it, deps in self.deps.items() if self.open & {*deps} and not is_of_tests(it)]
         return [it for it in self.deps if it in self.sources or it in above]
 
+    def below(self, crate):
+        """The libraries that a crate stands on, at once or by others."""
+        return {*self.deps[crate]}.union(*(self.below(it) for it in self.deps[crate]))
+
     def nearest_tests(self):
-        """The crates of tests to run: each changed one, or the one with the fewest libraries that uses a changed crate."""
+        """The crates of tests to run: each changed one, or the one with the fewest libraries below it, a changed one among them."""
         changed = [it for it in self.sources if is_of_tests(it)]
-        users = [it for it, deps in self.deps.items() if is_of_tests(it) and {*deps} & {*self.sources}]
-        return changed or sorted(users, key=lambda it: len(self.deps[it]))[:1]
+        users = [it for it in self.deps if is_of_tests(it) and self.below(it) & {*self.sources}]
+        return changed or sorted(users, key=lambda it: len(self.below(it)))[:1]
 
     def edits_to_try(self):
         """Words for tools/edits.py."""
         for crate in self.deps:
-            names = self.sources.get(crate, [])
-            is_whole = any("/specs/" in it for it in names)
-            folders = "must-fail" if is_whole else "edits|must-fail|src"
-            changed = [it for it in self.files if re.match(rf"crates/{crate}/({folders})/", it) and (text_of(it) or it.endswith(".rt"))]
-            if is_whole:
-                yield [crate]
+            names = [it for it in self.files if re.match(rf"crates/{crate}/(edits|must-fail|specs|src)/", it)]
+            changed = [it for it in names if text_of(it) or not it.endswith(".edit")]
             if changed:
                 yield ["--changed", *changed]
 

@@ -70,7 +70,7 @@ def read_crate(root, name, below):
 
 
 def read_front(crate, text):
-    """The front page, and the names that `lib.rt` makes public: what it hands on, and what stands there."""
+    """The front page, and the names that `lib.rt` makes public: what it re-exports, and what stands there."""
     lines = text.splitlines()
     crate.front = "\n".join(line[4:] for line in lines if line.startswith("//!"))
     for path, names in re.findall(r"(?m)^pub use ([\w:]+)::\{([^}]*)\};", text):

@@ -60,8 +60,8 @@ OUT_OF_RANGE, MEMORY, NO_ROOM, NOT_OPEN = 1, 6, 7, 8
 
 
 class Fault(Exception):
-    """What is refused. For a text, a mesh, a grid and want of memory `status` (3 to 6) and `line` are the program's; else they
-    are the library's own: 1 where a number is out of its range or outside the grid, 8 where the mesh was closed."""
+    """What is refused. If text, mesh or grid is at fault, or memory ran out, `status` (3 to 6) and `line` are the program's. Else they
+    are the library's own: 1 if a number is out of its range or outside the grid, 8 if the mesh was closed."""
 
     def __init__(self, status: int, text: str) -> None:
         super().__init__(text)
