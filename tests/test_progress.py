@@ -6,8 +6,10 @@ import pty
 import re
 import subprocess
 import sys
+import tempfile
 
 from common import ROOT, PROGRAM, holds, same
+from parts import box, text
 
 PART = os.path.join(ROOT, "examples", "helical_gear.stl")
 SLICE = ["--pitch", "100", "--layer", "50"]
@@ -37,9 +39,9 @@ def nothing_else_changes():
         holds(f"the fault behind the progress by {name}", watched.stderr.decode().endswith(fault))
 
 
-def lines_elsewhere(words, last):
+def lines_elsewhere(words, last, path=PART):
     """Without a terminal: a line for each tenth, of counts that rise to the whole in each phase."""
-    told = run(words + ["--progress"])
+    told = run(words + ["--progress"], path)
     found = []
     for line in told.stderr.decode().splitlines():
         shown = re.fullmatch("stlslice: " + SHOWN, line)
@@ -53,6 +55,17 @@ def lines_elsewhere(words, last):
         holds(f"at most ten lines on {phase} by {name}", 0 < len(steps) <= 10)
         holds(f"counts on {phase} rise by {name}", all(a[2] < b[2] and a[1] // 10 < b[1] // 10 for a, b in zip(steps, steps[1:])))
         same(f"{phase} ends with the whole by {name}", steps[-1][1:], (100, total, total))
+
+
+def pngs_in_pages():
+    """Several workers make PNGs of many spans in pages, each of which is written by one call: its PNGs are counted."""
+    teeth = [box((20 * k, 0, 0), (20 * k + 11, 2600, 200)) for k in range(10)]
+    with tempfile.TemporaryDirectory() as folder:
+        path = os.path.join(folder, "comb.stl")
+        with open(path, "w", encoding="ascii") as file:
+            file.write(text(sum(teeth, [])))
+        for workers in ("1", "2", "4"):
+            lines_elsewhere(["--pitch", "1000", "--layer", "1000", "--png", "--workers", workers], [("slicing", 200), ("writing", 200)], path)
 
 
 def line_on_a_terminal(words, below, output=os.devnull):
@@ -93,6 +106,7 @@ def main():
     for words in (["--png"], ["--png", "--workers", "4", "--mirror-x"]):
         lines_elsewhere(SLICE + words, [("slicing", LAYERS), ("writing", LAYERS)])
     lines_elsewhere(SLICE + ["--report"], [("slicing", LAYERS)])
+    pngs_in_pages()
     for words in (["--box"], SLICE + ["--probe", "1,1,1"]):
         same(f"what {words[0]} shows", run(words + ["--progress"]).stderr, b"")
     line_on_a_terminal(SLICE, [""])
