@@ -51,7 +51,7 @@ def main():
     same("no part is awaited for --help", run_on_a_terminal(["--help"])[::2], (0, ""))
     same("no part is awaited by refused words", run_on_a_terminal(["--layer", "1"]), (2, "", "stlslice: --pitch is missing\n"))
     help_text = run(["--help"]).stdout
-    holds("--help says what reads binary STL", "stlslice-sl1 and stlslice-pngs read it" in help_text)
+    holds("--help says what reads binary STL", "stlslice-sl1, stlslice-pngs and stlslice-page read it" in help_text)
 
 
 if __name__ == "__main__":
