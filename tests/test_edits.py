@@ -341,7 +341,7 @@ def crate_in(room):
 
 def functions():
     found = {it.symbol: it for it in edits.functions_of("src/parts.rt", SOURCE, {"Part": ["home"]})}
-    same("functions", list(found), ["parts::looped", "home::Part::of", "home::Part::n", "parts::PartFromVec::from", "parts::plain",
+    same("functions", list(found), ["parts::looped", "home::Part::of", "home::Part::n", "parts::PartFromVecU32::from", "parts::plain",
                                     "parts::law"])
     rows = SOURCE.split("\n")
     same("body", rows[found["home::Part::of"].opens : found["home::Part::of"].last + 1],

@@ -150,8 +150,9 @@ def owner(head):
     trait, is_for, of = head.partition(" where ")[0].partition(" for ")
     if not is_for:
         return re.match(NAMED, trait)[1]
-    name, _, given = trait.partition("<")
-    given = [it for it in re.findall(r"(?:^|, ?)(?:\w+::)*(\w+)", given) if it not in parameters]
+    # the arguments of the trait follow, with their own
+    name, _, given = re.sub(r"&(?:'\w+ )?(?:mut )?", "Ref<", trait).partition("<")
+    given = [it[0].upper() + it[1:] for it in re.findall(r"(?:^|<|, ?)(?:\w+::)*(\w+)", given) if it not in parameters]
     return re.match(NAMED, of)[1] + re.match(NAMED, name)[1] + "".join(given)
 
 

@@ -2,7 +2,7 @@
 //! also to writers that fail, and without memory for several. No clause says that several make them.
 use crate::allocation_runs::{Usual, first_free_turn};
 use crate::answers::{writes, written};
-use crate::drawn_runs::is_filled;
+use crate::drawn_runs::{COMB, is_filled};
 use crate::meshes::Mesh::Boxes;
 use crate::meshes::{Corners, mesh_text};
 use std::alloc::{AllocError, Global};
@@ -132,29 +132,15 @@ fn writers_that_fail_between_pages_of_pngs(rt: HostRuntime) -> Result<(), Fail> 
     Ok(())
 }
 
-/// A comb of few layers, of which each PNG takes up to 150 kilobytes: a run over it allocates seldom.
-const DEEP_COMB: [Corners; 10] = [
-    [[0, 0, 0], [800, 2750, 8]],
-    [[1600, 0, 0], [2400, 2750, 8]],
-    [[3200, 0, 0], [4000, 2750, 8]],
-    [[4800, 0, 0], [5600, 2750, 8]],
-    [[6400, 0, 0], [7200, 2750, 8]],
-    [[8000, 0, 0], [8800, 2750, 8]],
-    [[9600, 0, 0], [10400, 2750, 8]],
-    [[11200, 0, 0], [12000, 2750, 8]],
-    [[12800, 0, 0], [13600, 2750, 8]],
-    [[14400, 0, 0], [15200, 2750, 8]],
-];
-
-/// The number of its layers.
-const DEEP_LAYERS: usize = 8;
+/// The number of layers of `COMB`.
+const FEW_LAYERS: usize = 3;
 
 /// If there is no memory for the PNGs of several workers, one worker makes them; if there is none for one PNG, nothing is
 /// written.
 #[test]
 fn each_allocation_fails_where_several_make_pngs(rt: HostRuntime) -> Result<(), Fail> {
-    let comb = mesh_text(rt.alloc(), Boxes(&DEEP_COMB))?;
-    match pngs_of(&rt, comb.as_str(), 1, DEEP_LAYERS)? {
+    let comb = mesh_text(rt.alloc(), Boxes(&COMB))?;
+    match pngs_of(&rt, comb.as_str(), 1, FEW_LAYERS)? {
         Some(pngs) => {
             let usual: Usual = (Ok(()), pngs.as_slice());
             for workers in [2, 4] {
