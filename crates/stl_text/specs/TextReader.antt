@@ -81,7 +81,7 @@ ReadsOn old ahead new rest = (limit : ℕ) (unit : LengthUnit) (taken : List Fac
 abbrev pub IsAfter : ℕ → LengthUnit → List Facet → TextReader → List ℕ → Type 0
 IsAfter limit unit taken p fed = IsReading limit unit taken p fed []
 
--- this holds of whatever limit, unit, text and facets: the reader was fed the text, and the facets were taken off it
+-- This holds of each text that the reader may have been fed, by its limit and unit, and of the facets that were taken off it.
 abbrev pub WhateverFed : TextReader → (ℕ → LengthUnit → List Facet → List ℕ → Type 0) → Type 0
 WhateverFed p holds = (limit : ℕ) (unit : LengthUnit) (taken : List Facet) (fed : List ℕ) → IsAfter limit unit taken p fed → holds limit unit taken fed
 
