@@ -84,7 +84,7 @@ def pixels_are_those_of_prusaslicer(program, folder):
 
 def script_compares_both(program, folder):
     """The table in docs/printing.md has a row for each part and screen of bench/beside_prusaslicer.py, as that writes one."""
-    form = r"(?m)^\| `(\w+)\.stl` \| (\w+) \| (\d+) \| [\d.]+ s, [\d.]+ MB \| [\d.]+ s, [\d.]+ MB \| [\d,]+ \| [\d,]+ \|$"
+    form = r"(?m)^\| `(\w+)\.stl` \| (\w+) \| (\d+) \|(?: [\d.]+ s, [\d.]+ MB \|){2} \d+ times \| [\d,]+ \| [\d,]+ \|$"
     with open(os.path.join(ROOT, "docs", "printing.md"), encoding="utf-8") as file:
         rows = re.findall(form, file.read())
     pairs = itertools.product(beside_prusaslicer.SCREENS, beside_prusaslicer.PARTS)
