@@ -47,7 +47,7 @@ demo:  ## slices a bundled part into build/demo, at once: unproved if the progra
 	@python3 examples/demo.py $(PROGRAM) build/demo
 
 help:  ## lists these targets
-	@sed -nE 's/^([a-z-]+):.*  ## (.*)/\1\t\2/p' Makefile | awk -F '\t' '{ printf "%-14s %s\n", $$1, $$2 }'
+	@sed -nE 's/^([a-z-]+):.*  ## (.*)/\1\t\2/p' Makefile | awk -F '\t' '{ printf "%-16s %s\n", $$1, $$2 }'
 
 check:  ## what a change touches, in minutes; BASE=REV says what it is compared with (HEAD)
 	$(NEEDS_RT)
@@ -105,7 +105,7 @@ install: $(PROGRAM) $(if $(LIBRARY_BUILT),install-library)  ## copies the progra
 		install -m $$mode "$$file" $(DESTDIR)$(DOCS)/examples; \
 	done
 
-install-library: $(LIBRARY)
+install-library: $(LIBRARY)  ## installs the library alone: headers, archive, shared library, pkg-config
 	install -D -m 644 include/stlslice.h $(DESTDIR)$(INCLUDE)/stlslice.h
 	install -D -m 644 $(dir $(LIBRARY))libstlslice.a $(DESTDIR)$(LIB)/libstlslice.a
 	install -m 755 $(LIBRARY) $(DESTDIR)$(LIB)

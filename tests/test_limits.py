@@ -12,8 +12,8 @@ from common import ROOT, Room, holds, same, text_of
 OPERATORS = {ast.Add: operator.add, ast.Sub: operator.sub, ast.Mult: operator.mul, ast.Div: operator.floordiv,
              ast.LShift: operator.lshift}
 
-# For each constant the places that spell it, with the words around it: {} is its number, {m} that of its metres, {mm} that of
-# its millimetres, {K} and {M} that of its KiB and MiB. A word stands for a small number.
+# For each constant the places that spell it, with the words around it: {} is its number, {m} that of its metres, {K} and {M}
+# that of its KiB and MiB. A word stands for a small number.
 SPELLED = {
     "geometry::COORDINATE_LIMIT": [
         ("docs/usage.md", "the least corner, -{} to {} µm"),

@@ -2,7 +2,7 @@
 //! byte, until one of the two fails.
 use crate::answers::{end_of, outcome};
 use crate::meshes::Mesh::{Loud, Parts, Text};
-use crate::meshes::{Mesh, OCTAHEDRON, OPEN, OPEN_AND_FLAT, mesh_text};
+use crate::meshes::{Mesh, NESTED, OCTAHEDRON, OPEN, OPEN_AND_FLAT, mesh_text};
 use short_memory::{OneByteReader, ShortMemory, SmallWriter};
 use std::alloc::Allocator;
 use std::io::ErrorKind;
@@ -156,9 +156,6 @@ fn is_alike<R: Threads + Wait + Sync + AllocGlobal>(
 
 /// A line of words, a mesh, and the exit status of the run.
 type Row<'a> = (&'a str, Mesh<'a>, u8);
-
-/// Two boxes that overlap.
-const NESTED: [[[i32; 3]; 2]; 2] = [[[0, 0, 0], [4, 4, 4]], [[2, 2, 2], [6, 6, 6]]];
 
 static ROWS: [Row; 21] = [
     ("--box", Parts(CUBE), 0),

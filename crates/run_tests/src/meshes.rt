@@ -77,6 +77,9 @@ endsolid o
 /// A box by its least and its greatest corner, in micrometres.
 pub(crate) type Corners = [[i32; 3]; 2];
 
+/// Two boxes that overlap.
+pub(crate) const NESTED: [Corners; 2] = [[[0, 0, 0], [4, 4, 4]], [[2, 2, 2], [6, 6, 6]]];
+
 /// Boxes, one after the other, each with the facets of the cube in their order, and a blank line after it.
 fn push_boxes(text: &mut String, boxes: &[Corners]) -> Result<(), AllocError> {
     text.push_str("solid b\n")?;

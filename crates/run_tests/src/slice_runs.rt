@@ -1,7 +1,7 @@
 //! Runs that slice, with images and reports that are known, by several numbers of workers.
 use crate::answers::{Refused, all_refused, writes, written};
 use crate::meshes::Mesh::{Boxes, Hollow, Loud, Parts, Text};
-use crate::meshes::{Corners, FLAT, Mesh, OCTAHEDRON, OPEN, SPIKED, mesh_text};
+use crate::meshes::{FLAT, Mesh, NESTED, OCTAHEDRON, OPEN, SPIKED, mesh_text};
 use raster::Grid;
 use std::alloc::{AllocError, Global};
 use std::sync::Wait;
@@ -81,9 +81,6 @@ fn all_sliced<R: Threads + Wait + Sync + AllocGlobal>(
     Ok(())
 }
 
-/// Two boxes that overlap.
-const NESTED: [Corners; 2] = [[[0, 0, 0], [4, 4, 4]], [[2, 2, 2], [6, 6, 6]]];
-
 const NESTED_IMAGES: &[u8] = b"P4\n3 3\n\x00\xc0\xc0P4\n3 3\n\x60\xa0\xc0P4\n3 3\n\x60\x60\x00";
 
 const NESTED_REPORT: &str =
@@ -141,7 +138,7 @@ static FITTED: [Row; 8] = [
     ),
 ];
 
-/// The same, each as a file with a keyword or a vertex a line, and with three decimals.
+/// Worked meshes, each as a file with a keyword or a vertex a line, and with three decimals.
 static FILES: [Row; 10] = [
     (
         "--pitch 2 --layer 2",

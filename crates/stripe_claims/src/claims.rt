@@ -117,7 +117,7 @@ impl<A: Allocator + Copy> Claims<A> {
     }
 
     /// The next number of the word if it is below `stripes`, else `None`. The draw appends the word to the pass's list and
-    /// raises it by 1. Steps of the claims machine lead to the moment after that. So there the lists of all passes hold each
+    /// raises the word by 1. Steps of the claims machine lead to the moment after that. So there the lists of all passes hold each
     /// number below the word once and nothing else (`claims_laws`).
     ///
     /// After a `None` the word is above `stripes`, and the pass has ended. Further draws with it return `None` without an
