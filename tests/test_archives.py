@@ -11,8 +11,8 @@ import sys
 import time
 import zipfile
 
-from parts import (ROOT, box, environment, example, installed, main, p4_images, pixels_of_p4, pixels_of_png, png_of_p4, run, same,
-                   text)
+from parts import (ROOT, alone, box, environment, example, installed, main, p4_images, pixels_of_p4, pixels_of_png, png_of_p4,
+                   run, same, text)
 
 SL1 = installed("stlslice-sl1")
 PNGS = installed("stlslice-pngs")
@@ -278,10 +278,56 @@ def pitch_of_quarters_is_exact(program, folder):
             file.write(bad)
         found = run(script(SL1, words + [part, out + "2"]))
         same(found, (status, b"", f"stlslice: {line}\n".encode()), "a fault")
-    for pitch in ("0", "47.2500", "-1", "0.000", "1e2"):
-        status, _, fault = run(script(SL1, ["--pitch=" + pitch, part, out + "2"]))
-        assert status == 2 and b"it takes micrometres" in fault, f"pitch {pitch}: {fault!r}"
     leaves_nothing(folder, ["large.stl", "out.sl1", "part.stl"])
+
+
+WHOLE = "it takes a whole number, 1 to 999999"
+SECONDS = "it takes seconds above 0 and below 100000, as 2.2"
+WRONG = {
+    "--canvas=2560": "it takes COLUMNSxROWS, each 1 to 99999, as in 2560x1620", "--layer=0.05": WHOLE, "--workers=0": WHOLE,
+    "--pitch=0": "it takes micrometres above 0 and below 1000000, with at most three digits behind the point, as 50, 47.25 or 19x24",
+    "--height=0": "it takes millimetres above 0 and below 1000000, as 150 or 149.5",
+    "--exposure=0": SECONDS, "--first-exposure=-2": SECONDS, "--fade=1000": "it takes a whole number, 0 to 999",
+    # what follows in these lines is argparse's own, and not the same in each Python
+    "--turn=half": "invalid choice: 'half'", "--rule=xor": "invalid choice: 'xor'",
+    "--unit=foot": "invalid choice: 'foot'", "--depth=2": "invalid choice: 2",
+}
+
+
+def wrong_words_are_refused(program, folder):
+    """A value of each option; others are in test_printing_module.py."""
+    def refused(words, line):
+        status, told, fault = run(script(SL1, words), cwd=folder)
+        last = fault.decode().splitlines()[-1].split(" (choose from ")[0]
+        same((status, told, last), (2, b"", f"stlslice-sl1: error: {line}"), str(words))
+
+    for word, line in WRONG.items():
+        refused([word, "part.stl", "out"], f"argument {word.split('=')[0]}: {line}")
+    refused([], "the following arguments are required: part, output")
+    refused(["part.stl", "out", "--expo", "2"], "unrecognized arguments: --expo 2")
+    refused(["part.stl", "out", "--fade"], "argument --fade: expected one argument")
+    leaves_nothing(folder, [])
+
+
+def missing_program_is_told(program, folder):
+    """stlslice-page finds the program in the same way."""
+    for name in ("stlslice-sl1", "stlslice-pngs", "stlslice-page"):
+        for words, line in (([], "stlslice is neither beside this command nor on PATH; --program says where it is"),
+                            (["--program", folder], f"no program at {folder}"), (["--program", "none"], "no program at none")):
+            words = script(alone(name, folder), [*SMALL, *words, example("bracket.stl"), os.path.join(folder, "out")])
+            same(run(words, env={"PATH": folder}), (1, b"", f"{name}: {line}\n".encode()), str(words))
+    leaves_nothing(folder, ["alone"])
+
+
+def other_exposure_is_asked_for(program, folder):
+    """A printer's exposure is that of a resin whose layers have one height; the command goes on."""
+    for model, line in (("SL1", "the exposure of 7.5 s is that of Prusa Orange Tough @0.05"),
+                        ("SL1S", "the exposure of 2 s is that of Prusa Orange Tough @0.05 SL1S")):
+        line = f"stlslice-sl1: {line}, whose layers are 50 micrometres high; --exposure takes another\n"
+        for words, said in (([], line), (["--exposure", "3"], "")):
+            words = ["--printer", model, "--layer", "100", *words, os.path.join(folder, "none.stl"), os.path.join(folder, "out")]
+            said += f"stlslice-sl1: No such file or directory: {folder}/none.stl\n"
+            same(run(script(SL1, words)), (1, b"", said.encode()), str(words))
 
 
 def slicer(folder, body, layers=2):
@@ -327,6 +373,17 @@ def broken_slicers_leave_nothing(program, folder):
              example("bracket.stl"), os.path.join(folder, "out.sl1")]
     same(run(script(SL1, words)), (1, b"", b"stlslice-sl1: the program's report has 1 layers, and 2 were asked for\n"), "a short report")
     leaves_nothing(folder, ["slicer"])
+
+
+def full_disk_is_told(program, folder):
+    """A limit of no bytes for each file stands for a full disk."""
+    path = slicer(folder, 2 * printed(png_of_p4((8, 1, b"\377"), 1)))
+    for command, more in ((SL1, ["--depth", "1"]), (PNGS, ["--depth", "1"]), (installed("stlslice-page"), [])):
+        name, out = os.path.basename(command), os.path.join(folder, "out")
+        words = ["--canvas", "8x1", "--pitch", "100", "--layer", "500", "--program", path, *more, example("bracket.stl"), out]
+        found = run(["bash", "-c", 'ulimit -f 0; exec "$@"', "bash", *script(command, words)])
+        same(found, (1, b"", f"{name}: File too large: {out}\n".encode()), name)
+        leaves_nothing(folder, ["slicer"])
 
 
 def pngs_are_taken_as_they_are(program, folder):
@@ -413,6 +470,6 @@ def options_are_those_of_the_page(program, folder):
 if __name__ == "__main__":
     main([archive_is_the_stream, settings_are_those_asked_for, large_layers_are_slow, part_is_upright_and_in_the_middle,
           folder_is_the_stream, large_part_is_refused, faults_are_handed_on, fault_keeps_what_was_there,
-          output_that_is_no_plain_file_is_refused, part_is_not_overwritten, pngs_are_taken_as_they_are,
-          pitch_of_quarters_is_exact, broken_slicers_leave_nothing, stopped_script_leaves_nothing, pipes_and_units,
-          options_are_those_of_the_page])
+          output_that_is_no_plain_file_is_refused, part_is_not_overwritten, wrong_words_are_refused, missing_program_is_told,
+          other_exposure_is_asked_for, pngs_are_taken_as_they_are, pitch_of_quarters_is_exact, broken_slicers_leave_nothing,
+          full_disk_is_told, stopped_script_leaves_nothing, pipes_and_units, options_are_those_of_the_page])

@@ -100,17 +100,18 @@ def printer_brings_its_screen(program, folder):
 
 def printer_is_asked_for(program, folder):
     part = written(folder, "part.stl", SHAPE)
+    missing = ("the printer is missing: --printer MODEL for one that --printer help lists; for another --canvas COLUMNSxROWS and "
+               "--pitch N (its screen in pixels, and a pixel in micrometres)")
     for command in (SL1, PNGS):
         for words, line in (
-                ([part], "the printer is missing: --printer MODEL for one that --printer help lists; for another --canvas"),
-                (["--canvas", "9x9", part], "the printer is missing"),
-                (["--pitch", "50", part], "the printer is missing"),
-                (["--printer", "Mars", part], "--printer takes SL1 or SL1S (--printer help says more)"),
+                ([part], missing), (["--canvas", "9x9", part], missing), (["--pitch", "50", part], missing),
+                (["--printer", "Mars", part],
+                 "--printer takes SL1 or SL1S (--printer help says more); for another printer take --canvas and --pitch"),
                 (["--printer", "SL1S", "--canvas", "9x9", part], "--printer SL1S brings its own: leave out --canvas"),
                 (["--printer", "SL1S", "--mirror-x", part], "--printer SL1S brings its own: leave out --mirror-x"),
-                (["--printer", "SL1S", "--height", "9", part], "--printer SL1S brings its own: leave out --height"),
-                (["--canvas", "9x9", "--pitch", "19x24x3", part], "it takes micrometres")):
-            assert line in made(words, folder, command, 2), words
+                (["--printer", "SL1S", "--height", "9", part], "--printer SL1S brings its own: leave out --height")):
+            last = made(words, folder, command, 2).splitlines()[-1]
+            same(last, f"{os.path.basename(command)}: error: {line}", f"refusal of {words}")
         status, told, said = run([command, "--printer", "help"])
         same((status, said), (0, b""), "the list of printers")
         for word in (b"SL1S  Original Prusa SL1S SPEED: 2560 x 1620 pixels, 128 x 81 x 150 mm\n    from PrusaSlicer 2.5.0",

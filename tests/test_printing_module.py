@@ -2,6 +2,7 @@
 """The module behind the commands, as installed, function by function: shortest decimals, PNGs cut from a stream and joined, the
 text of binary STL, turning and multiplying, shells, pixels that aren't square, the table of printers."""
 
+import argparse
 import ast
 import decimal
 import functools
@@ -20,7 +21,7 @@ from parts import box, installed, leave_out, main, pixels_of_p4, pixels_of_png, 
 SHARE = os.path.join(os.path.dirname(os.path.dirname(installed())), "share", "stlslice")
 sys.path.insert(0, SHARE)
 
-from stlslice_commands import floats, images, parts, printers, shells, slicing, stl, words  # noqa: E402
+from stlslice_commands import floats, images, parts, printers, shells, sl1, slicing, stl, words  # noqa: E402
 from stlslice_commands.faults import Refused  # noqa: E402
 from stlslice_commands.program import next_png  # noqa: E402
 
@@ -92,7 +93,8 @@ def pngs_are_cut_by_their_chunks(program, folder):
     for end in range(len(made[0])):
         same(next_png(io.BytesIO(made[0][:end]), head), None, f"a stream of {end} bytes")
     for other in (images.head_of((331, 7), 1), images.head_of((7, 331), 8), b"P4\n331 7\n".ljust(33)):
-        refused(lambda: next_png(io.BytesIO(other + made[0][33:]), head), 1, "the program's output isn't a stream of PNGs")
+        refused(lambda: next_png(io.BytesIO(other + made[0][33:]), head), 1,
+                "the program's output isn't a stream of PNGs of that canvas")
 
 
 def pngs_are_joined(program, folder):
@@ -158,15 +160,14 @@ def binary_is_written_out(program, folder):
     for number in (float("nan"), float("inf")):
         facets = corners[:5] + [((0, 0, number), (0, 0, 0), (1, 1, 1))]
         refused(lambda: list(stl.corners_of_binary(io.BytesIO(binary(facets)))), 3,
-                "facet 5 of the binary STL has a coordinate that is no number")
+                "facet 5 of the binary STL has a coordinate that is no number (nan or inf)")
 
 
 def refused(made, status, line):
     try:
         made()
     except Refused as fault:
-        assert fault.status == status and line in fault.line, f"{fault.status}: {fault.line}"
-        return
+        return same((fault.status, fault.line), (status, line), "refusal")
     raise AssertionError(f"not refused: {line}")
 
 
@@ -193,7 +194,10 @@ def text_is_changed_exactly(program, folder):
                     x, y = -y, x
                 wanted.append((x * times[0], y * times[1], z * times[2]))
             same(found, wanted, f"{quarters} quarters, times {times}")
-    refused(lambda: stl.changed(io.BytesIO(text([]).encode()), 1, 1, (1, 1, 1)), 1, "a corner that can't be turned")
+    refused(lambda: stl.changed(io.BytesIO(text([]).encode()), 1, 1, (1, 1, 1)), 1,
+            "the part's text has a corner that can't be turned or multiplied")
+    large = text([(("1e999999", 0, 0), (0, 0, 0), (1, 1, 1))]).encode()
+    refused(lambda: stl.changed(io.BytesIO(large), 1, 0, (10, 10, 10)), 1, "the number 1e999999 can't be multiplied exactly")
 
 
 def blocks_cut_no_facet(program, folder):
@@ -222,7 +226,7 @@ def shells_are_kept_together(program, folder):
                 texts = list(shells.groups(source))
                 same([len(list(stl.corners_of_text(it))) for it in texts], sizes, "facets of the groups")
             shells.LIMIT = 11
-            refused(lambda: shells.groups(source), 3, "one of its shells has 12 facets alone")
+            refused(lambda: shells.groups(source), 3, "the part has a shell of 12 facets, and a mesh has at most 11: export it coarser")
         finally:
             shells.LIMIT = kept
     # long strips whose facets stand in any order, so that pieces of a strip that were found apart are joined later
@@ -251,7 +255,27 @@ def pitches_become_whole(program, folder):
         sides = words.pitch(word)
         same(slicing.common_pitch(sides), wanted, word)
         same([side * by for side, by in zip(sides, wanted[1])], [wanted[0]] * 2, f"{word}: sides")
-    refused(lambda: slicing.common_pitch(words.pitch("22.345x24.321")), 1, "a pixel of 22.345 x 24.321 micrometres can't be made square")
+    refused(lambda: slicing.common_pitch(words.pitch("22.345x24.321")), 1,
+            "a pixel of 22.345 x 24.321 micrometres can't be made square: its sides have no common multiple up to 100,000")
+
+
+def values_are_read(program, folder):
+    for read, good, bad in (
+            (words.canvas, {"1x1": (1, 1), "2560,1620": (2560, 1620), "99999x9": (99999, 9)},
+             ["2560", "0x9", "09x9", "9x100000", "100000x9", "9x9x9", "-9x9", "9 x 9", ""]),
+            (words.whole, {"1": 1, "007": 7, "999999": 999999}, ["0", "-1", "+1", "0.05", "1000000", "all", ""]),
+            (words.millimetres, {"150": 150000, "149.5": 149500, "0.000001": Fraction(1, 1000), "999999": 999999000},
+             ["0", "0.0", "-150", "149,5", "150mm", "1000000", ""]),
+            (words.pitch, {"50": (50, 50), "47.25": (47.25, 47.25), "19x24": (19, 24)},
+             ["0", "0.000", "-1", "47.2500", "1e2", "19x0", "19x24x3", "19x", ""]),
+            (sl1.seconds, {"2.2": 2.2, "99999": 99999}, ["0", "0.0", "-2", "2,2", "2s", "100000", ""]),
+            (sl1.count, {"0": 0, "999": 999}, ["-1", "2.5", "1000", "ten", ""])):
+        same({word: read(word) for word in good}, good, f"values of {read.__name__}")
+        for word in bad:
+            try:
+                same(read(word), None, f"{read.__name__} of {word!r}, which isn't one")
+            except argparse.ArgumentTypeError:
+                pass
 
 
 def profile_of(text, kind, name):
@@ -304,4 +328,4 @@ def sources_are_for_old_python(program, folder):
 if __name__ == "__main__":
     main([decimals_are_shortest, pngs_are_cut_by_their_chunks, pngs_are_joined, pngs_are_made_smaller, binary_is_written_out,
           text_is_changed_exactly, blocks_cut_no_facet, shells_are_kept_together, formats_are_told, pitches_become_whole,
-          printers_are_those_of_prusaslicer, sources_are_for_old_python])
+          values_are_read, printers_are_those_of_prusaslicer, sources_are_for_old_python])

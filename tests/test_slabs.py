@@ -9,7 +9,7 @@ import socket
 import subprocess
 import time
 
-from parts import batch_system, box, environment, example, installed, main, run, same, text
+from parts import ROOT, alone, batch_system, box, environment, example, installed, main, run, same, text
 
 SLABS = installed("stlslice-slabs")
 BATCH = example("slabs.sbatch")
@@ -142,21 +142,27 @@ def task_that_fails_leaves_nothing(program, folder):
 def wrong_words_are_refused(program, folder):
     env = environment(program, folder)
     part = example("bracket.stl")
-    for words, status, line in ((["-p", "0", part, "x"], 2, "-p takes a whole number, at least 1"),
-                                (["-n", "", part, "x"], 2, "-n takes a whole number, at least 1"),
+    for option in ("-p", "-l", "-n", "-r", "-u", "-j", "-S", "-P", "--depth"):
+        same(run([SLABS, option], env=env), (2, b"", f"stlslice-slabs: {option} takes a value\n".encode()), option)
+    for words, status, line in ((["-p", "0", part, "x"], 2, "-p takes a whole number, 1 to 999999"),
+                                (["-l", "1000000", part, "x"], 2, "-l takes a whole number, 1 to 999999"),
+                                (["-n", "", part, "x"], 2, "-n takes a whole number, 1 to 999999"),
                                 (["-x", part, "x"], 2, "there is no option -x"),
                                 (["--png", "--depth", "2", part, "x"], 2, "--depth takes 8 or 1"),
                                 (["--mirror-x", part, "x"], 2, "--depth, --mirror-x and --mirror-y go with --png"),
                                 (["--depth", "8", part, "x"], 2, "--depth, --mirror-x and --mirror-y go with --png"),
                                 (["-", "x"], 2, "there is no option -"),
                                 ([part], 2, "it takes part.stl and layers.pbm, or --words and part.stl"),
-                                ([folder, "x"], 1, f"{folder} can't be read")):
+                                ([folder, "x"], 1, f"{folder} can't be read"),
+                                (["none.stl", "x"], 1, "none.stl can't be read")):
         same(run([SLABS, *words], cwd=folder, env=env), (status, b"", f"stlslice-slabs: {line}\n".encode()), str(words))
     same(run([SLABS, "-r", "odd", "--words", part], cwd=folder, env=env)[0], 0, "words of a rule aren't looked at here")
     empty = os.path.join(folder, "empty.stl")
     with open(empty, "w") as file:
         file.write("solid\nendsolid\n")
     same(run([SLABS, empty, "x"], cwd=folder, env=env), (1, b"", b"stlslice-slabs: the part has no facets\n"), "no facets")
+    found = run([SLABS, os.path.join(ROOT, "README.md"), "x"], cwd=folder, env=env)
+    same(found, (3, b"", b"stlslice: expected solid at byte 0\n"), "the program's own refusal")
     with open(os.path.join(folder, "a b.stl"), "wb") as file:
         file.write(b"solid".ljust(80) + (2).to_bytes(4, "little") + bytes(100))
     line = (b"stlslice-slabs: the part is binary STL, and text is taken; convert it: admesh --no-check --write-ascii-stl=text.stl "
@@ -164,6 +170,43 @@ def wrong_words_are_refused(program, folder):
     for words in (["a b.stl", "x"], ["--words", "a b.stl"]):
         same(run([SLABS, *words], cwd=folder, env=env), (3, b"", line), "a binary STL")
     same(sorted(os.listdir(folder)), ["a b.stl", "empty.stl", "home", "tools"], "files")
+
+
+def few_tools(folder, *others):
+    """An environment whose PATH has only what the command takes before GNU parallel, and stand-ins for other tools."""
+    path = os.path.join(folder, "few")
+    os.makedirs(path)
+    for tool in ("cat", "dirname", "od", "realpath", "wc"):
+        os.symlink(shutil.which(tool), os.path.join(path, tool))
+    for tool in others:
+        os.symlink(shutil.which("true"), os.path.join(path, tool))
+    return {"PATH": path}
+
+
+def missing_tools_are_told(program, folder):
+    env, path = few_tools(folder), alone("stlslice-slabs", folder)
+    for words, line in (([], "stlslice is neither beside this command nor on PATH; -P says where it is"),
+                        (["-S", ":"], "stlslice is not on PATH; -P says where it is, here and there"),
+                        (["-P", "none"], "no program at none"), (["-P", folder], f"no program at {folder}"),
+                        (["-S", ":", "-P", "none/at/all"], "no program at none/at/all"),
+                        (["-P", program], "GNU parallel is missing (Debian: apt-get install parallel)")):
+        found = run([shutil.which("bash"), path, *words, example("bracket.stl"), "x"], cwd=folder, env=env)
+        same(found, (1, b"", f"stlslice-slabs: {line}\n".encode()), str(words))
+    same(sorted(os.listdir(folder)), ["alone", "few"], "files")
+
+
+def outputs_are_plain_files(program, folder):
+    """GNU parallel, which isn't run, has a stand-in."""
+    env = few_tools(folder, "parallel")
+    pipe, link, none = (os.path.join(folder, name) for name in ("pipe", "link", "none"))
+    os.mkfifo(pipe)
+    os.symlink("elsewhere", link)
+    for out, line in ((pipe, "is no plain file"), (link, "is no plain file"), (folder, "is no plain file"),
+                      (os.path.join(none, "out"), f"can't be written: no file can be made in {none}"),
+                      (os.path.join(pipe, "out"), f"can't be written: no file can be made in {pipe}")):
+        found = run([shutil.which("bash"), SLABS, "-P", program, example("bracket.stl"), out], env=env)
+        same(found, (1, b"", f"stlslice-slabs: {out} {line}\n".encode()), "an output that is no plain file")
+    same(sorted(os.listdir(folder)), ["few", "link", "pipe"], "files")
 
 
 def parallel_slabs_are_the_whole(program, folder):
@@ -255,4 +298,5 @@ def missing_tools():
 
 if __name__ == "__main__":
     main([words_are_slabs_of_the_whole, words_are_pngs_of_the_whole, part_is_not_overwritten, batch_of_tasks_is_the_whole,
-          batch_system_runs_tasks, task_that_fails_leaves_nothing, wrong_words_are_refused])
+          batch_system_runs_tasks, task_that_fails_leaves_nothing, wrong_words_are_refused, missing_tools_are_told,
+          outputs_are_plain_files])

@@ -1,5 +1,6 @@
 """How the commands end, and what they say on standard error."""
 
+import contextlib
 import os
 import signal
 import sys
@@ -24,6 +25,16 @@ def say(line):
 def aside(output):
     """The name that an output has until it is whole."""
     return f"{output}.{os.getpid()}.part"
+
+
+@contextlib.contextmanager
+def named(output):
+    """Has the fault of a write, as of a full disk, name the output. That of opening a file names it by itself."""
+    try:
+        yield
+    except OSError as fault:
+        fault.filename = fault.filename or output
+        raise
 
 
 class Progress:

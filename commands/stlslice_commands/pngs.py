@@ -4,7 +4,7 @@ import os
 import shutil
 
 from . import words
-from .faults import Refused, aside
+from .faults import Refused, aside, named
 from .parts import opened
 from .slicing import Sliced
 
@@ -26,7 +26,7 @@ def main():
         os.mkdir(path)
         try:
             for number, (png, _) in enumerate(sliced.pngs()):
-                with open(os.path.join(path, f"{number:05}.png"), "xb") as file:
+                with named(folder), open(os.path.join(path, f"{number:05}.png"), "xb") as file:
                     file.write(png)
             os.rename(path, folder)
         finally:

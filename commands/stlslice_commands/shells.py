@@ -30,7 +30,7 @@ def packed(sizes):
     group_of, room = {}, []
     for shell, size in sizes.items():
         if size > LIMIT:
-            raise Refused(f"one of its shells has {size:,} facets alone, and a mesh has at most {LIMIT:,}: export it coarser", 3)
+            raise Refused(f"the part has a shell of {size:,} facets, and a mesh has at most {LIMIT:,}: export it coarser", 3)
         number = next((k for k, left in enumerate(room) if left >= size), len(room))
         if number == len(room):
             room.append(LIMIT)

@@ -8,7 +8,7 @@ import time
 import zipfile
 
 from . import words
-from .faults import Refused, aside, say
+from .faults import Refused, aside, named, say
 from .parts import opened
 from .slicing import Sliced
 
@@ -44,7 +44,7 @@ def main():
         sliced = Sliced(given, source)
         path = aside(given.output)
         try:
-            with open(path, "xb") as file, zipfile.ZipFile(file, "w") as archive:
+            with named(given.output), open(path, "xb") as file, zipfile.ZipFile(file, "w") as archive:
                 fill(archive, sliced, job_name(given.output))
             os.replace(path, given.output)
         finally:
@@ -154,13 +154,13 @@ def exposure_of(number, given):
 
 def count(text):
     if not re.fullmatch(r"\d{1,3}", text):
-        raise argparse.ArgumentTypeError("it takes a whole number, at most 999")
+        raise argparse.ArgumentTypeError("it takes a whole number, 0 to 999")
     return int(text)
 
 
 def seconds(text):
     if not re.fullmatch(r"\d{1,5}(\.\d{1,6})?", text) or not float(text):
-        raise argparse.ArgumentTypeError("it takes seconds above 0, as 2.2")
+        raise argparse.ArgumentTypeError("it takes seconds above 0 and below 100000, as 2.2")
     return float(text)
 
 

@@ -78,20 +78,20 @@ def quarters(words):
 def canvas(text):
     found = re.fullmatch(r"([1-9]\d{0,4})[x,]([1-9]\d{0,4})", text)
     if not found:
-        raise argparse.ArgumentTypeError("it takes COLUMNSxROWS, as in 2560x1620")
+        raise argparse.ArgumentTypeError("it takes COLUMNSxROWS, each 1 to 99999, as in 2560x1620")
     return int(found[1]), int(found[2])
 
 
 def whole(text):
     if not re.fullmatch(r"0*[1-9]\d{0,5}", text):
-        raise argparse.ArgumentTypeError("it takes a whole number, at least 1")
+        raise argparse.ArgumentTypeError("it takes a whole number, 1 to 999999")
     return int(text)
 
 
 def millimetres(text):
     """Micrometres, as a fraction."""
     if not re.fullmatch(r"\d{1,6}(\.\d{1,6})?", text) or not Fraction(text):
-        raise argparse.ArgumentTypeError("it takes millimetres above 0, as 150 or 149.5")
+        raise argparse.ArgumentTypeError("it takes millimetres above 0 and below 1000000, as 150 or 149.5")
     return 1000 * Fraction(text)
 
 
@@ -99,5 +99,6 @@ def pitch(text):
     """Width and depth of a pixel, as fractions of micrometres."""
     sides = text.split("x")
     if len(sides) > 2 or not all(re.fullmatch(r"\d{1,6}(\.\d{1,3})?", side) and Fraction(side) for side in sides):
-        raise argparse.ArgumentTypeError("it takes micrometres with at most three digits behind the point, as 50, 47.25 or 19x24")
+        raise argparse.ArgumentTypeError("it takes micrometres above 0 and below 1000000, with at most three digits behind the point, "
+                                         "as 50, 47.25 or 19x24")
     return Fraction(sides[0]), Fraction(sides[-1])
