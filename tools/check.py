@@ -4,13 +4,13 @@
     check.py [--base REV]
 
 The change is all that differs from REV (HEAD), with files that git doesn't know yet. This
-- proves each changed crate over what earlier checks kept, and the crates above it if something changed that they can
-  see: a definition, a signature, a contract, a type, the statement of a public lemma;
+- proves each changed crate over what earlier checks kept. It also proves the crates above if something changed that they
+  can see: a definition, a signature, a contract, a type, the statement of a public lemma;
 - tries the edits of changed sources in one batch a crate, or all of a crate's if a definition changed; and changed edits;
 - proves and runs the nearest tests: of the crates of tests that use a changed crate, the one with the fewest libraries;
-- builds the program and runs the tests in tests/, but for the demo; if no crate changed, those that name a changed file.
+- builds the program and runs the tests in tests/, except the demo's; if no crate changed, those that name a changed file.
 
-It ends by telling what it didn't try, and 'N passed, N failed'. Only the gate, make test, tries all.
+At the end it reports what it didn't try, and 'N passed, N failed'. Only the gate, make test, tries all.
 """
 
 import argparse
@@ -101,7 +101,7 @@ class Change:
         return [it for it in self.deps if it in self.sources or it in above]
 
     def below(self, crate):
-        """The libraries that a crate stands on, at once or by others."""
+        """The libraries that a crate depends on, directly or through others."""
         return {*self.deps[crate]}.union(*(self.below(it) for it in self.deps[crate]))
 
     def nearest_tests(self):

@@ -11,7 +11,7 @@
 3. The library, and the page that has it, are built from what was proved.
 4. tests/run tests what people touch: the program, the library, packages, recipes, documents.
 
-What an earlier run left at PROGRAM is removed first, so nothing older is tested. The last lines tell where the time went,
+What an earlier run left at PROGRAM is removed first, so nothing older is tested. The last lines say where the time went,
 what was skipped and what failed, and then 'N passed, N failed', the sum of all parts. The status is 0 if nothing failed.
 """
 
@@ -65,7 +65,7 @@ def run(words, hear=lambda line: None):
 
 
 def counts(ran):
-    """Passed and failed by a command's last count; one failure if there is none, or if its status tells of one."""
+    """Passed and failed by a command's last count; one failure if there is none, or if its status means one."""
     found = COUNTS.findall("\n".join(ran.lines[-1:]))
     passed, failed = map(int, found[0]) if found else (0, 1)
     return passed, failed or int(ran.status != 0)

@@ -41,7 +41,7 @@ def packed(sizes):
 
 def shells(file):
     """For each facet the shell that it belongs to, by a number: facets that share a corner belong to one shell. Corners are
-    the same where they round to the same micrometre."""
+    the same if they round to the same micrometre."""
     number_of, above, first = Corners(), array("l"), array("l")
     for corners in corners_of(file):
         one, *others = map(number_of, corners)

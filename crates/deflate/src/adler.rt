@@ -35,7 +35,7 @@ impl Adler {
         Adler { a: 1, b: 0 }
     }
 
-    /// Adds a run of `count` equal bytes.
+    /// Adds a run of `count` equal bytes, at most [`RUN_LIMIT`].
     pub fn run(&mut self, byte: u8, count: u64)
         requires { count ≤ RUN_LIMIT }
         ensures { self.new ≡ after_bytes self.old (replicate count byte) }

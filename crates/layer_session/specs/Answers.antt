@@ -1,4 +1,4 @@
--- What a session answers, and when it answers a fault.
+-- What the calls of a session return, and when they return a fault.
 use Rattle.std.specs.Prelude.{◌≡◌, ◌⊎◌, ◌<◌, ◌≤◌, ℕ, ℤ, List, Bool, Result, Ok, Err, flat_map, if◌then◌else◌}
 use Rattle.std.specs.List.{range_with_len}
 use Rattle.geometry.specs.Winding.{ray, ray_y}
@@ -41,10 +41,10 @@ probed job i j k =
     then Ok (ray job.solid.facets (centre job.grid i j k), ray_y job.solid.facets (centre job.grid i j k))
     else Err (outside job.grid)
 
--- no memory for a layer of the grid, or none of the grid's layers
+-- no memory for a layer of the grid, or no such layer in the grid
 abbrev pub IsLayerFault : Grid → ℕ → SessionFault → Type 0
 IsLayerFault g k f = ((f ≡ fault.Memory) × (k < g.layers)) ⊎ ((f ≡ outside g) × (g.layers ≤ k))
 
--- no memory for a stripe of the grid, or none of the grid's stripes
+-- no memory for a stripe of the grid, or no such stripe in the grid
 abbrev pub IsStripeFault : Grid → ℕ → SessionFault → Type 0
 IsStripeFault g s f = ((f ≡ fault.Memory) × (s < stripe_count g)) ⊎ ((f ≡ outside g) × (stripe_count g ≤ s))

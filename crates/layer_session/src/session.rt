@@ -171,7 +171,7 @@ impl<A: Allocator + Copy + Send + Sync> Session<A> {
         image_len(self.job.grid())
     }
 
-    /// The length in bytes of the images of stripe s.
+    /// The length in bytes of the images of stripe s, which the grid has.
     pub fn stripe_len(&self, s: u64) -> u64
         requires { s < stripe_count self.now.job.grid }
         ensures value { result ≡ length (stripe_images self.now.job s) }
@@ -228,8 +228,8 @@ impl<A: Allocator + Copy + Send + Sync> Session<A> {
         Ok(layer_as_png(self.alloc, &self.job, k, depth, mirrors)?)
     }
 
-    /// The images of the layers of stripe s, from the lowest up, one after the other. One sweep cuts all of them, where
-    /// each call of [`Session::image`] begins anew.
+    /// The images of the layers of stripe s, from the lowest up, one after the other, as [`Session::image`] gives them.
+    /// One sweep cuts all of these layers, while each call of [`Session::image`] begins anew.
     ///
     /// # Errors
     /// `Outside` exactly if there is no such stripe; `Memory` only if an allocation failed.

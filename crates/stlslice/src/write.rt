@@ -40,7 +40,7 @@ pub(crate) enum Output {
 }
 
 impl Output {
-    /// The output of a task that asks for a report, or does not.
+    /// A report if the task asks for one, else the images.
     pub(crate) fn of(report: bool) -> Output
         ensures { result ≡ output_of report }
     {

@@ -30,7 +30,7 @@ pub(crate) fn put(bytes: &[u8], buffer: &mut [u8], wanted: &mut usize) -> Status
     DONE
 }
 
-/// Puts bytes into the front of a buffer, if they fit, and their number into a place.
+/// Puts bytes into the front of a buffer, if they fit, and their number into `wanted`.
 pub(crate) fn put_if_room(bytes: &[u8], buffer: &mut [u8], wanted: &mut usize) -> Status
     ensures { IsPut bytes.now buffer.old buffer.new wanted.new result }
 {

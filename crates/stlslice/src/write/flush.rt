@@ -1,4 +1,4 @@
-//! How an output goes out, as a whole or part by part, and ends: the sink is flushed.
+//! Writes an output to a sink, as a whole or part by part, and flushes the sink at the end.
 ghost use Rattle.std.specs.Prelude.{◌≡◌, ◌≤◌, ◌+◌, IfErr, OnOk, length, true};
 ghost use Rattle.std.specs.Io.KnownBytes.{Keeps};
 ghost use Rattle.devices.specs.Transcript.{transcript_of};

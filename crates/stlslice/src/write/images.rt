@@ -20,7 +20,7 @@ pub(crate) fn write_images<A: Allocator, O: Sink>(
         (O.is_settled sink.new) (images_of build.now.job) }
 {
     let grid = build.job().grid();
-    // they bound the count of the bytes
+    // the limits bound the count of the bytes
     grid.hold_limits();
     let mut writer = ImageWriter::new();
     for layer in build.layers() {

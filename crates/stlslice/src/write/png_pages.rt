@@ -62,7 +62,7 @@ impl<'a, 'b, A: Allocator + Copy + Send + Sync> Drawing<Vec<u8, A>> for Pngs<'a,
     ghost fits = { λ it page. HasRoom it.build.now.job.grid it.depth it.build.now.layers it.room × (it.per * it.room ≤ vec_capacity page) };
 
     fn layers(&self) -> usize {
-        // they bound the count of the bytes
+        // the limits bound the count of the bytes
         self.build.job().grid().hold_limits();
         self.build.layers().len()
     }

@@ -69,7 +69,7 @@ fn put_pngs<A: Allocator, O: Sink>(
         (pngs_of build.now.job depth mirrors) 0 }
 {
     let grid = build.job().grid();
-    // they bound the count of the bytes
+    // the limits bound the count of the bytes
     grid.hold_limits();
     let mut written = 0;
     for layer in build.layers() {
