@@ -1,5 +1,5 @@
 //! Adler-32 (RFC 1950, 8.2) of runs of equal bytes, each in one step.
-ghost use Rattle.std.specs.Prelude.{◌≡◌, ℕ, ◌+◌, ◌*◌, ◌^◌, ◌<◌, ◌≤◌, replicate};
+ghost use Rattle.std.specs.Prelude.{◌≡◌, ◌+◌, ◌*◌, ◌^◌, ◌<◌, ◌≤◌, replicate};
 ghost use Rattle.deflate.specs.Adler.{Sums, after_bytes, first_sums, sum_value};
 
 use crate::run::RUN_LIMIT;

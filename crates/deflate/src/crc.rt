@@ -1,5 +1,5 @@
 //! CRC-32 (ISO 15948, 5.5 and annex D; RFC 1952, 8; ISO 3309).
-ghost use Rattle.std.specs.Prelude.{◌≡◌, ℕ, ◌*◌, ◌/◌, ◌%◌, ◌^◌, ◌<◌, ◌↔◌, length, replicate, IsTrue};
+ghost use Rattle.std.specs.Prelude.{◌≡◌, ◌*◌, ◌/◌, ◌%◌, ◌^◌, ◌<◌, ◌↔◌, length, replicate, IsTrue};
 ghost use Rattle.deflate.specs.Crc.{after_bits, crc_from, crc32};
 
 /// What a byte makes of the register's lowest byte, listed by the exclusive or of both.

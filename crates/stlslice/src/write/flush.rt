@@ -8,7 +8,7 @@ ghost use Rattle.stlslice.specs.Unwritten.{IsWritten};
 ghost use Rattle.stlslice.specs.declared.run_fault.RunFault.TheVariants.{Write};
 
 use crate::run_fault::RunFault;
-use raster::{Sink, WriteFault, put_all};
+use devices::{Sink, WriteFault, put_all};
 
 /// Writes a whole text, and flushes it. On a fault its first `written` bytes went out; these are all if the flush failed.
 pub(crate) fn write_all<O: Sink>(sink: &mut O, text: &[u8]) -> Result<(), RunFault>

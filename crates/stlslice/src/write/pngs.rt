@@ -12,8 +12,9 @@ ghost use Rattle.stlslice.specs.Unwritten.{IsMadeAndWritten};
 use crate::run_fault::RunFault;
 use crate::write::flush::{put_more, settle};
 use build_book::Build;
+use devices::{Sink, WriteFault};
 use layer_png::{Depth, Mirrors, most_png_bytes, write_png};
-use raster::{Grid, Sink, Span, WriteFault};
+use raster::{Grid, Span};
 use std::alloc::Allocator;
 
 /// Writes the PNGs of all layers of a build, one after another, and flushes them. The memory for the longest is allocated

@@ -9,8 +9,8 @@ use crate::write::pages::{SET_LEN, has_many_spans, write_by_pages};
 use crate::write::png_pages::{Pngs, buffer_sets};
 use crate::write::pngs::{room_for_png, write_pngs};
 use build_book::Build;
+use devices::Sink;
 use layer_png::{Depth, Mirrors};
-use raster::Sink;
 use std::alloc::Allocator;
 use std::thread::Threads;
 
