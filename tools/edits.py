@@ -909,7 +909,7 @@ def chosen(words):
     jobs = int(options["--jobs"]) if options["--jobs"].isdigit() else 0
     flag = words.pop(0) if words and words[0] in ("--changed", "--batch") else ""
     if not jobs or any(it.startswith("-") for it in words) or flag and not words:
-        raise Unfit("use: tools/edits.py [--jobs N] [NAME.. | EDIT.. | --changed FILE.. | --batch EDIT..]")
+        raise Unfit("use: tools/edits.py [--show FOLDER] [--jobs N] [NAME.. | EDIT.. | --changed FILE.. | --batch EDIT..]")
     crates, asked = toolchain().crates_below(ROOT), {}
     names = {it.name: it for it in crates}
     for word in words if flag != "--changed" else []:

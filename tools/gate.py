@@ -4,7 +4,8 @@
     gate.py PROGRAM
 
 1. `rt ci` proves each crate and its tests, tries the edits in must-fail/, runs the tests, and builds and runs PROGRAM.
-2. Beside it tools/edits.py tries the edits in edits/ in batches, at a lower priority: those of a crate once it is proved.
+2. Beside it tools/edits.py tries all edits in batches, at a lower priority: those of a crate once it is proved. Those in
+   must-fail/ are tried again, and count twice, since `rt ci` takes any refusal, and this only a clause's.
    With fewer than four processors they wait until `rt ci` has ended.
    What a batch can't judge is tried alone. What something else than a clause refuses has failed, unless
    tools/edits_refused_otherwise.txt says why.
