@@ -18,14 +18,14 @@ abbrev pub image_of : Job → ℕ → List ℕ
 image_of job k = layer_image job.grid job.rule job.solid.facets k
 
 -- the pixel of column x and row y of the PNG of layer k, from the left and from the top, is white: its voxel is filled
-abbrev pub is_white : Job → ℕ → Mirrors → ℕ → ℕ → Bool
-is_white job k mirrors x y =
+abbrev pub is_white_pixel : Job → ℕ → Mirrors → ℕ → ℕ → Bool
+is_white_pixel job k mirrors x y =
     is_filled job.rule job.solid.facets
     (centre job.grid (column_at mirrors job.grid.columns x) (row_at mirrors job.grid.rows y) k)
 
 -- the PNG of layer k of a job
-abbrev pub png_of : Job → ℕ → Depth → Mirrors → List ℕ
-png_of job k depth mirrors = layer_png job.grid job.rule job.solid.facets depth mirrors k
+abbrev pub png_of_layer : Job → ℕ → Depth → Mirrors → List ℕ
+png_of_layer job k depth mirrors = layer_png job.grid job.rule job.solid.facets depth mirrors k
 
 -- the images of the layers of stripe s, from the lowest up
 abbrev pub stripe_images : Job → ℕ → List ℕ
