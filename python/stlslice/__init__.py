@@ -171,11 +171,11 @@ def _text(source: Source) -> bytes:
         return file.read()
 
 
-def _whole(name: str, value: Any) -> int:
+def _whole(name: str, value: Any, kind: str = "whole numbers") -> int:
     try:
         return operator.index(value)
     except TypeError:
-        raise TypeError(f"{name} takes whole numbers, and {value!r} is none") from None
+        raise TypeError(f"{name} takes {kind}, and {value!r} is none") from None
 
 
 def _word(name: str, value: Any) -> int:
@@ -285,15 +285,20 @@ def micrometres(millimetres: Any) -> Any:
     """Points in whole micrometres, as `open_mesh` takes them, of points in millimetres: rows of three numbers.
 
     A number becomes the nearest micrometre to the shortest decimal that reads back as this number, halves away from zero. The
-    program reads the same from a text that has this decimal. Raises `RangeFault` if a number is not finite, or 2147483.648 mm
-    or more from 0. The result is an array of numpy, or a list of triples if numpy is missing.
+    program reads the same from a text that has this decimal. It is the decimal of single precision in an array of that, else of
+    double precision. Other types, such as float16 and longdouble, are made double first.
+
+    Raises `RangeFault` if a number is not finite, or 2147483.647 mm or more from 0. A mesh takes points at most 128 metres from 0.
+    The result is an array of numpy, or a list of triples if numpy is missing or has no type for the numbers.
     """
     rows = _rows("millimetres", millimetres, "iuf")
     if isinstance(rows, list):
-        return _listed([float(it) if isinstance(it, float) else _whole("millimetres", it) for it in rows], False)
+        return _listed([float(it) if isinstance(it, float) else _whole("millimetres", it, "numbers (float or int)") for it in rows],
+                       False)
     numpy = _numpy()
     is_single = rows.dtype.kind == "f" and rows.dtype.itemsize == 4
-    exact = numpy.abs(rows.astype(numpy.float64)) * 1000
+    with numpy.errstate(over="ignore", invalid="ignore"):   # what becomes infinite, or is no number, is refused below
+        exact = numpy.abs(rows.astype(numpy.float64)) * 1000
     _all_fit(numpy.flatnonzero(~(exact < MOST_COORDINATE)))
     whole = numpy.floor(exact + 0.5)
     # a number so near to a half that the decimal decides
