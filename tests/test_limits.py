@@ -50,7 +50,7 @@ SPELLED = {
         ("man/stlslice.1", "most {}, {} and"),
         ("include/stlslice.h", "at most {}, {} and"),
         ("docs/refused.md", "{} columns and rows"),
-        ("SECURITY.md", "the grid may have {} x {} x"),
+        ("SECURITY.md", "The grid may have {} x {} x"),
     ],
     "geometry::LAYER_LIMIT": [
         ("--help", " and {}), and its least"),
