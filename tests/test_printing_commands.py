@@ -328,6 +328,29 @@ def shells_are_joined(program, folder):
         assert found[4] == centred(program, overlap, (160, 120), 250, 500), "shells within the limit: pixels differ"
 
 
+def shells_of_a_whole_text_alone(program, folder):
+    """A text that was cut between two shells, or is no STL, or whose numbers are too large, is refused before the program runs."""
+    bodies = [text(box((9 * k, 0, 0), (9 * k + 3, 3, 3))) for k in range(2)]
+    whole = bodies[0].replace("endsolid part\n", "") + bodies[1].replace("solid part\n", "", 1)
+    for body, line in (
+            (whole[:whole.index("vertex 9") - 33], "input ended before facet or endsolid"), (whole[11:], "expected solid at byte 0"),
+            (whole[:-14], "input ended before facet or endsolid"), ("hello", "expected solid at byte 0"), ("", "input ended before solid"),
+            (whole.replace("vertex 12", "vertx 12", 1), f"expected vertex at byte {whole.index('vertex 12')}"),
+            (whole.replace("vertex 12", "vertex 1e999"), "the number 1e999 is out of range: a corner lies within 128 m of the origin"),
+            (whole.replace("vertex 12", "vertex nan"), f"number at byte {whole.index('vertex 12') + 7}: not a number")):
+        part = written(folder, "part.stl", body, str)
+        for command in (SL1, PNGS):
+            said = made([*SCREEN, "--shells", part], folder, command, 3)
+            same(said, f"{os.path.basename(command)}: {line}\n", "refusal")
+    part = written(folder, "part.stl", "solid\nendsolid\n", str)
+    same(made([*SCREEN, "--shells", part], folder, status=1), "stlslice-sl1: the part has no facets\n", "an STL without facets")
+    assert made([*SCREEN, "--shells", written(folder, "part.stl", whole, str)], folder)[4] == \
+        centred(program, box((0, 0, 0), (3, 3, 3)) + box((9, 0, 0), (12, 3, 3)), (160, 120), 250, 500), "pixels differ"
+    small = [[[f"{x / 25.4:.9f}" for x in corner] for corner in facet] for facet in SHAPE]
+    found = made([*SCREEN, "--unit", "inch", "--shells", written(folder, "part.stl", small)], folder)[4]
+    assert found == centred(program, SHAPE, (160, 120), 250, 500), "inches: pixels differ"
+
+
 def too_many_facets_are_told(program, folder):
     part = os.path.join(folder, "part.stl")
     facet = b"facet normal 0 0 0 outer loop vertex 0 0 0 vertex 0 0 0 vertex 0 0 0 endloop endfacet\n"
@@ -391,5 +414,5 @@ def memory_is_small(program, folder):
 
 if __name__ == "__main__":
     main([printer_brings_its_screen, printer_is_asked_for, part_is_turned, pixels_need_not_be_square, binary_stl_is_read,
-          other_formats_are_told, units_are_exact, shell_inside_out_is_told, shells_are_joined, too_many_facets_are_told,
-          progress_is_shown_on_a_terminal, part_is_awaited_on_a_terminal, memory_is_small])
+          other_formats_are_told, units_are_exact, shell_inside_out_is_told, shells_are_joined, shells_of_a_whole_text_alone,
+          too_many_facets_are_told, progress_is_shown_on_a_terminal, part_is_awaited_on_a_terminal, memory_is_small])

@@ -12,13 +12,12 @@ from .faults import Progress, Refused, say
 from .images import head_of, joined
 from .parts import as_text
 from .program import Program
-from .shells import groups
+from .shells import REACH, groups
 from .stl import changed
 
 # By how much the numbers of a part are multiplied before the program takes them for millimetres.
 TIMES = {"mm": 1, "inch": 1, "cm": 10, "m": 1000}
 LARGEST_PITCH = 100_000
-REACH = 128_000_000
 OPEN = 4  # the program's status where a mesh is open
 
 
@@ -28,7 +27,7 @@ class Sliced:
     def __init__(self, given, source):
         self.given = given
         self.program = Program(given)
-        self.texts = groups(source) if given.shells else [as_text(source)]
+        self.texts = groups(source, given.unit) if given.shells else [as_text(source)]
         facets, low, high = self.program.box(self.texts)
         if TIMES[given.unit] > 1:
             self.change(facets, 0, [TIMES[given.unit]] * 3)
