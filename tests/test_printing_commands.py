@@ -304,6 +304,8 @@ def shells_are_joined(program, folder):
         same(found, status, f"status ({said.decode()})")
         if status:
             return said.decode()
+        note = f"stlslice-sl1: binary STL, {len(facets)} facets: each number is taken as the shortest decimal that reads back as the same\n"
+        same(said.decode(), note if spelled is binary else "", "what is said")
         with zipfile.ZipFile(result) as archive:
             images = [pixels_of_png(archive.read(name)) for name in archive.namelist() if name.endswith(".png")]
         os.remove(result)

@@ -4,6 +4,7 @@ text of binary STL, turning and multiplying, shells, pixels that aren't square, 
 
 import argparse
 import ast
+import contextlib
 import decimal
 import functools
 import glob
@@ -216,14 +217,17 @@ def shells_are_kept_together(program, folder):
     bodies = [box((5 * k, 0, 0), (5 * k + 3, 3, 3)) for k in range(7)]
     mixed = [facet for facets in zip(*bodies) for facet in facets]
     spelled = text(mixed).replace("vertex 5 ", "vertex 5.0 ", 40).replace("vertex 8 ", "vertex 0.8e1 ", 9)
-    for source in (io.BytesIO(spelled.encode()), io.BytesIO(binary(mixed))):
-        found = shells.shells(source, "mm")
+    for source, read in ((io.BytesIO(spelled.encode()), stl.corners_of_text), (io.BytesIO(binary(mixed)), stl.corners_of_binary)):
+        found = shells.shells(read(source), "mm")
         same(len(set(found)), 7, "shells")
         same(all(len({found[k] for k in range(n, len(mixed), 7)}) == 1 for n in range(7)), True, "facets of a shell")
         kept = shells.LIMIT
         try:
             for shells.LIMIT, sizes in ((84, [84]), (36, [36, 36, 12]), (12, [12] * 7), (40, [36, 36, 12])):
-                texts = list(shells.groups(source, "mm"))
+                said = io.StringIO()
+                with contextlib.redirect_stderr(said):
+                    texts = list(shells.groups(source, "mm"))
+                same("binary STL, 84 facets: each number" in said.getvalue(), read is stl.corners_of_binary, "whether a note is said")
                 same([len(list(stl.corners_of_text(it))) for it in texts], sizes, "facets of the groups")
             shells.LIMIT = 11
             refused(lambda: shells.groups(source, "mm"), 3, "the part has a shell of 12 facets, and a mesh has at most 11: export it coarser")
@@ -233,7 +237,7 @@ def shells_are_kept_together(program, folder):
     strips = [[((k, 1, 9 * strip), (k, 0, 9 * strip), (k + 1, 0, 9 * strip)) for k in range(300)] for strip in range(3)]
     mixed = [(facet, strip) for strip in range(3) for facet in strips[strip]]
     random.Random(11).shuffle(mixed)
-    found = shells.shells(io.BytesIO(text([facet for facet, _ in mixed]).encode()), "mm")
+    found = shells.shells([[b"%d %d %d" % corner for corner in facet] for facet, _ in mixed], "mm")
     same(len(set(zip(found, (strip for _, strip in mixed)))), 3, "strips, each one shell")
     same(len(set(found)), 3, "strips")
     same(shells.packed({"a": 5, "b": shells.LIMIT - 2, "c": 2, "d": 3}), ({"a": 0, "b": 1, "c": 0, "d": 0}, 2), "first fit")
@@ -261,7 +265,7 @@ def corners_are_joined_as_by_the_program(program, folder):
     # 12.7 and 12.954 micrometres, which the program joins; as thousandths of an inch they would be 0 and 1
     near = box((0, 0, 0), (1, 1, 1))
     source = io.BytesIO(text(near[:6]).replace(" 0", " 0.0005").encode() + text(near[6:]).replace(" 0", " 0.00051").encode())
-    same([len(set(shells.shells(source, unit))) for unit in ("inch", "m")], [1, 1], "shells of corners that nearly meet")
+    same([len(set(shells.shells(stl.corners_of_text(source), unit))) for unit in ("inch", "m")], [1, 1], "shells of corners that nearly meet")
 
 
 # What is no STL, with the program's line of it. Each begins with a whole shell, so that a reader that skips would print that.

@@ -67,8 +67,13 @@ def kind_of(head):
 
 def as_text(file):
     """The part as ASCII STL: the file itself, or a binary one written out."""
+    return text_of(corners_of_binary(file)) if is_binary(file) else file
+
+
+def is_binary(file):
+    """Whether the part is binary STL; how its numbers are read then is told."""
     count = facets_of_binary(file)
     if count is None:
-        return file
+        return False
     say(f"binary STL, {count:,} facets: each number is taken as the shortest decimal that reads back as the same")
-    return text_of(corners_of_binary(file))
+    return True

@@ -3,7 +3,8 @@
 from array import array
 
 from .faults import Refused
-from .stl import KEPT, TEXT, begun, corners_of_binary, corners_of_text, ended, facets_of_binary
+from .parts import is_binary
+from .stl import KEPT, TEXT, begun, corners_of_binary, corners_of_text, ended
 
 LIMIT = 1_048_576
 LONGEST = 255  # bytes of a number
@@ -11,13 +12,10 @@ REACH = 128_000_000
 MICROMETRES = {"mm": 1000, "cm": 10_000, "m": 1_000_000, "inch": 25_400}
 
 
-def corners_of(file):
-    return corners_of_text(file) if facets_of_binary(file) is None else corners_of_binary(file)
-
-
 def groups(file, unit):
     """Files of at most LIMIT facets, which hold all facets of the part: those of a shell in one file, in their order."""
-    shell_of = shells(file, unit)
+    corners_of = corners_of_binary if is_binary(file) else corners_of_text
+    shell_of = shells(corners_of(file), unit)
     sizes = {}
     for shell in shell_of:
         sizes[shell] = sizes.get(shell, 0) + 1
@@ -42,11 +40,11 @@ def packed(sizes):
     return group_of, len(room)
 
 
-def shells(file, unit):
-    """For each facet the shell that it belongs to, by a number: facets that share a corner belong to one shell. Corners are
+def shells(facets, unit):
+    """For each facet, as its three corners, the shell that it belongs to, by a number: facets that share a corner belong to one shell. Corners are
     the same where they round to the same micrometre."""
     number_of, above, first = Corners(unit), array("l"), array("l")
-    for corners in corners_of(file):
+    for corners in facets:
         one, *others = map(number_of, corners)
         above.extend(range(len(above), len(number_of.numbers)))
         one = root(above, one)

@@ -25,7 +25,7 @@ FACET_TEXT = re.compile(rb"(?i)\s*facet\s+normal\s+\S+\s+\S+\s+\S+\s+outer\s+loo
 ENDSOLID_LINE = re.compile(rb"(?i)\s*endsolid(?!\S)[^\r\n]*(?:[\r\n]|\Z)")
 WORD = re.compile(rb"\S+")
 ANY = "a word"
-WORDS = ["facet", "normal", ANY, ANY, ANY, "outer", "loop", *3 * ["vertex", "number", "number", "number"], "endloop", "endfacet"]
+WORDS = ["facet", "normal", *3 * [ANY], "outer", "loop", *3 * ["vertex", *3 * ["number"]], "endloop", "endfacet"]
 EXACT = decimal.Context(prec=1000, traps=[decimal.Inexact, decimal.InvalidOperation])
 
 
