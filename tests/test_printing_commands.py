@@ -247,8 +247,28 @@ def other_formats_are_told(program, folder):
     same(made([*SCREEN, packed], folder, status=3), f"stlslice-sl1: the part is gzip, not STL; unpack it: {command}\n", "refusal of gzip")
     same(run(["bash", "-c", command])[0], 0, command)
     assert made([*SCREEN, packed[:-3]], folder)[4] == centred(program, SHAPE, (160, 120), 250, 500), "gzip: pixels differ"
+    commands_keep_the_part(folder)
     if told:
         leave_out("converting other formats", sorted(set(told)))
+
+
+def commands_keep_the_part(folder):
+    """The command of a refusal makes a file that isn't there yet, of whatever name the part is."""
+    here = os.path.join(folder, "named as an STL")
+    os.mkdir(here)
+    for kind, body, command in (
+            ("gzip", gzip.compress(text(SHAPE).encode()), "unpack it: zcat part.stl > part-2.stl"),
+            ("OBJ", b"v 0 0 0\n", "convert it: prusa-slicer --export-stl --output part-2.stl part.stl"),
+            ("OFF", b"OFF\n0 0 0\n", "convert it: assimp export part.stl part-2.stl")):
+        written(here, "part.stl", body, bytes)
+        found = run([SL1, *SCREEN, "part.stl", "out"], cwd=here)
+        same(found, (3, b"", f"stlslice-sl1: the part is {kind}, not STL; {command}\n".encode()), f"refusal of {kind} as part.stl")
+    written(here, "part-2.stl", b"", bytes)
+    packed = written(here, "part.stl.gz", gzip.compress(b""), bytes)
+    for words, name in ((["part.stl.gz"], "part.stl.gz"), (["-"], "part.gzip")):
+        with open(packed, "rb") as file:
+            found = run([SL1, *SCREEN, *words, "out"], cwd=here, stdin=file)
+        same(found[2].decode(), f"stlslice-sl1: the part is gzip, not STL; unpack it: zcat {name} > part-3.stl\n", "files of both names")
 
 
 def units_are_exact(program, folder):

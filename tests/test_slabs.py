@@ -169,7 +169,19 @@ def wrong_words_are_refused(program, folder):
             b"a\\ b.stl\n")
     for words in (["a b.stl", "x"], ["--words", "a b.stl"]):
         same(run([SLABS, *words], cwd=folder, env=env), (3, b"", line), "a binary STL")
+    binary_is_not_written_over(folder, env)
     same(sorted(os.listdir(folder)), ["a b.stl", "empty.stl", "home", "tools"], "files")
+
+
+def binary_is_not_written_over(folder, env):
+    """The command of a refusal makes a file that isn't there yet, of whatever name the part is."""
+    here = os.path.join(folder, "here")
+    os.mkdir(here)
+    for name, free in (("text.stl", "text-2.stl"), ("text-2.stl", "text-3.stl")):
+        shutil.copy(os.path.join(folder, "a b.stl"), os.path.join(here, name))
+        line = f"stlslice-slabs: the part is binary STL, and text is taken; convert it: admesh --no-check --write-ascii-stl={free} {name}\n"
+        same(run([SLABS, name, "x"], cwd=here, env=env), (3, b"", line.encode()), "a binary STL of that name")
+    shutil.rmtree(here)
 
 
 def few_tools(folder, *others):

@@ -1,6 +1,7 @@
 """What people have: an STL as text, a binary one, or another format, which is refused with the command that converts it."""
 
 import contextlib
+import itertools
 import os
 import re
 import shlex
@@ -42,13 +43,19 @@ def refuse_others(file, path):
     kind = kind_of(head)
     if kind:
         name = "part." + kind.lower() if path == "-" else path
-        command = CONVERTED[kind].format(shlex.quote(name), shlex.quote(re.sub(r"(?i)(\.stl)?\.\w+$", "", name) + ".stl"))
+        command = CONVERTED[kind].format(shlex.quote(name), shlex.quote(free_name(re.sub(r"(?i)(\.stl)?\.\w+$", "", name))))
         raise Refused(f"the part is {kind}, not STL; {'unpack' if 'zip' in kind else 'convert'} it: {command}", 3)
     # a binary STL has a 0 there, in its count of facets at the latest
     if b"\0" in head[:84] and not head.startswith((b"\xff\xfe", b"\xfe\xff")) and size_of(file) >= 84:
         count = int.from_bytes(head[80:84], "little")
         raise Refused(f"the part is no text, and no whole binary STL: {count:,} facets as its header tells take "
                       f"{84 + 50 * count:,} bytes, and it has {size_of(file):,}", 3)
+
+
+def free_name(stem):
+    """The name of an STL to make, which no file has yet: a pasted command may not write over a part."""
+    names = itertools.chain([f"{stem}.stl"], (f"{stem}-{k}.stl" for k in itertools.count(2)))
+    return next(name for name in names if not os.path.lexists(name))
 
 
 def kind_of(head):
