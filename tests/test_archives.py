@@ -111,6 +111,25 @@ def settings_are_those_asked_for(program, folder):
         assert file.read() == first, "a second run with the same date wrote other bytes"
 
 
+def dates_are_those_of_a_zip(program, folder):
+    """A date that a zip can't hold becomes the nearest that it can, and what is no date is refused before anything is sliced."""
+    out, path = os.path.join(folder, "out.sl1"), slicer(folder, 2 * printed(png_of_p4((8, 1, b"\377"), 8)))
+    words = ["--canvas", "8x1", "--pitch", "100", "--layer", "500", "--program", path, example("bracket.stl"), out]
+    for date, wanted, said in (("0", (1980, 1, 1, 0, 0, 0), "1970-01-01 at 00:00:00 UTC"),
+                               ("1700000000", (2023, 11, 14, 22, 13, 20), "2023-11-14 at 22:13:20 UTC"),
+                               ("9999999999", (2107, 12, 31, 23, 59, 58), "2286-11-20 at 17:46:39 UTC")):
+        same(run(script(SL1, words), env=dict(os.environ, SOURCE_DATE_EPOCH=date))[::2], (0, b""), f"status of {date}")
+        with zipfile.ZipFile(out) as archive:
+            same({it.date_time for it in archive.infolist()}, {wanted}, f"dates of {date}")
+            assert f"fileCreationTimestamp = {said}\n" in archive.read("config.ini").decode(), f"{date}: another date is told"
+        os.remove(out)
+    for date in ("x", "", "-1", "1.5", "999999999999", "１"):
+        found = run(script(SL1, words), env=dict(os.environ, SOURCE_DATE_EPOCH=date, LC_ALL="C.UTF-8"))
+        line = b"stlslice-sl1: SOURCE_DATE_EPOCH takes whole seconds since 1970, of at most eleven digits\n"
+        same(found, (1, b"", line), f"a date {date!r}")
+        leaves_nothing(folder, ["slicer"])
+
+
 def large_layers_are_slow(program, folder):
     part, out = os.path.join(folder, "part.stl"), os.path.join(folder, "out.sl1")
     with open(part, "w") as file:
@@ -468,8 +487,8 @@ def options_are_those_of_the_page(program, folder):
 
 
 if __name__ == "__main__":
-    main([archive_is_the_stream, settings_are_those_asked_for, large_layers_are_slow, part_is_upright_and_in_the_middle,
-          folder_is_the_stream, large_part_is_refused, faults_are_handed_on, fault_keeps_what_was_there,
+    main([archive_is_the_stream, settings_are_those_asked_for, dates_are_those_of_a_zip, large_layers_are_slow,
+          part_is_upright_and_in_the_middle, folder_is_the_stream, large_part_is_refused, faults_are_handed_on, fault_keeps_what_was_there,
           output_that_is_no_plain_file_is_refused, part_is_not_overwritten, wrong_words_are_refused, missing_program_is_told,
           other_exposure_is_asked_for, pngs_are_taken_as_they_are, pitch_of_quarters_is_exact, broken_slicers_leave_nothing,
           full_disk_is_told, stopped_script_leaves_nothing, pipes_and_units, options_are_those_of_the_page])

@@ -16,6 +16,7 @@ ABOUT = """Slices an STL into an SL1 archive for a resin printer. The part stand
 black; one that doesn't fit is refused. The archive is made aside and moved into place when it is whole, so a fault
 leaves what was there before."""
 
+LATEST = (2107, 12, 31, 23, 59, 58)  # that a zip can hold
 LEVEL = 1  # of deflating the program's PNGs once more, which are long where nothing is lit
 FIRST = 3  # layers with the first exposure, before it fades to that of the others
 
@@ -36,6 +37,7 @@ def main():
     add("--material", type=one_line, metavar="NAME", help="the resin's name, for the printer to show")
     given = words.read(parser)
     fill_in(given)
+    now = moment()
     if os.path.lexists(given.output) and (os.path.islink(given.output) or not os.path.isfile(given.output)):
         raise Refused(f"{given.output} is no plain file")
     if os.path.exists(given.output) and os.path.exists(given.part) and os.path.samefile(given.output, given.part):
@@ -45,7 +47,7 @@ def main():
         path = aside(given.output)
         try:
             with named(given.output), open(path, "xb") as file, zipfile.ZipFile(file, "w") as archive:
-                fill(archive, sliced, job_name(given.output))
+                fill(archive, sliced, job_name(given.output), now)
             os.replace(path, given.output)
         finally:
             if os.path.exists(path):
@@ -65,12 +67,19 @@ def fill_in(given):
     given.fast_tilt, given.slow_tilt, given.area_fill = usual.fast_tilt, usual.slow_tilt, usual.area_fill
 
 
-def fill(archive, sliced, job):
+def moment():
+    """The time that is written into the archive: that of SOURCE_DATE_EPOCH where it is set."""
+    told = os.environ.get("SOURCE_DATE_EPOCH", str(int(time.time())))
+    if not re.fullmatch(r"[0-9]{1,11}", told):
+        raise Refused("SOURCE_DATE_EPOCH takes whole seconds since 1970, of at most eleven digits")
+    return time.gmtime(int(told))
+
+
+def fill(archive, sliced, job, now):
     """Writes a PNG for each layer, and behind them the settings and the profile."""
-    now = time.gmtime(int(os.environ.get("SOURCE_DATE_EPOCH", time.time())))
 
     def entry(name, body):
-        head = zipfile.ZipInfo(name, max(now[:6], (1980, 1, 1, 0, 0, 0)))
+        head = zipfile.ZipInfo(name, min(max(now[:6], (1980, 1, 1, 0, 0, 0)), LATEST))
         archive.writestr(head, body, zipfile.ZIP_DEFLATED, LEVEL)
 
     given = sliced.given
