@@ -17,6 +17,7 @@ from parts import box, environment, example, installed, leave_out, main, p4_imag
 
 SL1 = installed("stlslice-sl1")
 PNGS = installed("stlslice-pngs")
+PAGE = installed("stlslice-page")
 SHARE = os.path.join(os.path.dirname(os.path.dirname(SL1)), "share", "stlslice")
 SCREEN = ["--canvas", "160x120", "--pitch", "250", "--layer", "500"]
 # A foot to the right, a stem at the left, a knob on top: no turn and no mirror image of it is the same.
@@ -383,9 +384,10 @@ def too_many_facets_are_told(program, folder):
                         r"slices a larger part shell by shell, where it has several\n", said), said
 
 
-def progress_is_shown_on_a_terminal(program, folder):
+def shown_on_a_terminal(words, stopped_at=None):
+    """Status and standard output of a run, and what is shown on the terminal that is its standard error. It is stopped where
+    these bytes have been shown."""
     ours, theirs = pty.openpty()
-    words = [SL1, "--canvas", "3000x3000", "--pitch", "20", "--layer", "4", example("supported.stl"), os.path.join(folder, "out")]
     child = subprocess.Popen(words, stdout=subprocess.PIPE, stderr=theirs)
     os.close(theirs)
     shown = b""
@@ -395,11 +397,33 @@ def progress_is_shown_on_a_terminal(program, folder):
                 shown += os.read(ours, 65536)
             except OSError:
                 break
-    told = child.communicate()[0].decode()
-    same((child.returncode, told.count("\n")), (0, 1), "run")
+        if stopped_at and stopped_at in shown:
+            child.terminate()
+            stopped_at = None
+    told = child.communicate(timeout=60)[0].decode()
+    os.close(ours)
+    return child.returncode, told, shown
+
+
+def phases_are_shown_at_once(program, folder):
+    """A stand-in for the slicer reads within no time, and slices until it is stopped; the line is taken away then."""
+    path = written(folder, "slicer", '#!/bin/sh\ncase "$*" in\n*--box*) echo facets 12 box 0 0 0 8000 1000 1000;;\n'
+                   "*) exec sleep 60;;\nesac\n", str)
+    os.chmod(path, 0o755)
+    for command in (SL1, PNGS, PAGE):
+        words = [command, "--canvas", "99x99", "--pitch", "250", "--program", path, example("bracket.stl"), os.path.join(folder, "out")]
+        found = shown_on_a_terminal(words, b"slicing")
+        same(found, (143, "", b"\r\x1b[Kreading\r\x1b[Kslicing\r\x1b[K"), os.path.basename(command))
+    same(sorted(os.listdir(folder)), ["slicer"], "files")
+
+
+def progress_is_shown_on_a_terminal(program, folder):
+    words = [SL1, "--canvas", "3000x3000", "--pitch", "20", "--layer", "4", example("supported.stl"), os.path.join(folder, "out")]
+    status, told, shown = shown_on_a_terminal(words)
+    same((status, told.count("\n")), (0, 1), "run")
     drawn = [int(it.replace(b",", b"")) for it in re.findall(rb"\r\x1b\[Klayer ([\d,]+) of 8,000, \d+ s left", shown)]
     assert len(drawn) >= 3 and drawn == sorted(drawn), shown
-    assert shown.startswith(b"\r\x1b[Kreading\r\x1b[K"), "nothing is shown at first"
+    assert shown.startswith(b"\r\x1b[Kreading\r\x1b[Kslicing\r\x1b[K"), "the first phases aren't shown"
     assert shown.endswith(b"\r\x1b[K"), "the line is not taken away in the end"
 
 
@@ -437,4 +461,5 @@ def memory_is_small(program, folder):
 if __name__ == "__main__":
     main([printer_brings_its_screen, printer_is_asked_for, part_is_turned, pixels_need_not_be_square, binary_stl_is_read,
           other_formats_are_told, units_are_exact, shell_inside_out_is_told, shells_are_joined, shells_of_a_whole_text_alone,
-          too_many_facets_are_told, progress_is_shown_on_a_terminal, part_is_awaited_on_a_terminal, memory_is_small])
+          too_many_facets_are_told, phases_are_shown_at_once, progress_is_shown_on_a_terminal,
+          part_is_awaited_on_a_terminal, memory_is_small])

@@ -44,9 +44,10 @@ class Progress:
     moment = 0.0
 
     @classmethod
-    def show(cls, text):
+    def show(cls, text, is_new=False):
+        """Draws the line; that of a new phase at once, since it may stand for long."""
         now = time.monotonic()
-        if now - cls.moment < 0.1 or not sys.stderr.isatty():
+        if now - cls.moment < 0.1 and not is_new or not sys.stderr.isatty():
             return
         print(f"\r\x1b[K{text}", end="", file=sys.stderr, flush=True)
         cls.drawn, cls.moment = True, now
@@ -74,7 +75,6 @@ def ended(main):
     try:
         main()
     except Refused as fault:
-        Progress.clear()
         if fault.line:
             say(fault.line)
         sys.exit(fault.status)
@@ -84,5 +84,6 @@ def ended(main):
         say(f"{fault.strerror}: {name}" if name else str(fault.strerror))
         sys.exit(1)
     except KeyboardInterrupt:
-        Progress.clear()
         sys.exit(130)
+    finally:
+        Progress.clear()
