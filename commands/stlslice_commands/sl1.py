@@ -31,10 +31,11 @@ class Defaults:
 def main():
     parser = words.parser(ABOUT, "the archive to write, as out.sl1")
     add = parser.add_argument
-    add("--exposure", type=seconds, metavar="S", help="seconds a layer is exposed (the printer's, else 2.2)")
+    add("--exposure", type=seconds, metavar="S", help="seconds a layer is exposed (the printer's, else 2.2); a line says it where the printer's is "
+        "for layers of another height")
     add("--first-exposure", type=seconds, metavar="S", help="the same of the first layers (the printer's, else 25)")
     add("--fade", type=count, metavar="N", help="layers over which the exposure fades from the first to the other (10)")
-    add("--material", type=one_line, metavar="NAME", help="the resin's name, for the printer to show")
+    add("--material", type=one_line, metavar="NAME", help="the resin's name, for the printer to show (the printer's, else resin)")
     given = words.read(parser)
     fill_in(given)
     now = moment()
