@@ -329,6 +329,15 @@ def wrong_words_are_refused(program, folder):
     leaves_nothing(folder, [])
 
 
+def empty_names_are_refused(program, folder):
+    for command in (SL1, PNGS, installed("stlslice-page")):
+        for words, which in ((["", "out"], "part"), ([example("bracket.stl"), ""], "output")):
+            status, told, fault = run(script(command, ["--canvas", "99x99", "--pitch", "50", *words]), cwd=folder)
+            line = f"{os.path.basename(command)}: error: argument {which}: it takes a name"
+            same((status, told, fault.decode().splitlines()[-1]), (2, b"", line), f"an empty name of the {which}")
+    leaves_nothing(folder, [])
+
+
 def missing_program_is_told(program, folder):
     """stlslice-page finds the program in the same way."""
     for name in ("stlslice-sl1", "stlslice-pngs", "stlslice-page"):
@@ -489,7 +498,8 @@ def options_are_those_of_the_page(program, folder):
 
 if __name__ == "__main__":
     main([archive_is_the_stream, settings_are_those_asked_for, dates_are_those_of_a_zip, large_layers_are_slow,
-          part_is_upright_and_in_the_middle, folder_is_the_stream, large_part_is_refused, faults_are_handed_on, fault_keeps_what_was_there,
-          output_that_is_no_plain_file_is_refused, part_is_not_overwritten, wrong_words_are_refused, missing_program_is_told,
-          other_exposure_is_asked_for, pngs_are_taken_as_they_are, pitch_of_quarters_is_exact, broken_slicers_leave_nothing,
-          full_disk_is_told, stopped_script_leaves_nothing, pipes_and_units, options_are_those_of_the_page])
+          part_is_upright_and_in_the_middle, folder_is_the_stream, large_part_is_refused, faults_are_handed_on,
+          fault_keeps_what_was_there, output_that_is_no_plain_file_is_refused, part_is_not_overwritten, wrong_words_are_refused,
+          empty_names_are_refused, missing_program_is_told, other_exposure_is_asked_for, pngs_are_taken_as_they_are,
+          pitch_of_quarters_is_exact, broken_slicers_leave_nothing, full_disk_is_told, stopped_script_leaves_nothing,
+          pipes_and_units, options_are_those_of_the_page])

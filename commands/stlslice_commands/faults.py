@@ -22,6 +22,14 @@ def say(line):
     print(f"{os.path.basename(sys.argv[0])}: {line}", file=sys.stderr, flush=True)
 
 
+def look_at_output(output, part):
+    """Refuses an output that is there and no plain file, or is the part."""
+    if os.path.lexists(output) and (os.path.islink(output) or not os.path.isfile(output)):
+        raise Refused(f"{output} is no plain file")
+    if os.path.exists(output) and os.path.exists(part) and os.path.samefile(output, part):
+        raise Refused(f"{output} is the part itself")
+
+
 def aside(output):
     """The name that an output has until it is whole."""
     return f"{output}.{os.getpid()}.part"

@@ -8,7 +8,7 @@ import time
 import zipfile
 
 from . import words
-from .faults import Refused, aside, named, say
+from .faults import Refused, aside, look_at_output, named, say
 from .parts import opened
 from .slicing import Sliced
 
@@ -39,10 +39,7 @@ def main():
     given = words.read(parser)
     fill_in(given)
     now = moment()
-    if os.path.lexists(given.output) and (os.path.islink(given.output) or not os.path.isfile(given.output)):
-        raise Refused(f"{given.output} is no plain file")
-    if os.path.exists(given.output) and os.path.exists(given.part) and os.path.samefile(given.output, given.part):
-        raise Refused(f"{given.output} is the part itself")
+    look_at_output(given.output, given.part)
     with opened(given.part) as source:
         sliced = Sliced(given, source)
         path = aside(given.output)

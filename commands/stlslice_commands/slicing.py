@@ -114,8 +114,7 @@ class Sliced:
         rule = self.given.rule
         totals = totals_of(self.areas)
         if not any(totals):
-            raise Refused(f"no pixel is lit by --rule {rule}: is the part inside out (try --rule nonzero), or its unit another "
-                          f"than {self.given.unit}? It is {in_mm(self.size)} mm")
+            refuse_unlit(self.given, self.size)
         if rule == "positive":
             self.look_at_shells(totals, totals_of(self.areas_by("nonzero")))
         elif rule == "nonzero" and len(self.texts) > 1:
@@ -151,6 +150,11 @@ class Sliced:
     def told(self, output):
         """The last line."""
         return f"{output}: {in_mm(self.size)} mm, {self.millilitres(self.lit):.3f} ml, {self.layers} layers"
+
+
+def refuse_unlit(given, size):
+    raise Refused(f"no pixel is lit by --rule {given.rule}: is the part inside out (try --rule nonzero), or its unit another than "
+                  f"{given.unit}? It is {in_mm(size)} mm")
 
 
 def totals_of(areas):

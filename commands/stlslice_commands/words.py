@@ -31,9 +31,9 @@ def parser(description, output):
     """A parser of the options that both commands take; `output` is what the second word names."""
     made = argparse.ArgumentParser(description=description, allow_abbrev=False)
     add = made.add_argument
-    add("part", help="an STL, ASCII or binary, or - for standard input; for another format, zip or gzip the "
+    add("part", type=nonempty, help="an STL, ASCII or binary, or - for standard input; for another format, zip or gzip the "
         "command that converts or unpacks it is told")
-    add("output", help=output)
+    add("output", type=nonempty, help=output)
     add("--printer", action=Listing, metavar="MODEL",
         help="a printer that is known by name: it brings canvas, pitch, mirrors and height; 'help' lists them")
     add("--canvas", type=canvas, metavar="COLUMNSxROWS", help="pixels of the screen, as its images have them")
@@ -75,6 +75,12 @@ def quarters(words):
     """The words with the value of `--turn` written out: with none it is a quarter."""
     bare = [word == "--turn" and words[at + 1:at + 2] != ["auto"] for at, word in enumerate(words)]
     return ["--turn=quarter" if is_bare else word for word, is_bare in zip(words, bare)]
+
+
+def nonempty(text):
+    if not text:
+        raise argparse.ArgumentTypeError("it takes a name")
+    return text
 
 
 def canvas(text):
