@@ -254,22 +254,37 @@ def other_formats_are_told(program, folder):
 
 
 def commands_keep_the_part(folder):
-    """The command of a refusal makes a file that isn't there yet, of whatever name the part is."""
+    """The command of a refusal makes a file that isn't there yet, of whatever name the part is, and works for that name."""
     here = os.path.join(folder, "named as an STL")
     os.mkdir(here)
+    corners = box((0, 0, 0), (1, 1, 1))
+    points = [corner for facet in corners for corner in facet]
+    lines = {"OBJ": ["v %d %d %d" % it for it in points] + ["f %d %d %d" % (k + 1, k + 2, k + 3) for k in range(0, 36, 3)],
+             "OFF": ["OFF", "36 12 0"] + ["%d %d %d" % it for it in points] + ["3 %d %d %d" % (k, k + 1, k + 2) for k in range(0, 36, 3)]}
     for kind, body, command in (
-            ("gzip", gzip.compress(text(SHAPE).encode()), "unpack it: zcat part.stl > part-2.stl"),
-            ("OBJ", b"v 0 0 0\n", "convert it: prusa-slicer --export-stl --output part-2.stl part.stl"),
-            ("OFF", b"OFF\n0 0 0\n", "convert it: assimp export part.stl part-2.stl")):
-        written(here, "part.stl", body, bytes)
+            ("gzip", gzip.compress(text(corners).encode()), "zcat part.stl > part-2.stl"),
+            ("OBJ", lines["OBJ"], "cp part.stl part.obj && prusa-slicer --export-stl --output part-2.stl part.obj"),
+            ("OFF", lines["OFF"], "cp part.stl part.off && assimp export part.off part-2.stl")):
+        written(here, "part.stl", body if kind == "gzip" else "\n".join(body) + "\n", lambda it: it)
         found = run([SL1, *SCREEN, "part.stl", "out"], cwd=here)
-        same(found, (3, b"", f"stlslice-sl1: the part is {kind}, not STL; {command}\n".encode()), f"refusal of {kind} as part.stl")
+        way = "unpack" if kind == "gzip" else "convert"
+        same(found, (3, b"", f"stlslice-sl1: the part is {kind}, not STL; {way} it: {command}\n".encode()), f"refusal of {kind} as part.stl")
+        if shutil.which(command.split("&& ")[-1].split()[0]):
+            same(run(["bash", "-c", command], cwd=here, env=dict(os.environ, HOME=here))[0], 0, command)
+            with open(os.path.join(here, "part-2.stl"), "rb") as file:
+                assert stl_facets(file.read()) == 12, f"{kind}: another part"
+            os.remove(os.path.join(here, "part-2.stl"))
     written(here, "part-2.stl", b"", bytes)
     packed = written(here, "part.stl.gz", gzip.compress(b""), bytes)
     for words, name in ((["part.stl.gz"], "part.stl.gz"), (["-"], "part.gzip")):
         with open(packed, "rb") as file:
             found = run([SL1, *SCREEN, *words, "out"], cwd=here, stdin=file)
         same(found[2].decode(), f"stlslice-sl1: the part is gzip, not STL; unpack it: zcat {name} > part-3.stl\n", "files of both names")
+
+
+def stl_facets(body):
+    """How many facets a text or a binary STL has."""
+    return body.count(b"endfacet") or int.from_bytes(body[80:84], "little")
 
 
 def units_are_exact(program, folder):

@@ -43,8 +43,7 @@ def refuse_others(file, path):
     kind = kind_of(head)
     if kind:
         name = "part." + kind.lower() if path == "-" else path
-        command = CONVERTED[kind].format(shlex.quote(name), shlex.quote(free_name(re.sub(r"(?i)(\.stl)?\.\w+$", "", name))))
-        raise Refused(f"the part is {kind}, not STL; {'unpack' if 'zip' in kind else 'convert'} it: {command}", 3)
+        raise Refused(f"the part is {kind}, not STL; {'unpack' if 'zip' in kind else 'convert'} it: {command_for(kind, name)}", 3)
     # a binary STL has a 0 there, in its count of facets at the latest
     if b"\0" in head[:84] and not head.startswith((b"\xff\xfe", b"\xfe\xff")) and size_of(file) >= 84:
         count = int.from_bytes(head[80:84], "little")
@@ -52,10 +51,20 @@ def refuse_others(file, path):
                       f"{84 + 50 * count:,} bytes, and it has {size_of(file):,}", 3)
 
 
-def free_name(stem):
-    """The name of an STL to make, which no file has yet: a pasted command may not write over a part."""
-    names = itertools.chain([f"{stem}.stl"], (f"{stem}-{k}.stl" for k in itertools.count(2)))
-    return next(name for name in names if not os.path.lexists(name))
+def command_for(kind, name):
+    """The command that makes an STL of a file. The tools that convert take the format from the name's ending, so a file of
+    another name is copied first."""
+    stem, copied = re.sub(r"(?i)(\.stl)?\.\w+$", "", name), ""
+    if "zip" not in kind and not name.lower().endswith("." + kind.lower()):
+        other = free_name(stem, "." + kind.lower())
+        copied, name = f"cp {shlex.quote(name)} {shlex.quote(other)} && ", other
+    return copied + CONVERTED[kind].format(shlex.quote(name), shlex.quote(free_name(stem, ".stl")))
+
+
+def free_name(stem, ending):
+    """A name that no file has yet: a pasted command may not write over a part."""
+    names = itertools.chain([stem], (f"{stem}-{k}" for k in itertools.count(2)))
+    return next(name + ending for name in names if not os.path.lexists(name + ending))
 
 
 def kind_of(head):
