@@ -244,7 +244,12 @@ def shells_are_kept_together(program, folder):
 
 
 def corners_are_joined_as_by_the_program(program, folder):
-    """A number in micrometres beside the same by fractions, in each unit, halves away from zero; and what is out of range."""
+    """A number in micrometres beside the same by fractions, in each unit, halves away from zero, and beside the program's; and
+    what is out of range."""
+    def boxed(word, unit):
+        status, told, fault = run([program, "--box", "--unit", unit], input=text([((word, 0, 0),) * 3]).encode())
+        return int(told.split()[3]) if not status else (status, fault.decode().partition(": out")[2])
+
     units = {"mm": 1000, "cm": 10_000, "m": 1_000_000, "inch": 25_400}
     spelled = ["0", "-0", "+0.0e99999999999999999999", ".0005", "-0.0005", "0.0004999999999999999999999999", "00.0015", "2.5", "-3.75e-1",
                "1E+1", "0.00002", "-.00005", "0.0000005", "1e-400", "-7e-99999999999999999999", "120", "0.0000295275590551181102362",
@@ -255,8 +260,12 @@ def corners_are_joined_as_by_the_program(program, folder):
             wanted = abs(exact) * times + Fraction(1, 2)
             found = shells.micrometres(word.encode(), unit)
             same(found, -(wanted // 1) if exact < 0 else wanted // 1, f"{word} {unit}")
+            if unit in ("mm", "inch"):
+                same(found, boxed(word, unit), f"{word} {unit} beside the program's")
     for unit, greatest in (("mm", "128000.00049999"), ("cm", "12800.000049999"), ("m", "128.00000049999"), ("inch", "5039.370098425")):
         same(shells.micrometres(greatest.encode(), unit), 128_000_000, f"the greatest {unit}")
+        if unit in ("mm", "inch"):
+            same((boxed(greatest, unit), boxed("9e99999999999999999999", unit)), (128_000_000, (3, " of range\n")), f"the program's {unit}")
         for word in (f"{float(greatest) + 1e-6:.9f}", f"-{float(greatest) + 1e-6:.9f}", "1e999", "1e13", "9e99999999999999999999"):
             refused(lambda: shells.micrometres(word.encode(), unit), 3,
                     f"the number {word} is out of range: a corner lies within 128 m of the origin")
