@@ -1,6 +1,6 @@
 #!/usr/bin/env python3
 """Times the library beside the program on a mesh made here, a ring of about the given number of facets: what a preview waits
-for, and what a pipeline spends on all layers. And the memory of an open mesh.
+for, and what a pipeline spends on all layers. And the memory of a mesh that is opened from a text, and from arrays.
 
     bench/library.py PROGRAM LIBRARY [FACETS]
 
@@ -8,8 +8,10 @@ Times are processor time, in times of a run of the program with one worker; each
 wants numpy, and for the memory glibc 2.33 or later.
 """
 
+import array
 import ctypes
 import os
+import re
 import resource
 import subprocess
 import sys
@@ -64,13 +66,27 @@ def through_pipe(program, path, shape, numpy):
             numpy.unpackbits(packed, axis=1, count=columns).view(bool)
 
 
-def memory(stlslice, text):
-    """Facets of a text, bytes that their open mesh keeps, and bytes that opening takes at most, beside the text."""
+def openings(stlslice, text):
+    """What opens a mesh from a text, and what opens it from the arrays of the same facets. The module's copies of the arrays are
+    made here, so what opens takes the library's memory alone."""
+    known = {}
+    found = array.array("I", (known.setdefault(row, len(known)) for row in re.findall(rb"vertex (.*)\n", text)))
+    corners = stlslice._points(stlslice.micrometres([[float(it) for it in row.split()] for row in known]))
+    indices = stlslice._triangles(found)
+    call = stlslice._lib.stlslice_open_mesh
+    yield "a text", lambda: stlslice.open(text, **SIZES)
+    yield "arrays", lambda: stlslice.Mesh(lambda *places: call(*corners[1:], *indices[1:], *places), SIZES["pitch"], SIZES["layer"],
+                                          "evenodd", None, "mm")
+
+
+def memory(opens):
+    """Facets of a mesh, bytes that it keeps when it is open, and bytes that opening takes at most, beside its text or arrays."""
+    ctypes.CDLL(None).malloc_trim(0)    # what an earlier mesh gave back would else be taken again without being counted
     before = in_use()
     with open("/proc/self/clear_refs", "w") as peak:
         peak.write("5")
     start = resident("VmRSS")
-    with stlslice.open(text, **SIZES) as mesh:
+    with opens() as mesh:
         kept, grown = in_use() - before, resident("VmHWM") - start
         return mesh.box.facets, kept, max(kept, grown)
 
@@ -91,7 +107,7 @@ def main():
         facets = ring_of(int(sys.argv[3]) if len(sys.argv) > 3 else 20_000, path)
         with open(path, "rb") as file:
             text = file.read()
-        _, kept, most = memory(stlslice, text)
+        spent_on = [(name, *memory(opens)) for name, opens in openings(stlslice, text)]
         with stlslice.open(text, **SIZES) as mesh:
             shape = mesh.shape
 
@@ -127,8 +143,9 @@ def main():
         print("{} facets, {} layers of {} by {} pixels; a run of the program takes {:.0f} ms".format(facets, *shape, whole * 1000))
         for name, seconds in found.items():
             print(f"{seconds / whole:8.4f}     {name}")
-        print(f"{kept / facets:8.0f}     bytes a facet of an open mesh")
-        print(f"{most / facets:8.0f}     bytes a facet that opening takes at most, beside the text")
+        for name, count, kept, most in spent_on:
+            print(f"{kept / count:8.0f}     bytes a facet of a mesh opened from {name}")
+            print(f"{most / count:8.0f}     bytes a facet that opening takes at most, beside the {name.split()[-1]}")
 
 
 if __name__ == "__main__":

@@ -10,18 +10,18 @@
  *     stlslice_mask(&mesh, k, image, image_room, &image_size);
  *     stlslice_close(&mesh);
  *
- * Calls. Each call answers a status. Lengths are whole micrometres. Layers, columns and rows count from 0, along z, x
- * and y. No call prints, starts a thread, reads a file or ends the program; memory comes from malloc and goes back to
- * free. A call that answers another status than STLSLICE_DONE leaves the mesh as it was.
+ * Calls. Most calls return a status. Lengths are whole micrometres. Layers, columns and rows count from 0, along z, x
+ * and y. No call prints, starts a thread, reads a file or ends the program. Memory comes from malloc and goes back to
+ * free. A call that returns any other status than STLSLICE_DONE leaves the mesh as it was.
  *
- * Buffers. A call with a buffer writes into its front and leaves the rest as it was, and tells how much it wrote. Where
- * the buffer is too small nothing is written, the size that is wanted is told, and the status is STLSLICE_NO_ROOM; so a
- * call with a null buffer of size 0 asks for the size, at once for stlslice_mask and stlslice_stripe. At any other status
- * buffer and size are as they were.
+ * Buffers. A call with a buffer writes into its front, leaves the rest as it was, and reports how much it wrote. If the
+ * buffer is too small, nothing is written, the size that is needed is reported, and the status is STLSLICE_NO_ROOM. So
+ * a call with a null buffer of size 0 asks for the size; stlslice_mask and stlslice_stripe report it at once. At any
+ * other status buffer and size are as they were.
  *
- * Pointers. A text, an array or a buffer may be null where its size is 0. Any other pointer that is null makes the status
- * STLSLICE_OUT_OF_RANGE. A pointer that is not null has to be valid for its type. The places that one call
- * writes to overlap neither each other nor what it reads.
+ * Pointers. A text, an array or a buffer may be null if its size is 0. If any other pointer is null, the status is
+ * STLSLICE_OUT_OF_RANGE; a call without a status then does nothing. A pointer that is not null has to be valid for its
+ * type. The places that one call writes to overlap neither each other nor what it reads.
  *
  * Threads. A mesh may go from thread to thread, and is used by one call at a time. Different meshes are independent of
  * each other.
@@ -48,7 +48,7 @@ typedef uint32_t stlslice_status;
 #define STLSLICE_NO_ROOM 7u      /* the buffer is too small */
 #define STLSLICE_NOT_OPEN 8u     /* no mesh was opened, or it was closed */
 
-/* A size in which each line has room. */
+/* A size that is enough for each line. */
 #define STLSLICE_LINE 256
 
 /* Rules, units and where the grid lies. Zeros are what the program takes by default. Pitch and layer have no default. */
@@ -70,7 +70,7 @@ typedef struct {
     int32_t origin[3];              /* the corner of least x, y and z, each at most 128000000 from 0 */
 } stlslice_options;
 
-/* The facets of a text or of arrays: how many, and their least and greatest x, y and z. All are 0 where there is none. */
+/* The facets of a text or of arrays: how many, and their least and greatest x, y and z. All are 0 if there is none. */
 typedef struct {
     uint64_t facets;
     int32_t low[3], high[3];
@@ -93,7 +93,7 @@ typedef struct {
     int64_t x2, y2;
 } stlslice_point;
 
-/* An opened mesh, or none: zeros, or STLSLICE_CLOSED, with which it begins. Its fields are the library's; a copy may not be
+/* An opened mesh, or none. It begins as STLSLICE_CLOSED, or as zeros. Its fields are the library's. A copy may not be
  * used beside it. */
 typedef struct {
     bool is_open;
@@ -104,9 +104,9 @@ typedef struct {
 /* 1000000 for 1.0.0. */
 uint32_t stlslice_version(void);
 
-/* Reads an ASCII STL text, and tells the box of its facets. After a fault of text, mesh or grid, `line` has what the program
- * writes for it after "stlslice: "; where a number is out of its range, or an allocation failed, a text of that. It is ended
- * by 0, and cut where there is no room for it. At STLSLICE_DONE it is as it was. */
+/* Reads an ASCII STL text, and reports the box of its facets. After a fault of text, mesh or grid, `line` has what the
+ * program writes for it after "stlslice: ". If a number is out of its range, or an allocation failed, `line` has a text
+ * of that. It ends with 0, and is cut if there is no room for it. At STLSLICE_DONE it is as it was. */
 stlslice_status stlslice_box(const uint8_t *text, size_t text_size, uint32_t unit, stlslice_corners *corners, char *line,
                              size_t line_room);
 
@@ -115,30 +115,33 @@ stlslice_status stlslice_box(const uint8_t *text, size_t text_size, uint32_t uni
 stlslice_status stlslice_open(const uint8_t *text, size_t text_size, const stlslice_options *options, stlslice_mesh *mesh,
                               stlslice_shape *shape, char *line, size_t line_room);
 
-/* Opens a mesh from arrays, as stlslice_open does a text. A point is three coordinates, x, y and z in micrometres, each at most
- * 128000000 from 0; a triangle is the indices of its three corners among the points, from 0, counterclockwise as seen from
- * outside. The counts are of points and of triangles, so the arrays have three numbers for each; there are at most 1048576
- * triangles. The unit of the options has to be one, and has no effect. A point that no triangle has is not looked at. Nothing of
- * the arrays is kept: they are no longer needed.
- * Where a triangle is wrong, the status is STLSLICE_OUT_OF_RANGE, and `line` names the first one, from 0, and in it the first
- * such point: "point 7 of triangle 3 is missing", "point 7 of triangle 3 is out of range", or "too many facets at triangle
- * 1048576". Else all is as in stlslice_open: a text of the same facets has the same mesh, or the same fault. */
+/* Opens a mesh from arrays, as stlslice_open does a text. A point is three coordinates, x, y and z in micrometres, each
+ * at most 128000000 from 0. A triangle is the indices of its three corners among the points, from 0, counterclockwise
+ * as seen from outside. The counts are of points and of triangles, so the arrays have three numbers for each. There are
+ * at most 1048576 triangles. The unit of the options has to be a unit, and has no effect. A point that no triangle has
+ * is not looked at. Nothing of the arrays is kept: they are no longer needed.
+ * If a triangle is wrong, the status is STLSLICE_OUT_OF_RANGE. Then `line` is "point 7 of triangle 3 is missing", "point
+ * 7 of triangle 3 is out of range", or "too many facets at triangle 1048576". It names the first wrong triangle, from 0,
+ * and the first wrong point in it. Otherwise all is as in stlslice_open: a text of the same facets has the same mesh, or
+ * the same fault. */
 stlslice_status stlslice_open_mesh(const int32_t *points, size_t point_count, const uint32_t *triangles,
                                    size_t triangle_count, const stlslice_options *options, stlslice_mesh *mesh,
                                    stlslice_shape *shape, char *line, size_t line_room);
 
-/* The image of layer k in raw PBM, just as the program writes it: "P4", columns, rows, then rows of (columns + 7) / 8
- * bytes from the greatest y down, the leftmost pixel in the highest bit, 1 where the voxel is filled. */
+/* The image of layer k in raw PBM, exactly as the program writes it: "P4", columns and rows, then the rows from the
+ * greatest y down. A row has (columns + 7) / 8 bytes, its leftmost pixel in the highest bit; a bit is 1 if the voxel is
+ * filled. */
 stlslice_status stlslice_mask(stlslice_mesh *mesh, uint32_t k, uint8_t *image, size_t image_room, size_t *image_size);
 
-/* The images of the layers 8 s to 8 s + 7, as far as there are, one after the other; this is faster than one by one. */
+/* The images of the layers 8 s to 8 s + 7, as far as there are, one after the other. This is faster than one by one. */
 stlslice_status stlslice_stripe(stlslice_mesh *mesh, uint64_t s, uint8_t *images, size_t images_room, size_t *images_size);
 
-/* The image of layer k as PNG (ISO 15948) in greyscale, of `depth` bits a pixel, 1 or 8: a pixel is white where the voxel is
- * filled, and else black. Without mirrors column 0 stands at the left, and the greatest y at the top, as in stlslice_mask;
- * STLSLICE_MIRROR_X puts column 0 at the right, and STLSLICE_MIRROR_Y the greatest y at the bottom. Another depth or other
- * mirrors make the status STLSLICE_OUT_OF_RANGE. Sizes differ from layer to layer, and the size alone takes as long as the
- * image: try a buffer first that is likely to do, as one of the size that stlslice_mask tells and 100 bytes more. */
+/* The image of layer k as PNG (ISO 15948) in greyscale, of `depth` bits a pixel, 1 or 8. A pixel is white if the voxel
+ * is filled, else black. Without mirrors column 0 stands at the left, and the greatest y at the top, as in
+ * stlslice_mask. STLSLICE_MIRROR_X puts column 0 at the right, and STLSLICE_MIRROR_Y the greatest y at the bottom. For
+ * another depth or other mirrors the status is STLSLICE_OUT_OF_RANGE. Sizes differ from layer to layer, and the size
+ * alone takes as long as the image. So try a buffer first that is likely to be enough, as one of the size that
+ * stlslice_mask reports and 100 bytes more. */
 stlslice_status stlslice_png(stlslice_mesh *mesh, uint32_t k, uint32_t depth, uint32_t mirrors, uint8_t *png, size_t png_room,
                              size_t *png_size);
 
@@ -148,15 +151,15 @@ stlslice_status stlslice_area(stlslice_mesh *mesh, uint32_t k, uint64_t *area);
 /* The rays from the centre of the voxel of column i, row j (from the least y up) and layer k. */
 stlslice_status stlslice_probe(stlslice_mesh *mesh, uint32_t i, uint32_t j, uint32_t k, stlslice_rays *rays);
 
-/* The loops in which the plane through the middle of layer k cuts the mesh: closed polygons, the inside of a mesh whose
- * facets face outward on the left of each step. `points` gets the points of all loops, one loop after the other, and
- * `ends` for each loop the position after its last point; the last point runs back to the first. Where one of the two
- * buffers is too small, neither is written, and both numbers are told. */
+/* The loops in which the plane through the middle of layer k cuts the mesh. They are closed polygons. If the facets of
+ * a mesh face outward, its inside is on the left of each step. `points` gets the points of all loops, one loop after
+ * the other. `ends` gets for each loop the position after its last point; the last point runs back to the first. If one
+ * of the two buffers is too small, neither is written, and both numbers are reported. */
 stlslice_status stlslice_loops(stlslice_mesh *mesh, uint32_t k, stlslice_point *points, size_t points_room,
                                size_t *points_count, size_t *ends, size_t ends_room, size_t *loops_count);
 
-/* The text of a status, ended by 0 and cut where it has no room: what stands beside the status above, in short. A number
- * that is no status has the text "no status". */
+/* The text of a status: what stands beside the status above, in short. It ends with 0, and is cut if there is no room
+ * for it. A number that is no status has the text "no status". */
 void stlslice_fault_text(stlslice_status status, char *line, size_t line_room);
 
 /* Closes a mesh and frees its memory. One that is closed stays so. */

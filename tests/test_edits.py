@@ -609,8 +609,8 @@ def kept(room):
 
 
 def the_repository_s_own():
-    """Each edit can be applied, and it is known which function has to be refused."""
-    count, bad, names = 0, [], set()
+    """Each edit can be applied, and its name begins with the function that has to be refused."""
+    count, bad, misnamed, names = 0, [], [], set()
     for name in sorted(os.listdir(os.path.join(ROOT, "crates"))):
         folder = os.path.join(ROOT, "crates", name)
         source = edits.Source(folder)
@@ -619,8 +619,10 @@ def the_repository_s_own():
                 count += 1
                 edit = edits.Edit(f"{folder}/{part}/{file}", name, source)
                 bad += [f"{edit.name}: {edit.bad}"] * bool(edit.bad)
+                misnamed += [edit.name] * (file.split(".")[-3] not in {it.name for it in edit.judged})
                 names.add(edit.name)
     same("edits that can't be tried", bad, [])
+    same("edits that are not named after the function that has to be refused", misnamed, [])
     same("edits that are listed and aren't there", sorted({*edits.listed_otherwise(ROOT)} - names), [])
     holds(f"{count} edits, 900 or more", count >= 900)
 

@@ -14,22 +14,26 @@ MEASURE = """
 import sys, library, measure, stlslice
 measure.ring_of(int(sys.argv[1]), sys.argv[2])
 with open(sys.argv[2], "rb") as file:
-    print(*library.memory(stlslice, file.read()))
+    for name, opens in library.openings(stlslice, file.read()):
+        print(*library.memory(opens), name)
 """
 
 
 def memory(room):
-    """Opened meshes of several sizes keep and take at most what the document tells."""
+    """Meshes of several sizes, opened from a text and from arrays, keep and take at most what the document tells."""
     told = re.search(r"at most (\d+) bytes a facet, .* takes up to (\d+) bytes a facet, and a mebibyte", text_of("docs/embedding.md"))
     most, peak = map(int, told.groups())
     paths = {"PYTHONPATH": f"{ROOT}/bench:{ROOT}/python", "PYTHONDONTWRITEBYTECODE": "1", "STLSLICE_LIBRARY": library()}
     for size in (1000, 20000, 70000):
         ran = room.run(sys.executable, "-c", MEASURE, str(size), room.file("ring.stl"), env={**room.environment, **paths})
         same(f"status of measuring {size} facets", (ran.returncode, ran.stderr), (0, ""))
-        facets, kept, taken = map(int, ran.stdout.split())
-        print(f"{facets} facets: {kept} bytes kept, {taken} taken")
-        holds(f"an open mesh keeps at most {most} bytes a facet", 0 < kept <= most * facets)
-        holds(f"opening takes at most {peak} bytes a facet and a mebibyte", taken <= peak * facets + (1 << 20))
+        rows = [row.split(" ", 3) for row in ran.stdout.splitlines()]
+        same("what is opened", [row[3] for row in rows], ["a text", "arrays"])
+        for *numbers, name in rows:
+            facets, kept, taken = map(int, numbers)
+            print(f"{facets} facets of {name}: {kept} bytes kept, {taken} taken")
+            holds(f"a mesh of {name} keeps at most {most} bytes a facet", 0 < kept <= most * facets)
+            holds(f"opening {name} takes at most {peak} bytes a facet and a mebibyte", taken <= peak * facets + (1 << 20))
 
 
 def made(room, name):

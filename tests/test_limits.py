@@ -23,6 +23,7 @@ SPELLED = {
         ("man/stlslice.1", "within {m} m of the origin"),
         ("include/stlslice.h", "each at most {} from 0"),
         ("docs/PROVED.md", "at most {m} metres up"),
+        ("python/stlslice/__init__.py", "points at most {m} metres from 0"),
     ],
     "geometry::CENTRE_LIMIT": [
         ("docs/formats.md", "is above {}; equal is allowed"),
@@ -49,7 +50,7 @@ SPELLED = {
         ("man/stlslice.1", "most {}, {} and"),
         ("include/stlslice.h", "at most {}, {} and"),
         ("docs/refused.md", "{} columns and rows"),
-        ("SECURITY.md", "the grid may have {} x {} x"),
+        ("SECURITY.md", "The grid may have {} x {} x"),
     ],
     "geometry::LAYER_LIMIT": [
         ("--help", " and {}), and its least"),

@@ -1,5 +1,5 @@
 #!/usr/bin/env python3
-"""What make does before rt run: libraries side by side, each behind those that it stands on, and those beside the longest
+"""What make does before rt run: libraries side by side, each behind those that it depends on, and those beside the longest
 chain at a lower priority with half of the processors, but for one whose chain is nearly as long; all of them from nothing
 but where work is kept; an end with status 1 where one isn't proved or the quick pass has something to mend; and nothing at
 all where the toolchain's library is another than expected. It is tried with a library that stands in for the toolchain's."""

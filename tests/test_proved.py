@@ -1,12 +1,12 @@
 #!/usr/bin/env python3
 """Each call, clause and definition that docs/PROVED.md, README and docs/embedding.md name is one of the sources, and the clauses
-that they name for a law or a call are clauses of it."""
+that they name for a law or a call are clauses of it. A clause that they name in brackets is told of a call."""
 
 import glob
 import os
 import re
 
-from common import ROOT, holds, text_of
+from common import ROOT, holds, same, text_of
 
 # what stands in code without being a name of the sources: words of the command, crates of the toolchain, a parameter
 OTHERS = {"main", "make", "evenodd", "nonzero", "positive", "memchr", "smallvec", "thiserror", "clap", "atomic_table", "malloc",
@@ -16,6 +16,23 @@ OTHERS = {"main", "make", "evenodd", "nonzero", "positive", "memchr", "smallvec"
 # the laws and calls of docs/PROVED.md whose clauses it names in brackets, with their files
 LAWS = {"one_answer": "crates/stlslice/src/laws.rt", "written_pixels": "crates/stlslice/src/laws.rt",
         "claims_laws": "crates/stripe_claims/src/laws.rt"}
+
+# the calls whose clauses a document names in brackets: where the words about them begin and end, and the calls with their file
+SESSION, CLAIMS, PNG = "crates/layer_session/src/session.rt", "crates/stripe_claims/src/claims.rt", "crates/layer_png/src/png.rt"
+C_CALLS = "crates/stlslice_c/src/lib.rt"
+TOLD = [
+    ("docs/PROVED.md", "Tasks of `read_words`", "\n", [("read_words", "crates/task_words/src/words.rt")]),
+    ("docs/PROVED.md", "If `build` of", "Each draw", [("build", "crates/layer_pool/src/pool.rt")]),
+    ("docs/PROVED.md", "Each draw of a stripe", ". ", [("draw", CLAIMS)]),
+    ("docs/PROVED.md", "`Session::open` of", "The same holds",
+     [("open", SESSION), ("open_mesh", SESSION), ("finish", "crates/layer_session/src/session_reader.rt")]),
+    ("docs/PROVED.md", "In that of `png`", "A call succeeds", [("png", SESSION)]),
+    ("docs/PROVED.md", "A call succeeds only", "The calls of", [(it, SESSION) for it in ("image", "stripe", "area", "loops", "outlines", "png")]),
+    ("docs/PROVED.md", "- `write_png` of", "- `deflate` writes", [("write_png", PNG)]),
+    ("docs/PROVED.md", "- `deflate` writes", "\n", [("write_zlib", "crates/deflate/src/whole.rt"), ("finish", "crates/deflate/src/zlib.rt")]),
+    ("docs/embedding.md", "| `stlslice_mask`, `_stripe`", "\n", [(f"stlslice_{it}", C_CALLS) for it in ("mask", "stripe", "area", "loops", "probe")]),
+    ("docs/embedding.md", "exactly the layer's pixels", "\n", [("png", SESSION)]),
+]
 
 
 def names_of_sources():
@@ -30,8 +47,34 @@ def names_of_sources():
 
 
 def clauses_of(name, path):
-    body = re.search(rf"(?ms)^pub fn {name}\(.*?^\{{\}}$", text_of(path))[0]
-    return set(re.findall(r"(?m)^    ensures (\w+) ", body))
+    """The clauses of a public call or law, each by its name."""
+    head = re.search(rf"(?ms)^( *)pub (?:extern \"C\" )?fn {name}(?:<[^(]*>)?\(.*?^\1\{{", text_of(path))[0]
+    return set(re.findall(r"(?m)^ *ensures (\w+) \{", head))
+
+
+def in_brackets(text):
+    """The names that stand in brackets, alone or with the word `of` and another name; types begin with a capital."""
+    for names in re.findall(r"\(((?:`\w+`(?:, )?)+)(?: of `[\w:]+`)?\)", text):
+        yield from re.findall(r"`([a-z]\w*)`", names)
+
+
+def told_of_calls():
+    """The clauses that are named of a call are its own, and a name in brackets is a clause of a call, a law or a call."""
+    laws = {it for path in glob.glob(f"{ROOT}/crates/*/src/laws.rt") for it in re.findall(r"(?m)^pub fn (\w+)", text_of(path))}
+    others = laws | {"write_zlib", "read_arrays"}   # calls
+    seen = {}
+    for document, first, last, named in TOLD:
+        text = text_of(document)
+        same(f"how often {document} has the words {first!r}", text.count(first), 1)
+        start = text.index(first)
+        clauses = set(in_brackets(text[start:text.index(last, start + len(first))])) - others
+        holds(f"{document}: {first!r} has clauses in brackets", clauses)
+        seen.setdefault(document, set()).update(clauses)
+        for name, path in named:
+            holds(f"{document}: {sorted(clauses)} are clauses of {name}", clauses <= clauses_of(name, path))
+    others |= OTHERS | fields("IsSlicedFrom", "crates/stlslice/specs/WrittenPixels.antt")
+    for document, clauses in seen.items():
+        same(f"{document}: names in brackets that are told of no call", sorted(set(in_brackets(text_of(document))) - clauses - others), [])
 
 
 def fields(record, path):
@@ -46,6 +89,7 @@ def main():
         holds(f"{document} names clauses", len(named) > 9)
         for name in sorted(named):
             holds(f"{document}: {name} is in the sources", all(it in known or name.startswith("_") for it in name.split("::")))
+    told_of_calls()
     proved = text_of("docs/PROVED.md")
     run = re.search(r"(?s)## A run\n(.*?)\nEvery task", proved)[1]
     clauses = {it for row in re.findall(r"(?m)^\|.*\| ([^|]*) \|$", run) for it in re.findall(r"`(\w+)`", row)}

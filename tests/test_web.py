@@ -19,10 +19,12 @@ OF_SCRIPT = ["library/web/worker.js", "library/web/page.js"]
 
 
 def lines_told():
-    """The document's numbers of lines are right to the next ten."""
+    """The documents' numbers of lines are right to the next ten."""
     section = text_of("docs/embedding.md").split("\n## A page that slices\n")[1]
-    told = re.search(r"(\d+) lines of C\b.*?(\d+) of JavaScript", section)
-    for number, names in zip(told.groups(), (OF_C, OF_SCRIPT)):
+    told = re.search(r"(\d+) lines of C\b.*?(\d+) of JavaScript", section).groups()
+    edge = re.search(r"`library/edge\.c`, (\d+) lines of C\b", text_of("docs/decisions/edge-in-c.md"))[1]
+    heap = re.search(r"some (\d+) lines of C\b", text_of("docs/decisions/page-from-the-native-module.md"))[1]
+    for number, names in zip((*told, edge, heap), (OF_C, OF_SCRIPT, ["library/edge.c"], ["library/web/heap.c"])):
         lines = sum(text_of(name).count("\n") for name in names)
         holds(f"{number} lines, as {names} have {lines}", abs(int(number) - lines) < 10)
 

@@ -4,13 +4,13 @@
     check.py [--base REV]
 
 The change is all that differs from REV (HEAD), with files that git doesn't know yet. This
-- proves each changed crate over what earlier checks kept, and the crates above it if something changed that they can
-  see: a definition, a signature, a contract, a type, the statement of a public lemma;
-- tries the edits of changed sources in one batch a crate, or all of a crate's if a definition changed; and changed edits;
+- proves each changed crate over what earlier checks kept. It also proves the crates above if something changed that they
+  can see: a definition, a signature, a contract, a type, the statement of a public lemma;
+- tries changed edits, those of changed sources, and those that a changed definition reaches, in batches;
 - proves and runs the nearest tests: of the crates of tests that use a changed crate, the one with the fewest libraries;
-- builds the program and runs the tests in tests/, but for the demo; if no crate changed, those that name a changed file.
+- builds the program and runs the tests in tests/, except the demo's; if no crate changed, those that name a changed file.
 
-It ends by telling what it didn't try, and 'N passed, N failed'. Only the gate, make test, tries all.
+At the end it reports what it didn't try, and 'N passed, N failed'. Only the gate, make test, tries all.
 """
 
 import argparse
@@ -24,7 +24,7 @@ sys.dont_write_bytecode = True
 
 ROOT = os.path.dirname(os.path.dirname(os.path.abspath(__file__)))
 PROGRAM = "build/stlslice"
-# These take a minute each and read sources that the program's own tests cover.
+# It takes a minute, since it runs the sources unproved.
 SLOW_TESTS = ("test_demo_unproved",)
 # A function's body: from the brace that ends its head's last line to the brace with the same indentation. A head has no blank
 # line and, unlike a trait's function without a body, no line that ends in a semicolon; and its clauses are no body.
@@ -101,7 +101,7 @@ class Change:
         return [it for it in self.deps if it in self.sources or it in above]
 
     def below(self, crate):
-        """The libraries that a crate stands on, at once or by others."""
+        """The libraries that a crate depends on, directly or through others."""
         return {*self.deps[crate]}.union(*(self.below(it) for it in self.deps[crate]))
 
     def nearest_tests(self):

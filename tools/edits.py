@@ -1,29 +1,31 @@
 #!/usr/bin/env python3
 """Tries wrong bodies, those of different functions of a crate together in one check, each of which a clause has to refuse.
 
-    tools/edits.py [--jobs N] [NAME.. | EDIT..]     those of these crates, or these alone; all where nothing is named
+    tools/edits.py [--jobs N] [NAME.. | EDIT..]     those of these crates, or these alone; all if nothing is named
     tools/edits.py [--jobs N] --changed FILE..      those that a change of these files concerns, also of must-fail/
     tools/edits.py [--jobs N] --batch EDIT..        these together, in one check
 
---show FOLDER, before these, tries all anew and leaves there what each check said. Else the results of a batch that passed are
-taken from build/edits where neither the batch, nor its crate, nor one below has changed.
+--show FOLDER, before these, tries all anew and leaves in FOLDER what each check said. Without it, the results of a batch that
+passed are taken from build/edits if neither the batch, nor its crate, nor one below has changed.
 
 An edit is a file crates/NAME/edits/FUNCTION.FAULT.edit, in the form that `rt must-fail` reads (CONTRIBUTING.md). It is planted
 in a copy of the crate, together with others. The functions that none of them edits keep their statements, and their proofs
-are left out. So each edited function is judged by itself: it has to be refused by a goal of its own, or of a closure in it,
-that is a clause (`returns..`), or the invariant of a loop or of a type (`loop-..`, `invariant_of-..`; a loop that has a label
-goes by it, as in `rows-preserved`). A lemma of its answers stands for the goals that rest on it, where all of them are such.
+are left out. So each edited function is judged by itself: it has to be refused by a goal of its own, or of a closure in it.
+That goal is a clause (`returns..`), or the invariant of a loop or of a type (`loop-..`, `invariant_of-..`; a loop that has a
+label goes by it, as in `rows-preserved`). A lemma of its answers stands for the goals that depend on it, if all of them are
+such.
+
 An edit of a definition, in specs/, has to be refused in a function whose contract cites it, a law if there is one. Edits of
-laws go together where no clause rests on two of them, and each is then refused by a clause that rests on it. A definition in
-the contract of other functions stands alone, since its edit changes all that read it. So does one of a law whose answers are
-one record: then no goal names the clause. Where an edit is refused otherwise it has failed, unless
+laws are tried together if no clause depends on two of them. Each is then refused by a clause that depends on it. A definition
+in the contract of other functions is tried alone, since its edit changes all that read it. So is one of a law whose answers
+are one record: then no goal names the clause. An edit that is refused otherwise has failed, unless
 tools/edits_refused_otherwise.txt names it, with the goal and the reason.
 
-In each check stands one edit more, which means the same as before. It has to read as proved, so that a tool that can't see
-shows.
+Each check has one edit more, which means the same as before. It has to be reported as proved. So a check that sees nothing
+is noticed.
 
-Each edit has a line; the last line is 'N passed, N failed', and the status is 0 where none failed, 1 where one did, and 2
-where nothing was tried. The libraries below a crate are built first, where they aren't.
+Each edit has a line, and the last line is 'N passed, N failed'. The status is 0 if none failed, 1 if one did, and 2 if
+nothing was tried. The libraries below a crate are built first, if they aren't.
 """
 
 import contextlib
@@ -113,7 +115,7 @@ class Function:
 
     def shows_contract(self, goal):
         """Whether a goal of the function's is a clause, or the invariant of a loop or of a type. The goals of a loop begin with its
-        label where it has one."""
+        label, if it has one."""
         label, _, rest = goal.partition("-")
         labels = re.findall(r"(?m)^\s*'(\w+): (?:while|for|loop)\b", "\n".join(self.body))
         return bool(OF_CONTRACT.match(goal)) or label in labels and bool(re.match(r"(?:init|preserved)\b", rest))
@@ -243,7 +245,7 @@ class Source:
         return stated, proved, more - names
 
     def resting_on(self, names):
-        """These definitions and lemmas, and all that cite one, at once or by others."""
+        """These definitions and lemmas, and all that cite one, directly or through others."""
         found, more = set(), set(names)
         while more:
             found |= more
@@ -301,8 +303,9 @@ def item_at(text, row):
 
 
 def reached(source, definitions):
-    """The functions that a change of these definitions reaches. First those whose contracts cite one with as few definitions
-    between as can be, or else with more where the others are no laws and these are; then all, also those whose proofs do."""
+    """The functions that a change of these definitions reaches, as two lists. The first has those whose contracts cite one with
+    as few definitions between as can be, or with more if only those are laws. The second has all, also those whose proofs
+    cite one."""
     names, nearest, laws, every = set(definitions), [], [], []
     while names:
         stated, proved, more = source.citing(names)
@@ -319,9 +322,9 @@ def reached(source, definitions):
 
 
 class Edit:
-    """An edit as it stands in its file: which lines of which files it changes, the functions whose lines these are, those of
-    which one has to be refused, and all that it can change the proof of. One of laws has the clauses that rest on it. It is `bad`
-    where it can't be applied."""
+    """An edit as its file has it: which lines of which files it changes, and the functions whose lines these are. It also has
+    the functions of which one has to be refused, and all whose proof it can change. One of laws has the clauses that depend
+    on it. It is `bad` if it can't be applied."""
 
     def __init__(self, path, crate, source):
         self.path, self.name = path, f"{crate}/{os.path.basename(path)[: -len('.edit')]}"
@@ -375,7 +378,7 @@ class Edit:
 
     def clauses_of_laws(self, source):
         """The clauses that an edit of laws changes, or whose answers rest on what it changes. Of each the law, and the goal. None
-        where its own law has no answers by clause."""
+        if its own law has no answers by clause."""
         found, names = set(), source.resting_on(self.definitions)
         for law in {it for it in self.reach if it.is_law()}:
             was, now = clauses_of(law.contract()), clauses_of(law.contract(self.rows))
@@ -390,8 +393,8 @@ class Edit:
         return any(self.rows[it] != other.rows[it] for it in {*self.rows} & {*other.rows})
 
     def clash(self, other):
-        """A function for which the two can't be told apart in one check, or None. Those of laws can where no clause rests on what
-        both change."""
+        """A function for which the two can't be told apart in one check, or None. Those of laws can if no clause depends on
+        what both change."""
         if self.clauses and other.clauses:
             return next((law for law, _ in self.clauses & other.clauses), None)
         both = [it for it in self.reach if it in other.functions or it in other.judged]
@@ -415,7 +418,7 @@ def stop_on_clash(edits):
 
 def grouped(edits):
     """The edits in few lists, each about as long as the others, in which no two clash. One of a definition is tried without
-    others, since a lemma that it refuses could be theirs. Those of laws go together where no clause rests on two of them."""
+    others, since a lemma that it refuses could be theirs. Those of laws go together if no clause depends on two of them."""
     fit = [it for it in edits if not it.bad and not it.is_alone]
     together, of_laws = [it for it in fit if not it.definitions], [it for it in fit if it.definitions and it.clauses]
     return [*spread(together), *spread(of_laws), *([it] for it in edits if it not in together and it not in of_laws)]
@@ -489,8 +492,8 @@ def called(source, function):
 
 
 def harmless(batch):
-    """A function that no edit of the batch reaches, nor one that it calls: the plainest of them. With it the line on which its
-    body opens, with a statement more that does nothing, and the functions that it may call. None where there is none."""
+    """The plainest function that no edit of the batch reaches, nor any that it calls. With it the line on which its body opens,
+    with a statement more that does nothing, and the functions that it may call. None if there is none."""
     reach = {it for edit in batch.edits for it in [*edit.reach, *edit.judged]}
     found = []
     for it in batch.source.functions:
@@ -622,8 +625,8 @@ def check(batch, asked, room):
 
 
 def refused_by(function, source, module, lemma):
-    """What of a function isn't proved where a lemma is refused: the goals whose answers rest on it, at once or by others, if all of
-    them show a contract. Else the lemma stands for itself, and so does the answer of a goal."""
+    """What of a function isn't proved if a lemma is refused: the goals whose answers depend on it, directly or through others,
+    if all of them show a contract. Else the lemma stands for itself, and so does the answer of a goal."""
     names, more = set(), {(module, lemma)}
     if f"goal.{lemma}" in words_of(source.texts.get(f"{module.replace('.', '/')}.antt", "")):
         return [lemma]
@@ -676,9 +679,9 @@ def lemmas_of(symbol, batch, check):
 
 
 def refusal(edit, batch, check):
-    """What refuses an edit, a clause or an invariant if one does, and whether it is one. Where the edit is of a definition, each
-    lemma by which a law is proved counts for its clause; where it is of a constant or a type, a lemma counts for the goals that
-    rest on it. Where others are of the same law, only the edit's own clauses count. Where the edit is refused only since answers
+    """What refuses an edit, a clause or an invariant if one does, and whether it is one. If the edit is of a definition, each
+    lemma by which a law is proved counts for its clause. If it is of a constant or a type, a lemma counts for the goals that
+    depend on it. If others are of the same law, only the edit's own clauses count. If the edit is refused only since answers
     name what is no longer there, this is `names`."""
     of_contract, named, names = [], [], []
     for it in edit.judged:
@@ -709,7 +712,7 @@ def listed_otherwise(root):
 
 
 def judge(edit, batch, check, otherwise, other=None):
-    """Whether an edit passed, and what to say of it. `other` refuses it where no goal of its own function does."""
+    """Whether an edit passed, and what to say of it. `other` refuses it if no goal of its own function does."""
     goal, is_clause = refusal(edit, batch, check)
     goal = goal or other
     known = otherwise.get(edit.name)
@@ -763,7 +766,7 @@ def results_of(batch, check, control, otherwise):
         told = {it: told[it] for it in batch.edits if seen == "no holes" and told[it][0]}
         told.update({it: (False, said) for it, said in bad.items()})
     else:
-        # without the others they are judged; where all of them are hidden it is by something else, if they are of no laws
+        # hidden ones are tried again without the others; if all are hidden and none is of laws, something else hides them
         hidden = [it for it in batch.edits if not told[it][0] and is_hidden(it, batch, check)]
         is_for_nothing = len(hidden) == len(batch.edits) and not any(is_by_clause(it, batch) for it in hidden)
         told = {it: told[it] for it in batch.edits if it not in hidden or is_for_nothing}
@@ -781,15 +784,15 @@ def ended(check):
 
 
 def kept_at(batch, root):
-    """The file in which the results of the batch are kept. Its name is a sum of all that they rest on."""
+    """The file in which the results of the batch are kept. Its name is a hash of all that they depend on."""
     rests = [text_of(os.path.abspath(__file__)), batch.crate.stamp(), sorted(listed_otherwise(root).items())]
     rests += [(it.name, sorted(it.rows.items())) for it in batch.edits]
     return f"{root}/{KEPT}/{hashlib.sha256(repr(rests).encode()).hexdigest()}"
 
 
 def try_or_recall(batch, root=ROOT, show=None):
-    """As try_batch, and keeps in build/ the results of a batch that passed: those of the same batch of the same files come from
-    there. It took no time then. Nothing is kept where the crate's files have changed since they were read."""
+    """Does the same as try_batch, and keeps in build/ the results of a batch that passed. Those of the same batch of the same
+    files come from there, and took no time. Nothing is kept if the crate's files have changed since they were read."""
     file = kept_at(batch, root)
     with contextlib.suppress(OSError, ValueError):
         told = json.loads(text_of(file))
@@ -835,7 +838,7 @@ def try_batch(batch, root=ROOT, show=None):
 
 
 def try_alone(edit, batch, root=ROOT):
-    """Whether an edit passes alone, where no proof is left out, and what to say of it. It is for an edit that a batch can't judge.
+    """Whether an edit passes alone, and what to say of it. No proof is left out. It is for an edit that a batch can't judge.
     What refuses only the proof of another function counts as the goal `elsewhere`, and a limit of the prover as `limit`."""
     if edit.bad:
         return False, f"BAD EDIT: {edit.bad}"
@@ -881,8 +884,8 @@ def crate_above(crates, path):
 
 
 def concerned(crate, files):
-    """The edits of a crate that a change of these of its files concerns: edits of these files or of what they define, those whose
-    functions are proved there, and those that are these files."""
+    """The edits of a crate that a change of these of its files concerns: edits of these files or of what they define, and edits
+    whose functions are proved there. An edit that is one of these files is concerned too."""
     source = Source(crate.folder)
     definitions = [(module_of(it), name) for it in files if it.startswith("specs/") and it in source.texts
                    for name, _ in items_of(source.texts[it])]
@@ -906,7 +909,7 @@ def chosen(words):
     jobs = int(options["--jobs"]) if options["--jobs"].isdigit() else 0
     flag = words.pop(0) if words and words[0] in ("--changed", "--batch") else ""
     if not jobs or any(it.startswith("-") for it in words) or flag and not words:
-        raise Unfit("use: tools/edits.py [--jobs N] [NAME.. | EDIT.. | --changed FILE.. | --batch EDIT..]")
+        raise Unfit("use: tools/edits.py [--show FOLDER] [--jobs N] [NAME.. | EDIT.. | --changed FILE.. | --batch EDIT..]")
     crates, asked = toolchain().crates_below(ROOT), {}
     names = {it.name: it for it in crates}
     for word in words if flag != "--changed" else []:

@@ -4,14 +4,15 @@
     gate.py PROGRAM
 
 1. `rt ci` proves each crate and its tests, tries the edits in must-fail/, runs the tests, and builds and runs PROGRAM.
-2. Beside it tools/edits.py tries the edits in edits/ in batches, at a lower priority: those of a crate once it is proved.
+2. Beside it tools/edits.py tries all edits in batches, at a lower priority: those of a crate once it is proved. Those in
+   must-fail/ are tried again, and count twice, since `rt ci` takes any refusal, and this only a clause's.
    With fewer than four processors they wait until `rt ci` has ended.
    What a batch can't judge is tried alone. What something else than a clause refuses has failed, unless
    tools/edits_refused_otherwise.txt says why.
 3. The library, and the page that has it, are built from what was proved.
 4. tests/run tests what people touch: the program, the library, packages, recipes, documents.
 
-What an earlier run left at PROGRAM is removed first, so nothing older is tested. The last lines tell where the time went,
+What an earlier run left at PROGRAM is removed first, so nothing older is tested. The last lines say where the time went,
 what was skipped and what failed, and then 'N passed, N failed', the sum of all parts. The status is 0 if nothing failed.
 """
 
@@ -65,7 +66,7 @@ def run(words, hear=lambda line: None):
 
 
 def counts(ran):
-    """Passed and failed by a command's last count; one failure if there is none, or if its status tells of one."""
+    """Passed and failed by a command's last count; one failure if there is none, or if its status means one."""
     found = COUNTS.findall("\n".join(ran.lines[-1:]))
     passed, failed = map(int, found[0]) if found else (0, 1)
     return passed, failed or int(ran.status != 0)

@@ -1,21 +1,21 @@
 #!/usr/bin/env python3
-"""Proves and builds the libraries below a program, those side by side of which none stands on another.
+"""Proves and builds the libraries below a program, several at the same time if none of them depends on another.
 
     prove.py FOLDER
 
 FOLDER is the program's crate. `rt run` there proves the libraries one after another; `rt all check --jobs N` proves
-N at a time, but gives each one job, and most of these crates stand on one another. This calls the toolchain's own
-library, as both of them do. The whole takes as long as the longest chain of libraries that stand on one another, so a
+N at a time, but gives each one job, and most of these crates depend on one another. This calls the toolchain's own
+library, as both of them do. The whole takes as long as the longest chain of libraries that depend on one another. So a
 library whose chain is the longest of those that run, or nearly so, chooses its jobs as under `rt run`. Those beside it get
-half of the processors each, and the time that it leaves: theirs is a lower priority.
+half of the processors each, and run at a lower priority, in the time that it leaves.
 
 A library of which no check has kept any work is proved by one process that shares its work among many, and no work is kept.
-Where work is to be kept, the toolchain proves the functions in batches, each by a process that reads all libraries below,
-and then reads what these found, which takes longer (docs/decisions/libraries-side-by-side.md).
+To keep work takes longer (docs/decisions/libraries-side-by-side.md). The toolchain then proves the functions in batches,
+each by a process that reads all libraries below, and then reads what these found.
 
 The quick pass over all sources, with which `rt run` begins, goes on beside the first proofs. `rt run` takes what is built
-here as built, by its own stamps, and builds the rest itself. So where the toolchain's library is another than expected,
-this says so and leaves all to `rt run`.
+here as built, by its own stamps, and builds the rest itself. So if the toolchain's library is not the expected one, this
+says so and leaves all to `rt run`.
 """
 
 import importlib.util

@@ -3,9 +3,10 @@
 
     reference.py FOLDER
 
-FOLDER gets a page for each crate, with its front page and its public items, their comments and contracts; a page with the
-crate's definitions; and two pages with all that somebody has to believe who believes a promise: of `run`, and of
-`stlslice_mask`. Each name in a contract leads to its definition. All of it comes from the sources, so it is never older.
+FOLDER gets a page for each crate, with its front page and its public items, their comments and contracts. A second page has
+the crate's definitions, if there are any. Two more pages list all that somebody has to believe who believes a promise: that
+of `run`, and that of `stlslice_mask`. Each name in a contract leads to its definition. All of it comes from the sources, so
+it is never older.
 """
 
 import html
@@ -262,7 +263,7 @@ def cited(names, entry):
 
 
 def believed(names, root):
-    """All that a promise rests on, each where it is first needed, and the names from outside."""
+    """All that a promise depends on, each at the place where it is first needed, and the names from outside."""
     order, outside, waiting = [], {}, [root]
     while waiting:
         entry = waiting.pop()
@@ -290,7 +291,7 @@ def believe_page(names, title, crate, name, said):
 
 
 def within(text):
-    """A page whose links lead to the page itself where it has what they lead to."""
+    """A page whose links lead to the page itself if it has what they lead to."""
     marks = set(re.findall(r'<h3 id="([^"]*)"', text))
 
     def kept(link):

@@ -5,11 +5,11 @@
 
 A check keeps a record of each part of a proof as soon as it is done with it, in CRATE/out. With one job it does one part
 after another, so the time between two records is that of the second one's part. For each folder CRATE this prints how long
-the whole took, and the N (5) functions or files of lemmas that took longest, the longest first, and of these the seconds
-for making the goals, for written answers, for goals without an answer (which are searched) and for the rest.
+the whole took, and the N (5) functions or files of lemmas that took longest, the longest first. For each of these it prints
+the seconds for making the goals, for written answers, for goals without an answer (which are searched) and for the rest.
 
 Run it after `rt check --jobs 1` from nothing (without `CRATE/out/incremental`) with nothing else on the machine. A later
-check writes only what has changed, and `make` from nothing writes no record. With more jobs the times tell little: many
+check writes only what has changed, and `make` from nothing writes no record. With more jobs the times mean little: many
 processes take part then, and each of them reads the libraries below first.
 """
 

@@ -1,7 +1,7 @@
 """Reads the crates' sources for the reference: front pages, public items with their contracts, and definitions.
 
-It reads the files as `rt fmt` lays them out: an item begins at the start of a line, a method four blanks in, a contract
-stands between a signature and a line that is just a brace.
+It reads the files as `rt fmt` lays them out: an item begins at the start of a line, and a method four blanks in. A contract
+stands between a signature and a line that is only a brace.
 """
 
 import glob

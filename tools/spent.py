@@ -18,7 +18,7 @@ Process = collections.namedtuple("Process", "parent began seconds words folder")
 
 
 def process(pid):
-    """What /proc tells of a process, or None if it has ended."""
+    """What /proc says of a process, or None if it has ended."""
     try:
         with open(f"/proc/{pid}/stat", encoding="utf-8", errors="replace") as file:
             fields = file.read().rpartition(")")[2].split()

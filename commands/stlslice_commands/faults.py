@@ -62,7 +62,7 @@ class Progress:
 
     @classmethod
     def through(cls, layers, count):
-        """The layers as they come, `count` of them; the line tells how many are done, and for how long the others will take."""
+        """The layers as they come, `count` of them; the line says how many are done, and how long the others will take."""
         begin = time.monotonic()
         for number, layer in enumerate(layers, 1):
             yield layer
@@ -87,7 +87,7 @@ def ended(main):
             say(fault.line)
         sys.exit(fault.status)
     except OSError as fault:
-        # what is made aside is told by the name that was given
+        # the line has the name that was given, not the one that an output has until it is whole
         name = str(fault.filename or "").replace(aside(""), "")
         say(f"{fault.strerror}: {name}" if name else str(fault.strerror))
         sys.exit(1)

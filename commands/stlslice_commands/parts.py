@@ -68,7 +68,7 @@ def free_name(stem, ending):
 
 
 def kind_of(head):
-    """The format whose files begin so; none where it is none of these."""
+    """The format whose files begin so, or None if it is none of these."""
     if head.startswith(b"PK\x03\x04"):
         # a 3MF is a zip whose first file is one of these
         return "3MF" if any(word in head[:128] for word in (b"[Content_Types].xml", b"_rels/", b"3D/", b"Metadata/")) else "zip"

@@ -41,8 +41,8 @@ def packed(sizes):
 
 
 def shells(facets, unit):
-    """For each facet, told by its corners, the shell that it belongs to, by a number: facets that share a corner belong to one
-    shell. Corners are the same where they round to the same micrometre, as the program rounds them in this unit."""
+    """For each facet, given by its corners, the shell that it belongs to, by a number: facets that share a corner belong to one
+    shell. Corners are the same if they round to the same micrometre, as the program rounds them in this unit."""
     number_of, above, first = Corners(unit), array("l"), array("l")
     for corners in facets:
         one, *others = map(number_of, corners)

@@ -1,4 +1,4 @@
-"""`stlslice-sl1`: a part as an SL1 archive, which is a zip of one PNG a layer, a config.ini for the printer and a prusaslicer.ini
+"""`stlslice-sl1`: a part as an SL1 archive. That is a zip of one PNG a layer, a config.ini for the printer, and a prusaslicer.ini
 for programs that read the archive again. PrusaSlicer writes such archives for the Original Prusa SL1 and SL1S."""
 
 import argparse
@@ -17,12 +17,12 @@ black; one that doesn't fit is refused. The archive is made aside and moved into
 leaves what was there before."""
 
 LATEST = (2107, 12, 31, 23, 59, 58)  # that a zip can hold
-LEVEL = 1  # of deflating the program's PNGs once more, which are long where nothing is lit
+LEVEL = 1  # of deflating the program's PNGs once more: long runs of pixels are bytes 0 in them
 FIRST = 3  # layers with the first exposure, before it fades to that of the others
 
 
 class Defaults:
-    """What PrusaSlicer takes where nothing is told: seconds, layers, and from how many percent of the screen a layer is slow."""
+    """What PrusaSlicer takes if nothing is given: seconds, layers, and the percentage of the screen from which a layer is slow."""
 
     exposure, first_exposure, fade, material = 2.2, 25.0, 10, ""
     fast_tilt, slow_tilt, area_fill = 5.0, 8.0, 50
@@ -91,7 +91,7 @@ def fill(archive, sliced, job, now):
 
 
 def settings(sliced, job, slow, now):
-    """What stands in config.ini. Without a printer's name none is told, as PrusaSlicer does."""
+    """What stands in config.ini. Without a printer's name it names none, as PrusaSlicer does."""
     given, layers = sliced.given, sliced.layers
     exposures = sum(exposure_of(number, given) for number in range(layers))
     model = given.printer.model if given.printer else ""

@@ -18,7 +18,7 @@ from .stl import changed
 # By how much the numbers of a part are multiplied before the program takes them for millimetres.
 TIMES = {"mm": 1, "inch": 1, "cm": 10, "m": 1000}
 LARGEST_PITCH = 100_000
-OPEN = 4  # the program's status where a mesh is open
+OPEN = 4  # the program's status if a mesh is open
 
 
 class Sliced:
@@ -58,7 +58,7 @@ class Sliced:
             say(f"the part is {in_mm(self.size)} mm: is {self.given.unit} the unit of its numbers? --unit takes mm, cm, m or inch")
 
     def quarters(self):
-        """By how many quarters the part is turned: by one for a screen in portrait, and by one more where that was asked for. A
+        """By how many quarters the part is turned: by one for a screen in portrait, and by one more if that was asked for. A
         part that doesn't fit so is refused."""
         given = self.given
         usual = 1 if given.printer and given.printer.is_portrait else 0
@@ -72,7 +72,7 @@ class Sliced:
         return usual + more
 
     def room(self, quarters):
-        """The sides of the screen, and the printer's height where one is known, along the sides of a part that is turned so."""
+        """The sides of the screen, and the printer's height if one is known, along the sides of a part that is turned so."""
         sides = [count * pitch for count, pitch in zip(self.given.canvas, self.given.pitch)]
         return (sides[::-1] if quarters % 2 else sides) + ([self.given.height] if self.given.height else [])
 
@@ -96,7 +96,7 @@ class Sliced:
                           "are taken")
 
     def refuse_open(self):
-        """Has an open edge told in the part's own coordinates, before these are changed."""
+        """Refuses an open edge before the part's coordinates are changed, so that the line has the part's own."""
         for text in self.texts:
             self.program.areas(text, ["--pitch", "1000", "--layer", "1000", "--grid=1,1,1,0,0,0"], 1)
 
@@ -137,7 +137,7 @@ class Sliced:
         words = [*self.words, "--rule", given.rule, "--depth", str(given.depth)]
         words += ["--mirror-x"] * given.mirror_x + ["--mirror-y"] * given.mirror_y
         streams = [self.program.pngs(text, words, head, self.layers) for text in self.texts]
-        # zip_longest asks each stream for its end, where its status is looked at
+        # zip_longest asks each stream for its end, and only then its status is looked at
         for pngs, areas in Progress.through(zip(itertools.zip_longest(*streams), zip(*self.areas)), self.layers):
             png, lit = joined(pngs, areas, given.rule)
             self.lit += lit

@@ -34,7 +34,7 @@ def size_of(file):
 
 
 def facets_of_binary(file):
-    """How many facets a binary STL has; none where the file isn't one, which its length tells: 84 bytes, and 50 for each facet."""
+    """How many facets a binary STL has, or None if the file isn't one. Its length shows that: 84 bytes, and 50 for each facet."""
     size = size_of(file)
     file.seek(80)
     count = struct.unpack("<I", file.read(4))[0] if size >= HEADER else 0

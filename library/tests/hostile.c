@@ -1,10 +1,10 @@
-/* What no caller should do, and want of memory: null pointers, sizes of 0, short lines, numbers out of range, meshes that
- * are closed, closed twice or opened twice, and each allocation failing in turn. It is linked with
- * --wrap=malloc,--wrap=realloc. The status is 0, or 100 where an answer is another than the header says.
+/* What no caller should do, and running out of memory: null pointers, sizes of 0 and sizes that no object has, short
+ * lines, numbers out of range, meshes that are closed, closed twice or opened twice, and each allocation failing in turn.
+ * It is linked with --wrap=malloc,--wrap=realloc. The status is 0, or 100 if an answer is not what the header says.
  *
  *     hostile FILE LINE
  *
- * LINE is what the program writes after "stlslice: " where it is out of memory. */
+ * LINE is what the program writes after "stlslice: " if it is out of memory. */
 #include "stlslice.h"
 
 #include <stdio.h>
@@ -80,7 +80,7 @@ static void nulls(void) {
     stlslice_rays rays = {5, 5};
     char line[STLSLICE_LINE];
     uint8_t byte = 5;
-    size_t size = 5, count = 5;
+    size_t size = 5, count = 5, end = 5;
     stlslice_point point = {5, 5};
     uint64_t area = 5;
     memset(&shape, 5, sizeof shape);
@@ -92,7 +92,6 @@ static void nulls(void) {
     CHECK(stlslice_box(NULL, 0, 0, &corners, NULL, 0) == STLSLICE_TEXT);
     CHECK(stlslice_box(NULL, 1, 0, &corners, line, sizeof line) == STLSLICE_OUT_OF_RANGE);
     CHECK(strcmp(line, texts[STLSLICE_OUT_OF_RANGE]) == 0);
-    CHECK(stlslice_box(text, SIZE_MAX, 0, &corners, line, sizeof line) == STLSLICE_OUT_OF_RANGE);
     CHECK(stlslice_box(text, text_size, 0, NULL, line, sizeof line) == STLSLICE_OUT_OF_RANGE);
     CHECK(stlslice_box(text, text_size, 0, &corners, NULL, 1) == STLSLICE_OUT_OF_RANGE);
     CHECK(stlslice_open(NULL, 0, &options, &mesh, &shape, line, sizeof line) == STLSLICE_TEXT);
@@ -113,12 +112,10 @@ static void nulls(void) {
     CHECK(stlslice_loops(NULL, 0, NULL, 0, &size, NULL, 0, &count) == STLSLICE_OUT_OF_RANGE);
     CHECK(stlslice_open(text, text_size, &options, &mesh, &shape, NULL, 0) == STLSLICE_DONE);
     CHECK(stlslice_mask(&mesh, 0, NULL, 1, &size) == STLSLICE_OUT_OF_RANGE);
-    CHECK(stlslice_mask(&mesh, 0, &byte, SIZE_MAX, &size) == STLSLICE_OUT_OF_RANGE);
     CHECK(stlslice_mask(&mesh, 0, &byte, 1, NULL) == STLSLICE_OUT_OF_RANGE);
     CHECK(stlslice_stripe(&mesh, 0, NULL, 1, &size) == STLSLICE_OUT_OF_RANGE);
     CHECK(stlslice_stripe(&mesh, 0, &byte, 1, NULL) == STLSLICE_OUT_OF_RANGE);
     CHECK(stlslice_png(&mesh, 0, 8, 0, NULL, 1, &size) == STLSLICE_OUT_OF_RANGE);
-    CHECK(stlslice_png(&mesh, 0, 8, 0, &byte, SIZE_MAX, &size) == STLSLICE_OUT_OF_RANGE);
     CHECK(stlslice_png(&mesh, 0, 8, 0, &byte, 1, NULL) == STLSLICE_OUT_OF_RANGE);
     CHECK(stlslice_area(&mesh, 0, NULL) == STLSLICE_OUT_OF_RANGE);
     CHECK(stlslice_probe(&mesh, 0, 0, 0, NULL) == STLSLICE_OUT_OF_RANGE);
@@ -126,9 +123,29 @@ static void nulls(void) {
     CHECK(stlslice_loops(&mesh, 0, NULL, 0, &size, NULL, 1, &count) == STLSLICE_OUT_OF_RANGE);
     CHECK(stlslice_loops(&mesh, 0, NULL, 0, NULL, NULL, 0, &count) == STLSLICE_OUT_OF_RANGE);
     CHECK(stlslice_loops(&mesh, 0, NULL, 0, &size, NULL, 0, NULL) == STLSLICE_OUT_OF_RANGE);
-    CHECK(stlslice_loops(&mesh, 0, &point, SIZE_MAX / 8, &size, NULL, 0, &count) == STLSLICE_OUT_OF_RANGE);
-    CHECK(size == 5 && count == 5 && area == 5 && byte == 5 && rays.along_x == 5 && rays.along_y == 5 && point.x2 == 5);
-    /* where no room is enough to ask for the size */
+    /* sizes that no object has: of a text, of a line, and of each buffer */
+    const size_t vast[] = {(size_t)PTRDIFF_MAX + 1, SIZE_MAX};
+    for (size_t turn = 0; turn < sizeof vast / sizeof *vast; turn++) {
+        const size_t room = vast[turn];
+        CHECK(stlslice_box(text, room, 0, &corners, line, sizeof line) == STLSLICE_OUT_OF_RANGE);
+        CHECK(stlslice_open(text, room, &options, &mesh, &shape, line, sizeof line) == STLSLICE_OUT_OF_RANGE);
+        memset(line, 'x', sizeof line);
+        stlslice_fault_text(STLSLICE_DONE, line, room);
+        CHECK(stlslice_box(text, text_size, 0, &corners, line, room) == STLSLICE_OUT_OF_RANGE);
+        CHECK(stlslice_open(text, text_size, &options, &mesh, &shape, line, room) == STLSLICE_OUT_OF_RANGE);
+        CHECK(stlslice_open_mesh(corners_of_four, 4, four, 4, &options, &mesh, &shape, line, room) == STLSLICE_OUT_OF_RANGE);
+        for (size_t at = 0; at < sizeof line; at++)
+            CHECK(line[at] == 'x');
+        CHECK(stlslice_mask(&mesh, 0, &byte, room, &size) == STLSLICE_OUT_OF_RANGE);
+        CHECK(stlslice_stripe(&mesh, 0, &byte, room, &size) == STLSLICE_OUT_OF_RANGE);
+        CHECK(stlslice_png(&mesh, 0, 8, 0, &byte, room, &size) == STLSLICE_OUT_OF_RANGE);
+        CHECK(stlslice_loops(&mesh, 0, &point, room / sizeof point, &size, NULL, 0, &count) == STLSLICE_OUT_OF_RANGE);
+        CHECK(stlslice_loops(&mesh, 0, NULL, 0, &size, &end, room / sizeof end, &count) == STLSLICE_OUT_OF_RANGE);
+        CHECK(mesh.is_open && memcmp(&corners, &corners_were, sizeof corners) == 0);
+    }
+    CHECK(size == 5 && count == 5 && end == 5 && area == 5 && byte == 5);
+    CHECK(rays.along_x == 5 && rays.along_y == 5 && point.x2 == 5 && point.y2 == 5);
+    /* no room is enough to ask for the size */
     size_t layers = shape.layers < 8 ? shape.layers : 8;
     CHECK(stlslice_mask(&mesh, 0, NULL, 0, &count) == STLSLICE_NO_ROOM && count > shape.rows);
     CHECK(stlslice_stripe(&mesh, 0, NULL, 0, &size) == STLSLICE_NO_ROOM && size == layers * count);
@@ -160,7 +177,9 @@ static void arrays(void) {
     CHECK(refuses(NULL, 4, four, 4, STLSLICE_OUT_OF_RANGE, wrong));
     CHECK(refuses(corners_of_four, 4, NULL, 4, STLSLICE_OUT_OF_RANGE, wrong));
     CHECK(refuses(corners_of_four, SIZE_MAX, four, 4, STLSLICE_OUT_OF_RANGE, wrong));
+    CHECK(refuses(corners_of_four, (size_t)PTRDIFF_MAX / 12 + 1, four, 4, STLSLICE_OUT_OF_RANGE, wrong));
     CHECK(refuses(corners_of_four, SIZE_MAX / 12 + 2, four, 4, STLSLICE_OUT_OF_RANGE, wrong));
+    CHECK(refuses(corners_of_four, 4, four, (size_t)PTRDIFF_MAX / 12 + 1, STLSLICE_OUT_OF_RANGE, wrong));
     CHECK(refuses(corners_of_four, 4, four, SIZE_MAX / 16, STLSLICE_OUT_OF_RANGE, wrong));
     CHECK(refuses(NULL, 0, NULL, 0, STLSLICE_GRID, "no facet is left"));
     CHECK(refuses(corners_of_four, 4, NULL, 0, STLSLICE_GRID, "no facet is left"));

@@ -4,10 +4,10 @@
     module.py CRATE ARCHIVE MODULE
 
 `rt lib` passes that module to the toolchain's clang, and keeps only the machine code. This calls `rt lib` once more, over
-what it kept, from a copy of the toolchain's folder, made of links, in which a script replaces clang: it copies the module,
-and then runs clang. The result has to be ARCHIVE, the library as `rt lib` left it, to the byte; so MODULE is the module
-that was proved and compiled there. The toolchain does not document this. If its names have changed, one line says so, and
-the status is 1.
+what it kept, from a copy of the toolchain's folder that is made of links. In the copy a script replaces clang: it copies the
+module, and then runs clang. The result has to be ARCHIVE, the library as `rt lib` left it, to the byte. So MODULE is the
+module that was proved and compiled there. The toolchain does not document this. If its names have changed, one line says so,
+and the status is 1.
 """
 
 import filecmp

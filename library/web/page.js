@@ -229,7 +229,7 @@ function edge_in(line) {
     return found && `The edge from ${point(1)} to ${point(4)} mm. There may be more.`;
 }
 
-// The line with # for each number, but for the first byte, and for how often an edge is run through: the less comes first.
+// The line with # for each number. Byte 0 becomes the first byte, and the two counts of an open edge stay, in order.
 function pattern_of(line) {
     const counts = /there (\d+) back (\d+)$/.exec(line);
     const rest = counts ? line.slice(0, counts.index) : line, sorted = counts ? counts.slice(1).sort().join(" and ") : "";
@@ -247,7 +247,7 @@ function hint({ title, words, command }, is_open) {
     const made = element("details", "");
     made.open = is_open;
     made.append(element("summary", title), ...words.map((it) => element("p", it)));
-    if (command) made.append(element("p", "What mends it, on a command line:"), element("pre", command));
+    if (command) made.append(element("p", "How to fix it, on a command line:"), element("pre", command));
     return made;
 }
 
@@ -393,7 +393,7 @@ function point_at(it) {
     const i = Math.floor((it.offsetX * dense() - left) / scale), j = Math.floor((it.offsetY * dense() - top) / scale);
     const is_inside = i >= 0 && i < columns && j >= 0 && j < rows, up = rows - 1 - j;
     const place = (axis, at) => mm(origin[axis] + (at + 0.5) * options.pitch);
-    by("pointed").textContent = is_inside ? `column ${i}, row ${up} from below; x ${place(0, i)}, y ${place(1, up)} mm` : "";
+    by("pointed").textContent = is_inside ? `column ${i}, row ${up} from the bottom; x ${place(0, i)}, y ${place(1, up)} mm` : "";
 }
 
 // ---- the areas over the height
@@ -569,4 +569,4 @@ slicer.started.then(
     ({ version }) => {
         by("version").textContent = [version / 1e6, version / 1e3 % 1e3, version % 1e3].map(Math.floor).join(".");
     },
-    (fault) => refused(new Error(`this browser does not run the slicer: ${fault.message}`), { name: "The slicer" }));
+    (fault) => refused(new Error(`this browser cannot run the slicer: ${fault.message}`), { name: "The slicer" }));

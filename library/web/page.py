@@ -33,7 +33,7 @@ def plain(paragraph):
 
 
 def hint_of(title, body):
-    """A section of docs/refused.md: the lines that it is about, what it says, and the command that mends."""
+    """A section of docs/refused.md: the lines that it is about, what it says, and the command that fixes it."""
     fences = re.findall(r"(?ms)^```(\w+)[^\n]*\n(.*?)^```$", body)
     lines = [it[len("stlslice: "):] for kind, text in fences if kind == "text" for it in text.splitlines()]
     words = filter(None, map(plain, re.sub(r"(?ms)^```.*?^```$", "", body).split("\n\n")))

@@ -7,7 +7,7 @@ const BINARY = { head: 84, facet: 50, count: 80, corners: [12, 24, 36] };
 const MOST_PIXELS = 1 << 22, MOST_SIDE = 4096; // of the picture that goes to the page
 const EMPTY = [0xf3, 0xf5, 0xf8], FILLED = [0x5b, 0x6b, 0x7e];
 const DOUBLE = new DataView(new ArrayBuffer(8));
-const GREY_BIT = [1, 0, 0, 0, 0]; // of a PNG: a bit for each pixel, white is 1
+const BITS = 1, UNMIRRORED = 0; // of a PNG
 
 let library = null; // what the module exports
 let stopped = null; // why no call may be made any more
@@ -317,37 +317,15 @@ function shade(part) {
     return (255 << 24 | blue << 16 | green << 8 | red) >>> 0;
 }
 
-// The layer's image as a PNG (RFC 2083), white inside the part.
-async function png({ k }) {
-    const bits = bits_of(k), stride = row_bytes(), lines = new Uint8Array(shape.rows * (stride + 1));
-    for (let j = 0; j < shape.rows; j++) lines.set(bits.subarray(j * stride, (j + 1) * stride), j * (stride + 1) + 1);
-    const head = new Uint8Array(13), size = new DataView(head.buffer);
-    size.setUint32(0, shape.columns);
-    size.setUint32(4, shape.rows);
-    head.set(GREY_BIT, 8);
-    const packed = new Uint8Array(await through(lines, new CompressionStream("deflate")));
-    const parts = [[137, 80, 78, 71, 13, 10, 26, 10], chunk("IHDR", head), chunk("IDAT", packed), chunk("IEND", [])];
-    return new Blob([joined(parts)], { type: "image/png" });
-}
-
-function chunk(name, body) {
-    const all = new Uint8Array(12 + body.length), told = new DataView(all.buffer);
-    told.setUint32(0, body.length);
-    all.set(new TextEncoder().encode(name), 4);
-    all.set(body, 8);
-    told.setUint32(8 + body.length, crc(all.subarray(4, 8 + body.length)));
-    return all;
-}
-
-const CRCS = Uint32Array.from({ length: 256 }, (_, byte) => {
-    for (let bit = 0; bit < 8; bit++) byte = byte & 1 ? 0xedb88320 ^ byte >>> 1 : byte >>> 1;
-    return byte;
-});
-
-function crc(data) {
-    let sum = 0xffffffff;
-    for (const byte of data) sum = CRCS[(sum ^ byte) & 255] ^ sum >>> 8;
-    return (sum ^ 0xffffffff) >>> 0;
+// The layer's image as a PNG of the library's, with a bit for each pixel, white inside the part.
+function png({ k }) {
+    for (let room = buffer("png", 1 << 16); ;) {
+        const status = ask("stlslice_png", big(places.mesh), k, BITS, UNMIRRORED, big(room.at), big(room.size), big(places.size));
+        const size = size_at(places.size);
+        if (status === DONE) return new Blob([bytes(room.at, size).slice()], { type: "image/png" });
+        if (status !== NO_ROOM) throw fault_of(status);
+        room = buffer("png", size);
+    }
 }
 
 const calls = { start, read, open, layer, areas, png };

@@ -16,14 +16,15 @@
 The points of `open_mesh` are whole micrometres: `micrometres` makes them of millimetres, and `read_binary` reads them from a
 binary STL. `open` takes an ASCII STL text, as the program does.
 
-A mask is laid out as the program's image: its first row is that of the greatest y, so the pixel of column i and row j
-(from the least y up, as `probe` counts) is `mask[rows - 1 - j, i]`, or `mask[::-1][j, i]`. Lengths are whole micrometres.
+A mask is laid out as the program's image: its first row is that of the greatest y. `probe` counts rows from the least y
+up, so the pixel of its column i and row j is `mask[rows - 1 - j, i]`, or `mask[::-1][j, i]`. Lengths are whole micrometres.
 
 What the program refuses raises a `Fault` with the program's status and line. A mesh may be used by several threads: its
 calls wait for each other. Different meshes run at the same time, since a call holds no lock of the interpreter.
 
-The work is done by libstlslice, by ctypes: by the one that the variable STLSLICE_LIBRARY names, else the one beside this
-module, else the one that the system finds. numpy is needed for masks and loops alone; it makes arrays faster to take.
+The work is done by libstlslice, which is called through ctypes. It is the one that the variable STLSLICE_LIBRARY names,
+else the one beside this module, else the one that the system finds. numpy is needed only for masks and loops. With it arrays
+are read faster.
 """
 
 from __future__ import annotations
@@ -60,8 +61,9 @@ OUT_OF_RANGE, MEMORY, NO_ROOM, NOT_OPEN = 1, 6, 7, 8
 
 
 class Fault(Exception):
-    """What is refused. If text, mesh or grid is at fault, or memory ran out, `status` (3 to 6) and `line` are the program's. Else they
-    are the library's own: 1 if a number is out of its range or outside the grid, 8 if the mesh was closed."""
+    """Why a call was refused. If text, mesh or grid is at fault, or memory ran out, `status` (3 to 6) and `line` are the
+    program's. Else they are the library's own: 1 if a number is out of its range or outside the grid, 8 if the mesh was
+    closed."""
 
     def __init__(self, status: int, text: str) -> None:
         super().__init__(text)
@@ -77,7 +79,7 @@ class RangeFault(Fault, ValueError):
 
 
 class MemoryFault(Fault, MemoryError):
-    """An allocation failed (status 6). What was asked is as it was before."""
+    """An allocation failed (status 6). A mesh that was asked is as it was before."""
 
 
 class ClosedFault(Fault, ValueError):
@@ -85,7 +87,7 @@ class ClosedFault(Fault, ValueError):
 
 
 class Box(NamedTuple):
-    """The facets of a text: how many, and their least and greatest x, y and z; zeros where there is none."""
+    """The facets of a text: how many, and their least and greatest x, y and z, in micrometres; zeros if there are none."""
 
     facets: int
     low: Triple
@@ -169,15 +171,15 @@ def _text(source: Source) -> bytes:
         return file.read()
 
 
-def _whole(name: str, value: Any) -> int:
+def _whole(name: str, value: Any, kind: str = "whole numbers") -> int:
     try:
         return operator.index(value)
     except TypeError:
-        raise TypeError(f"{name} takes whole numbers, and {value!r} is none") from None
+        raise TypeError(f"{name} takes {kind}, and {value!r} is none") from None
 
 
 def _word(name: str, value: Any) -> int:
-    """A whole number that a C call can take; whether it is in its own range is the library's to say."""
+    """A whole number that a C call can take. The library checks its own range."""
     number = _whole(name, value)
     if number not in WORD:
         raise RangeFault(OUT_OF_RANGE, f"{name} is out of its range")
@@ -191,7 +193,7 @@ def _choice(name: str, value: str, choices: dict[str, int]) -> int:
 
 
 def _numpy() -> Any:
-    """numpy, or None where it is missing."""
+    """numpy, or None if it is missing."""
     try:
         import numpy
     except ImportError:
@@ -200,7 +202,7 @@ def _numpy() -> Any:
 
 
 def _rows(name: str, values: Any, of_numbers: str) -> Any:
-    """Rows of three numbers, as an array of numpy; as a list of all numbers where numpy is missing, or has no type for them."""
+    """Rows of three numbers, as an array of numpy; as a list of all numbers if numpy is missing, or has no type for them."""
     numpy = _numpy()
     try:
         found = None if numpy is None else numpy.asarray(values)
@@ -282,16 +284,21 @@ def _rounded(value: float, is_single: bool) -> int:
 def micrometres(millimetres: Any) -> Any:
     """Points in whole micrometres, as `open_mesh` takes them, of points in millimetres: rows of three numbers.
 
-    A number becomes what the program reads where a text has the shortest decimal that reads back as this number: the nearest
-    micrometre, halves away from zero. Raises `RangeFault` where a number is not finite, or 2147483.648 mm or more from 0. The
-    result is an array of numpy, or where that is missing a list of triples.
+    A number becomes the nearest micrometre to the shortest decimal that reads back as this number, halves away from zero. The
+    program reads the same from a text that has this decimal. It is the decimal of single precision in an array of that, else of
+    double precision. Other types, such as float16 and longdouble, are made double first.
+
+    Raises `RangeFault` if a number is not finite, or 2147483.647 mm or more from 0. A mesh takes points at most 128 metres from 0.
+    The result is an array of numpy, or a list of triples if numpy is missing or has no type for the numbers.
     """
     rows = _rows("millimetres", millimetres, "iuf")
     if isinstance(rows, list):
-        return _listed([float(it) if isinstance(it, float) else _whole("millimetres", it) for it in rows], False)
+        return _listed([float(it) if isinstance(it, float) else _whole("millimetres", it, "numbers (float or int)") for it in rows],
+                       False)
     numpy = _numpy()
     is_single = rows.dtype.kind == "f" and rows.dtype.itemsize == 4
-    exact = numpy.abs(rows.astype(numpy.float64)) * 1000
+    with numpy.errstate(over="ignore", invalid="ignore"):   # what becomes infinite, or is no number, is refused below
+        exact = numpy.abs(rows.astype(numpy.float64)) * 1000
     _all_fit(numpy.flatnonzero(~(exact < MOST_COORDINATE)))
     whole = numpy.floor(exact + 0.5)
     # a number so near to a half that the decimal decides
@@ -316,8 +323,8 @@ def _all_fit(wrong: Sequence[int]) -> None:
 
 def read_binary(path: Union[str, "os.PathLike[str]"]) -> Tuple[Any, Any]:
     """The points and triangles of a binary STL in millimetres, as `open_mesh` takes them: three points for each facet, in
-    micrometres (see `micrometres`). Raises `ValueError` where the file is no binary STL: it has 84 bytes, and 50 for each facet
-    that it tells.
+    micrometres (see `micrometres`). Raises `OSError` if the file cannot be read, `ValueError` if it is no binary STL, and
+    `RangeFault` as `micrometres` does. A binary STL has 84 bytes, and 50 for each facet that it counts.
     """
     with builtins.open(os.fspath(path), "rb") as file:
         data = file.read()
@@ -339,7 +346,8 @@ def version() -> str:
 
 
 def box(source: Source, unit: str = "mm") -> Box:
-    """The number and the box of the facets of an ASCII STL text. The mesh need not be closed."""
+    """The number and the box of the facets of an ASCII STL text, which is given as in `open`. The mesh need not be closed.
+    Raises a `Fault` if the program would refuse the text, and `OSError` if the file cannot be read."""
     text, corners, line = _text(source), _Corners(), ctypes.create_string_buffer(LINE)
     status = _lib.stlslice_box(text, len(text), _choice("unit", unit, UNITS), corners, line, LINE)
     if status:
@@ -352,8 +360,9 @@ def open(source: Source, pitch: int = 50, layer: int = 50, rule: str = "evenodd"
     """Opens an ASCII STL text, as a path, an open binary file or its bytes.
 
     `pitch` is a voxel's length along x and y and `layer` along z, in micrometres. `grid`, if given, has the six numbers
-    of the program's option: columns, rows and layers, then the corner of least x, y and z in micrometres. Raises a
-    `Fault` where the program would refuse the text, and `OSError` where the file cannot be read.
+    of the program's option: columns, rows and layers, then the corner of least x, y and z in micrometres. `unit`, "mm" or
+    "inch", is that of the text. Raises a `Fault` if the program would refuse the text or an option, and `OSError` if the file
+    cannot be read.
     """
     text = _text(source)
     return Mesh(lambda *places: _lib.stlslice_open(text, len(text), *places), pitch, layer, rule, grid, unit)
@@ -363,14 +372,14 @@ def open_mesh(points: Triples, triangles: Triples, pitch: int = 50, layer: int =
               grid: Optional[Sequence[int]] = None) -> Mesh:
     """Opens a mesh from arrays.
 
-    `points` are rows of three coordinates in whole micrometres, and `triangles` rows of the indices of three points, from 0,
-    counterclockwise as seen from outside: arrays of numpy, other buffers of whole numbers, or sequences of rows. They are
-    copied. For a mesh in millimetres that has `vertices` and `faces`:
+    `points` are rows of three coordinates in whole micrometres. `triangles` are rows of the indices of three points, from 0,
+    counterclockwise as seen from outside. Both may be arrays of numpy, other buffers of whole numbers, or sequences of rows.
+    They are copied. For a mesh in millimetres that has `vertices` and `faces`:
 
         stlslice.open_mesh(stlslice.micrometres(part.vertices), part.faces, pitch=50, layer=50)
 
-    The other arguments are those of `open`. Raises a `RangeFault` that names the first triangle, from 0, with a point that is
-    missing or out of range, and the faults of `open` for a mesh and a grid.
+    The other arguments are those of `open`. If a point of a triangle is missing or out of range, raises a `RangeFault` that
+    names the first such triangle, from 0. Raises the faults of `open` for a mesh, a grid and an option.
     """
     corners, indices = _points(points), _triangles(triangles)
     return Mesh(lambda *places: _lib.stlslice_open_mesh(corners[1], corners[2], indices[1], indices[2], *places),
@@ -380,8 +389,9 @@ def open_mesh(points: Triples, triangles: Triples, pitch: int = 50, layer: int =
 class Mesh:
     """A closed mesh in its grid, with a rule: a sequence of its layers. `open` and `open_mesh` make it.
 
-    `shape` has the counts of layers, rows and columns, `origin` the grid's corner of least x, y and z, and `box` the
-    number and the box of all facets that were read.
+    `shape` has the counts of layers, rows and columns. `origin` is the grid's corner of least x, y and z, in micrometres.
+    `box` has the number and the box of all facets that were read. Layers count from 0 up, or from the top if k is
+    negative. All calls but `probe` raise `IndexError` if there is no layer k.
     """
 
     def __init__(self, opens: Callable[..., int], pitch: int, layer: int, rule: str, grid: Optional[Sequence[int]],
@@ -437,7 +447,7 @@ class Mesh:
     def __getitem__(self, k: slice) -> numpy.ndarray: ...
 
     def __getitem__(self, k):
-        """Layer k, from the top where k is negative, as an array of bool; of a slice an array of three dimensions."""
+        """Layer k as an array of bool, or the layers of a slice as an array of three dimensions."""
         if isinstance(k, slice):
             return self._stack(range(*k.indices(len(self))))
         return self._mask(memoryview(self._call("mask", self._layer(k), 1)), 0)
@@ -458,11 +468,11 @@ class Mesh:
         return bytes(self._call("mask", self._layer(k), 1))
 
     def png(self, k: int, depth: int = 8, mirror_x: bool = False, mirror_y: bool = False) -> bytes:
-        """Layer k as a PNG in greyscale, of 8 bits a pixel or 1: white where it is filled, and else black. Without mirrors
+        """Layer k as a PNG in greyscale, of 8 bits a pixel or 1: filled pixels are white, the others black. Without mirrors
         it is laid out as a mask; `mirror_x` exchanges left and right, and `mirror_y` top and bottom. Raises `RangeFault` for
         another depth."""
         number, bits, mirrors = self._layer(k), _word("depth", depth), (1 if mirror_x else 0) + (2 if mirror_y else 0)
-        room = self._size + 100     # mostly enough; asking for the size alone takes as long as the PNG
+        room = self._size + 100     # mostly enough: asking only for the size takes as long as making the PNG
         while True:
             png, wanted = (ctypes.c_char * room)(), ctypes.c_size_t()
             status = self._status("png", number, bits, mirrors, png, room, wanted)
@@ -499,7 +509,7 @@ class Mesh:
 
     def probe(self, i: int, j: int, k: int) -> Tuple[int, int]:
         """The signed crossings of the mesh by the rays along x and y from the centre of a voxel. Raises `RangeFault`
-        where the grid has none."""
+        if the grid has no such voxel."""
         rays = _Rays()
         self._ask("probe", _word("column", i), _word("row", j), _word("layer", k), rays)
         return rays.along_x, rays.along_y
@@ -547,7 +557,7 @@ class Mesh:
         stack = numpy.empty((len(layers), *self.shape[1:]), bool)
         number = None
         for place, k in enumerate(layers):
-            # a slice with wide steps has one layer of a stripe: it is asked for alone
+            # a slice with wide steps has at most one layer of each stripe, so each is asked for alone
             if abs(layers.step) >= STRIPE:
                 stack[place] = self[k]
                 continue

@@ -1,5 +1,5 @@
 //! Adler-32 (RFC 1950, 8.2) of runs of equal bytes, each in one step.
-ghost use Rattle.std.specs.Prelude.{◌≡◌, ℕ, ◌+◌, ◌*◌, ◌^◌, ◌<◌, ◌≤◌, replicate};
+ghost use Rattle.std.specs.Prelude.{◌≡◌, ◌+◌, ◌*◌, ◌^◌, ◌<◌, ◌≤◌, replicate};
 ghost use Rattle.deflate.specs.Adler.{Sums, after_bytes, first_sums, sum_value};
 
 use crate::run::RUN_LIMIT;
@@ -35,7 +35,7 @@ impl Adler {
         Adler { a: 1, b: 0 }
     }
 
-    /// Adds a run of `count` equal bytes.
+    /// Adds a run of `count` equal bytes, at most [`RUN_LIMIT`].
     pub fn run(&mut self, byte: u8, count: u64)
         requires { count ≤ RUN_LIMIT }
         ensures { self.new ≡ after_bytes self.old (replicate count byte) }

@@ -1,8 +1,8 @@
 //! CRC-32 (ISO 15948, 5.5 and annex D; RFC 1952, 8; ISO 3309).
-ghost use Rattle.std.specs.Prelude.{◌≡◌, ℕ, ◌*◌, ◌/◌, ◌%◌, ◌^◌, ◌<◌, ◌↔◌, length, replicate, IsTrue};
+ghost use Rattle.std.specs.Prelude.{◌≡◌, ◌*◌, ◌/◌, ◌%◌, ◌^◌, ◌<◌, ◌↔◌, length, replicate, IsTrue};
 ghost use Rattle.deflate.specs.Crc.{after_bits, crc_from, crc32};
 
-/// The register after a byte, of the register's lowest byte with it added.
+/// What a byte makes of the register's lowest byte, listed by the exclusive or of both.
 const CRC_TABLE: [u32; 256] = [
     0x00000000, 0x77073096, 0xee0e612c, 0x990951ba, 0x076dc419, 0x706af48f, 0xe963a535, 0x9e6495a3,
     0x0edb8832, 0x79dcb8a4, 0xe0d5e91e, 0x97d2d988, 0x09b64c2b, 0x7eb17cbd, 0xe7b82d07, 0x90bf1d91,
@@ -41,7 +41,8 @@ const CRC_TABLE: [u32; 256] = [
 /// The number of bytes of a block.
 const BLOCK_LEN: usize = 64;
 
-/// The register after a block of bytes 0, of each four of its bits: 16 numbers for the lowest four, and so on.
+/// What a block of bytes 0 makes of four bits of the register: 16 numbers for the lowest four, 16 for the next four,
+/// and so on.
 const JUMP_TABLE: [u32; 128] = [
     0x00000000, 0x8f352d95, 0xc51b5d6b, 0x4a2e70fe, 0x5147bc97, 0xde729102, 0x945ce1fc, 0x1b69cc69,
     0xa28f792e, 0x2dba54bb, 0x67942445, 0xe8a109d0, 0xf3c8c5b9, 0x7cfde82c, 0x36d398d2, 0xb9e6b547,
@@ -108,7 +109,8 @@ fn after_blank(register: u32) -> u32
     after
 }
 
-/// The register after a block of bytes 0, of four of its bits: the lowest four if `part` is 0, and so on.
+/// What a block of bytes 0 makes of four bits of the register: the lowest four if `part` is 0, the next four if it is
+/// 1, and so on.
 fn after_part(register: u32, part: u32) -> u32
     requires { part < 8 }
     ensures { result ≡ after_bits (8 * BLOCK_LEN) (register / 2 ^ (4 * part) % 16 * 2 ^ (4 * part)) }

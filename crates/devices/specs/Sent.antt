@@ -1,4 +1,4 @@
--- How far a text went out to a sink. The bytes are counted on from a number `before`.
+-- How much of a text went out to a sink. The count of its bytes begins at `before`.
 use Rattle.std.specs.Prelude.{◌≡◌, ◌≤◌, ◌<◌, ◌+◌, ◌-◌, ℕ, List, length}
 use Rattle.devices.specs.Devices.{AppendsFirst, Fails}
 use Rattle.devices.specs.Transcript.{Transcript}

@@ -1,4 +1,4 @@
-//! Writes a whole chunk of bytes to a sink, and so repeats its short writes.
+//! Writes a whole chunk of bytes to a sink. After a short write it goes on with the rest.
 ghost use Rattle.std.specs.Prelude.{◌≡◌, ◌<◌, IfErr, OnErr, OnOk, length};
 ghost use Rattle.std.specs.Io.KnownBytes.{Appends};
 ghost use Rattle.devices.specs.Devices.{AppendsFirst, Fails};
@@ -6,7 +6,7 @@ ghost use Rattle.devices.specs.Devices.{AppendsFirst, Fails};
 use crate::device::{Failed, Sink};
 use thiserror::Error;
 
-/// A writer failed.
+/// A sink failed.
 #[derive(Clone, Copy, Debug, PartialEq, Eq, Error)]
 #[error("write failed after {written} bytes")]
 pub struct WriteFault {

@@ -1,4 +1,4 @@
--- What a session answers, and when it answers a fault.
+-- What the calls of a session return, and when they return a fault.
 use Rattle.std.specs.Prelude.{◌≡◌, ◌⊎◌, ◌<◌, ◌≤◌, ℕ, ℤ, List, Bool, Result, Ok, Err, flat_map, if◌then◌else◌}
 use Rattle.std.specs.List.{range_with_len}
 use Rattle.geometry.specs.Winding.{ray, ray_y}
@@ -18,14 +18,14 @@ abbrev pub image_of : Job → ℕ → List ℕ
 image_of job k = layer_image job.grid job.rule job.solid.facets k
 
 -- the pixel of column x and row y of the PNG of layer k, from the left and from the top, is white: its voxel is filled
-abbrev pub is_white : Job → ℕ → Mirrors → ℕ → ℕ → Bool
-is_white job k mirrors x y =
+abbrev pub is_white_pixel : Job → ℕ → Mirrors → ℕ → ℕ → Bool
+is_white_pixel job k mirrors x y =
     is_filled job.rule job.solid.facets
     (centre job.grid (column_at mirrors job.grid.columns x) (row_at mirrors job.grid.rows y) k)
 
 -- the PNG of layer k of a job
-abbrev pub png_of : Job → ℕ → Depth → Mirrors → List ℕ
-png_of job k depth mirrors = layer_png job.grid job.rule job.solid.facets depth mirrors k
+abbrev pub png_of_layer : Job → ℕ → Depth → Mirrors → List ℕ
+png_of_layer job k depth mirrors = layer_png job.grid job.rule job.solid.facets depth mirrors k
 
 -- the images of the layers of stripe s, from the lowest up
 abbrev pub stripe_images : Job → ℕ → List ℕ
@@ -41,10 +41,10 @@ probed job i j k =
     then Ok (ray job.solid.facets (centre job.grid i j k), ray_y job.solid.facets (centre job.grid i j k))
     else Err (outside job.grid)
 
--- no memory for a layer of the grid, or none of the grid's layers
+-- no memory for a layer of the grid, or no such layer in the grid
 abbrev pub IsLayerFault : Grid → ℕ → SessionFault → Type 0
 IsLayerFault g k f = ((f ≡ fault.Memory) × (k < g.layers)) ⊎ ((f ≡ outside g) × (g.layers ≤ k))
 
--- no memory for a stripe of the grid, or none of the grid's stripes
+-- no memory for a stripe of the grid, or no such stripe in the grid
 abbrev pub IsStripeFault : Grid → ℕ → SessionFault → Type 0
 IsStripeFault g s f = ((f ≡ fault.Memory) × (s < stripe_count g)) ⊎ ((f ≡ outside g) × (stripe_count g ≤ s))

@@ -1,4 +1,4 @@
--- What a text is opened with.
+-- What a text or arrays are opened with.
 use Rattle.std.specs.Prelude.{List, Result}
 use Rattle.geometry.specs.Facet.{Facet}
 use Rattle.geometry.specs.Limits.{IsStep}

@@ -13,7 +13,7 @@ ghost use Rattle.raster.specs.Filler.{IsFillOf, area_of};
 ghost use Rattle.raster.specs.Grid.{plane};
 ghost use Rattle.raster.specs.Image.{image_of_pixels};
 ghost use Rattle.raster.specs.Span.{AreSpans, covers};
-ghost use Rattle.layer_session.specs.Answers.{image_of, is_white, png_of, stripe_images};
+ghost use Rattle.layer_session.specs.Answers.{image_of, is_white_pixel, png_of_layer, stripe_images};
 
 use build_book::{Job, slice_stripe};
 use contour::{Linker, Loops, Outlines, segments};
@@ -108,9 +108,9 @@ pub(crate) fn layer_as_png<A: Allocator + Copy + Send + Sync>(
     mirrors: Mirrors,
 ) -> Result<Vec<u8, A>, AllocError>
     requires { k < job.now.grid.layers }
-    ensures png { IfOk result (λ png. png.items ≡ png_of job.now k depth mirrors) }
+    ensures png { IfOk result (λ png. png.items ≡ png_of_layer job.now k depth mirrors) }
     ensures pixels { IfOk result (λ png. IsPng png.items job.now.grid.columns job.now.grid.rows (bits depth)
-        (λ x y. grey (bits depth) (is_white job.now k mirrors x y))) }
+        (λ x y. grey (bits depth) (is_white_pixel job.now k mirrors x y))) }
 {
     let spans = layer_spans(alloc, job, k)?;
     write_png(

@@ -22,7 +22,7 @@
 //!
 //! - [`Session`]: the closed mesh of an ASCII STL text, or of arrays, in its grid, with a rule. No call changes it.
 //! - [`SessionReader`]: opens a text that arrives in chunks.
-//! - [`Setup`]: what a text is opened with; [`Placing`]: a grid that fits the mesh, or a given one.
+//! - [`Setup`]: what a text or arrays are opened with; [`Placing`]: a grid that fits the mesh, or a given one.
 //! - [`SessionFault`]: why there is no session, or no answer. Its `Display` is what the program writes for the fault after
 //!   `stlslice: `. There are two exceptions: the program refuses `Step` as it reads its words, and has no arrays.
 //! - [`Loops`] of [`Segment`]s between [`Node`]s, and [`Outlines`] of [`PlanePoint`]s: what `Session::loops` and

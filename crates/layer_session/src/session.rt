@@ -13,7 +13,7 @@ ghost use Rattle.layer_png.specs.Png.{IsPng};
 ghost use Rattle.raster.specs.Filler.{area_of};
 ghost use Rattle.raster.specs.Grid.{plane};
 ghost use Rattle.raster.specs.Image.{image_limit};
-ghost use Rattle.layer_session.specs.Answers.{IsLayerFault, IsStripeFault, image_of, is_white, outside, png_of, probed, stripe_images};
+ghost use Rattle.layer_session.specs.Answers.{IsLayerFault, IsStripeFault, image_of, is_white_pixel, outside, png_of_layer, probed, stripe_images};
 ghost use Rattle.layer_session.specs.Session.{Input, IsOpenFault, IsReadAs, IsSessionOf, Session as SessionModel, of_arrays, of_text};
 ghost use Rattle.layer_session.specs.Setup.{HasSteps};
 ghost use Rattle.layer_session.specs.declared.session_fault.SessionFault.TheVariants.{Memory, Step};
@@ -171,7 +171,7 @@ impl<A: Allocator + Copy + Send + Sync> Session<A> {
         image_len(self.job.grid())
     }
 
-    /// The length in bytes of the images of stripe s.
+    /// The length in bytes of the images of stripe s, which the grid has.
     pub fn stripe_len(&self, s: u64) -> u64
         requires { s < stripe_count self.now.job.grid }
         ensures value { result ≡ length (stripe_images self.now.job s) }
@@ -218,9 +218,9 @@ impl<A: Allocator + Copy + Send + Sync> Session<A> {
     /// # Errors
     /// `Outside` exactly if there is no such layer; `Memory` only if an allocation failed.
     pub fn png(&self, k: u32, depth: Depth, mirrors: Mirrors) -> Result<Vec<u8, A>, SessionFault>
-        ensures png { IfOk result (λ png. png.items ≡ png_of self.now.job k depth mirrors) }
+        ensures png { IfOk result (λ png. png.items ≡ png_of_layer self.now.job k depth mirrors) }
         ensures pixels { IfOk result (λ png. IsPng png.items self.now.job.grid.columns self.now.job.grid.rows (bits depth)
-            (λ x y. grey (bits depth) (is_white self.now.job k mirrors x y))) }
+            (λ x y. grey (bits depth) (is_white_pixel self.now.job k mirrors x y))) }
         ensures within { OnOk result (k < self.now.job.grid.layers) }
         ensures fault { IfErr result (IsLayerFault self.now.job.grid k) }
     {
@@ -228,8 +228,8 @@ impl<A: Allocator + Copy + Send + Sync> Session<A> {
         Ok(layer_as_png(self.alloc, &self.job, k, depth, mirrors)?)
     }
 
-    /// The images of the layers of stripe s, from the lowest up, one after the other. One sweep cuts all of them, where
-    /// each call of [`Session::image`] begins anew.
+    /// The images of the layers of stripe s, from the lowest up, one after the other, as [`Session::image`] gives them.
+    /// One sweep cuts all of these layers, while each call of [`Session::image`] begins anew.
     ///
     /// # Errors
     /// `Outside` exactly if there is no such stripe; `Memory` only if an allocation failed.

@@ -14,7 +14,7 @@ pub enum ArrayFault {
     /// The triangle has this point, and a coordinate of it is more than `COORDINATE_LIMIT` micrometres from 0.
     #[error("point {point} of triangle {triangle} is out of range")]
     OutOfRange { triangle: usize, point: u32 },
-    /// This triangle is one more than the limit.
+    /// This triangle is one more than `FACET_LIMIT`.
     #[error("too many facets at triangle {triangle}")]
     TooMany { triangle: usize },
     /// An allocation failed.

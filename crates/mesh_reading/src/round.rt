@@ -14,9 +14,9 @@ use std::alloc::{AllocError, Allocator};
 use std::marker::Model;
 use std::mem::swap;
 
-/// The bytes of a round, in room that is kept from one filling to the next. It grows by a window if what is left of it is too
-/// little for a read. So a short text touches no more memory than it needs. What follows the first `len` bytes is not part of
-/// the round.
+/// The bytes of a round, in room that is kept from one filling to the next. The room grows by a window if too little of
+/// it is left for a read. So a short text touches no more memory than it needs. What follows the first `len` bytes is
+/// not part of the round.
 #[derive(Drop)]
 pub(crate) struct Round<A: Allocator> {
     room: Vec<u8, A>,

@@ -167,7 +167,8 @@ fn fill_first<'t, A: Allocator + Copy, I: Source>(
     (parts.runs(), filled)
 }
 
-/// Adds facets to a welder, unless it would then have more than `FACET_LIMIT`: a text with more is a fault and makes no mesh.
+/// Adds facets to a welder, unless it would then have more than `FACET_LIMIT`: a text with more is at fault and makes
+/// no mesh.
 pub(crate) fn weld_next<A: Allocator + Copy + Send + Sync>(
     welder: &mut Welder<A>,
     facets: &[Facet],

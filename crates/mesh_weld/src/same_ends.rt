@@ -1,5 +1,5 @@
 //! Counts of half-edges with the same two ends. The sorts use them to see whether the half-edges balance.
-ghost use Rattle.std.specs.Prelude.{◌≡◌, ◌↔◌, ◌<◌, ◌*◌, ◌+◌, IsTrue, min, max};
+ghost use Rattle.std.specs.Prelude.{◌≡◌, ◌↔◌, ◌<◌, ◌+◌, IsTrue, min, max};
 ghost use Rattle.mesh_weld.specs.SameEnds.{started, counted};
 ghost use Rattle.mesh_weld.specs.declared.packing.TheConstants.{HALF_WORD};
 ghost use Rattle.geometry.specs.declared.limits.TheConstants.{CORNER_LIMIT};

@@ -1,6 +1,6 @@
 //! Welding as facets come: each is kept by the ids of its corners, and its edges are numbered at once. So the caller need not
 //! keep a list of facets.
-ghost use Rattle.std.specs.Prelude.{◌≡◌, ◌≤◌, ◌<◌, ◌+◌, ◌++◌, [], ◌∷◌, List, IfSome, OnErr, OnOk, length, true, vec_len};
+ghost use Rattle.std.specs.Prelude.{◌≡◌, ◌≤◌, ◌<◌, ◌+◌, ◌++◌, [], ◌∷◌, List, IfSome, OnErr, OnOk, length, true};
 ghost use Rattle.geometry.specs.Facet.{Facet};
 ghost use Rattle.mesh_weld.specs.EdgeChains.{AreInHalfWords};
 ghost use Rattle.mesh_weld.specs.Grouping.{AreEdgesOf, AreOrdersOf};

@@ -5,7 +5,7 @@ ghost use Rattle.std.specs.List.{list_all, prefix_len};
 ghost use Rattle.micro_num.specs.Micrometres.{coordinate_of};
 ghost use Rattle.stl_text.specs.Layout.{IsClosing, IsSeparator, Skips, separator_tokens};
 ghost use Rattle.stl_text.specs.Reader.{Spells};
-ghost use Rattle.stl_text.specs.Text.{Token, after_space, after_word, coordinate, facet_tokens, first_word, is_white, normal_word, rest_after};
+ghost use Rattle.stl_text.specs.Text.{Token, after_word, coordinate, facet_tokens, first_word, is_white, normal_word, rest_after};
 ghost use Rattle.stl_text.specs.declared.grammar.Separator.TheVariants.{Closing};
 
 use crate::grammar::{Separator, facet_by_words};

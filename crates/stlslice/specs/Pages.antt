@@ -10,7 +10,7 @@ use Rattle.build_book.specs.Job.{Job}
 abbrev pub images_of : Job → List ℕ
 images_of job = images job.grid job.rule job.solid.facets
 
--- the images of the layers below a number, one after the other, where `image` has that of each layer
+-- the images of the layers below a number, one after the other; `image` has that of each layer
 abbrev pub all_images : (ℕ → List ℕ) → ℕ → List ℕ
 all_images image layers = flat_map image (below layers)
 

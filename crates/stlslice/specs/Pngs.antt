@@ -15,5 +15,5 @@ abbrev pub pngs_of : Job → Depth → Mirrors → List ℕ
 pngs_of job depth mirrors = pngs job.grid job.rule job.solid.facets depth mirrors
 
 -- `room` bytes are enough for the PNG of each layer
-abbrev pub HasRoom : Grid → Depth → List Layer → ℕ → Type 0
-HasRoom grid depth layers room = All (λ layer. most_png_bytes (bits depth) grid.columns grid.rows (length layer.spans) ≤ room) layers
+abbrev pub HasPngRoom : Grid → Depth → List Layer → ℕ → Type 0
+HasPngRoom grid depth layers room = All (λ layer. most_png_bytes (bits depth) grid.columns grid.rows (length layer.spans) ≤ room) layers

@@ -39,7 +39,7 @@ report_text g rule facets =
 abbrev pub pngs : Grid → Rule → List Facet → Depth → Mirrors → List ℕ
 pngs g rule facets depth mirrors = flat_map (layer_png g rule facets depth mirrors) (below g.layers)
 
--- what a task that asks for a report, or does not, writes
+-- what slicing writes: a report if the task asks for one, else the images
 abbrev pub output_of : Bool → Output
 output_of report = if report then output.Report else output.Images
 

@@ -1,4 +1,4 @@
--- What a run does to its sink if it fails, and if it may fail.
+-- What the writing of a text does to a sink, also if it fails.
 use Rattle.std.specs.Prelude.{◌≡◌, ◌≤◌, ◌⊎◌, ℕ, Bool, true, List, IfErr, OnOk, Result, length}
 use Rattle.std.specs.Io.KnownBytes.{Appends, Keeps}
 use Rattle.devices.specs.Devices.{AppendsFirst, Fails}

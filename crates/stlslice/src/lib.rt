@@ -31,10 +31,11 @@ mod running;
 mod write;
 
 pub use build_book::Piece;
+pub use devices::{Counted, Failed, Failures, Sink, Source};
 pub use laws::{one_answer, written_pixels};
 pub use layer_pool::Gate;
 pub use loading::load;
-pub use raster::{Counted, Failed, Failures, Sink, Source, image_len};
+pub use raster::image_len;
 pub use run_fault::RunFault;
 pub use running::{run, run_watched};
 pub use task_words::{

@@ -3,10 +3,11 @@ ghost use Rattle.std.specs.Prelude.{◌≡◌};
 ghost use Rattle.stlslice.specs.RunFault.{of_read, of_weld, run_status};
 ghost use Rattle.stlslice.specs.declared.run_fault.RunFault.TheVariants.{Grid, Memory, Write};
 
+use devices::WriteFault;
 use geometry::Point;
 use mesh_reading::ReadFault;
 use mesh_weld::WeldFault;
-use raster::{GridFault, WriteFault};
+use raster::GridFault;
 use std::alloc::AllocError;
 use stl_text::StlFault;
 use thiserror::Error;

@@ -23,8 +23,8 @@ use crate::write::images_by::write_images_by;
 use crate::write::pngs_by::write_pngs_by;
 use crate::write::report::report;
 use build_book::Build;
+use devices::Sink;
 use layer_png::{Depth, Mirrors};
-use raster::Sink;
 use std::alloc::Allocator;
 use std::thread::Threads;
 
@@ -40,7 +40,7 @@ pub(crate) enum Output {
 }
 
 impl Output {
-    /// The output of a task that asks for a report, or does not.
+    /// A report if the task asks for one, else the images.
     pub(crate) fn of(report: bool) -> Output
         ensures { result ≡ output_of report }
     {

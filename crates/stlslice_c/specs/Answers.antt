@@ -9,7 +9,7 @@ use Rattle.raster.specs.Filler.{area_of}
 use Rattle.layer_png.specs.declared.depth.Depth.{Depth}
 use Rattle.layer_png.specs.declared.mirrors.Mirrors.{Mirrors}
 use Rattle.build_book.specs.Job.{Job, stripe_count}
-use Rattle.layer_session.specs.Answers.{image_of, outside, png_of, probed, stripe_images}
+use Rattle.layer_session.specs.Answers.{image_of, outside, png_of_layer, probed, stripe_images}
 use Rattle.layer_session.specs.Session.{Input, IsOpenFault, IsSessionOf, Session}
 use Rattle.layer_session.specs.Setup.{HasSteps}
 use Rattle.layer_session.specs.declared.setup.Setup.{Setup}
@@ -26,8 +26,8 @@ use Rattle.stlslice_c.specs.Status.{status_of, status_text}
 
 -- These bytes stand at the front of a buffer, and the rest is as it was; or all of it is, if it is too small. Their number is
 -- put in both cases.
-abbrev pub IsPut : List ℕ → List ℕ → List ℕ → ℕ → ℕ → Type 0
-IsPut bytes old new wanted status = (wanted ≡ length bytes)
+abbrev pub IsPutInFront : List ℕ → List ℕ → List ℕ → ℕ → ℕ → Type 0
+IsPutInFront bytes old new wanted status = (wanted ≡ length bytes)
     × (((length bytes ≤ length old) × (new ≡ bytes ++ drop (length bytes) old) × (status ≡ DONE))
     ⊎ ((length old < length bytes) × (new ≡ old) × (status ≡ NO_ROOM)))
 
@@ -35,7 +35,7 @@ IsPut bytes old new wanted status = (wanted ≡ length bytes)
 -- such number. In the last two cases buffer and size are as they were.
 abbrev pub IsNumbered : ℕ → ℕ → List ℕ → List ℕ → List ℕ → ℕ → ℕ → ℕ → Type 0
 IsNumbered n count bytes old new told wanted status =
-    ((n < count) × IsPut bytes old new wanted status)
+    ((n < count) × IsPutInFront bytes old new wanted status)
     ⊎ ((n < count) × (length bytes ≤ length old) × (new ≡ old) × (wanted ≡ told) × (status ≡ MEMORY))
     ⊎ ((count ≤ n) × (new ≡ old) × (wanted ≡ told) × (status ≡ OUT_OF_RANGE))
 
@@ -59,7 +59,7 @@ pub record IsPngAsked (job : Job) (k depth mirrors : ℕ) (meant : Depth) (shown
 abbrev pub IsPngAnswer : Job → ℕ → ℕ → ℕ → List ℕ → List ℕ → ℕ → ℕ → ℕ → Type 0
 IsPngAnswer job k depth mirrors old new told wanted status =
     ((meant : Depth) × (shown : Mirrors) × IsPngAsked job k depth mirrors meant shown
-    × IsPut (png_of job k meant shown) old new wanted status)
+    × IsPutInFront (png_of_layer job k meant shown) old new wanted status)
     ⊎ ((meant : Depth) × (shown : Mirrors) × IsPngAsked job k depth mirrors meant shown
     × (new ≡ old) × (wanted ≡ told) × (status ≡ MEMORY))
     ⊎ (((job.grid.layers ≤ k) ⊎ (depth_numbered depth ≡ None) ⊎ (mirrors_numbered mirrors ≡ None))

@@ -1,4 +1,4 @@
--- What the numbers stand for that C opens a text with, and asks for a PNG with.
+-- What the numbers stand for with which C opens a text or arrays, and asks for a PNG.
 use Rattle.std.specs.Prelude.{◌≡◌, ℕ, true, false, Option, Some, None, if◌then◌else◌, nat_eq}
 use Rattle.geometry.specs.Point.{IsMeshPoint}
 use Rattle.micro_num.specs.declared.unit.Unit.{Unit as LengthUnit}

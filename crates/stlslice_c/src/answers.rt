@@ -44,7 +44,7 @@ pub(crate) fn put_stripe<A: Allocator + Copy + Send + Sync>(
     }
 }
 
-/// Puts the PNG of layer k into the front of a buffer. Without room for it only its size is told, which takes as long.
+/// Puts the PNG of layer k into the front of a buffer. If it does not fit, only its size is put, which takes as long.
 pub(crate) fn put_png<A: Allocator + Copy + Send + Sync>(
     session: &Session<A>,
     k: u32,

@@ -1,6 +1,6 @@
 //! Writes bytes into the buffers that C gives.
 ghost use Rattle.std.specs.Prelude.{◌≡◌, ◌≤◌, ◌<◌, ◌++◌, ◌↔◌, IsTrue, drop, length};
-ghost use Rattle.stlslice_c.specs.Answers.{IsPut};
+ghost use Rattle.stlslice_c.specs.Answers.{IsPutInFront};
 ghost use Rattle.stlslice_c.specs.declared.status.TheConstants.{DONE};
 
 use crate::status::{DONE, NO_ROOM, Status};
@@ -30,9 +30,9 @@ pub(crate) fn put(bytes: &[u8], buffer: &mut [u8], wanted: &mut usize) -> Status
     DONE
 }
 
-/// Puts bytes into the front of a buffer, if they fit, and their number into a place.
+/// Puts bytes into the front of a buffer, if they fit, and their number into `wanted`.
 pub(crate) fn put_if_room(bytes: &[u8], buffer: &mut [u8], wanted: &mut usize) -> Status
-    ensures { IsPut bytes.now buffer.old buffer.new wanted.new result }
+    ensures { IsPutInFront bytes.now buffer.old buffer.new wanted.new result }
 {
     if has_room(bytes.len() as u64, buffer, wanted) {
         put(bytes, buffer, wanted)

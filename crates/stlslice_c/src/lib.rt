@@ -25,7 +25,8 @@
 //! - 7: the buffer is too small
 //! - 8: no mesh was opened, or it was closed
 //!
-//! At 7 the size that is wanted is put. At any other status but 0 nothing of the caller's changes but a line of text.
+//! At 7 a call puts only the size that it needs. At any other status but 0 it changes nothing of the caller's but a
+//! line of text.
 //!
 //! Lengths are in micrometres, and points of loops in half-micrometres. Columns, rows and layers count from 0 along x, y and
 //! z, and stripes, which are eight layers each, from the lowest up.
@@ -88,7 +89,7 @@ pub extern "C" fn stlslice_version() -> u32
     VERSION
 }
 
-/// Puts the text of a status into `line`.
+/// Puts the text of a status into `line`: as much as fits, with a 0 after it.
 #[unsafe(no_mangle)]
 pub extern "C" fn stlslice_fault_text(status: u32, line: &mut [u8])
     ensures { IsLine (status_text status) line.old line.new }
@@ -97,7 +98,7 @@ pub extern "C" fn stlslice_fault_text(status: u32, line: &mut [u8])
 }
 
 /// Reads a text, and puts the number and the box of its facets into `corners`. After a fault `corners` is as it was, and the
-/// fault's text is in `line`.
+/// fault's text is in `line`. The status is 0, 1 (no such unit), 3 or 6.
 #[unsafe(no_mangle)]
 pub extern "C" fn stlslice_box(
     alloc: Global,
@@ -120,8 +121,9 @@ pub extern "C" fn stlslice_box(
     }
 }
 
-/// Opens a text: puts its mesh into `handle`, in place of one that it has, and its facets and its grid into `shape`. After a
-/// fault handle and shape are as they were, and the fault's text is in `line`.
+/// Opens a text: puts its mesh into `handle`, in place of one that it has, and its facets and its grid into `shape`.
+/// After a fault handle and shape are as they were, and the fault's text is in `line`. The status is 0, 1 (an option is
+/// out of its range), 3, 4, 5 or 6.
 #[unsafe(no_mangle)]
 pub extern "C" fn stlslice_open(
     alloc: Global,
@@ -141,9 +143,10 @@ pub extern "C" fn stlslice_open(
     keep(alloc, opened, handle, shape, line)
 }
 
-/// Opens points and triangles: puts their mesh into `handle`, in place of one that it has, and its facets and its grid into
-/// `shape`. The points are in micrometres, whatever unit the options have. After a fault handle and shape are as they were, and
-/// the fault's text is in `line`.
+/// Opens points and triangles: puts their mesh into `handle`, in place of one that it has, and its facets and its grid
+/// into `shape`. The points are in micrometres, whatever unit the options have. After a fault handle and shape are as
+/// they were, and the fault's text is in `line`. The status is 0, 1 (an option is out of its range, or the arrays are
+/// no facets), 4, 5 or 6.
 #[unsafe(no_mangle)]
 pub extern "C" fn stlslice_open_mesh(
     alloc: Global,
@@ -172,8 +175,8 @@ pub extern "C" fn stlslice_close(alloc: Global, handle: &mut Handle)
     drop(handle.take(alloc));
 }
 
-/// Puts the image of layer k into the front of `image`, as raw PBM, and its size into `wanted`. If it does not fit, only the
-/// size is put, and nothing is sliced.
+/// Puts the image of layer k into the front of `image`, as raw PBM, and its size in bytes into `wanted`. If it does not
+/// fit, only the size is put, and nothing is sliced. The status is 0, 1 (no such layer), 6, 7 or 8.
 #[unsafe(no_mangle)]
 pub extern "C" fn stlslice_mask(
     alloc: Global,
@@ -190,8 +193,9 @@ pub extern "C" fn stlslice_mask(
     asked!(alloc, handle, session => put_mask(&session, k, image, wanted))
 }
 
-/// Puts the images of a stripe into the front of `images`, one after the other, and their size into `wanted`. The stripe is the
-/// layers from 8 s to 8 s + 7, as far as the grid has them. If they do not fit, only the size is put, and nothing is sliced.
+/// Puts the images of a stripe into the front of `images`, one after the other, and their size in bytes into `wanted`.
+/// The stripe is the layers from 8 s to 8 s + 7, as far as the grid has them. If they do not fit, only the size is put,
+/// and nothing is sliced. The status is 0, 1 (no such stripe), 6, 7 or 8.
 #[unsafe(no_mangle)]
 pub extern "C" fn stlslice_stripe(
     alloc: Global,
@@ -208,9 +212,9 @@ pub extern "C" fn stlslice_stripe(
     asked!(alloc, handle, session => put_stripe(&session, s, images, wanted))
 }
 
-/// Puts the PNG of layer k into the front of `png`, and its size into `wanted`. A pixel has `depth` bits, 1 or 8. `mirrors` is
-/// 0, 1 for x, 2 for y, or 3 for both. Sizes differ from layer to layer. If `png` is too short, only the size is put, which
-/// takes as long.
+/// Puts the PNG of layer k into the front of `png`, and its size in bytes into `wanted`. A pixel has `depth` bits, 1 or
+/// 8. `mirrors` is 0, 1 for x, 2 for y, or 3 for both. Sizes differ from layer to layer. If `png` is too short, only
+/// the size is put, which takes as long. The status is 0, 1 (no such layer, depth or mirrors), 6, 7 or 8.
 #[unsafe(no_mangle)]
 pub extern "C" fn stlslice_png(
     alloc: Global,
@@ -229,7 +233,7 @@ pub extern "C" fn stlslice_png(
     asked!(alloc, handle, session => put_png(&session, k, depth, mirrors, png, wanted))
 }
 
-/// Puts the number of filled pixels of layer k into `area`.
+/// Puts the number of filled pixels of layer k into `area`. The status is 0, 1 (no such layer), 6 or 8.
 #[unsafe(no_mangle)]
 pub extern "C" fn stlslice_area(alloc: Global, handle: &mut Handle, k: u32, area: &mut u64) -> u32
     ensures kept { handle.new.mesh.session ≡ handle.old.mesh.session }
@@ -240,7 +244,8 @@ pub extern "C" fn stlslice_area(alloc: Global, handle: &mut Handle, k: u32, area
     asked!(alloc, handle, session => put_area(&session, k, area))
 }
 
-/// Puts the signed crossings of the rays along x and along y from the centre of a voxel into `rays`.
+/// Puts the signed crossings of the rays along x and along y from the centre of a voxel into `rays`. The voxel is in
+/// column i, row j and layer k. The status is 0, 1 (no such voxel) or 8.
 #[unsafe(no_mangle)]
 pub extern "C" fn stlslice_probe(
     alloc: Global,
@@ -258,8 +263,10 @@ pub extern "C" fn stlslice_probe(
     asked!(alloc, handle, session => put_probe(&session, i, j, k, rays))
 }
 
-/// Puts the loops of layer k into the fronts of two buffers. The points of all loops go into `points`, one loop after the
-/// other. For each loop the position after its last point goes into `ends`.
+/// Puts the loops of layer k into the fronts of two buffers, and the number of points and of loops into `points_wanted`
+/// and `ends_wanted`. The points of all loops go into `points`, one loop after the other. For each loop the position
+/// after its last point goes into `ends`. If one of the buffers is too small, only the numbers are put. The status is
+/// 0, 1 (no such layer), 6, 7 or 8.
 #[unsafe(no_mangle)]
 pub extern "C" fn stlslice_loops(
     alloc: Global,

@@ -1,4 +1,4 @@
-//! The numbers that C opens a text with, and asks for a PNG with. Nothing checks what C passes, so each is tested.
+//! The numbers with which C opens a text or arrays, and asks for a PNG. C may pass any number, so each is checked here.
 ghost use Rattle.std.specs.Prelude.{◌≡◌, IfNone, IfSome};
 ghost use Rattle.raster.specs.declared.placing.Placing.{Placing};
 ghost use Rattle.layer_session.specs.declared.setup.Setup.{Setup};
@@ -20,8 +20,9 @@ pub struct Options {
     pub rule: u32,
     /// 0 millimetres, 1 inches.
     pub unit: u32,
-    /// 0 a grid that fits the mesh, 1 the one that follows.
+    /// 0 a grid that fits the mesh, 1 the one of `cells`.
     pub placing: u32,
+    /// The given grid, if `placing` is 1.
     pub cells: Cells,
 }
 

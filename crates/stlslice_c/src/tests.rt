@@ -407,7 +407,7 @@ fn is_no_png(
         && wanted == size
 }
 
-// Numbers that stand for no layer, depth or mirrors; and a buffer with a byte too little.
+// Numbers that stand for no layer, depth or mirrors; and a buffer that is a byte too short.
 #[test]
 fn pngs_that_are_refused(rt: HostRuntime) -> Result<(), Fail> {
     let setup = MILLIMETRE.setup().ok_or("no setup")?;
@@ -419,7 +419,7 @@ fn pngs_that_are_refused(rt: HostRuntime) -> Result<(), Fail> {
     Ok(())
 }
 
-// The sizes that buffers with a byte too little are told.
+// The sizes that are put if buffers are a byte too short.
 struct Sizes;
 
 impl Call for Sizes {

@@ -36,7 +36,7 @@ const PART_ON_INPUT: &str =
 const EQUALS_SIGN: &str =
     "stlslice: a value that begins with a minus wants an equals sign; --grid takes three counts first, as in --grid=400,300,120,-9500,-7500,0";
 
-/// What is said where standard input is a terminal.
+/// What is said if standard input is a terminal.
 const AWAITED: &str =
     "stlslice: a part in ASCII STL is awaited on standard input, as in stlslice --pitch 50 --layer 100 < part.stl";
 
@@ -77,7 +77,7 @@ fn main(rt: HostRuntime) -> ExitCode {
     }
 }
 
-/// The arguments after the program's name; the name alone need not be a text.
+/// The arguments after the program's name. The name itself need not be UTF-8.
 struct AfterName<'r, R>(&'r R);
 
 impl<'r, R: Env> Env for AfterName<'r, R> {
@@ -102,7 +102,7 @@ fn words<R: Env + AllocGlobal>(rt: &R) -> io::Result<Vec<String>> {
     Ok(words?.collect(rt.alloc())?)
 }
 
-/// Ends a program whose words could not be had.
+/// Ends a program whose words could not be read.
 fn unread<R: Eprint>(rt: &R, fault: &io::Error) -> ExitCode {
     match fault.kind() {
         ErrorKind::OutOfMemory => ended(rt, &WordFault::Memory, WordFault::Memory.status()),
@@ -130,7 +130,7 @@ fn refused<R: Print + Eprint + AllocGlobal>(rt: &R, fault: &WordFault) -> ExitCo
     }
 }
 
-/// What to write in place of words that are refused.
+/// The line that says what to write in place of words that are refused.
 fn hint<R: AllocGlobal>(rt: &R, refusal: &Refusal) -> Option<&'static str> {
     match refusal.kind() {
         RefusalKind::ValueValidation => Some(WHOLE_NUMBERS),

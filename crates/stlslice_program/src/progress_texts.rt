@@ -1,4 +1,4 @@
-//! The texts that progress is shown by, on a terminal and elsewhere: no clause speaks of a `Display`.
+//! Tests the texts that show progress, on a terminal and elsewhere. No clause speaks of a `Display`.
 use crate::progress::{Bar, BarText, Phase};
 use std::alloc::Global;
 

@@ -1,5 +1,5 @@
 //! Meshes with enough facets to be welded by hashes, with edges of many half-edges and vertices of many facets.
-ghost use Rattle.std.specs.Prelude.{◌≤◌, ◌<◌, ◌+◌};
+ghost use Rattle.std.specs.Prelude.{◌<◌, ◌+◌};
 
 use crate::welders::{agree, fed, fed_by};
 use crate::welding::{Counts, counts, open_edge, ring_point, rings};

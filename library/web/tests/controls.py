@@ -5,30 +5,11 @@ import math
 import os
 import struct
 import subprocess
-import zlib
 
 from common import IDLE, area_of, example, holds, images_of, same, script
 
 
-def bits_of_png(path):
-    """The columns, rows and bits of a PNG with one bit for each pixel and no filters, as the page writes it."""
-    with open(path, "rb") as file:
-        data = file.read()
-    same("signature of the PNG", data[:8], b"\x89PNG\r\n\x1a\n")
-    at, chunks = 8, {}
-    while at < len(data):
-        size, = struct.unpack(">I", data[at:at + 4])
-        kind, body = data[at + 4:at + 8], data[at + 8:at + 8 + size]
-        same(f"sum of {kind}", struct.unpack(">I", data[at + 8 + size:at + 12 + size])[0], zlib.crc32(kind + body))
-        chunks[kind] = body
-        at += 12 + size
-    columns, rows, *kind = struct.unpack(">IIBBBBB", chunks[b"IHDR"])
-    same("kind of the PNG", kind, [1, 0, 0, 0, 0])
-    lines = zlib.decompress(chunks[b"IDAT"])
-    stride = (columns + 7) // 8 + 1
-    same("size of the PNG's lines", len(lines), stride * rows)
-    same("filters of the PNG", set(lines[::stride]), {0})
-    return columns, rows, b"".join(lines[at + 1:at + stride] for at in range(0, len(lines), stride))
+SIGNATURE = b"\x89PNG\r\n\x1a\n"
 
 
 def try_keys(page):
@@ -199,8 +180,10 @@ def try_saving(page, program):
         page.value("new Promise((done) => setTimeout(done, 50))")
         if os.path.exists(path) and os.path.getsize(path):
             break
-    images, columns, rows = images_of(program, example("bracket"), "--pitch", "100", "--layer", "100", "--rule", "positive")
-    same("the saved PNG", bits_of_png(path), (columns, rows, images[20]))
+    with open(path, "rb") as file, open(example("bracket"), "rb") as part:
+        words = [program, "--pitch", "100", "--layer", "100", "--rule", "positive", "--png", "--depth", "1"]
+        pngs = subprocess.run(words, stdin=part, stdout=subprocess.PIPE, check=True).stdout.split(SIGNATURE)
+        same("the saved PNG", file.read(), SIGNATURE + pngs[21])
 
 
 def try_demos(page):

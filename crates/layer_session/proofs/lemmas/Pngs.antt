@@ -13,7 +13,7 @@ use Rattle.layer_png.specs.declared.depth.Depth.{Depth}
 use Rattle.layer_png.specs.declared.mirrors.Mirrors.{Mirrors}
 use Rattle.layer_png.proofs.lemmas.Pixels.{same-file}
 use Rattle.build_book.specs.Job.{Job}
-use Rattle.layer_session.specs.Answers.{is_white, png_of}
+use Rattle.layer_session.specs.Answers.{is_white_pixel, png_of_layer}
 
 -- a column or a row of an image, mirrored or not, is one of the layer
 in-layer : (mirrored : Bool) (count at : ℕ) → at < count → (if mirrored then count - 1 - at else at) < count
@@ -26,19 +26,19 @@ in-layer-back false count at inside = omega (arith, inside)
 
 module _ (job : Job) (k : ℕ) (mirrors : Mirrors) (spans : List Span) (filled : (i j : ℕ) → i < job.grid.columns → j < job.grid.rows → covers spans i j ≡ is_filled job.rule job.solid.facets (centre job.grid i j k)) where
   same-pixels : (x y : ℕ) → x < job.grid.columns → y < job.grid.rows
-      → shown mirrors job.grid.columns job.grid.rows spans x y ≡ is_white job k mirrors x y
+      → shown mirrors job.grid.columns job.grid.rows spans x y ≡ is_white_pixel job k mirrors x y
   same-pixels x y wide high =
       filled (column_at mirrors job.grid.columns x) (row_at mirrors job.grid.rows y)
       (in-layer mirrors.x job.grid.columns x wide) (in-layer-back mirrors.y job.grid.rows y high)
 
   pub same-png : (depth : Depth)
-      → png_text (bits depth) job.grid.columns job.grid.rows (shown mirrors job.grid.columns job.grid.rows spans) ≡ png_of job k depth mirrors
+      → png_text (bits depth) job.grid.columns job.grid.rows (shown mirrors job.grid.columns job.grid.rows spans) ≡ png_of_layer job k depth mirrors
   same-png depth =
-      same-file (bits depth) job.grid.columns job.grid.rows (shown mirrors job.grid.columns job.grid.rows spans) (is_white job k mirrors) same-pixels
+      same-file (bits depth) job.grid.columns job.grid.rows (shown mirrors job.grid.columns job.grid.rows spans) (is_white_pixel job k mirrors) same-pixels
 
   pub layer-pixels : (depth : Depth) (bytes : List ℕ)
       → IsPng bytes job.grid.columns job.grid.rows (bits depth) (λ x y. grey (bits depth) (shown mirrors job.grid.columns job.grid.rows spans x y))
-      → IsPng bytes job.grid.columns job.grid.rows (bits depth) (λ x y. grey (bits depth) (is_white job k mirrors x y))
+      → IsPng bytes job.grid.columns job.grid.rows (bits depth) (λ x y. grey (bits depth) (is_white_pixel job k mirrors x y))
   layer-pixels depth bytes is =
       record {
         lines = is.lines;

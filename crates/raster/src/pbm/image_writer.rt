@@ -1,11 +1,11 @@
 //! Writes the images of layers one after another, each row by row from the greatest row to the least, through one chunk on the
 //! stack.
-ghost use Rattle.std.specs.Prelude.{◌≡◌, ◌≤◌, ◌+◌, ◌-◌, [], ◌++◌, drop, length, IfErr, IfOk, OnOk};
+ghost use Rattle.std.specs.Prelude.{◌≡◌, ◌≤◌, ◌+◌, ◌-◌, [], drop, length, IfErr, IfOk, OnOk};
 ghost use Rattle.std.specs.Io.KnownBytes.{Appends};
 ghost use Rattle.devices.specs.Devices.{greatest_count};
 ghost use Rattle.devices.specs.Sent.{IsCutOff, IsSentTo};
 ghost use Rattle.devices.specs.Transcript.{transcript_of};
-ghost use Rattle.raster.specs.Span.{AreSpans, covers};
+ghost use Rattle.raster.specs.Span.{AreSpans};
 ghost use Rattle.raster.specs.Image.{image_limit};
 ghost use Rattle.raster.specs.ImageWriter.{pending};
 

@@ -25,7 +25,7 @@ use Rattle.build_book.specs.Layer.{IsLawful, Layer}
 use Rattle.build_book.specs.Build.{IsComplete}
 use Rattle.task_words.specs.declared.task.Given.{Given}
 use Rattle.stlslice.specs.Outcome.{grid_for}
-use Rattle.stlslice.specs.Pngs.{HasRoom, pngs_of}
+use Rattle.stlslice.specs.Pngs.{HasPngRoom, pngs_of}
 use Rattle.stlslice.specs.WrittenPixels.{ArePngs}
 use Rattle.stlslice.specs.declared.write.Output.{Output}
 use Rattle.stlslice.specs.declared.write.Output.TheVariants as output
@@ -207,11 +207,11 @@ same_place (y ∷ ys) (suc i) d x h is = same_place ys i d x (omega (arith, h)) 
 
 -- a layer's PNG has the room that is enough for each
 pub room_at : (grid taken : Grid) (depth : Depth) (layers xs : List Layer) (i : ℕ) (x : Layer) (spans : List Span) (room : ℕ) → taken ≡ grid
-    → xs ≡ layers → spans ≡ x.spans → i < length xs → x ≡ slice_index_or xs i x → HasRoom grid depth layers room
+    → xs ≡ layers → spans ≡ x.spans → i < length xs → x ≡ slice_index_or xs i x → HasPngRoom grid depth layers room
     → most_png_bytes (bits depth) taken.columns taken.rows (length spans) ≤ room
 room_at grid taken depth layers xs i x spans room of same spans-are low is h =
     let most : Grid → List Span → ℕ = λ g s. most_png_bytes (bits depth) g.columns g.rows (length s) in
-    let there : most grid (slice_index_or xs i x).spans ≤ room = subst (λ (l : List Layer). HasRoom grid depth l room) (sym same) h i x low in
+    let there : most grid (slice_index_or xs i x).spans ≤ room = subst (λ (l : List Layer). HasPngRoom grid depth l room) (sym same) h i x low in
     let here : most taken spans ≡ most grid (slice_index_or xs i x).spans =
     ap (λ (g : Grid). most g spans) of ∙ ap (λ (s : List Span). most grid s) (spans-are ∙ ap (λ (y : Layer). y.spans) is) in
     omega (arith, there, here)

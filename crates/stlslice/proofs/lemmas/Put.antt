@@ -28,10 +28,7 @@ put-whole total sink part before is out same = record {
   ok = out;
   total = is;
   same = same;
-  written = tt;
-  some = tt;
-  within = tt;
-  failed = tt;
+  err = tt;
 }
 
 pub put-none : (f : WriteFault) (sink : Transcript) (part : List ℕ) (before written : ℕ) → f.written ≡ before + written
@@ -42,10 +39,12 @@ put-none f sink part before written is out within failed =
       ok = tt;
       total = tt;
       same = tt;
-      written = subst (λ (n : ℕ). AppendsFirst sink.old sink.new n part) more out;
-      some = omega (arith, is);
-      within = omega (arith, is, within);
-      failed = failed;
+      err = record {
+        low = omega (arith, is);
+        high = omega (arith, is, within);
+        out = subst (λ (n : ℕ). AppendsFirst sink.old sink.new n part) more out;
+        failed = failed;
+      };
     }
 
 -- it is put
@@ -62,15 +61,19 @@ put-on old now new before_it after text before written total part rest h put =
 pub put-failed : (f : WriteFault) (sink : Transcript) (now : Option (List ℕ)) (count : ℕ) (text : List ℕ) (before written : ℕ) (part rest : List ℕ)
     → IsUnderWay sink.old now text before written part rest → count ≡ sink.failed_before
     → IsPut (Err f) (transcript now sink.new count sink.failed) part written → IsPut (Err f) sink text before
-put-failed f sink now count text before written part rest h same put = record {
-  ok = tt;
-  total = tt;
-  same = tt;
-  written = more-out sink.old now sink.new text before written f.written part rest h put.some (omega (arith, put.within)) put.written;
-  some = omega (arith, h.low, put.some);
-  within = written-within sink.old now text before written f.written part rest h put.within;
-  failed = subst (λ (n : ℕ). Fails n sink.failed) same put.failed;
-}
+put-failed f sink now count text before written part rest h same put =
+    let cut = put.err in
+    record {
+      ok = tt;
+      total = tt;
+      same = tt;
+      err = record {
+        low = omega (arith, h.low, cut.low);
+        high = written-within sink.old now text before written f.written part rest h cut.high;
+        out = more-out sink.old now sink.new text before written f.written part rest h cut.low (omega (arith, cut.high)) cut.out;
+        failed = subst (λ (n : ℕ). Fails n sink.failed) same cut.failed;
+      };
+    }
 
 -- and its fault is passed on
 pub put-early : (r : Result ℕ WriteFault) (f : WriteFault) (sink : Transcript) (now : Option (List ℕ)) (count : ℕ) (text : List ℕ) (before written : ℕ)
@@ -89,10 +92,7 @@ put-all sink text before written h same =
       ok = subst (λ (l : List ℕ). Appends sink.old sink.new l) (take_all (written - before) text (omega (arith, counted))) h.out;
       total = omega (arith, counted);
       same = same;
-      written = tt;
-      some = tt;
-      within = tt;
-      failed = tt;
+      err = tt;
     }
 
 -- or not, as the last part is
@@ -103,10 +103,7 @@ put-last (Ok total) sink now count text before written part h same put = record 
   ok = all-out sink.old now sink.new text before written part h put.ok;
   total = omega (arith, put.total, all-counted sink.old now text before written part [] h);
   same = put.same ∙ same;
-  written = tt;
-  some = tt;
-  within = tt;
-  failed = tt;
+  err = tt;
 }
 put-last (Err f) sink now count text before written part h same put = put-failed f sink now count text before written part [] h same put
 
@@ -131,7 +128,7 @@ written-early (Err x) sink is_settled text f h is =
       flushed = tt;
       ok = tt;
       same = tt;
-      err = (f.written, is, omega (arith, h.within), rw all at h.written, h.failed);
+      err = (f.written, is, omega (arith, h.err.high), rw all at h.err.out, h.err.failed);
     }
 
 -- the same where its fault is known

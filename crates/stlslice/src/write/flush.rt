@@ -1,4 +1,4 @@
-//! How an output goes out, as a whole or part by part, and ends: the sink is flushed.
+//! Writes an output to a sink, as a whole or part by part, and flushes the sink at the end.
 ghost use Rattle.std.specs.Prelude.{◌≡◌, ◌≤◌, ◌+◌, IfErr, OnOk, length, true};
 ghost use Rattle.std.specs.Io.KnownBytes.{Keeps};
 ghost use Rattle.devices.specs.Transcript.{transcript_of};
@@ -8,7 +8,7 @@ ghost use Rattle.stlslice.specs.Unwritten.{IsWritten};
 ghost use Rattle.stlslice.specs.declared.run_fault.RunFault.TheVariants.{Write};
 
 use crate::run_fault::RunFault;
-use raster::{Sink, WriteFault, put_all};
+use devices::{Sink, WriteFault, put_all};
 
 /// Writes a whole text, and flushes it. On a fault its first `written` bytes went out; these are all if the flush failed.
 pub(crate) fn write_all<O: Sink>(sink: &mut O, text: &[u8]) -> Result<(), RunFault>

@@ -31,7 +31,7 @@ impl<'a, 'b, A: Allocator + Copy + Send + Sync> Drawing<Page<A>> for Images<'a, 
     ghost fits = { λ it page. it.per * image_size it.build.now.job.grid ≤ page.room };
 
     fn layers(&self) -> usize {
-        // they bound the count of the bytes
+        // the limits bound the count of the bytes
         self.build.job().grid().hold_limits();
         self.build.layers().len()
     }

@@ -6,7 +6,8 @@ ghost use Rattle.stlslice.specs.Unwritten.{IsWritten};
 use crate::run_fault::RunFault;
 use crate::write::flush::settle;
 use build_book::Build;
-use raster::{ImageWriter, Sink};
+use devices::Sink;
+use raster::ImageWriter;
 use std::alloc::Allocator;
 
 /// Writes the images of all layers of a build, by one writer, and flushes them. On a fault exactly the first `written` bytes of
@@ -20,7 +21,7 @@ pub(crate) fn write_images<A: Allocator, O: Sink>(
         (O.is_settled sink.new) (images_of build.now.job) }
 {
     let grid = build.job().grid();
-    // they bound the count of the bytes
+    // the limits bound the count of the bytes
     grid.hold_limits();
     let mut writer = ImageWriter::new();
     for layer in build.layers() {

@@ -9,7 +9,8 @@ use crate::write::image_pages::{Images, page_sets};
 use crate::write::images::write_images;
 use crate::write::pages::{SET_LEN, has_many_spans, write_by_pages};
 use build_book::Build;
-use raster::{Grid, Sink, image_len};
+use devices::Sink;
+use raster::{Grid, image_len};
 use std::alloc::Allocator;
 use std::thread::Threads;
 

@@ -9,7 +9,7 @@ ghost use Rattle.stlslice.specs.Unwritten.{IsWritten};
 use crate::run_fault::RunFault;
 use crate::write::flush::{put_more, settle};
 use build_book::Build;
-use raster::{Sink, WriteFault};
+use devices::{Sink, WriteFault};
 use std::alloc::Allocator;
 use std::mem::swap;
 use std::thread::{Threads, for_each_mut, join_mut};

@@ -1,7 +1,7 @@
 //! Pages that PNGs of several layers are made in.
 ghost use Rattle.std.specs.Prelude.{◌≡◌, ◌<◌, ◌≤◌, ◌+◌, ◌*◌, [], All, IfOk, vec_capacity, vec_len};
 ghost use Rattle.stlslice.specs.Pages.{images_between};
-ghost use Rattle.stlslice.specs.Pngs.{HasRoom};
+ghost use Rattle.stlslice.specs.Pngs.{HasPngRoom};
 ghost use Rattle.layer_png.specs.Text.{layer_png};
 
 use crate::write::pages::Drawing;
@@ -30,7 +30,7 @@ impl<'a, 'b, A: Allocator> Pngs<'a, 'b, A> {
         requires order { start ≤ end }
         requires within { end ≤ self.now.build.now.job.grid.layers }
         requires few { end ≤ start + self.now.per }
-        requires each { HasRoom self.now.build.now.job.grid self.now.depth self.now.build.now.layers self.now.room }
+        requires each { HasPngRoom self.now.build.now.job.grid self.now.depth self.now.build.now.layers self.now.room }
         requires room { self.now.per * self.now.room ≤ vec_capacity bytes }
         ensures text { result.items ≡ images_between (layer_png self.now.build.now.job.grid self.now.build.now.job.rule
             self.now.build.now.job.solid.facets self.now.depth self.now.mirrors) start end }
@@ -48,7 +48,7 @@ impl<'a, 'b, A: Allocator> Pngs<'a, 'b, A> {
 
 impl<'a, 'b, A: Allocator + Copy + Send + Sync> Drawing<Vec<u8, A>> for Pngs<'a, 'b, A> {
     ghost use Rattle.std.specs.Prelude.{◌≤◌, ◌*◌, vec_capacity};
-    ghost use Rattle.stlslice.specs.Pngs.{HasRoom};
+    ghost use Rattle.stlslice.specs.Pngs.{HasPngRoom};
     ghost use Rattle.layer_png.specs.Text.{layer_png};
 
     ghost layers = { λ it. it.build.now.job.grid.layers };
@@ -59,10 +59,10 @@ impl<'a, 'b, A: Allocator + Copy + Send + Sync> Drawing<Vec<u8, A>> for Pngs<'a,
 
     ghost bytes = { λ page. page.items };
 
-    ghost fits = { λ it page. HasRoom it.build.now.job.grid it.depth it.build.now.layers it.room × (it.per * it.room ≤ vec_capacity page) };
+    ghost fits = { λ it page. HasPngRoom it.build.now.job.grid it.depth it.build.now.layers it.room × (it.per * it.room ≤ vec_capacity page) };
 
     fn layers(&self) -> usize {
-        // they bound the count of the bytes
+        // the limits bound the count of the bytes
         self.build.job().grid().hold_limits();
         self.build.layers().len()
     }

@@ -5,15 +5,16 @@ ghost use Rattle.layer_png.specs.Layer.{shown};
 ghost use Rattle.layer_png.specs.Text.{most_png_bytes, png_text};
 ghost use Rattle.devices.specs.Transcript.{transcript_of};
 ghost use Rattle.raster.specs.Span.{AreSpans};
-ghost use Rattle.stlslice.specs.Pngs.{HasRoom, pngs_of};
+ghost use Rattle.stlslice.specs.Pngs.{HasPngRoom, pngs_of};
 ghost use Rattle.stlslice.specs.Put.{IsPut};
 ghost use Rattle.stlslice.specs.Unwritten.{IsMadeAndWritten};
 
 use crate::run_fault::RunFault;
 use crate::write::flush::{put_more, settle};
 use build_book::Build;
+use devices::{Sink, WriteFault};
 use layer_png::{Depth, Mirrors, most_png_bytes, write_png};
-use raster::{Grid, Sink, Span, WriteFault};
+use raster::{Grid, Span};
 use std::alloc::Allocator;
 
 /// Writes the PNGs of all layers of a build, one after another, and flushes them. The memory for the longest is allocated
@@ -38,7 +39,7 @@ pub(crate) fn write_pngs<A: Allocator + Copy + Send + Sync, O: Sink>(
 
 /// A number of bytes that is enough for the PNG of each layer of a build.
 pub(crate) fn room_for_png<A: Allocator>(build: &Build<'_, A>, depth: Depth) -> usize
-    ensures { HasRoom build.now.job.grid depth build.now.layers result }
+    ensures { HasPngRoom build.now.job.grid depth build.now.layers result }
 {
     let grid = build.job().grid();
     let mut room = 0;
@@ -63,13 +64,13 @@ fn put_pngs<A: Allocator, O: Sink>(
     mut buffer: Vec<u8, A>,
     sink: &mut O,
 ) -> Result<u64, WriteFault>
-    requires { HasRoom build.now.job.grid depth build.now.layers (vec_capacity buffer) }
+    requires { HasPngRoom build.now.job.grid depth build.now.layers (vec_capacity buffer) }
     ensures { IsPut result
         (transcript_of O.contents O.Failures.failure_count sink.old sink.new)
         (pngs_of build.now.job depth mirrors) 0 }
 {
     let grid = build.job().grid();
-    // they bound the count of the bytes
+    // the limits bound the count of the bytes
     grid.hold_limits();
     let mut written = 0;
     for layer in build.layers() {

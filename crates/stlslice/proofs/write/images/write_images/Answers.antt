@@ -125,10 +125,7 @@ returns g c =
         held_whole job old now writer.sent k c.in_ok-written.written writer.held end c.loop-layer.invariant.text out.total,
       );
       same = out.same ∙ c.loop-layer.invariant.counted;
-      written = tt;
-      some = tt;
-      within = tt;
-      failed = tt;
+      err = tt;
     } in
     let after = c.settle.ensures in
     written-all c.settle.result sink (g.O.Sink.is_settled c.settle.new.sink) (images_of job) put (g.O.Failures.failure_count c.finish.new.w)
