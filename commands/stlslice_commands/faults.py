@@ -46,14 +46,14 @@ def named(output):
 
 
 class Progress:
-    """One line on standard error that is drawn anew, ten times a second at most. It is shown on a terminal alone."""
+    """One line on standard error that is drawn anew. It is shown on a terminal alone."""
 
     drawn = False
     moment = 0.0
 
     @classmethod
     def show(cls, text, is_new=False):
-        """Draws the line; that of a new phase at once, since it may stand for long."""
+        """Draws the line: that of a new phase at once, since it may stand for long, others ten times a second at most."""
         now = time.monotonic()
         if now - cls.moment < 0.1 and not is_new or not sys.stderr.isatty():
             return

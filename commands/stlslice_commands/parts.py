@@ -52,8 +52,8 @@ def refuse_others(file, path):
 
 
 def command_for(kind, name):
-    """The command that makes an STL of a file. The tools that convert take the format from the name's ending, so a file of
-    another name is copied first."""
+    """The command that makes an STL of a file. The tools that convert take the format from the name's ending, so a file with
+    another ending is copied first."""
     stem, copied = re.sub(r"(?i)(\.stl)?\.\w+$", "", name), ""
     if "zip" not in kind and not name.lower().endswith("." + kind.lower()):
         other = free_name(stem, "." + kind.lower())
@@ -87,7 +87,7 @@ def as_text(file):
 
 
 def is_binary(file):
-    """Whether the part is binary STL; how its numbers are read then is told."""
+    """Whether the part is binary STL. If so, a line says how its numbers are read."""
     count = facets_of_binary(file)
     if count is None:
         return False

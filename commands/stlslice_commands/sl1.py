@@ -16,7 +16,7 @@ ABOUT = """Slices an STL into an SL1 archive for a resin printer. The part stand
 black; one that doesn't fit is refused. The archive is made aside and moved into place when it is whole, so a fault
 leaves what was there before."""
 
-LATEST = (2107, 12, 31, 23, 59, 58)  # that a zip can hold
+LATEST = (2107, 12, 31, 23, 59, 58)  # the last moment that a zip can hold
 LEVEL = 1  # of deflating the program's PNGs once more: long runs of pixels are bytes 0 in them
 FIRST = 3  # layers with the first exposure, before it fades to that of the others
 
@@ -31,8 +31,8 @@ class Defaults:
 def main():
     parser = words.parser(ABOUT, "the archive to write, as out.sl1")
     add = parser.add_argument
-    add("--exposure", type=seconds, metavar="S", help="seconds a layer is exposed (the printer's, else 2.2); a line says it where the printer's is "
-        "for layers of another height")
+    add("--exposure", type=seconds, metavar="S",
+        help="seconds a layer is exposed (the printer's, else 2.2); a line says if that is for layers of another height")
     add("--first-exposure", type=seconds, metavar="S", help="the same of the first layers (the printer's, else 25)")
     add("--fade", type=count, metavar="N", help="layers over which the exposure fades from the first to the other (10)")
     add("--material", type=one_line, metavar="NAME", help="the resin's name, for the printer to show (the printer's, else resin)")
@@ -66,7 +66,7 @@ def fill_in(given):
 
 
 def moment():
-    """The time that is written into the archive: that of SOURCE_DATE_EPOCH where it is set."""
+    """The time that is written into the archive: that of SOURCE_DATE_EPOCH if it is set."""
     told = os.environ.get("SOURCE_DATE_EPOCH", str(int(time.time())))
     if not re.fullmatch(r"[0-9]{1,11}", told):
         raise Refused("SOURCE_DATE_EPOCH takes whole seconds since 1970, of at most eleven digits")

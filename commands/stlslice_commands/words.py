@@ -31,8 +31,8 @@ def parser(description, output):
     """A parser of the options that both commands take; `output` is what the second word names."""
     made = argparse.ArgumentParser(description=description, allow_abbrev=False)
     add = made.add_argument
-    add("part", type=nonempty, help="an STL, ASCII or binary, or - for standard input; for another format, zip or gzip the "
-        "command that converts or unpacks it is told")
+    add("part", type=nonempty, help="an STL, ASCII or binary, or - for standard input; another format, zip and gzip are refused "
+        "with the command that converts or unpacks them")
     add("output", type=nonempty, help=output)
     add("--printer", action=Listing, metavar="MODEL",
         help="a printer that is known by name: it brings canvas, pitch, mirrors and height; 'help' lists them")
