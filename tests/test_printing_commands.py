@@ -371,7 +371,7 @@ def shells_of_a_whole_text_alone(program, folder):
     bodies = [text(box((9 * k, 0, 0), (9 * k + 3, 3, 3))) for k in range(2)]
     whole = bodies[0].replace("endsolid part\n", "") + bodies[1].replace("solid part\n", "", 1)
     for body, line in (
-            (whole[:whole.index("vertex 9") - 33], "input ended before facet or endsolid"), (whole[11:], "expected solid at byte 0"),
+            (bodies[0].replace("endsolid part\n", ""), "input ended before facet or endsolid"), (whole[11:], "expected solid at byte 0"),
             (whole[:-14], "input ended before facet or endsolid"), ("hello", "expected solid at byte 0"), ("", "input ended before solid"),
             (whole.replace("vertex 12", "vertx 12", 1), f"expected vertex at byte {whole.index('vertex 12')}"),
             (whole.replace("vertex 12", "vertex 1e999"), "the number 1e999 is out of range: a corner lies within 128 m of the origin"),
