@@ -20,16 +20,6 @@ LINES = {
     "stlslice --pitch 5": "stlslice --pitch 5",
     "stlslice --box < part-of-t": "stlslice --box < part-of-this-test.stl ",
     "stlslice --rule positive > part-of-t": "stlslice --rule positive > part-of-this-test.stl ",
-    # an option that was given is not offered again
-    "stlslice-sl1 --mirror-x --mir": "stlslice-sl1 --mirror-x --mirror-y ",
-    "stlslice-pngs --shells --sh": "stlslice-pngs --shells --sh",
-    "stlslice-slabs --mirror-x --mir": "stlslice-slabs --mirror-x --mirror-y ",
-    "stlslice-slabs -r nonzero --wo": "stlslice-slabs -r nonzero --words ",
-    "stlslice-slabs --png --pn": "stlslice-slabs --png --pn",
-    "stlslice-slabs part-of-t": "stlslice-slabs part-of-this-test.stl ",
-    "stlslice-page --pitch 50 --pi": "stlslice-page --pitch 50 --pi",
-    "stlslice-page --rule=po": "stlslice-page --rule=positive ",
-    "stlslice-page --ca": "stlslice-page --canvas ",
 }
 
 
@@ -39,8 +29,7 @@ def main():
     with Room() as room:
         open(room.file("part-of-this-test.stl"), "w").close()
         with open(room.file("rc"), "w") as file:
-            file.write("PS1='> '\nunset PROMPT_COMMAND\n"
-                       f"for it in '{ROOT}'/completions/*.bash; do source \"$it\"; done\n"
+            file.write(f"PS1='> '\nunset PROMPT_COMMAND\nsource '{ROOT}/completions/stlslice.bash'\n"
                        "bind 'set enable-bracketed-paste off' 'set bell-style none' 2> /dev/null\n"
                        # Ctrl-T shows the line as it stands
                        "shown() { printf '\\n[%s]\\n' \"$READLINE_LINE\"; }\nbind -x '\"\\C-t\": shown'\n")
