@@ -17,11 +17,16 @@ _stlslice_page() {
         --pitch | --layer | --canvas | --title) ;;
         --program) compopt -o default ;;
         *)
-            if [[ $word == -* ]]; then
-                mapfile -t COMPREPLY < <(compgen -W '--pitch --layer --rule --unit --canvas --title --workers --program --help' -- "$word")
-            else
+            if [[ $word != -* ]]; then
                 compopt -o default
+                return
             fi
+            local options=(--pitch --layer --rule --unit --canvas --title --workers --program --help)
+            # each is given at most once
+            local option given=" ${COMP_WORDS[*]:1:COMP_CWORD-1} "
+            for option in "${options[@]}"; do
+                [[ $option == "$word"* && $given != *" $option "* ]] && COMPREPLY+=("$option")
+            done
             ;;
     esac
 }

@@ -12,11 +12,16 @@ _stlslice_slabs() {
         -p | -l | -n | -j) ;;
         -P) compopt -o default ;;
         *)
-            if [[ $word == -* ]]; then
-                mapfile -t COMPREPLY < <(compgen -W '-p -l -n -r -u -j -S -P --png --depth --mirror-x --mirror-y --words --help' -- "$word")
-            else
+            if [[ $word != -* ]]; then
                 compopt -o default
+                return
             fi
+            local options=(-p -l -n -r -u -j -S -P --png --depth --mirror-x --mirror-y --words --help)
+            # each is given at most once
+            local option given=" ${COMP_WORDS[*]:1:COMP_CWORD-1} "
+            for option in "${options[@]}"; do
+                [[ $option == "$word"* && $given != *" $option "* ]] && COMPREPLY+=("$option")
+            done
             ;;
     esac
 }

@@ -111,6 +111,25 @@ def settings_are_those_asked_for(program, folder):
         assert file.read() == first, "a second run with the same date wrote other bytes"
 
 
+def dates_are_those_of_a_zip(program, folder):
+    """A date that a zip can't hold becomes the nearest that it can, and what is no date is refused before anything is sliced."""
+    out, path = os.path.join(folder, "out.sl1"), slicer(folder, 2 * printed(png_of_p4((8, 1, b"\377"), 8)))
+    words = ["--canvas", "8x1", "--pitch", "100", "--layer", "500", "--program", path, example("bracket.stl"), out]
+    for date, wanted, said in (("0", (1980, 1, 1, 0, 0, 0), "1970-01-01 at 00:00:00 UTC"),
+                               ("1700000000", (2023, 11, 14, 22, 13, 20), "2023-11-14 at 22:13:20 UTC"),
+                               ("9999999999", (2107, 12, 31, 23, 59, 58), "2286-11-20 at 17:46:39 UTC")):
+        same(run(script(SL1, words), env=dict(os.environ, SOURCE_DATE_EPOCH=date))[::2], (0, b""), f"status of {date}")
+        with zipfile.ZipFile(out) as archive:
+            same({it.date_time for it in archive.infolist()}, {wanted}, f"dates of {date}")
+            assert f"fileCreationTimestamp = {said}\n" in archive.read("config.ini").decode(), f"{date}: another date is told"
+        os.remove(out)
+    for date in ("x", "", "-1", "1.5", "999999999999", "１"):
+        found = run(script(SL1, words), env=dict(os.environ, SOURCE_DATE_EPOCH=date, LC_ALL="C.UTF-8"))
+        line = b"stlslice-sl1: SOURCE_DATE_EPOCH takes whole seconds since 1970, of at most eleven digits\n"
+        same(found, (1, b"", line), f"a date {date!r}")
+        leaves_nothing(folder, ["slicer"])
+
+
 def large_layers_are_slow(program, folder):
     part, out = os.path.join(folder, "part.stl"), os.path.join(folder, "out.sl1")
     with open(part, "w") as file:
@@ -284,7 +303,8 @@ def pitch_of_quarters_is_exact(program, folder):
 WHOLE = "it takes a whole number, 1 to 999999"
 SECONDS = "it takes seconds above 0 and below 100000, as 2.2"
 WRONG = {
-    "--canvas=2560": "it takes COLUMNSxROWS, each 1 to 99999, as in 2560x1620", "--layer=0.05": WHOLE, "--workers=0": WHOLE,
+    "--canvas=2560": "it takes COLUMNSxROWS, each 1 to 99999, as in 2560x1620", "--layer=0.05": WHOLE,
+    "--workers=65": "it takes a whole number, 1 to 64",
     "--pitch=0": "it takes micrometres above 0 and below 1000000, with at most three digits behind the point, as 50, 47.25 or 19x24",
     "--height=0": "it takes millimetres above 0 and below 1000000, as 150 or 149.5",
     "--exposure=0": SECONDS, "--first-exposure=-2": SECONDS, "--fade=1000": "it takes a whole number, 0 to 999",
@@ -306,6 +326,15 @@ def wrong_words_are_refused(program, folder):
     refused([], "the following arguments are required: part, output")
     refused(["part.stl", "out", "--expo", "2"], "unrecognized arguments: --expo 2")
     refused(["part.stl", "out", "--fade"], "argument --fade: expected one argument")
+    leaves_nothing(folder, [])
+
+
+def empty_names_are_refused(program, folder):
+    for command in (SL1, PNGS, installed("stlslice-page")):
+        for words, which in ((["", "out"], "part"), ([example("bracket.stl"), ""], "output")):
+            status, told, fault = run(script(command, ["--canvas", "99x99", "--pitch", "50", *words]), cwd=folder)
+            line = f"{os.path.basename(command)}: error: argument {which}: it takes a name"
+            same((status, told, fault.decode().splitlines()[-1]), (2, b"", line), f"an empty name of the {which}")
     leaves_nothing(folder, [])
 
 
@@ -468,8 +497,9 @@ def options_are_those_of_the_page(program, folder):
 
 
 if __name__ == "__main__":
-    main([archive_is_the_stream, settings_are_those_asked_for, large_layers_are_slow, part_is_upright_and_in_the_middle,
-          folder_is_the_stream, large_part_is_refused, faults_are_handed_on, fault_keeps_what_was_there,
-          output_that_is_no_plain_file_is_refused, part_is_not_overwritten, wrong_words_are_refused, missing_program_is_told,
-          other_exposure_is_asked_for, pngs_are_taken_as_they_are, pitch_of_quarters_is_exact, broken_slicers_leave_nothing,
-          full_disk_is_told, stopped_script_leaves_nothing, pipes_and_units, options_are_those_of_the_page])
+    main([archive_is_the_stream, settings_are_those_asked_for, dates_are_those_of_a_zip, large_layers_are_slow,
+          part_is_upright_and_in_the_middle, folder_is_the_stream, large_part_is_refused, faults_are_handed_on,
+          fault_keeps_what_was_there, output_that_is_no_plain_file_is_refused, part_is_not_overwritten, wrong_words_are_refused,
+          empty_names_are_refused, missing_program_is_told, other_exposure_is_asked_for, pngs_are_taken_as_they_are,
+          pitch_of_quarters_is_exact, broken_slicers_leave_nothing, full_disk_is_told, stopped_script_leaves_nothing,
+          pipes_and_units, options_are_those_of_the_page])

@@ -38,6 +38,8 @@ def main():
         holds("five examples are shown", len(lines) == 5)
         with open("examples/bracket.stl", "rb") as part, open(room.file("part.stl"), "wb") as copy:
             copy.write(part.read())
+        for name in ("stlslice-sl1", "stlslice-pngs", "stlslice-page", "stlslice-slabs"):
+            holds(f"{name}: the statuses of signals are told", "130 or 143 if SIGINT or SIGTERM ended it" in text_of(f"man/{name}.1"))
         for name in ("stlslice-sl1", "stlslice-pngs", "stlslice-slabs"):
             shown = re.sub(".\x08", "", room.run("mandoc", "-T", "utf8", "-O", "width=78", f"man/{name}.1").stdout)
             found = examples(shown)

@@ -303,7 +303,7 @@ def rules_are_as_in_the_table(program, folder):
 
 def examples_are_executable(program, folder):
     for name in ("examples/mark_edge.py", "examples/slabs.sbatch", "commands/stlslice-sl1", "commands/stlslice-pngs",
-                 "commands/stlslice-slabs"):
+                 "commands/stlslice-page", "commands/stlslice-slabs"):
         assert os.stat(os.path.join(ROOT, name)).st_mode & stat.S_IXUSR, f"{name} isn't executable"
 
 

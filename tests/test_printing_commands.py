@@ -17,6 +17,7 @@ from parts import box, environment, example, installed, leave_out, main, p4_imag
 
 SL1 = installed("stlslice-sl1")
 PNGS = installed("stlslice-pngs")
+PAGE = installed("stlslice-page")
 SHARE = os.path.join(os.path.dirname(os.path.dirname(SL1)), "share", "stlslice")
 SCREEN = ["--canvas", "160x120", "--pitch", "250", "--layer", "500"]
 # A foot to the right, a stem at the left, a knob on top: no turn and no mirror image of it is the same.
@@ -247,8 +248,43 @@ def other_formats_are_told(program, folder):
     same(made([*SCREEN, packed], folder, status=3), f"stlslice-sl1: the part is gzip, not STL; unpack it: {command}\n", "refusal of gzip")
     same(run(["bash", "-c", command])[0], 0, command)
     assert made([*SCREEN, packed[:-3]], folder)[4] == centred(program, SHAPE, (160, 120), 250, 500), "gzip: pixels differ"
+    commands_keep_the_part(folder)
     if told:
         leave_out("converting other formats", sorted(set(told)))
+
+
+def commands_keep_the_part(folder):
+    """The command of a refusal makes a file that isn't there yet, of whatever name the part is, and works for that name."""
+    here = os.path.join(folder, "named as an STL")
+    os.mkdir(here)
+    corners = box((0, 0, 0), (1, 1, 1))
+    points = [corner for facet in corners for corner in facet]
+    lines = {"OBJ": ["v %d %d %d" % it for it in points] + ["f %d %d %d" % (k + 1, k + 2, k + 3) for k in range(0, 36, 3)],
+             "OFF": ["OFF", "36 12 0"] + ["%d %d %d" % it for it in points] + ["3 %d %d %d" % (k, k + 1, k + 2) for k in range(0, 36, 3)]}
+    for kind, body, command in (
+            ("gzip", gzip.compress(text(corners).encode()), "zcat part.stl > part-2.stl"),
+            ("OBJ", lines["OBJ"], "cp part.stl part.obj && prusa-slicer --export-stl --output part-2.stl part.obj"),
+            ("OFF", lines["OFF"], "cp part.stl part.off && assimp export part.off part-2.stl")):
+        written(here, "part.stl", body if kind == "gzip" else "\n".join(body) + "\n", lambda it: it)
+        found = run([SL1, *SCREEN, "part.stl", "out"], cwd=here)
+        way = "unpack" if kind == "gzip" else "convert"
+        same(found, (3, b"", f"stlslice-sl1: the part is {kind}, not STL; {way} it: {command}\n".encode()), f"refusal of {kind} as part.stl")
+        if shutil.which(command.split("&& ")[-1].split()[0]):
+            same(run(["bash", "-c", command], cwd=here, env=dict(os.environ, HOME=here))[0], 0, command)
+            with open(os.path.join(here, "part-2.stl"), "rb") as file:
+                assert stl_facets(file.read()) == 12, f"{kind}: another part"
+            os.remove(os.path.join(here, "part-2.stl"))
+    written(here, "part-2.stl", b"", bytes)
+    packed = written(here, "part.stl.gz", gzip.compress(b""), bytes)
+    for words, name in ((["part.stl.gz"], "part.stl.gz"), (["-"], "part.gzip")):
+        with open(packed, "rb") as file:
+            found = run([SL1, *SCREEN, *words, "out"], cwd=here, stdin=file)
+        same(found[2].decode(), f"stlslice-sl1: the part is gzip, not STL; unpack it: zcat {name} > part-3.stl\n", "files of both names")
+
+
+def stl_facets(body):
+    """How many facets a text or a binary STL has."""
+    return body.count(b"endfacet") or int.from_bytes(body[80:84], "little")
 
 
 def units_are_exact(program, folder):
@@ -304,6 +340,8 @@ def shells_are_joined(program, folder):
         same(found, status, f"status ({said.decode()})")
         if status:
             return said.decode()
+        note = f"stlslice-sl1: binary STL, {len(facets)} facets: each number is taken as the shortest decimal that reads back as the same\n"
+        same(said.decode(), note if spelled is binary else "", "what is said")
         with zipfile.ZipFile(result) as archive:
             images = [pixels_of_png(archive.read(name)) for name in archive.namelist() if name.endswith(".png")]
         os.remove(result)
@@ -328,6 +366,29 @@ def shells_are_joined(program, folder):
         assert found[4] == centred(program, overlap, (160, 120), 250, 500), "shells within the limit: pixels differ"
 
 
+def shells_of_a_whole_text_alone(program, folder):
+    """A text that was cut between two shells, or is no STL, or whose numbers are too large, is refused before the program runs."""
+    bodies = [text(box((9 * k, 0, 0), (9 * k + 3, 3, 3))) for k in range(2)]
+    whole = bodies[0].replace("endsolid part\n", "") + bodies[1].replace("solid part\n", "", 1)
+    for body, line in (
+            (bodies[0].replace("endsolid part\n", ""), "input ended before facet or endsolid"), (whole[11:], "expected solid at byte 0"),
+            (whole[:-14], "input ended before facet or endsolid"), ("hello", "expected solid at byte 0"), ("", "input ended before solid"),
+            (whole.replace("vertex 12", "vertx 12", 1), f"expected vertex at byte {whole.index('vertex 12')}"),
+            (whole.replace("vertex 12", "vertex 1e999"), "the number 1e999 is out of range: a corner lies within 128 m of the origin"),
+            (whole.replace("vertex 12", "vertex nan"), f"number at byte {whole.index('vertex 12') + 7}: not a number")):
+        part = written(folder, "part.stl", body, str)
+        for command in (SL1, PNGS):
+            said = made([*SCREEN, "--shells", part], folder, command, 3)
+            same(said, f"{os.path.basename(command)}: {line}\n", "refusal")
+    part = written(folder, "part.stl", "solid\nendsolid\n", str)
+    same(made([*SCREEN, "--shells", part], folder, status=1), "stlslice-sl1: the part has no facets\n", "an STL without facets")
+    assert made([*SCREEN, "--shells", written(folder, "part.stl", whole, str)], folder)[4] == \
+        centred(program, box((0, 0, 0), (3, 3, 3)) + box((9, 0, 0), (12, 3, 3)), (160, 120), 250, 500), "pixels differ"
+    small = [[[f"{x / 25.4:.9f}" for x in corner] for corner in facet] for facet in SHAPE]
+    found = made([*SCREEN, "--unit", "inch", "--shells", written(folder, "part.stl", small)], folder)[4]
+    assert found == centred(program, SHAPE, (160, 120), 250, 500), "inches: pixels differ"
+
+
 def too_many_facets_are_told(program, folder):
     part = os.path.join(folder, "part.stl")
     facet = b"facet normal 0 0 0 outer loop vertex 0 0 0 vertex 0 0 0 vertex 0 0 0 endloop endfacet\n"
@@ -338,9 +399,10 @@ def too_many_facets_are_told(program, folder):
                         r"slices a larger part shell by shell, where it has several\n", said), said
 
 
-def progress_is_shown_on_a_terminal(program, folder):
+def shown_on_a_terminal(words, stopped_at=None):
+    """Status and standard output of a run, and what is shown on the terminal that is its standard error. It is stopped where
+    these bytes have been shown."""
     ours, theirs = pty.openpty()
-    words = [SL1, "--canvas", "3000x3000", "--pitch", "20", "--layer", "4", example("supported.stl"), os.path.join(folder, "out")]
     child = subprocess.Popen(words, stdout=subprocess.PIPE, stderr=theirs)
     os.close(theirs)
     shown = b""
@@ -350,11 +412,33 @@ def progress_is_shown_on_a_terminal(program, folder):
                 shown += os.read(ours, 65536)
             except OSError:
                 break
-    told = child.communicate()[0].decode()
-    same((child.returncode, told.count("\n")), (0, 1), "run")
+        if stopped_at and stopped_at in shown:
+            child.terminate()
+            stopped_at = None
+    told = child.communicate(timeout=60)[0].decode()
+    os.close(ours)
+    return child.returncode, told, shown
+
+
+def phases_are_shown_at_once(program, folder):
+    """A stand-in for the slicer reads within no time, and slices until it is stopped; the line is taken away then."""
+    path = written(folder, "slicer", '#!/bin/sh\ncase "$*" in\n*--box*) echo facets 12 box 0 0 0 8000 1000 1000;;\n'
+                   "*) exec sleep 60;;\nesac\n", str)
+    os.chmod(path, 0o755)
+    for command in (SL1, PNGS, PAGE):
+        words = [command, "--canvas", "99x99", "--pitch", "250", "--program", path, example("bracket.stl"), os.path.join(folder, "out")]
+        found = shown_on_a_terminal(words, b"slicing")
+        same(found, (143, "", b"\r\x1b[Kreading\r\x1b[Kslicing\r\x1b[K"), os.path.basename(command))
+    same(sorted(os.listdir(folder)), ["slicer"], "files")
+
+
+def progress_is_shown_on_a_terminal(program, folder):
+    words = [SL1, "--canvas", "3000x3000", "--pitch", "20", "--layer", "4", example("supported.stl"), os.path.join(folder, "out")]
+    status, told, shown = shown_on_a_terminal(words)
+    same((status, told.count("\n")), (0, 1), "run")
     drawn = [int(it.replace(b",", b"")) for it in re.findall(rb"\r\x1b\[Klayer ([\d,]+) of 8,000, \d+ s left", shown)]
     assert len(drawn) >= 3 and drawn == sorted(drawn), shown
-    assert shown.startswith(b"\r\x1b[Kreading\r\x1b[K"), "nothing is shown at first"
+    assert shown.startswith(b"\r\x1b[Kreading\r\x1b[Kslicing\r\x1b[K"), "the first phases aren't shown"
     assert shown.endswith(b"\r\x1b[K"), "the line is not taken away in the end"
 
 
@@ -391,5 +475,6 @@ def memory_is_small(program, folder):
 
 if __name__ == "__main__":
     main([printer_brings_its_screen, printer_is_asked_for, part_is_turned, pixels_need_not_be_square, binary_stl_is_read,
-          other_formats_are_told, units_are_exact, shell_inside_out_is_told, shells_are_joined, too_many_facets_are_told,
-          progress_is_shown_on_a_terminal, part_is_awaited_on_a_terminal, memory_is_small])
+          other_formats_are_told, units_are_exact, shell_inside_out_is_told, shells_are_joined, shells_of_a_whole_text_alone,
+          too_many_facets_are_told, phases_are_shown_at_once, progress_is_shown_on_a_terminal,
+          part_is_awaited_on_a_terminal, memory_is_small])

@@ -4,6 +4,7 @@ text of binary STL, turning and multiplying, shells, pixels that aren't square, 
 
 import argparse
 import ast
+import contextlib
 import decimal
 import functools
 import glob
@@ -16,7 +17,7 @@ import struct
 import sys
 from fractions import Fraction
 
-from parts import box, installed, leave_out, main, pixels_of_p4, pixels_of_png, png_of_p4, same, text
+from parts import box, installed, leave_out, main, pixels_of_p4, pixels_of_png, png_of_p4, run, same, text
 
 SHARE = os.path.join(os.path.dirname(os.path.dirname(installed())), "share", "stlslice")
 sys.path.insert(0, SHARE)
@@ -216,27 +217,125 @@ def shells_are_kept_together(program, folder):
     bodies = [box((5 * k, 0, 0), (5 * k + 3, 3, 3)) for k in range(7)]
     mixed = [facet for facets in zip(*bodies) for facet in facets]
     spelled = text(mixed).replace("vertex 5 ", "vertex 5.0 ", 40).replace("vertex 8 ", "vertex 0.8e1 ", 9)
-    for source in (io.BytesIO(spelled.encode()), io.BytesIO(binary(mixed))):
-        found = shells.shells(source)
+    for source, read in ((io.BytesIO(spelled.encode()), stl.corners_of_text), (io.BytesIO(binary(mixed)), stl.corners_of_binary)):
+        found = shells.shells(read(source), "mm")
         same(len(set(found)), 7, "shells")
         same(all(len({found[k] for k in range(n, len(mixed), 7)}) == 1 for n in range(7)), True, "facets of a shell")
         kept = shells.LIMIT
         try:
             for shells.LIMIT, sizes in ((84, [84]), (36, [36, 36, 12]), (12, [12] * 7), (40, [36, 36, 12])):
-                texts = list(shells.groups(source))
+                said = io.StringIO()
+                with contextlib.redirect_stderr(said):
+                    texts = list(shells.groups(source, "mm"))
+                same("binary STL, 84 facets: each number" in said.getvalue(), read is stl.corners_of_binary, "whether a note is said")
                 same([len(list(stl.corners_of_text(it))) for it in texts], sizes, "facets of the groups")
             shells.LIMIT = 11
-            refused(lambda: shells.groups(source), 3, "the part has a shell of 12 facets, and a mesh has at most 11: export it coarser")
+            refused(lambda: shells.groups(source, "mm"), 3, "the part has a shell of 12 facets, and a mesh has at most 11: export it coarser")
         finally:
             shells.LIMIT = kept
     # long strips whose facets stand in any order, so that pieces of a strip that were found apart are joined later
     strips = [[((k, 1, 9 * strip), (k, 0, 9 * strip), (k + 1, 0, 9 * strip)) for k in range(300)] for strip in range(3)]
     mixed = [(facet, strip) for strip in range(3) for facet in strips[strip]]
     random.Random(11).shuffle(mixed)
-    found = shells.shells(io.BytesIO(text([facet for facet, _ in mixed]).encode()))
+    found = shells.shells([[b"%d %d %d" % corner for corner in facet] for facet, _ in mixed], "mm")
     same(len(set(zip(found, (strip for _, strip in mixed)))), 3, "strips, each one shell")
     same(len(set(found)), 3, "strips")
     same(shells.packed({"a": 5, "b": shells.LIMIT - 2, "c": 2, "d": 3}), ({"a": 0, "b": 1, "c": 0, "d": 0}, 2), "first fit")
+
+
+def corners_are_joined_as_by_the_program(program, folder):
+    """A number in micrometres beside the same by fractions, in each unit, halves away from zero, and beside the program's; and
+    what is out of range."""
+    def boxed(word, unit):
+        status, told, fault = run([program, "--box", "--unit", unit], input=text([((word, 0, 0),) * 3]).encode())
+        return int(told.split()[3]) if not status else (status, fault.decode().partition(": out")[2])
+
+    units = {"mm": 1000, "cm": 10_000, "m": 1_000_000, "inch": 25_400}
+    spelled = ["0", "-0", "+0.0e99999999999999999999", ".0005", "-0.0005", "0.0004999999999999999999999999", "00.0015", "2.5", "-3.75e-1",
+               "1E+1", "0.00002", "-.00005", "0.0000005", "1e-400", "-7e-99999999999999999999", "120", "0.0000295275590551181102362",
+               "0.12e2", "1." + 200 * "9"]
+    for word in spelled:
+        exact = Fraction(word) if len(word.partition("e")[2]) < 9 else Fraction(0)
+        for unit, times in units.items():
+            wanted = abs(exact) * times + Fraction(1, 2)
+            found = shells.micrometres(word.encode(), unit)
+            same(found, -(wanted // 1) if exact < 0 else wanted // 1, f"{word} {unit}")
+            if unit in ("mm", "inch"):
+                same(found, boxed(word, unit), f"{word} {unit} beside the program's")
+    for unit, greatest in (("mm", "128000.00049999"), ("cm", "12800.000049999"), ("m", "128.00000049999"), ("inch", "5039.370098425")):
+        same(shells.micrometres(greatest.encode(), unit), 128_000_000, f"the greatest {unit}")
+        if unit in ("mm", "inch"):
+            same((boxed(greatest, unit), boxed("9e99999999999999999999", unit)), (128_000_000, (3, " of range\n")), f"the program's {unit}")
+        for word in (f"{float(greatest) + 1e-6:.9f}", f"-{float(greatest) + 1e-6:.9f}", "1e999", "1e13", "9e99999999999999999999"):
+            refused(lambda: shells.micrometres(word.encode(), unit), 3,
+                    f"the number {word} is out of range: a corner lies within 128 m of the origin")
+    same(shells.micrometres(b"0" * 255, "mm"), 0, "a long number")
+    refused(lambda: shells.micrometres(b"0" * 256, "mm"), 3, "a number of 256 bytes is too long: at most 255 are taken")
+    # 12.7 and 12.954 micrometres, which the program joins; as thousandths of an inch they would be 0 and 1
+    near = box((0, 0, 0), (1, 1, 1))
+    source = io.BytesIO(text(near[:6]).replace(" 0", " 0.0005").encode() + text(near[6:]).replace(" 0", " 0.00051").encode())
+    same([len(set(shells.shells(stl.corners_of_text(source), unit))) for unit in ("inch", "m")], [1, 1], "shells of corners that nearly meet")
+
+
+# What is no STL, with the program's line of it. Each begins with a whole shell, so that a reader that skips would print that.
+WHOLE = text(box((0, 0, 0), (1, 1, 1)))
+FACETS = WHOLE.replace("endsolid part\n", "")
+CORNERS = "facet normal 0 0 0\nouter loop\nvertex 0 0 0\nvertex 0 0 1\nvertex 0 1 "
+NO_STL = {
+    "": "input ended before solid", " \n": "input ended before solid", "hello": "expected solid at byte 0",
+    "solid": "input ended before facet or endsolid", "solid part": "input ended before facet or endsolid",
+    "solid part endsolid": "input ended before facet or endsolid", "solid\f": "input ended before facet or endsolid",
+    "solidpart\nendsolid": "expected solid at byte 0", "facet" + WHOLE: "expected solid at byte 0",
+    WHOLE[11:]: "expected solid at byte 0", FACETS: "input ended before facet or endsolid",
+    FACETS[:-1]: "input ended before facet or endsolid", FACETS[:-2]: f"expected endfacet at byte {len(FACETS) - 9}",
+    FACETS[:-9]: "input ended before endfacet", FACETS + "endsoli": f"expected facet or endsolid at byte {len(FACETS)}",
+    FACETS + WHOLE: f"expected facet or endsolid at byte {len(FACETS)}", FACETS + "facet": "input ended before normal",
+    FACETS + "facet normal 0 0": "input ended before number", FACETS + "facet normal 0 0 0": "input ended before outer",
+    FACETS + "facet normal 0 0\nouter loop": f"expected outer at byte {len(FACETS) + 23}",
+    FACETS + CORNERS: "input ended before number", FACETS + CORNERS + "1": "input ended before endloop",
+    FACETS + CORNERS + "1.5.2\n": f"number at byte {len(FACETS + CORNERS)}: not a number",
+    FACETS + CORNERS + "nan\n": f"number at byte {len(FACETS + CORNERS)}: not a number",
+    FACETS + CORNERS + ".\n": f"number at byte {len(FACETS + CORNERS)}: not a number",
+    FACETS + CORNERS + "1e\n": f"number at byte {len(FACETS + CORNERS)}: not a number",
+    FACETS + CORNERS + "1_0\n": f"number at byte {len(FACETS + CORNERS)}: not a number",
+    FACETS + CORNERS + "1\nvertex 1 1 1 endloop endfacet endsolid": f"expected endloop at byte {len(FACETS + CORNERS) + 2}",
+    FACETS + CORNERS + "1 end loop": f"expected endloop at byte {len(FACETS + CORNERS) + 2}",
+    WHOLE.replace("vertex", "vertx", 1): "expected vertex at byte 41", WHOLE.replace("endloop", "endlop", 1): "expected endloop at byte 80",
+    WHOLE + "\0": f"expected solid at byte {len(WHOLE)}", WHOLE + "facet": f"expected solid at byte {len(WHOLE)}",
+    WHOLE.replace("endsolid part\n", "endsolid endsolid\n") + "endsolid": f"expected solid at byte {len(WHOLE) + 4}",
+    WHOLE + WHOLE.replace("endsolid part\n", "end solid"): f"expected facet or endsolid at byte {len(WHOLE + FACETS)}",
+}
+ALSO_STL = [
+    "solid\nendsolid", " \t\v\f\r\n solid\rendsolid", WHOLE.upper(), WHOLE.replace("\n", "\r\n"), WHOLE.replace("solid part\nf", "SOLID\rf"),
+    WHOLE[:-1] + "\v\f endsolid", WHOLE + WHOLE + " \n", WHOLE.replace("solid part\n", "solid vertex 1 2 3 endsolid\n", 1),
+    WHOLE.replace("endsolid part\n", "endsolid facet solid vertex 1 2 3"), WHOLE.replace("normal 0 0 0", "normal nan endloop vertex"),
+    WHOLE.replace(" ", "  \t\n").replace("solid  \t\n", "solid ", 1).replace("endsolid  \t\n", "endsolid "),
+    WHOLE.replace(" 1", " +.1e1"), WHOLE.replace(" 1", " 1.").replace(" 0", " -0"), WHOLE.replace("solid part", "solid p\xe4rt\0"),
+]
+
+
+def reading_is_the_programs(program, folder):
+    """What is read shell by shell is what the program reads, and what it refuses is refused by the same line, wherever a read
+    of the file ends."""
+    def read(body):
+        return [corner for corners in stl.corners_of_text(io.BytesIO(body)) for corner in corners]
+
+    kept = stl.BLOCK
+    try:
+        for stl.BLOCK in (1, 7, 1 << 20):
+            for body, line in NO_STL.items():
+                refused(lambda: read(body.encode("latin-1")), 3, line)
+            for body in ALSO_STL:
+                body = body.encode("latin-1")
+                same(len(read(body)), 3 * body.lower().count(b"endfacet"), f"corners of {body[:60]!r}")
+    finally:
+        stl.BLOCK = kept
+    for body, line in NO_STL.items():
+        same(run([program, "--box"], input=body.encode("latin-1")), (3, b"", f"stlslice: {line}\n".encode()), f"{body[-60:]!r}")
+    for body in ALSO_STL:
+        body = body.encode("latin-1")
+        status, told, fault = run([program, "--box"], input=body)
+        same((status, fault, int(told.split()[1])), (0, b"", len(read(body)) // 3), f"{body[:60]!r}")
 
 
 def formats_are_told(program, folder):
@@ -264,6 +363,7 @@ def values_are_read(program, folder):
             (words.canvas, {"1x1": (1, 1), "2560,1620": (2560, 1620), "99999x9": (99999, 9)},
              ["2560", "0x9", "09x9", "9x100000", "100000x9", "9x9x9", "-9x9", "9 x 9", ""]),
             (words.whole, {"1": 1, "007": 7, "999999": 999999}, ["0", "-1", "+1", "0.05", "1000000", "all", ""]),
+            (words.workers, {"1": 1, "064": 64}, ["0", "65", "1000000", "2.5", "all", ""]),
             (words.millimetres, {"150": 150000, "149.5": 149500, "0.000001": Fraction(1, 1000), "999999": 999999000},
              ["0", "0.0", "-150", "149,5", "150mm", "1000000", ""]),
             (words.pitch, {"50": (50, 50), "47.25": (47.25, 47.25), "19x24": (19, 24)},
@@ -327,5 +427,6 @@ def sources_are_for_old_python(program, folder):
 
 if __name__ == "__main__":
     main([decimals_are_shortest, pngs_are_cut_by_their_chunks, pngs_are_joined, pngs_are_made_smaller, binary_is_written_out,
-          text_is_changed_exactly, blocks_cut_no_facet, shells_are_kept_together, formats_are_told, pitches_become_whole,
+          text_is_changed_exactly, blocks_cut_no_facet, shells_are_kept_together, corners_are_joined_as_by_the_program,
+          reading_is_the_programs, formats_are_told, pitches_become_whole,
           values_are_read, printers_are_those_of_prusaslicer, sources_are_for_old_python])

@@ -51,7 +51,7 @@ def slabs_agree(room):
     shown = set(re.findall(r"(?m)^  (?:-h, )?(--?[\w-]+)", help_of(room, "stlslice-slabs")))
     manual = of_manual("stlslice-slabs")
     same("manual of stlslice-slabs", manual - {"-h"}, shown)
-    same("bash", set(re.search(r"compgen -W '(-p [^']*)'", text_of("completions/stlslice-slabs.bash"))[1].split()), shown)
+    same("bash", set(re.search(r"options=\((-p [^)]*)\)", text_of("completions/stlslice-slabs.bash"))[1].split()), shown)
     same("zsh", set(re.findall(r"(?m)^  ['\"](--?[\w-]+)\[", text_of("completions/_stlslice-slabs"))) | {"--help"}, shown)
     fish = text_of("completions/stlslice-slabs.fish")
     same("fish", {f"-{it}" for it in re.findall(r"-s (\w)", fish)} - {"-h"} | {f"--{it}" for it in re.findall(r"-l ([\w-]+)", fish)}, shown)
@@ -72,6 +72,12 @@ LINES = {
     "stlslice-slabs -r ev": "stlslice-slabs -r evenodd ",
     "stlslice-slabs --wo": "stlslice-slabs --words ",
     "stlslice-slabs -n 9 part-of-t": "stlslice-slabs -n 9 part-of-this-test.stl ",
+    # an option that was given is not offered again
+    "stlslice-sl1 --mirror-x --mir": "stlslice-sl1 --mirror-x --mirror-y ",
+    "stlslice-pngs --shells --sh": "stlslice-pngs --shells --sh",
+    "stlslice-slabs --mirror-x --mir": "stlslice-slabs --mirror-x --mirror-y ",
+    "stlslice-slabs --png --pn": "stlslice-slabs --png --pn",
+    "stlslice-page --pitch 50 --pi": "stlslice-page --pitch 50 --pi",
 }
 
 

@@ -153,6 +153,7 @@ def wrong_words_are_refused(program, folder):
                                 (["--depth", "8", part, "x"], 2, "--depth, --mirror-x and --mirror-y go with --png"),
                                 (["-", "x"], 2, "there is no option -"),
                                 ([part], 2, "it takes part.stl and layers.pbm, or --words and part.stl"),
+                                ([part, ""], 2, "the output has no name"),
                                 ([folder, "x"], 1, f"{folder} can't be read"),
                                 (["none.stl", "x"], 1, "none.stl can't be read")):
         same(run([SLABS, *words], cwd=folder, env=env), (status, b"", f"stlslice-slabs: {line}\n".encode()), str(words))
@@ -169,7 +170,19 @@ def wrong_words_are_refused(program, folder):
             b"a\\ b.stl\n")
     for words in (["a b.stl", "x"], ["--words", "a b.stl"]):
         same(run([SLABS, *words], cwd=folder, env=env), (3, b"", line), "a binary STL")
+    binary_is_not_written_over(folder, env)
     same(sorted(os.listdir(folder)), ["a b.stl", "empty.stl", "home", "tools"], "files")
+
+
+def binary_is_not_written_over(folder, env):
+    """The command of a refusal makes a file that isn't there yet, of whatever name the part is."""
+    here = os.path.join(folder, "here")
+    os.mkdir(here)
+    for name, free in (("text.stl", "text-2.stl"), ("text-2.stl", "text-3.stl")):
+        shutil.copy(os.path.join(folder, "a b.stl"), os.path.join(here, name))
+        line = f"stlslice-slabs: the part is binary STL, and text is taken; convert it: admesh --no-check --write-ascii-stl={free} {name}\n"
+        same(run([SLABS, name, "x"], cwd=here, env=env), (3, b"", line.encode()), "a binary STL of that name")
+    shutil.rmtree(here)
 
 
 def few_tools(folder, *others):
@@ -221,6 +234,28 @@ def parallel_slabs_are_the_whole(program, folder):
         same(found, (0, b"", b""), str(words))
         assert content(out) == whole(program, part), f"{words}: bytes differ"
     same(sorted(os.listdir(folder)), ["all layers.pbm", "home", "it's my part.stl", "tools"], "files")
+
+
+def parallel_pngs_are_the_whole(program, folder):
+    env, out = environment(program, folder), os.path.join(folder, "layers.pngs")
+    for pngs in (["--png"], ["--png", "--depth", "1", "--mirror-x"], ["--depth", "8", "--mirror-y", "--mirror-x", "--png"]):
+        found = run([SLABS, "-p", "200", "-l", "300", "-n", "20", "-j", "3", *pngs, example("bracket.stl"), out], env=env)
+        same(found, (0, b"", b""), str(pngs))
+        wanted = whole(program, example("bracket.stl"), ["--pitch", "200", "--layer", "300", *pngs])
+        assert content(out) == wanted, f"{pngs}: bytes differ"
+
+
+def output_may_begin_with_a_dash(program, folder):
+    """A stand-in for the slicer answers the box, and writes its slab's grid as an image."""
+    tool = os.path.join(folder, "slicer")
+    with open(tool, "w") as file:
+        file.write("#!/bin/sh\ncase \"$*\" in\n*--box*) echo facets 12 box 0 0 0 1000 1000 900;;\n*) echo \"$*\";;\nesac\n")
+    os.chmod(tool, 0o755)
+    words = [SLABS, "-l", "100", "-n", "5", "-P", tool, example("bracket.stl"), "-f.pbm"]
+    same(run(words, cwd=folder, env=environment(program, folder)), (0, b"", b""), "run")
+    same(content(os.path.join(folder, "-f.pbm")), b"".join(b"--pitch 50 --layer 100 --rule evenodd --unit mm --grid=20,20,%d,0,0,%d\n" % it
+                                                          for it in ((5, 0), (4, 500))), "the slabs")
+    same(sorted(os.listdir(folder)), ["-f.pbm", "home", "slicer", "tools"], "files")
 
 
 def first_failure_halts(program, folder):

@@ -22,6 +22,14 @@ def say(line):
     print(f"{os.path.basename(sys.argv[0])}: {line}", file=sys.stderr, flush=True)
 
 
+def look_at_output(output, part):
+    """Refuses an output that is there and no plain file, or is the part."""
+    if os.path.lexists(output) and (os.path.islink(output) or not os.path.isfile(output)):
+        raise Refused(f"{output} is no plain file")
+    if os.path.exists(output) and os.path.exists(part) and os.path.samefile(output, part):
+        raise Refused(f"{output} is the part itself")
+
+
 def aside(output):
     """The name that an output has until it is whole."""
     return f"{output}.{os.getpid()}.part"
@@ -38,15 +46,16 @@ def named(output):
 
 
 class Progress:
-    """One line on standard error that is drawn anew, ten times a second at most. It is shown on a terminal alone."""
+    """One line on standard error that is drawn anew. It is shown on a terminal alone."""
 
     drawn = False
     moment = 0.0
 
     @classmethod
-    def show(cls, text):
+    def show(cls, text, is_new=False):
+        """Draws the line: that of a new phase at once, since it may stand for long, others ten times a second at most."""
         now = time.monotonic()
-        if now - cls.moment < 0.1 or not sys.stderr.isatty():
+        if now - cls.moment < 0.1 and not is_new or not sys.stderr.isatty():
             return
         print(f"\r\x1b[K{text}", end="", file=sys.stderr, flush=True)
         cls.drawn, cls.moment = True, now
@@ -74,7 +83,6 @@ def ended(main):
     try:
         main()
     except Refused as fault:
-        Progress.clear()
         if fault.line:
             say(fault.line)
         sys.exit(fault.status)
@@ -84,5 +92,6 @@ def ended(main):
         say(f"{fault.strerror}: {name}" if name else str(fault.strerror))
         sys.exit(1)
     except KeyboardInterrupt:
-        Progress.clear()
         sys.exit(130)
+    finally:
+        Progress.clear()

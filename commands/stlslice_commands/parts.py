@@ -1,6 +1,7 @@
 """What people have: an STL as text, a binary one, or another format, which is refused with the command that converts it."""
 
 import contextlib
+import itertools
 import os
 import re
 import shlex
@@ -42,13 +43,28 @@ def refuse_others(file, path):
     kind = kind_of(head)
     if kind:
         name = "part." + kind.lower() if path == "-" else path
-        command = CONVERTED[kind].format(shlex.quote(name), shlex.quote(re.sub(r"(?i)(\.stl)?\.\w+$", "", name) + ".stl"))
-        raise Refused(f"the part is {kind}, not STL; {'unpack' if 'zip' in kind else 'convert'} it: {command}", 3)
+        raise Refused(f"the part is {kind}, not STL; {'unpack' if 'zip' in kind else 'convert'} it: {command_for(kind, name)}", 3)
     # a binary STL has a 0 there, in its count of facets at the latest
     if b"\0" in head[:84] and not head.startswith((b"\xff\xfe", b"\xfe\xff")) and size_of(file) >= 84:
         count = int.from_bytes(head[80:84], "little")
         raise Refused(f"the part is no text, and no whole binary STL: {count:,} facets as its header tells take "
                       f"{84 + 50 * count:,} bytes, and it has {size_of(file):,}", 3)
+
+
+def command_for(kind, name):
+    """The command that makes an STL of a file. The tools that convert take the format from the name's ending, so a file with
+    another ending is copied first."""
+    stem, copied = re.sub(r"(?i)(\.stl)?\.\w+$", "", name), ""
+    if "zip" not in kind and not name.lower().endswith("." + kind.lower()):
+        other = free_name(stem, "." + kind.lower())
+        copied, name = f"cp {shlex.quote(name)} {shlex.quote(other)} && ", other
+    return copied + CONVERTED[kind].format(shlex.quote(name), shlex.quote(free_name(stem, ".stl")))
+
+
+def free_name(stem, ending):
+    """A name that no file has yet: a pasted command may not write over a part."""
+    names = itertools.chain([stem], (f"{stem}-{k}" for k in itertools.count(2)))
+    return next(name + ending for name in names if not os.path.lexists(name + ending))
 
 
 def kind_of(head):
@@ -67,8 +83,13 @@ def kind_of(head):
 
 def as_text(file):
     """The part as ASCII STL: the file itself, or a binary one written out."""
+    return text_of(corners_of_binary(file)) if is_binary(file) else file
+
+
+def is_binary(file):
+    """Whether the part is binary STL. If so, a line says how its numbers are read."""
     count = facets_of_binary(file)
     if count is None:
-        return file
+        return False
     say(f"binary STL, {count:,} facets: each number is taken as the shortest decimal that reads back as the same")
-    return text_of(corners_of_binary(file))
+    return True

@@ -3,18 +3,19 @@
 from array import array
 
 from .faults import Refused
-from .stl import KEPT, TEXT, begun, corners_of_binary, corners_of_text, ended, facets_of_binary
+from .parts import is_binary
+from .stl import KEPT, TEXT, begun, corners_of_binary, corners_of_text, ended
 
 LIMIT = 1_048_576
+LONGEST = 255  # bytes of a number
+REACH = 128_000_000
+MICROMETRES = {"mm": 1000, "cm": 10_000, "m": 1_000_000, "inch": 25_400}
 
 
-def corners_of(file):
-    return corners_of_text(file) if facets_of_binary(file) is None else corners_of_binary(file)
-
-
-def groups(file):
+def groups(file, unit):
     """Files of at most LIMIT facets, which hold all facets of the part: those of a shell in one file, in their order."""
-    shell_of = shells(file)
+    corners_of = corners_of_binary if is_binary(file) else corners_of_text
+    shell_of = shells(corners_of(file), unit)
     sizes = {}
     for shell in shell_of:
         sizes[shell] = sizes.get(shell, 0) + 1
@@ -39,11 +40,11 @@ def packed(sizes):
     return group_of, len(room)
 
 
-def shells(file):
-    """For each facet the shell that it belongs to, by a number: facets that share a corner belong to one shell. Corners are
-    the same if they round to the same micrometre."""
-    number_of, above, first = Corners(), array("l"), array("l")
-    for corners in corners_of(file):
+def shells(facets, unit):
+    """For each facet, given by its corners, the shell that it belongs to, by a number: facets that share a corner belong to one
+    shell. Corners are the same if they round to the same micrometre, as the program rounds them in this unit."""
+    number_of, above, first = Corners(unit), array("l"), array("l")
+    for corners in facets:
         one, *others = map(number_of, corners)
         above.extend(range(len(above), len(number_of.numbers)))
         one = root(above, one)
@@ -63,7 +64,8 @@ def root(above, at):
 class Corners:
     """A number for each corner, counted from 0, by its text."""
 
-    def __init__(self):
+    def __init__(self, unit):
+        self.unit = unit
         self.numbers = {}
         self.texts = {}
 
@@ -72,7 +74,27 @@ class Corners:
         if found is None:
             if len(self.texts) > KEPT:
                 self.texts.clear()
-            x, y, z = (round(1000 * float(word)) for word in text.split())
+            x, y, z = (micrometres(word, self.unit) for word in text.split())
             place = (x << 80) + (y << 40) + z
             found = self.texts[text] = self.numbers.setdefault(place, len(self.numbers))
         return found
+
+
+def micrometres(word, unit):
+    """A number of a text in whole micrometres, halves away from zero, as the program rounds it."""
+    if len(word) > LONGEST:
+        raise Refused(f"a number of {len(word):,} bytes is too long: at most {LONGEST} are taken", 3)
+    mantissa, _, exponent = word.lower().partition(b"e")
+    whole, _, part = mantissa.partition(b".")
+    number, shift = int(whole + part), int(exponent or 0) - len(part)
+    size = abs(number) * MICROMETRES[unit]
+    # beyond these any other number than 0 is too large, and all are nearly 0
+    if shift > 12 or shift < -300:
+        size = size and REACH + 1 if shift > 0 else 0
+    elif shift >= 0:
+        size *= 10 ** shift
+    else:
+        size = (2 * size + 10 ** -shift) // (2 * 10 ** -shift)
+    if size > REACH:
+        raise Refused(f"the number {word.decode()} is out of range: a corner lies within 128 m of the origin", 3)
+    return -size if number < 0 else size

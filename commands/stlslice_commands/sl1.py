@@ -8,7 +8,7 @@ import time
 import zipfile
 
 from . import words
-from .faults import Refused, aside, named, say
+from .faults import Refused, aside, look_at_output, named, say
 from .parts import opened
 from .slicing import Sliced
 
@@ -16,6 +16,7 @@ ABOUT = """Slices an STL into an SL1 archive for a resin printer. The part stand
 black; one that doesn't fit is refused. The archive is made aside and moved into place when it is whole, so a fault
 leaves what was there before."""
 
+LATEST = (2107, 12, 31, 23, 59, 58)  # the last moment that a zip can hold
 LEVEL = 1  # of deflating the program's PNGs once more: long runs of pixels are bytes 0 in them
 FIRST = 3  # layers with the first exposure, before it fades to that of the others
 
@@ -30,22 +31,21 @@ class Defaults:
 def main():
     parser = words.parser(ABOUT, "the archive to write, as out.sl1")
     add = parser.add_argument
-    add("--exposure", type=seconds, metavar="S", help="seconds a layer is exposed (the printer's, else 2.2)")
+    add("--exposure", type=seconds, metavar="S",
+        help="seconds a layer is exposed (the printer's, else 2.2); a line says if that is for layers of another height")
     add("--first-exposure", type=seconds, metavar="S", help="the same of the first layers (the printer's, else 25)")
     add("--fade", type=count, metavar="N", help="layers over which the exposure fades from the first to the other (10)")
-    add("--material", type=one_line, metavar="NAME", help="the resin's name, for the printer to show")
+    add("--material", type=one_line, metavar="NAME", help="the resin's name, for the printer to show (the printer's, else resin)")
     given = words.read(parser)
     fill_in(given)
-    if os.path.lexists(given.output) and (os.path.islink(given.output) or not os.path.isfile(given.output)):
-        raise Refused(f"{given.output} is no plain file")
-    if os.path.exists(given.output) and os.path.exists(given.part) and os.path.samefile(given.output, given.part):
-        raise Refused(f"{given.output} is the part itself")
+    now = moment()
+    look_at_output(given.output, given.part)
     with opened(given.part) as source:
         sliced = Sliced(given, source)
         path = aside(given.output)
         try:
             with named(given.output), open(path, "xb") as file, zipfile.ZipFile(file, "w") as archive:
-                fill(archive, sliced, job_name(given.output))
+                fill(archive, sliced, job_name(given.output), now)
             os.replace(path, given.output)
         finally:
             if os.path.exists(path):
@@ -65,12 +65,19 @@ def fill_in(given):
     given.fast_tilt, given.slow_tilt, given.area_fill = usual.fast_tilt, usual.slow_tilt, usual.area_fill
 
 
-def fill(archive, sliced, job):
+def moment():
+    """The time that is written into the archive: that of SOURCE_DATE_EPOCH if it is set."""
+    told = os.environ.get("SOURCE_DATE_EPOCH", str(int(time.time())))
+    if not re.fullmatch(r"[0-9]{1,11}", told):
+        raise Refused("SOURCE_DATE_EPOCH takes whole seconds since 1970, of at most eleven digits")
+    return time.gmtime(int(told))
+
+
+def fill(archive, sliced, job, now):
     """Writes a PNG for each layer, and behind them the settings and the profile."""
-    now = time.gmtime(int(os.environ.get("SOURCE_DATE_EPOCH", time.time())))
 
     def entry(name, body):
-        head = zipfile.ZipInfo(name, max(now[:6], (1980, 1, 1, 0, 0, 0)))
+        head = zipfile.ZipInfo(name, min(max(now[:6], (1980, 1, 1, 0, 0, 0)), LATEST))
         archive.writestr(head, body, zipfile.ZIP_DEFLATED, LEVEL)
 
     given = sliced.given

@@ -12,13 +12,12 @@ from .faults import Progress, Refused, say
 from .images import head_of, joined
 from .parts import as_text
 from .program import Program
-from .shells import groups
+from .shells import REACH, groups
 from .stl import changed
 
 # By how much the numbers of a part are multiplied before the program takes them for millimetres.
 TIMES = {"mm": 1, "inch": 1, "cm": 10, "m": 1000}
 LARGEST_PITCH = 100_000
-REACH = 128_000_000
 OPEN = 4  # the program's status if a mesh is open
 
 
@@ -28,7 +27,7 @@ class Sliced:
     def __init__(self, given, source):
         self.given = given
         self.program = Program(given)
-        self.texts = groups(source) if given.shells else [as_text(source)]
+        self.texts = groups(source, given.unit) if given.shells else [as_text(source)]
         facets, low, high = self.program.box(self.texts)
         if TIMES[given.unit] > 1:
             self.change(facets, 0, [TIMES[given.unit]] * 3)
@@ -115,8 +114,7 @@ class Sliced:
         rule = self.given.rule
         totals = totals_of(self.areas)
         if not any(totals):
-            raise Refused(f"no pixel is lit by --rule {rule}: is the part inside out (try --rule nonzero), or its unit another "
-                          f"than {self.given.unit}? It is {in_mm(self.size)} mm")
+            refuse_unlit(self.given, self.size)
         if rule == "positive":
             self.look_at_shells(totals, totals_of(self.areas_by("nonzero")))
         elif rule == "nonzero" and len(self.texts) > 1:
@@ -152,6 +150,11 @@ class Sliced:
     def told(self, output):
         """The last line."""
         return f"{output}: {in_mm(self.size)} mm, {self.millilitres(self.lit):.3f} ml, {self.layers} layers"
+
+
+def refuse_unlit(given, size):
+    raise Refused(f"no pixel is lit by --rule {given.rule}: is the part inside out (try --rule nonzero), or its unit another than "
+                  f"{given.unit}? It is {in_mm(size)} mm")
 
 
 def totals_of(areas):

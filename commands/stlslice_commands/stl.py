@@ -16,8 +16,16 @@ TEXT = b"facet normal 0 0 0\nouter loop\nvertex %b\nvertex %b\nvertex %b\nendloo
 # Single numbers and corners that were met, each with its text, are forgotten beyond this many.
 KEPT = 1 << 17
 
-NUMBER = rb"[-+]?(?:\d+\.?\d*|\.\d+)(?:[eE][-+]?\d+)?"
+NUMBER = rb"[-+]?(?:\d+(?:\.\d*)?|\.\d+)(?:[eE][-+]?\d+)?"
 VERTEX = re.compile(rb"(?i)(?<!\S)(vertex\s+)(%b)(\s+)(%b)(\s+)(%b)(?!\S)" % (NUMBER, NUMBER, NUMBER))
+# The rules of docs/formats.md: a solid with its name, a facet, and the end of a solid with the rest of its line.
+SOLID_LINE = re.compile(rb"(?i)\s*solid(?!\S)[^\r\n]*[\r\n]")
+FACET_TEXT = re.compile(rb"(?i)\s*facet\s+normal\s+\S+\s+\S+\s+\S+\s+outer\s+loop"
+                        + 3 * (rb"\s+vertex" + 3 * (rb"\s+(%b)" % NUMBER)) + rb"\s+endloop\s+endfacet(?!\S)")
+ENDSOLID_LINE = re.compile(rb"(?i)\s*endsolid(?!\S)[^\r\n]*(?:[\r\n]|\Z)")
+WORD = re.compile(rb"\S+")
+ANY = "a word"
+WORDS = ["facet", "normal", *3 * [ANY], "outer", "loop", *3 * ["vertex", *3 * ["number"]], "endloop", "endfacet"]
 EXACT = decimal.Context(prec=1000, traps=[decimal.Inexact, decimal.InvalidOperation])
 
 
@@ -74,11 +82,49 @@ def corners_of_binary(file):
 
 
 def corners_of_text(file):
-    """The texts of the three corners of each facet of an ASCII STL that the program has read."""
-    for block in blocks(file):
-        corners = [b" ".join(found.group(2, 4, 6)) for found in VERTEX.finditer(block)]
-        for at in range(0, len(corners) - 2, 3):
-            yield tuple(corners[at:at + 3])
+    """The texts of the three corners of each facet of an ASCII STL. Another text is refused where the program refuses it, so
+    that no facet is lost."""
+    text, begin, is_inside, solids = b"", 0, False, 0
+    for more in reads(file):
+        text, at = text + more, 0
+        while True:
+            facet = is_inside and FACET_TEXT.match(text, at)
+            found = facet or (ENDSOLID_LINE if is_inside else SOLID_LINE).match(text, at)
+            # what ends with the text at hand may go on
+            if not found or more and found.end() == len(text):
+                break
+            if facet:
+                words = facet.groups()
+                yield tuple([b" ".join(words[k:k + 3]) for k in (0, 3, 6)])
+            else:
+                solids += not is_inside
+                is_inside = not is_inside
+            at = found.end()
+        if more or is_inside or not solids or text[at:].strip():
+            refuse_unlike(text, at, begin, is_inside, not more)
+        text, begin = text[at:], begin + at
+
+
+def refuse_unlike(text, at, begin, is_inside, is_last):
+    """Refuses a text, which has `begin` bytes before it, if no facet, solid or end of one stands at a place, or can if more
+    follows. The lines are the program's."""
+    words = WORD.finditer(text, at)
+    for wanted in WORDS if is_inside else ["solid"]:
+        found = next(words, None)
+        told = "facet or endsolid" if wanted == "facet" else "number" if wanted is ANY else wanted
+        if not found and is_last:
+            raise Refused(f"input ended before {told}", 3)
+        if not found or not is_last and found.end() == len(text):
+            return
+        word = found[0].lower()
+        if wanted == "facet" and word == b"endsolid":
+            return
+        if wanted == "number" and not re.fullmatch(NUMBER, word):
+            raise Refused(f"number at byte {begin + found.start()}: not a number", 3)
+        if wanted not in (ANY, "number") and word != wanted.encode():
+            raise Refused(f"expected {told} at byte {begin + found.start()}", 3)
+    if is_last:
+        raise Refused("input ended before facet or endsolid", 3)
 
 
 def text_of(facets):
@@ -100,20 +146,25 @@ def ended(file):
     return file
 
 
-def blocks(file):
-    """The text of the file in blocks that end behind a word `endloop`, so that no facet's corners are cut."""
-    size, rest = size_of(file), b""
+def reads(file):
+    """What is read of the file, from its start, until nothing is."""
+    size, more = size_of(file), True
     file.seek(0)
-    while True:
+    while more:
         more = file.read(BLOCK)
         Progress.show(f"reading: {100 * file.tell() // max(1, size)} %")
+        yield more
+
+
+def blocks(file):
+    """The text of the file in blocks that end behind a word `endloop`, so that no facet's corners are cut."""
+    rest = b""
+    for more in reads(file):
         rest += more
         end = rest.lower().rfind(b"endloop") + len(b"endloop") if more else len(rest)
         if end >= len(b"endloop") or not more:
             yield rest[:end]
             rest = rest[end:]
-        if not more:
-            return
 
 
 def changed(source, facets, quarters, times):

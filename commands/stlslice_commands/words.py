@@ -10,6 +10,7 @@ from .printers import listed, printers
 
 RULES = ["evenodd", "nonzero", "positive"]
 UNITS = ["mm", "cm", "m", "inch"]
+MOST_WORKERS = 64
 
 
 class Listing(argparse.Action):
@@ -30,8 +31,9 @@ def parser(description, output):
     """A parser of the options that both commands take; `output` is what the second word names."""
     made = argparse.ArgumentParser(description=description, allow_abbrev=False)
     add = made.add_argument
-    add("part", help="an STL, ASCII or binary, or - for standard input")
-    add("output", help=output)
+    add("part", type=nonempty, help="an STL, ASCII or binary, or - for standard input; another format, zip and gzip are refused "
+        "with the command that converts or unpacks them")
+    add("output", type=nonempty, help=output)
     add("--printer", action=Listing, metavar="MODEL",
         help="a printer that is known by name: it brings canvas, pitch, mirrors and height; 'help' lists them")
     add("--canvas", type=canvas, metavar="COLUMNSxROWS", help="pixels of the screen, as its images have them")
@@ -39,7 +41,7 @@ def parser(description, output):
     add("--layer", type=whole, default=50, metavar="N", help="height of a layer in micrometres (%(default)s)")
     add("--height", type=millimetres, metavar="MM", help="the printer's height in mm; a higher part is refused")
     add("--turn", choices=["quarter", "auto"], metavar="[auto]",
-        help="turn the part by a quarter, counterclockwise from above; 'auto' does so where it fits only so")
+        help="turn the part by a quarter, counterclockwise from above; 'auto' does so where it fits only so, and says it")
     add("--rule", default="positive", choices=RULES,
         help="which pixels are lit (%(default)s, which joins shells that overlap, as supports do)")
     add("--unit", default="mm", choices=UNITS, help="unit of the part's numbers (%(default)s)")
@@ -48,7 +50,7 @@ def parser(description, output):
     add("--mirror-x", action="store_true", help="swap left and right in each image")
     add("--mirror-y", action="store_true", help="swap top and bottom in each image")
     add("--depth", type=int, default=8, choices=[1, 8], help="bits of a PNG's pixel (%(default)s)")
-    add("--workers", type=whole, default=os.cpu_count() or 1, metavar="N", help="threads of the slicer (%(default)s)")
+    add("--workers", type=workers, default=processors(), metavar="N", help="threads of the slicer, 1 to 64 (%(default)s)")
     add("--program", metavar="PATH", help="the slicer (stlslice beside this command, else on PATH)")
     return made
 
@@ -75,6 +77,12 @@ def quarters(words):
     return ["--turn=quarter" if is_bare else word for word, is_bare in zip(words, bare)]
 
 
+def nonempty(text):
+    if not text:
+        raise argparse.ArgumentTypeError("it takes a name")
+    return text
+
+
 def canvas(text):
     found = re.fullmatch(r"([1-9]\d{0,4})[x,]([1-9]\d{0,4})", text)
     if not found:
@@ -82,10 +90,19 @@ def canvas(text):
     return int(found[1]), int(found[2])
 
 
-def whole(text):
-    if not re.fullmatch(r"0*[1-9]\d{0,5}", text):
-        raise argparse.ArgumentTypeError("it takes a whole number, 1 to 999999")
+def whole(text, most=999_999):
+    if not re.fullmatch(r"0*[1-9]\d{0,5}", text) or int(text) > most:
+        raise argparse.ArgumentTypeError(f"it takes a whole number, 1 to {most}")
     return int(text)
+
+
+def workers(text):
+    return whole(text, MOST_WORKERS)
+
+
+def processors():
+    """As many workers as there are processors, and as the program takes."""
+    return min(os.cpu_count() or 1, MOST_WORKERS)
 
 
 def millimetres(text):
