@@ -293,6 +293,8 @@ def rules_are_as_in_the_table(program, folder):
         ("inside out", out(outer), (27, 27, 0)),
         ("inside out, bodies that overlap", out(outer + across), (33, 34, 0)),
         ("one of two bodies inside out, apart", outer + out(beside), (28, 28, 27)),
+        # together they have 34
+        ("one of two bodies inside out, overlapping", outer + out(across), (33, 33, 26)),
     ]
     for name, facets, volumes in rows:
         for rule, volume in zip(("evenodd", "nonzero", "positive"), volumes):
