@@ -179,13 +179,14 @@ def recipes_with_tools_do_what_they_say(program, folder):
 
 
 def commands_of_the_tables_run(program, folder):
-    """Each whole command of stlslice-sl1 and stlslice-pngs in the tables by printer and by what people have."""
+    """Each whole command of stlslice-sl1 and stlslice-pngs in the tables by printer and by what people have; S stands for
+    seconds."""
     env = with_commands(environment(program, folder))
     with open(PAGE, encoding="utf-8") as file:
         tables = file.read().split("## By printer")[1].split("## An archive for the printer")[0]
-    commands = [cell.replace("\\|", "|") for line in tables.splitlines() if line.startswith("|")
+    commands = [cell.replace("\\|", "|").replace(" S ", " 2.5 ") for line in tables.splitlines() if line.startswith("|")
                 for cell in re.findall(r"`([^`]*stlslice-(?:sl1|pngs) [^`]*)`", line) if ".." not in cell]
-    same(len(commands), 4, "commands of the tables")
+    same(len(commands), 5, "commands of the tables")
     for number, command in enumerate(commands):
         here = folder_of(program, folder, number)
         with open(os.path.join(here, "part.stl.gz"), "wb") as file:
