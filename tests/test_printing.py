@@ -7,6 +7,7 @@ import os
 import re
 import shutil
 import stat
+import zipfile
 import zlib
 
 from pages import blocks
@@ -15,7 +16,8 @@ from parts import (ROOT, batch_system, box, environment, example, installed, lea
 
 PAGE = os.path.join(ROOT, "docs", "printing.md")
 TOOLS = {"python3": ["python3"], "netpbm": ["pamsplit", "pnminvert", "pnmtopng"], "gnuplot-nox": ["gnuplot"],
-         "imagemagick": ["montage", "identify"], "zstd": ["zstd"], "parallel": ["parallel"], "rsync": []}
+         "imagemagick": ["montage", "identify"], "zstd": ["zstd"], "parallel": ["parallel"], "rsync": [],
+         "unzip": ["unzip"]}
 
 
 def with_commands(env):
@@ -62,17 +64,29 @@ def netpbm_pngs(program, folder):
 
 
 def archive(program, folder):
-    import zipfile
     with zipfile.ZipFile(os.path.join(folder, "out.sl1")) as file:
         same(len(file.namelist()), 542, "entries")
         rows = pixels_of_png(file.read("out00017.png"))
     same((len(rows), len(rows[0])), (2560, 1620), "canvas")
 
 
+def layer_of_archive(program, folder):
+    with zipfile.ZipFile(os.path.join(folder, "out.sl1")) as file:
+        names = sorted(name for name in file.namelist() if name.endswith(".png"))
+        same((names[0], names[-1], len(names)), ("out00000.png", "out00539.png", 540), "names of images")
+        assert content(folder, "screen17.png") == file.read("out00017.png"), "not the archive's layer 17"
+    rows = pixels_of_png(content(folder, "screen17.png"))
+    same((len(rows), len(rows[0])), (2560, 1620), "canvas")
+    assert any(255 in row for row in rows), "nothing is lit"
+
+
 def one_layer(program, folder):
-    whole = sliced(program, ["--pitch", "50", "--layer", "50"])
-    size = len(whole) // 540
-    assert content(folder, "layer17.pbm") == whole[17 * size:18 * size], "not the bytes of layer 17 in the whole"
+    words, start = ["--pitch", "50", "--layer", "50", "--rule", "positive"], b"\x89PNG\r\n\x1a\n"
+    found = content(folder, "layer17.png")
+    assert pixels_of_png(found) == pixels_of_p4(p4_images(sliced(program, words))[17]), "not the pixels of layer 17"
+    pngs = [start + rest for rest in sliced(program, [*words, "--png"]).split(start)[1:]]
+    same(len(pngs), 540, "PNGs of the whole")
+    assert found == pngs[17], "not the bytes of layer 17 in the whole"
 
 
 def fixed_canvas(program, folder):
@@ -104,8 +118,9 @@ def slurm(program, folder):
 
 
 # What a block leaves, looked at beside what it prints; by the last file that it writes.
-LEFT = {"layers/%d.pbm": netpbm_pngs, "out.sl1\n": archive, "layer17.pbm": one_layer, "canvas.pbm": fixed_canvas,
-        "area.png": plot, "eight.png": sheet_of_eight, "layers.gz": streams, "slabs/*.pbm": slurm}
+LEFT = {"layers/%d.pbm": netpbm_pngs, "out.sl1\n": archive, "screen17.png": layer_of_archive, "layer17.png": one_layer,
+        "canvas.pbm": fixed_canvas, "area.png": plot, "eight.png": sheet_of_eight, "layers.gz": streams,
+        "slabs/*.pbm": slurm}
 
 
 def needs(block):
@@ -179,13 +194,14 @@ def recipes_with_tools_do_what_they_say(program, folder):
 
 
 def commands_of_the_tables_run(program, folder):
-    """Each whole command of stlslice-sl1 and stlslice-pngs in the tables by printer and by what people have."""
+    """Each whole command of stlslice-sl1 and stlslice-pngs in the tables by printer and by what people have; S stands for
+    seconds."""
     env = with_commands(environment(program, folder))
     with open(PAGE, encoding="utf-8") as file:
         tables = file.read().split("## By printer")[1].split("## An archive for the printer")[0]
-    commands = [cell.replace("\\|", "|") for line in tables.splitlines() if line.startswith("|")
+    commands = [cell.replace("\\|", "|").replace(" S ", " 2.5 ") for line in tables.splitlines() if line.startswith("|")
                 for cell in re.findall(r"`([^`]*stlslice-(?:sl1|pngs) [^`]*)`", line) if ".." not in cell]
-    same(len(commands), 4, "commands of the tables")
+    same(len(commands), 5, "commands of the tables")
     for number, command in enumerate(commands):
         here = folder_of(program, folder, number)
         with open(os.path.join(here, "part.stl.gz"), "wb") as file:
@@ -252,9 +268,10 @@ def canvas_that_is_too_small_is_refused(program, folder):
 def refused_part_stops_recipes(program, folder):
     """With a part that is no STL, and with one that is open, the slicer's line is told and no file gets its name."""
     env = with_commands(environment(program, folder))
-    heads = ("By printer", "An archive for the printer", "A folder of PNGs", "One layer alone", "A fixed canvas", "Compressed streams",
-             "Many processors, many machines")
-    names = {"out.sl1", "turned.sl1", "pngs", "layer17.pbm", "canvas.pbm", "layers.zst", "layers.gz", "layers.pbm"}
+    heads = ("By printer", "An archive for the printer", "A folder of PNGs", "A layer out of an archive", "One layer alone",
+             "A fixed canvas", "Compressed streams", "Many processors, many machines")
+    names = {"out.sl1", "turned.sl1", "pngs", "screen17.png", "layer17.png", "canvas.pbm", "layers.zst", "layers.gz",
+             "layers.pbm"}
     seen = set()
     for number, block in enumerate(blocks(PAGE)):
         if block.language != "sh" or block.head not in heads or block.words:
@@ -293,6 +310,8 @@ def rules_are_as_in_the_table(program, folder):
         ("inside out", out(outer), (27, 27, 0)),
         ("inside out, bodies that overlap", out(outer + across), (33, 34, 0)),
         ("one of two bodies inside out, apart", outer + out(beside), (28, 28, 27)),
+        # together they have 34
+        ("one of two bodies inside out, overlapping", outer + out(across), (33, 33, 26)),
     ]
     for name, facets, volumes in rows:
         for rule, volume in zip(("evenodd", "nonzero", "positive"), volumes):
