@@ -13,11 +13,18 @@ def rows(page):
     return re.findall(r"(?m)^\| ([^|]+) \| ([^|]+) \| ([^|]+) \|$", page)[1:]
 
 
+def png_rows(page):
+    """The names and the bytes a layer of the table of bench/pngs.py."""
+    return re.findall(r"(?m)^\| ([^|]+) \| \d+\.\d{3} s [^|]+ \| \d+\.\d{3} s [^|]+ \| ([\d,]+) \|$", page)
+
+
 def main():
     script = text_of("bench/table.py")
     named = re.findall(r'(?m)^    Case\("(\w+)", "([^"]+)"', script)
     holds("the script has cases", len(named) >= 10)
-    same("rows of docs/benchmarks.md", [row[0] for row in rows(text_of("docs/benchmarks.md"))], [row for _, row in named])
+    page = text_of("docs/benchmarks.md")
+    same("rows of docs/benchmarks.md", [row[0] for row in rows(page)], [row for _, row in named])
+    same("its rows of PNGs", [row[0] for row in png_rows(page)], ["P4", "`--png`", "`--png --depth 1`"])
     words = ["bench/table.py", PROGRAM, "--runs=1", "--case=sphere20k"]
     with Room() as room:
         alone = room.run(*words)
@@ -39,7 +46,7 @@ def main():
         differs = room.run(words[0], PROGRAM, other, *words[2:])
         pngs = room.run("bench/pngs.py", PROGRAM, "--runs=1", "--layers=10", f"--other=sh -c 'shift; exec {PROGRAM} --png \"$@\" <examples/supported.stl' x")
         same("status of the table of PNGs", (pngs.returncode, pngs.stderr), (0, ""))
-        names, sizes = zip(*re.findall(r"(?m)^\| ([^|]+) \| \d+\.\d{3} s [^|]+ \| \d+\.\d{3} s [^|]+ \| ([\d,]+) \|$", pngs.stdout))
+        names, sizes = zip(*png_rows(pngs.stdout))
         same("its rows", names, ("P4", "`--png`", "`--png --depth 1`", "PNGs of the other slicer"))
         sizes = [int(it.replace(",", "")) for it in sizes]
         same("bytes of a P4 image", sizes[0], 11520 // 8 * 5120 + len("P4\n11520 5120\n"))
