@@ -51,6 +51,7 @@ SPELLED = {
         ("include/stlslice.h", "at most {}, {} and"),
         ("docs/refused.md", "{} columns and rows"),
         ("SECURITY.md", "The grid may have {} x {} x"),
+        ("README.md", "{} pixels a side"),
     ],
     "geometry::LAYER_LIMIT": [
         ("--help", " and {}), and its least"),
@@ -67,6 +68,7 @@ SPELLED = {
         ("man/stlslice.1", "a mesh has at most {} facets"),
         ("docs/refused.md", "More than {} facets"),
         ("SECURITY.md", "and the mesh {} facets"),
+        ("README.md", "at most {} facets and"),
     ],
     "stripe_claims::PASS_LIMIT": [
         ("--help", "Number of threads, 1 to {}"),

@@ -22,8 +22,8 @@ SESSION, CLAIMS, PNG = "crates/layer_session/src/session.rt", "crates/stripe_cla
 C_CALLS = "crates/stlslice_c/src/lib.rt"
 TOLD = [
     ("docs/PROVED.md", "Tasks of `read_words`", "\n", [("read_words", "crates/task_words/src/words.rt")]),
-    ("docs/PROVED.md", "If `build` of", "Each draw", [("build", "crates/layer_pool/src/pool.rt")]),
-    ("docs/PROVED.md", "Each draw of a stripe", ". ", [("draw", CLAIMS)]),
+    ("docs/PROVED.md", "If `build` of", "The claims are", [("build", "crates/layer_pool/src/pool.rt")]),
+    ("docs/PROVED.md", "The claims are modelled", "That all draws", [("draw", CLAIMS)]),
     ("docs/PROVED.md", "`Session::open` of", "The same holds",
      [("open", SESSION), ("open_mesh", SESSION), ("finish", "crates/layer_session/src/session_reader.rt")]),
     ("docs/PROVED.md", "In that of `png`", "A call succeeds", [("png", SESSION)]),

@@ -126,7 +126,7 @@ FILES = {
     "Compressed by gzip": ([gzip.compress(bracket(), mtime=0)], bracket()),
     "Binary STL": ([binary(b"made by a tool")], bracket()),
     "Binary STL whose header begins with solid": ([binary(b"solid part"), binary(b"SOLID part\nby a tool")], bracket()),
-    "Another format: OBJ, PLY, OFF": obj(),
+    "Another format: OBJ, PLY, OFF, 3MF": obj(),
     "NUL or Ctrl-Z at the end": ([bracket() + b"\0\0\0", bracket() + b"\x1a"], bracket()),
     "Comments": ([replaced(rb"\n", rb"\n# made by a tool\n", 1), replaced(rb"\n", rb"\n ; made by a tool\n")], bracket()),
     "Keywords in two words": ([replaced(rb"end(facet|loop|solid)", rb"end \1"), replaced(rb"end(facet|solid)", rb"END \1")],

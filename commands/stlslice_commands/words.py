@@ -37,7 +37,8 @@ def parser(description, output):
     add("--printer", action=Listing, metavar="MODEL",
         help="a printer that is known by name: it brings canvas, pitch, mirrors and height; 'help' lists them")
     add("--canvas", type=canvas, metavar="COLUMNSxROWS", help="pixels of the screen, as its images have them")
-    add("--pitch", type=pitch, metavar="N", help="a pixel in micrometres: 50, 47.25, or 19x24 for width and depth")
+    add("--pitch", type=pitch, metavar="N",
+        help="a pixel in micrometres: 50, 47.25, or 19x24 for width and depth in the image, after any turn")
     add("--layer", type=whole, default=50, metavar="N", help="height of a layer in micrometres (%(default)s)")
     add("--height", type=millimetres, metavar="MM", help="the printer's height in mm; a higher part is refused")
     add("--turn", choices=["quarter", "auto"], metavar="[auto]",
