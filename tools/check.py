@@ -8,7 +8,8 @@ The change is all that differs from REV (HEAD), with files that git doesn't know
   can see: a definition, a signature, a contract, a type, the statement of a public lemma;
 - tries changed edits, those of changed sources, and those that a changed definition reaches, in batches;
 - proves and runs the nearest tests: of the crates of tests that use a changed crate, the one with the fewest libraries;
-- builds the program and runs the tests in tests/, except the demo's; if no crate changed, those that name a changed file.
+- builds the program and runs the tests in tests/, except the demo's, if something changed that other crates can see, or in a
+  crate of words that no clause fixes; if no crate changed, it runs those that name a changed file.
 
 At the end it reports what it didn't try, and 'N passed, N failed'. Only the gate, make test, tries all.
 """
@@ -26,6 +27,8 @@ ROOT = os.path.dirname(os.path.dirname(os.path.abspath(__file__)))
 PROGRAM = "build/stlslice"
 # It takes a minute, since it runs the sources unproved.
 SLOW_TESTS = ("test_demo_unproved",)
+# The crates whose bodies write words, which no clause fixes. A proved body of another one changes nothing in what is written.
+OF_WORDS = {"task_words", "stlslice", "stlslice_program"}
 # A function's body: from the brace that ends its head's last line to the brace with the same indentation. A head has no blank
 # line and, unlike a trait's function without a body, no line that ends in a semicolon; and its clauses are no body.
 HEAD = r"(?:pub(?:\([\w:]+\))? )?(?:const |unsafe |extern \"C\" )*fn \w(?:(?!.*;$).+\n)*?(?!\s*(?:ensures|requires)\b).*"
@@ -161,7 +164,8 @@ def try_edits(change, steps):
 
 
 def try_crates(change, steps):
-    """Proves, and tries edits and tests. Returns whether the program was built."""
+    """Proves, and tries edits and tests. Returns whether the program was built, which takes minutes and is left out if it would
+    write the same."""
     for crate in change.crates_to_prove():
         if not steps.run(f"proof of {crate}", ["rt", "check"], f"crates/{crate}"):
             return False
@@ -169,7 +173,7 @@ def try_crates(change, steps):
     for crate in change.nearest_tests():
         steps.run(f"libraries below {crate}", ["tools/prove.py", f"crates/{crate}"])
         steps.run(f"tests of {crate}", ["rt", "test"], f"crates/{crate}")
-    return steps.run("the program", ["make", PROGRAM])
+    return bool(change.open or OF_WORDS & {*change.sources}) and steps.run("the program", ["make", PROGRAM])
 
 
 def main():
@@ -203,7 +207,8 @@ def tell(change, steps, tests):
     print(f"  proofs of {', '.join(proofs) or 'no crate'}")
     print(f"  tests of {', '.join(tested) or 'no crate'}")
     print(f"  edits but those of {', '.join(edits)}" if edits else "  edits")
-    print(f"  {len(every) - len(tests)} of {len(every)} tests in tests/")
+    program = "the program, and " if change.sources and "the program" not in steps.begun else ""
+    print(f"  {program}{len(every) - len(tests)} of {len(every)} tests in tests/")
 
 
 if __name__ == "__main__":
