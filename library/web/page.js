@@ -39,10 +39,10 @@ class Slicer {
         this.started.catch(() => {});
     }
 
-    call(name, value) {
+    call(name, value, moved = []) {
         return new Promise((done, failed) => {
             this.waiting.set(++this.last, { done, failed });
-            this.worker.postMessage({ id: this.last, call: name, value });
+            this.worker.postMessage({ id: this.last, call: name, value }, moved);
         });
     }
 
@@ -51,7 +51,8 @@ class Slicer {
         if (this.part !== part) {
             this.part = null;
             const read = part;
-            const told = await this.call("read", { file: read.file });
+            const all = await read.file.arrayBuffer(); // here, since WebKit reads no file in the worker of a page from disk
+            const told = await this.call("read", { all }, [all]);
             this.part = read;
             read.is_binary = told.is_binary;
         }

@@ -85,8 +85,11 @@ async function start({ modules }) {
     throw why;
 }
 
-const through = (data, stream) => new Response(new Blob([data]).stream().pipeThrough(stream)).arrayBuffer();
-const unpacked = (data) => through(data, new DecompressionStream("deflate"));
+// It streams the bytes alone, since WebKit reads no Blob in the worker of a page from disk.
+function unpacked(data) {
+    const packed = new ReadableStream({ start: (it) => { it.enqueue(data); it.close(); } });
+    return new Response(packed.pipeThrough(new DecompressionStream("deflate"))).arrayBuffer();
+}
 
 // Options have 44 bytes, a mesh 16, a shape or corners at most 56; then come a line and three numbers.
 function small_places() {
@@ -102,12 +105,12 @@ function small_places() {
     return found;
 }
 
-// Reads a part. A binary STL is written as a text, a facet on each line after the first.
-async function read({ file }) {
-    const all = new Uint8Array(await file.arrayBuffer());
-    const count = all.length < BINARY.head ? 0 : new DataView(all.buffer).getUint32(BINARY.count, true);
-    is_binary = all.length >= BINARY.head && all.length === BINARY.head + BINARY.facet * count;
-    text = is_binary ? as_text(new DataView(all.buffer), count) : all;
+// Takes the bytes of a part. A binary STL is written as a text, a facet on each line after the first.
+function read({ all }) {
+    const file = new DataView(all), size = file.byteLength;
+    const count = size < BINARY.head ? 0 : file.getUint32(BINARY.count, true);
+    is_binary = size >= BINARY.head && size === BINARY.head + BINARY.facet * count;
+    text = is_binary ? as_text(file, count) : new Uint8Array(all);
     return { is_binary };
 }
 
