@@ -405,13 +405,15 @@ def broken_slicers_leave_nothing(program, folder):
 
 
 def full_disk_is_told(program, folder):
-    """A limit of no bytes for each file stands for a full disk."""
+    """A limit of no bytes for each file stands for a full disk. A full standard output is told once, and is no success."""
     path = slicer(folder, 2 * printed(png_of_p4((8, 1, b"\377"), 1)))
     for command, more in ((SL1, ["--depth", "1"]), (PNGS, ["--depth", "1"]), (installed("stlslice-page"), [])):
         name, out = os.path.basename(command), os.path.join(folder, "out")
         words = ["--canvas", "8x1", "--pitch", "100", "--layer", "500", "--program", path, *more, example("bracket.stl"), out]
         found = run(["bash", "-c", 'ulimit -f 0; exec "$@"', "bash", *script(command, words)])
         same(found, (1, b"", f"{name}: File too large: {out}\n".encode()), name)
+        found = run(["bash", "-c", 'exec env -u PYTHONUNBUFFERED "$@" > /dev/full', "bash", *script(command, ["--help"])])
+        same(found, (1, b"", f"{name}: No space left on device: standard output\n".encode()), f"{name} --help")
         leaves_nothing(folder, ["slicer"])
 
 

@@ -77,11 +77,24 @@ class Progress:
         cls.drawn, cls.moment = False, 0.0
 
 
+def flush():
+    """Flushes standard output. If it is full, Python's own flush at the end goes nowhere, so the fault is told once."""
+    try:
+        with named("standard output"):
+            sys.stdout.flush()
+    except OSError:
+        os.dup2(os.open(os.devnull, os.O_WRONLY), sys.stdout.fileno())
+        raise
+
+
 def ended(main):
     """Runs a command, and ends with its status: 0, the program's, 1 for a fault of its own, 130 and 143 for signals."""
     signal.signal(signal.SIGTERM, lambda number, _: sys.exit(128 + number))
     try:
-        main()
+        try:
+            main()
+        finally:
+            flush()
     except Refused as fault:
         if fault.line:
             say(fault.line)

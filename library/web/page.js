@@ -24,6 +24,7 @@ class Slicer {
         this.waiting = new Map();
         this.last = 0;
         this.part = null; // what the worker has read
+        this.has_ended = false;
         this.url = URL.createObjectURL(new Blob([by("worker").textContent], { type: "text/javascript" }));
         this.worker = new Worker(this.url);
         this.worker.onmessage = ({ data: { id, value, fault } }) => {
@@ -41,6 +42,8 @@ class Slicer {
 
     call(name, value, moved = []) {
         return new Promise((done, failed) => {
+            // a part may come from the disk after its worker was stopped
+            if (this.has_ended) return failed(new Error("stopped"));
             this.waiting.set(++this.last, { done, failed });
             this.worker.postMessage({ id: this.last, call: name, value }, moved);
         });
@@ -60,6 +63,7 @@ class Slicer {
     }
 
     end() {
+        this.has_ended = true;
         this.worker.terminate();
         URL.revokeObjectURL(this.url);
         for (const { failed } of this.waiting.values()) failed(new Error("stopped"));
