@@ -414,6 +414,8 @@ def full_disk_is_told(program, folder):
         same(found, (1, b"", f"{name}: File too large: {out}\n".encode()), name)
         found = run(["bash", "-c", 'exec env -u PYTHONUNBUFFERED "$@" > /dev/full', "bash", *script(command, ["--help"])])
         same(found, (1, b"", f"{name}: No space left on device: standard output\n".encode()), f"{name} --help")
+        status, _, fault = run(["bash", "-c", 'exec "$@" >&-', "bash", *script(command, ["--help"])])
+        same((status, b"Traceback" in fault), (0, False), f"{name} --help without a standard output")
         leaves_nothing(folder, ["slicer"])
 
 

@@ -37,7 +37,7 @@ def aside(output):
 
 @contextlib.contextmanager
 def named(output):
-    """Has the fault of a write, as of a full disk, name the output. That of opening a file names it by itself."""
+    """Gives the fault of a write, such as a full disk, the output's name. A fault of opening a file has a name already."""
     try:
         yield
     except OSError as fault:
@@ -78,10 +78,11 @@ class Progress:
 
 
 def flush():
-    """Flushes standard output. If it is full, Python's own flush at the end goes nowhere, so the fault is told once."""
+    """Flushes standard output, if it is open. If it is full, what is left goes nowhere, so Python doesn't say it again."""
     try:
         with named("standard output"):
-            sys.stdout.flush()
+            if sys.stdout:
+                sys.stdout.flush()
     except OSError:
         os.dup2(os.open(os.devnull, os.O_WRONLY), sys.stdout.fileno())
         raise

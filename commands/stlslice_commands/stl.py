@@ -82,8 +82,8 @@ def corners_of_binary(file):
 
 
 def corners_of_text(file):
-    """The texts of the three corners of each facet of an ASCII STL. Another text is refused where the program refuses it, so
-    that no facet is lost."""
+    """The texts of the three corners of each facet of an ASCII STL. Any other text is refused as the program refuses it, so no
+    facet is lost."""
     text, begin, is_inside, solids = b"", 0, False, 0
     for more in reads(file):
         text, at = text + more, 0
@@ -106,8 +106,8 @@ def corners_of_text(file):
 
 
 def refuse_unlike(text, at, begin, is_inside, is_last):
-    """Refuses a text, which has `begin` bytes before it, if no facet, solid or end of one stands at a place, or can if more
-    follows. The lines are the program's."""
+    """Refuses a text if at a place no facet, no solid and no end of one begins, whatever may still be read. The text has `begin`
+    bytes before it. The lines are the program's."""
     words = WORD.finditer(text, at)
     for wanted in WORDS if is_inside else ["solid"]:
         found = next(words, None)
@@ -147,7 +147,7 @@ def ended(file):
 
 
 def reads(file):
-    """What is read of the file, from its start, until nothing is."""
+    """The file's bytes from its start, some at a time; the last ones are none."""
     size, more = size_of(file), True
     file.seek(0)
     while more:

@@ -42,7 +42,7 @@ def parser(description, output):
     add("--layer", type=whole, default=50, metavar="N", help="height of a layer in micrometres (%(default)s)")
     add("--height", type=millimetres, metavar="MM", help="the printer's height in mm; a higher part is refused")
     add("--turn", choices=["quarter", "auto"], metavar="[auto]",
-        help="turn the part by a quarter, counterclockwise from above; 'auto' does so where it fits only so, and says it")
+        help="turn the part by a quarter, counterclockwise from above; 'auto' does so only if it doesn't fit otherwise, and says so")
     add("--rule", default="positive", choices=RULES,
         help="which pixels are lit (%(default)s, which joins shells that overlap, as supports do)")
     add("--unit", default="mm", choices=UNITS, help="unit of the part's numbers (%(default)s)")
