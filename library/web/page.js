@@ -24,7 +24,8 @@ class Slicer {
         this.waiting = new Map();
         this.last = 0;
         this.part = null; // what the worker has read
-        this.has_ended = false;
+        this.ended = new Promise((_, failed) => { this.stop = failed; });
+        this.ended.catch(() => {});
         this.url = URL.createObjectURL(new Blob([by("worker").textContent], { type: "text/javascript" }));
         this.worker = new Worker(this.url);
         this.worker.onmessage = ({ data: { id, value, fault } }) => {
@@ -42,8 +43,6 @@ class Slicer {
 
     call(name, value, moved = []) {
         return new Promise((done, failed) => {
-            // a part may come from the disk after its worker was stopped
-            if (this.has_ended) return failed(new Error("stopped"));
             this.waiting.set(++this.last, { done, failed });
             this.worker.postMessage({ id: this.last, call: name, value }, moved);
         });
@@ -54,7 +53,8 @@ class Slicer {
         if (this.part !== part) {
             this.part = null;
             const read = part;
-            const all = await read.file.arrayBuffer(); // here, since WebKit reads no file in the worker of a page from disk
+            // here, since WebKit reads no file in the worker of a page from disk
+            const all = await Promise.race([read.file.arrayBuffer(), this.ended]);
             const told = await this.call("read", { all }, [all]);
             this.part = read;
             read.is_binary = told.is_binary;
@@ -63,7 +63,7 @@ class Slicer {
     }
 
     end() {
-        this.has_ended = true;
+        this.stop(new Error("stopped"));
         this.worker.terminate();
         URL.revokeObjectURL(this.url);
         for (const { failed } of this.waiting.values()) failed(new Error("stopped"));

@@ -128,15 +128,23 @@ def try_large_part(page, room):
     longest = page.value("longest")
     holds(f"the page was never held up for a third of the time: {longest:.0f} of {took:.0f} ms", 3 * longest < took)
     holds("the page says that it slices", page.value("was_busy"))
+    try_stop(page, ring, "a part")
+    page.value("(globalThis.read = File.prototype.arrayBuffer, File.prototype.arrayBuffer = () => new Promise(() => {}), 0)")
+    try_stop(page, ring, "a part whose reading never ends")
+    return longest, took
+
+
+def try_stop(page, path, what):
+    """The button stops the opening of a part, and the next part is opened."""
     page.value("by('file').value = ''")
-    page.browser.choose("#file", ring)
+    page.browser.choose("#file", path)
     page.until("!by('busy').hidden")
     page.value("by('stop').click()")
     page.until("!by('fault').hidden && by('busy').hidden")
-    holds("a part can be stopped", page.text("fault_line").startswith("stopped by hand"))
+    holds(f"{what} can be stopped", page.text("fault_line").startswith("stopped by hand"))
+    page.value("(File.prototype.arrayBuffer = globalThis.read ?? File.prototype.arrayBuffer, 0)")
     page.take(example("bracket"))
-    same("facets of the part after it", page.value("opened.facets"), 236)
-    return longest, took
+    same(f"facets of the part after {what}", page.value("opened.facets"), 236)
 
 
 def try_all(page, room):
