@@ -3,7 +3,7 @@
 complete -c stlslice -f
 complete -c stlslice -l pitch -x -d 'Width and depth of a pixel in micrometres, 1 to 100000'
 complete -c stlslice -l layer -x -d 'Height of a layer in micrometres, 1 to 100000'
-complete -c stlslice -l rule -x -a 'evenodd\t"overlaps of shells stay empty" nonzero\t"overlaps are filled, and shells inside out" positive\t"overlaps are filled, as supports want"' -d 'Which pixels are filled (default evenodd)'
+complete -c stlslice -l rule -x -a 'evenodd\t"overlaps of shells stay empty" nonzero\t"overlaps are filled, and shells inside out" positive\t"overlaps are filled, as supports need"' -d 'Which pixels are filled (default evenodd)'
 complete -c stlslice -l unit -x -a 'mm inch' -d 'Unit of the numbers in the input (default mm)'
 complete -c stlslice -l grid -x -d 'COLUMNS,ROWS,LAYERS,X0,Y0,Z0 in place of the grid that fits the mesh'
 complete -c stlslice -l workers -x -a '1 2 4 8 16 32 64' -d 'Number of threads that read, slice and draw, 1 to 64 (default 1)'

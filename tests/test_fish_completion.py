@@ -25,7 +25,7 @@ def main():
             same(f"faults of {line!r}", (asked.returncode, asked.stderr), (0, ""))
             same(f"{line!r} and Tab", {it.split("\t")[0] for it in asked.stdout.splitlines()}, wanted)
         asked = room.run("fish", "-c", "source completions/stlslice.fish; complete -C 'stlslice --rule p'")
-        same("what a rule is for", asked.stdout, "positive\toverlaps are filled, as supports want\n")
+        same("what a rule is for", asked.stdout, "positive\toverlaps are filled, as supports need\n")
         asked = room.run("fish", "-c", "source completions/stlslice.fish; complete -C 'stlslice --'")
         listed = [it.split("\t") for it in asked.stdout.splitlines()]
         holds("each word is told with what it is for", len(listed) > 9 and all(len(it) == 2 for it in listed))

@@ -77,6 +77,11 @@ def main():
 
         well = "12 passed, 0 failed"
         same("all well", gate(BUILDS, well, 0, [0, 0]), ("17 passed, 0 failed", 0))
+        times = gate(BUILDS, well, 0, [0, 0], lines=99)[0].partition("minutes")[2].splitlines()
+        parts = ["proofs of crates", "proofs of tests", "edits in must-fail/", "edits in batches", "the library", "tests/run", "the whole"]
+        same("minutes by part", [line[:22].strip() for line in times[1:8]], parts)
+        with open(room.file("build", "gate.txt")) as file:
+            same("they are kept", file.read().partition("minutes")[2].splitlines(), times[:-1])
         same("a skipped test is named", gate(BUILDS, well, 0, [0, 77], lines=2),
              ("skipped: test_1.sh: this is test 1\n16 passed, 0 failed", 0))
         same("a failed test", gate(BUILDS, well, 0, [0, 3]), ("16 passed, 1 failed", 1))

@@ -178,7 +178,7 @@ def pixels_need_not_be_square(program, folder):
     same(made([*SCREEN, near], folder)[1], "", "corners that nearly meet")
     said = made(["--canvas", "200x180", "--pitch", "47.25", near], folder, status=4).splitlines()
     assert len(said) == 2 and said[0].startswith("stlslice: open edge "), said
-    same(said[1], "stlslice-sl1: corners that nearly meet come apart where x and y are multiplied, as for this pitch; admesh joins "
+    same(said[1], "stlslice-sl1: corners that nearly meet come apart when x and y are multiplied, which this pitch needs; admesh joins "
          "them", "corners that come apart")
     far = written(folder, "far.stl", box((1000, 0, 0), (1001, 1, 1)))
     same(made(["--canvas", "200x180", "--pitch", "47.25x50", far], folder, status=1),
@@ -199,8 +199,8 @@ def binary_stl_is_read(program, folder):
     with open(other, "rb") as file:
         body = file.read()
     cut = written(folder, "cut.stl", body[:1000], bytes)
-    same(made([*SCREEN, cut], folder, status=3), "stlslice-sl1: the part is no text, and no whole binary STL: 36 facets as its "
-         "header tells take 1,884 bytes, and it has 1,000\n", "a binary STL that was cut")
+    same(made([*SCREEN, cut], folder, status=3), "stlslice-sl1: the part is no text, and no whole binary STL: its header counts "
+         "36 facets, which take 1,884 bytes, and it has 1,000\n", "a binary STL that was cut")
     hole = written(folder, "open.stl", facets[1:], binary)
     assert made([*SCREEN, hole], folder, status=4).startswith("stlslice-sl1: binary STL, 35 facets"), "an open binary STL"
     bad = written(folder, "bad.stl", [((0, 0, "nan"), (0, 0, 0), (1, 1, 1))], binary)
@@ -396,7 +396,7 @@ def too_many_facets_are_told(program, folder):
         file.write(b"solid\n" + facet * 1_048_577)
     said = made([*SCREEN, part], folder, status=3)
     assert re.fullmatch(r"stlslice: too many facets at byte \d+\nstlslice-sl1: a mesh has at most 1,048,576 facets; --shells "
-                        r"slices a larger part shell by shell, where it has several\n", said), said
+                        r"slices a larger part shell by shell, if it has several\n", said), said
 
 
 def shown_on_a_terminal(words, stopped_at=None):

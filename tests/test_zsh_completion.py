@@ -40,7 +40,7 @@ def main():
                 zsh.keys("\x15\r")
                 zsh.until("> $")
             zsh.keys("stlslice --rule \t\t")
-            zsh.until(r"positive +-- overlaps are filled, as supports want")
+            zsh.until(r"positive +-- overlaps are filled, as supports need")
             print("each rule is told with what it is for")
 
 

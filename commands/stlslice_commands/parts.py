@@ -47,7 +47,7 @@ def refuse_others(file, path):
     # a binary STL has a 0 there, in its count of facets at the latest
     if b"\0" in head[:84] and not head.startswith((b"\xff\xfe", b"\xfe\xff")) and size_of(file) >= 84:
         count = int.from_bytes(head[80:84], "little")
-        raise Refused(f"the part is no text, and no whole binary STL: {count:,} facets as its header tells take "
+        raise Refused(f"the part is no text, and no whole binary STL: its header counts {count:,} facets, which take "
                       f"{84 + 50 * count:,} bytes, and it has {size_of(file):,}", 3)
 
 

@@ -106,7 +106,7 @@ class Sliced:
             return [self.program.areas(text, [*self.words, "--rule", rule], self.layers) for text in self.texts]
         except Refused as fault:
             if fault.status == OPEN and self.times != [1, 1]:
-                say("corners that nearly meet come apart where x and y are multiplied, as for this pitch; admesh joins them")
+                say("corners that nearly meet come apart when x and y are multiplied, which this pitch needs; admesh joins them")
             raise
 
     def refuse_dark(self):

@@ -117,6 +117,6 @@ def pitch(text):
     """Width and depth of a pixel, as fractions of micrometres."""
     sides = text.split("x")
     if len(sides) > 2 or not all(re.fullmatch(r"\d{1,6}(\.\d{1,3})?", side) and Fraction(side) for side in sides):
-        raise argparse.ArgumentTypeError("it takes micrometres above 0 and below 1000000, with at most three digits behind the point, "
+        raise argparse.ArgumentTypeError("it takes micrometres above 0 and below 1000000, with at most three digits after the point, "
                                          "as 50, 47.25 or 19x24")
     return Fraction(sides[0]), Fraction(sides[-1])
