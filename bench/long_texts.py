@@ -81,7 +81,7 @@ def chunks(text, length):
 
 
 def most_memory(child):
-    """The most memory that a running program has taken so far, in bytes; 0 where it has ended."""
+    """The most memory that a running program has taken so far, in bytes; 0 if it has ended."""
     try:
         with open(f"/proc/{child.pid}/status") as status:
             found = [line for line in status if line.startswith("VmHWM:")]

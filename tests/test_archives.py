@@ -25,7 +25,7 @@ def script(path, words):
 
 
 def stream(program, part, rule, shift=(0, 0)):
-    """The images of a part in the middle of the small canvas, reckoned here from the box."""
+    """The images of a part in the middle of the small canvas, computed here from the box."""
     with open(part, "rb") as file:
         status, told, _ = run([program, "--box"], stdin=file)
     same(status, 0, "status of the box")

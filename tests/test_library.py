@@ -1,6 +1,6 @@
 #!/usr/bin/env python3
-"""Where the library is built, it answers in C, C++ and Python what the program answers (library/test), in no more memory than
-docs/embedding.md tells; and library/build makes the same bytes of the same proved library in any folder."""
+"""The library, if it is built, answers in C, C++ and Python what the program answers (library/test), in no more memory than
+docs/embedding.md says. library/build makes the same bytes of the same proved library in any folder."""
 
 import os
 import re
