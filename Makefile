@@ -1,6 +1,6 @@
 # Proves, builds, tests and packs stlslice. `make help` lists what it can do.
 
-# what --version prints, where it stands
+# the version, from the source that has it
 VERSION := $(shell sed -nE 's/^const VERSION: &str = "([^ ]+) .*/\1/p' crates/task_words/src/command.rt)
 DESTDIR ?=
 PREFIX ?= /usr/local
@@ -12,7 +12,7 @@ SOURCES := crates.txt $(shell find crates -path '*/out' -prune -o -type f \( -na
 
 LIBRARY_CRATE := crates/stlslice_c
 LIBRARY := build/library/libstlslice.so.$(VERSION)
-# empty where the library isn't built, or isn't to be installed
+# empty if the library isn't built, or isn't to be installed
 LIBRARY_BUILT := $(wildcard $(LIBRARY))
 
 SHARE = $(PREFIX)/share

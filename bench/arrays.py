@@ -1,10 +1,10 @@
 #!/usr/bin/env python3
 """Times opening a mesh from arrays beside opening the text of the same facets, by the Python module: a ring of about the given
-number of facets, a million where none is given.
+number of facets, a million if none is given.
 
     bench/arrays.py LIBRARY [FACETS]
 
-Times are processor time; each is the least of five, taken in turn. It wants numpy.
+Times are processor time; each is the least of five, taken in turn. It needs numpy.
 """
 
 import math

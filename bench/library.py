@@ -5,7 +5,7 @@ for, and what a pipeline spends on all layers. And the memory of a mesh that is 
     bench/library.py PROGRAM LIBRARY [FACETS]
 
 Times are processor time, in times of a run of the program with one worker; each is the least of eleven, taken in turn. It
-wants numpy, and for the memory glibc 2.33 or later.
+needs numpy, and for the memory glibc 2.33 or later.
 """
 
 import array

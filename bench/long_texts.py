@@ -5,7 +5,7 @@
 
 Each is 2 GB long there; PART takes one part in PART of it. A text is written to the program as it takes it, and is held
 nowhere. The answer has to be right, and the memory at most 20 MB, 4 for --box. A line a text: its length, seconds, seconds a
-gigabyte, the most memory. A text of half the length tells whether the time grows with the length alone.
+gigabyte, the most memory. A text of half the length shows whether the time grows with the length alone.
 """
 
 import os
@@ -81,7 +81,7 @@ def chunks(text, length):
 
 
 def most_memory(child):
-    """The most memory that a running program has taken so far, in bytes; 0 where it has ended."""
+    """The most memory that a running program has taken so far, in bytes; 0 if it has ended."""
     try:
         with open(f"/proc/{child.pid}/status") as status:
             found = [line for line in status if line.startswith("VmHWM:")]

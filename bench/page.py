@@ -4,7 +4,7 @@
     bench/page.py PREVIEW.html LIBRARY [FACETS]
 
 Times are those of opening the text, and of all images, eight layers at a time. Each is the least of 31, taken in turn, so that
-other work on the machine counts little; the ratios to the native library's are printed. It wants Chromium and the folder of
+other work on the machine counts little; the ratios to the native library's are printed. It needs Chromium and the folder of
 `make library`.
 """
 

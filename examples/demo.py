@@ -3,8 +3,8 @@
 
     demo.py PROGRAM OUT
 
-Where PROGRAM stands it runs that; else the toolchain's `rt try` runs the sources with no proof and with run-time
-checks, which takes up to a minute. The results are left in the folder OUT.
+It runs PROGRAM if it is built. Else the toolchain's `rt try` runs the sources with no proof and with run-time checks,
+which takes about a minute. The results are left in the folder OUT.
 """
 
 import io
@@ -58,7 +58,7 @@ def tried():
 
 
 def whole(stream):
-    """The length of the images of a stream, behind which rt try may have put a line feed."""
+    """The length of the images of a stream, after which rt try may have put a line feed."""
     width, height, begin = contact_sheet.header(io.BytesIO(stream))
     size = begin + (width + 7) // 8 * height
     return len(stream) - 1 if len(stream) % size == 1 and stream.endswith(b"\n") else len(stream)
@@ -75,7 +75,7 @@ def main():
         wrote = built(os.path.abspath(program))
     else:
         print(f"{program} isn't built yet (make): rt try runs the sources, not proved but checked as they run; "
-              "that takes up to a minute", flush=True)
+              "that takes about a minute", flush=True)
         wrote = tried()
     os.makedirs(out, exist_ok=True)
     images, report, sheet = (os.path.join(out, name) for name in ("layers.pbm", "report.txt", "sheet.png"))

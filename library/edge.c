@@ -1,6 +1,6 @@
 /* The edge of the library: it stops null pointers and sizes that no object has. Each call then goes to the proved library,
  * whose names the build prefixes with `proved_`. What is passed on is what Rattle requires of its caller: references that
- * are not null, and slices that lie somewhere, also where they are empty. */
+ * are not null, and slices that lie somewhere, even if they are empty. */
 #include "stlslice.h"
 
 _Static_assert(sizeof(stlslice_options) == 44, "as `Options` of crates/stlslice_c/src/options.rt");

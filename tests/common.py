@@ -29,7 +29,7 @@ def leave_out(why):
 
 
 def ended():
-    """Ends the test as skipped, where something was left out."""
+    """Ends the test as skipped if something was left out."""
     if LEFT_OUT:
         skip("; ".join(LEFT_OUT))
 
@@ -48,7 +48,7 @@ LIBRARY = os.path.join("build", "library", f"libstlslice.so.{version()}")
 
 
 def why_no_library():
-    """Why there is no library to be tested, or None where `make library` left one of the sources as they are."""
+    """Why there is no library to be tested, or None if `make library` left one of the sources as they are."""
     if not os.path.exists(os.path.join(ROOT, LIBRARY)):
         return "the library isn't built (make library)"
     words = {name: value for name, value in os.environ.items() if name not in ("MAKEFLAGS", "MFLAGS", "MAKELEVEL")}
@@ -57,8 +57,8 @@ def why_no_library():
 
 
 def library():
-    """The shared library that `make library` left, beside the static one and stlslice.pc. Where there is none of the sources as
-    they are, the test can't run here."""
+    """The shared library that `make library` left, beside the static one and stlslice.pc. The test can't run here if there is
+    none of the sources as they are."""
     why = why_no_library()
     return skip(why) if why else os.path.join(ROOT, LIBRARY)
 
@@ -70,14 +70,14 @@ def python_with(room, *modules):
 
 
 def wants(*tools):
-    """Ends the test as one that can't run here where one of these tools is missing, each told with its Debian package."""
+    """Ends the test as one that can't run here if one of these tools is missing. Each is given with its Debian package."""
     for tool, package in tools:
         if not shutil.which(tool):
             skip(f"{tool} is missing (Debian: {package})")
 
 
 def same(what, found, wanted):
-    """Ends the test as failed, where the two differ."""
+    """Ends the test as failed if the two differ."""
     if found != wanted:
         sys.exit(f"{what}: found\n{found!r}\nand wanted\n{wanted!r}")
     print(f"{what}: as wanted")

@@ -9,7 +9,7 @@ all that there is.
 
 Each takes one to five minutes, since the copy's tests are built and run by `rt try --test`, which proves nothing; so this
 is no part of `make test`. First the tests concerned are run in a copy as it is, where all have to pass. The status is 0
-where they do, and each wrong body fails the test that is named for it here.
+if they do, and if each wrong body fails the test that is named for it here.
 """
 
 import collections

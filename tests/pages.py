@@ -7,7 +7,7 @@ FENCE = re.compile(r"^```(\w*) ?(.*)$")
 
 
 class Block:
-    """A fenced block: the heading that it stands under, its language, the words behind that, its text, and the plain text
+    """A fenced block: the heading that it stands under, its language, the words after that, its text, and the plain text
     between it and the block before, or the heading."""
 
     def __init__(self, head, language, words, body, before):

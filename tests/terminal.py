@@ -31,7 +31,7 @@ class Terminal:
         os.write(self.end, text.encode())
 
     def until(self, pattern):
-        """What the shell shows, with no marks of colour or place, up to a pattern; ends the test where it doesn't come."""
+        """What the shell shows, with no marks of colour or place, up to a pattern. Ends the test if that doesn't come."""
         limit = time.monotonic() + SECONDS
         while True:
             shown = re.sub(r"\x1b\[[0-9;?]*[A-Za-z]|\x1b[=>]|\x1b\][^\x07]*\x07|\x07|\r", "", self.seen)

@@ -25,7 +25,7 @@ def script(path, words):
 
 
 def stream(program, part, rule, shift=(0, 0)):
-    """The images of a part in the middle of the small canvas, reckoned here from the box."""
+    """The images of a part in the middle of the small canvas, computed here from the box."""
     with open(part, "rb") as file:
         status, told, _ = run([program, "--box"], stdin=file)
     same(status, 0, "status of the box")
@@ -93,7 +93,7 @@ def settings_are_those_asked_for(program, folder):
     wanted = {"action": "print", "expTime": "2.5", "expTimeFirst": "30", "expUserProfile": "0", "hollow": "0",
               "fileCreationTimestamp": "2023-11-14 at 22:13:20 UTC", "jobDir": "my_part", "layerHeight": "0.5",
               "materialName": "grey", "numFade": "4", "numFast": "54", "numSlow": "0", "printProfile": "0.5 mm",
-              # three layers of 30 s; 24.5, 19, 13.5 and 8 s; 47 of 2.5 s; and 5 s behind each
+              # three layers of 30 s; 24.5, 19, 13.5 and 8 s; 47 of 2.5 s; and 5 s after each
               "printTime": f"{90 + 24.5 + 19 + 13.5 + 8 + 47 * 2.5 + 54 * 5:.6f}",
               "printerModel": "", "printerProfile": "", "printerVariant": "",
               "prusaSlicerVersion": "stlslice", "usedMaterial": settings["usedMaterial"]}

@@ -1,5 +1,5 @@
 #!/usr/bin/env -S python3 -B
-"""Archives and folders of PNGs, read by others: unzip takes an archive apart, pngcheck has nothing to say of an image, and each row
+"""Archives and folders of PNGs, read by others: unzip takes an archive apart, pngcheck reports no fault in an image, and each row
 of each layer that netpbm reads is that of the program's P4 stream."""
 
 import os

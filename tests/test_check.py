@@ -63,8 +63,8 @@ FILES = {
     "crates/task_words/src/lib.rt": LOW,
     "crates/task_words/src/tests.rt": "#[test]\nfn c() {}\n",
     "tools/script": "#!/bin/sh\n",
-    "tests/test_script.sh": "#!/bin/sh\n# tries tools/script\n",
-    "tests/test_other.sh": "#!/bin/sh\n",
+    "tests/test_script.py": "#!/usr/bin/env python3\n# tries tools/script\n",
+    "tests/test_other.py": "#!/usr/bin/env python3\n",
     "Makefile": MAKEFILE,
     ".gitignore": "log\nbuild/\n__pycache__/\nbin/\n",
 }

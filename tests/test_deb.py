@@ -1,6 +1,6 @@
 #!/usr/bin/env python3
-"""The Debian package has program, manual, completions, examples and licence; made twice it is the same bytes; and
-lintian, where it is there, has nothing to say beyond what the package's overrides explain."""
+"""The Debian package has program, manual, completions, examples and licence. Made twice it is the same bytes. lintian, if
+it is there, reports no fault in it beyond what the package's overrides explain."""
 
 import glob
 import os

@@ -1,7 +1,7 @@
 #!/usr/bin/env python3
-"""The demo from a fresh clone: where no program is built, the sources, run unproved with checks, give what the built
-program gives. It builds nothing that stays, and takes about a minute. Where the toolchain's `rt try` can't run even an
-empty program here, or takes more than four minutes for the demo, this test can't tell, and says so."""
+"""The demo from a fresh clone: if no program is built, the sources, run unproved with checks, give what the built program
+gives. It builds nothing that stays, and takes about a minute. If the toolchain's `rt try` can't run even an empty program
+here, or takes more than four minutes for the demo, this test can't tell, and says so."""
 
 import os
 import resource

@@ -1,7 +1,7 @@
 #!/usr/bin/env python3
-"""make dist gives the same bytes at another time, in another place and under another umask; the program in the
-tarball has the SHA-256 that stands beside it, and runs. Where the library is built it is there too, with its header, and
-pkg-config finds both wherever the tarball is unpacked; where it isn't, make dist says so."""
+"""make dist gives the same bytes at another time, in another place and under another umask. The program in the tarball has
+the SHA-256 that stands beside it, and runs. The library, if it is built, is there too, with its header, and pkg-config
+finds both wherever the tarball is unpacked. If it isn't built, make dist says so."""
 
 import glob
 import hashlib

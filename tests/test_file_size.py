@@ -1,5 +1,5 @@
 #!/usr/bin/env -S python3 -B
-"""A limit of the size of files (`ulimit -f`): it ends the program by its signal, as it ends any other; where the signal is
+"""A limit of the size of files (`ulimit -f`) ends the program by its signal, as it ends any other. If the signal is
 ignored, the write fails, and the line counts the bytes that went out."""
 
 import os

@@ -67,7 +67,7 @@ def main():
                 if name.startswith("test_"):
                     os.remove(room.file("tests", name))
             for k, ends in enumerate(tests):
-                put(room.file("tests", f"test_{k}.sh"), f"#!/bin/sh\necho this is test {k}\nexit {ends}\n")
+                put(room.file("tests", f"test_{k}.py"), f"#!/usr/bin/env python3\nprint('this is test {k}')\nexit({ends})\n")
             put(room.file("tools", "edits.py"), EDITS.format(other=other, hole=hole, alone=alone, seen=seen, said=said))
             put(room.file("Makefile"), f"library:\n\t{library}\nweb:\n")
             put(room.file("bin", "rt"), RT.format(builds=builds, last=last, status=status))
@@ -83,7 +83,7 @@ def main():
         with open(room.file("build", "gate.txt")) as file:
             same("they are kept", file.read().partition("minutes")[2].splitlines(), times[:-1])
         same("a skipped test is named", gate(BUILDS, well, 0, [0, 77], lines=2),
-             ("skipped: test_1.sh: this is test 1\n16 passed, 0 failed", 0))
+             ("skipped: test_1.py: this is test 1\n16 passed, 0 failed", 0))
         same("a failed test", gate(BUILDS, well, 0, [0, 3]), ("16 passed, 1 failed", 1))
         same("no test that ran", gate(BUILDS, well, 0, [77]), ("15 passed, 1 failed", 1))
         same("a failed proof", gate(BUILDS, "11 passed, 1 failed", 1, [0, 0]), ("16 passed, 1 failed", 1))

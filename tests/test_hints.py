@@ -1,5 +1,5 @@
 #!/usr/bin/env python3
-"""A line says what to write in place of words that are refused, and that a part is awaited where a terminal is the input."""
+"""A line says what to write in place of words that are refused, and that a part is awaited if a terminal is the input."""
 
 import os
 import pty

@@ -1,7 +1,7 @@
 #!/usr/bin/env -S python3 -B
 """Laws of a slicer, each tried once with bundled parts: slabs joined are the whole; a part and its grid moved together,
 facets in another order, and facets turned over give the same images; the rays of two parts together add, and so do
-their areas where they share no voxel; and a box holds the centres on its near faces, and none on its far ones."""
+their areas if they share no voxel; and a box holds the centres on its near faces, and none on its far ones."""
 
 import random
 import re

@@ -1,6 +1,6 @@
 #!/usr/bin/env python3
-"""Where the library is built, it answers in C, C++ and Python what the program answers (library/test), in no more memory than
-docs/embedding.md tells; and library/build makes the same bytes of the same proved library in any folder."""
+"""The library, if it is built, answers in C, C++ and Python what the program answers (library/test), in no more memory than
+docs/embedding.md says. library/build makes the same bytes of the same proved library in any folder."""
 
 import os
 import re
@@ -20,7 +20,7 @@ with open(sys.argv[2], "rb") as file:
 
 
 def memory(room):
-    """Meshes of several sizes, opened from a text and from arrays, keep and take at most what the document tells."""
+    """Meshes of several sizes, opened from a text and from arrays, keep and take at most what the document says."""
     told = re.search(r"at most (\d+) bytes a facet, .* takes up to (\d+) bytes a facet, and a mebibyte", text_of("docs/embedding.md"))
     most, peak = map(int, told.groups())
     paths = {"PYTHONPATH": f"{ROOT}/bench:{ROOT}/python", "PYTHONDONTWRITEBYTECODE": "1", "STLSLICE_LIBRARY": library()}

@@ -1,7 +1,7 @@
 #!/usr/bin/env python3
 """The library's two Debian packages, one for programs that use it and one to build these with, have header, libraries,
-stlslice.pc and licence in Debian's places, each file in one of them; made twice they are the same bytes; a program is built with
-what both unpack; and lintian, where it is there, has nothing to say beyond what the packages' overrides explain."""
+stlslice.pc and licence in Debian's places, each file in one of them. Made twice they are the same bytes. A program is built with
+what both unpack. lintian, if it is there, reports no fault in them beyond what the packages' overrides explain."""
 
 import os
 import re

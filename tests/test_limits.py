@@ -150,8 +150,8 @@ def plain(text):
 
 
 def said():
-    """How each constant of the sources is reckoned, by its crate and name; but for those of tests, and for names that a crate
-    has twice."""
+    """How each constant of the sources is computed, by its crate and name, except those of tests, and names that a crate has
+    twice."""
     found, many = {}, set()
     paths = glob.glob(f"{ROOT}/crates/*/src/**/*.rt", recursive=True)
     for path in (it for it in paths if not re.search(r"_tests/src/|/tests(/|\.rt$)", it)):

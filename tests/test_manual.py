@@ -1,5 +1,5 @@
 #!/usr/bin/env python3
-"""mandoc has nothing to say of the manuals, and shows the program's with each heading; their examples run as they are shown."""
+"""mandoc reports no fault in the manuals, and shows the program's with each heading. Their examples run as they are shown."""
 
 import glob
 import os
@@ -12,8 +12,8 @@ HEADINGS = ["NAME", "SYNOPSIS", "DESCRIPTION", "EXIT STATUS", "EXAMPLES", "DIAGN
 
 
 def examples(shown):
-    """The examples as a reader pastes them: what a terminal of 80 columns shows behind a prompt, with the lines that go
-    on behind a backslash."""
+    """The examples as a reader pastes them: what a terminal of 80 columns shows after a prompt, with the lines that go
+    on after a backslash."""
     part = re.split(r"\n[A-Z]", shown.split("\nEXAMPLES\n")[1])[0]
     return re.findall(r"(?m)^ +\$ ((?:.*\\\n)*.*)$", part)
 

@@ -1,5 +1,5 @@
 #!/usr/bin/env python3
-"""A program whose own path is no UTF-8 runs; a word behind its name that is none is refused with one line."""
+"""A program whose own path is no UTF-8 runs. A word after its name that is no UTF-8 is refused with one line."""
 
 import os
 import shutil

@@ -36,7 +36,7 @@ def run_by_packets(words, parts):
             for packet in parts:
                 same(os.write(sink, packet), len(packet), "the bytes of a packet that were taken")
         except BrokenPipeError:
-            pass  # the answer tells that the program ended early
+            pass  # the answer says that the program ended early
         finally:
             os.close(sink)
 

@@ -209,7 +209,7 @@ def binary_stl_is_read(program, folder):
 
 
 def other_formats_are_told(program, folder):
-    """Each is refused with a command; where its tool is here, that is run, and its STL gives the part's images."""
+    """Each is refused with a command. If its tool is here, that is run, and its STL gives the part's images."""
     env = environment(program, folder)
     corners = sorted({corner for facet in SHAPE[:12] for corner in facet})
     faces = [[corners.index(corner) for corner in facet] for facet in SHAPE[:12]]
@@ -400,7 +400,7 @@ def too_many_facets_are_told(program, folder):
 
 
 def shown_on_a_terminal(words, stopped_at=None):
-    """Status and standard output of a run, and what is shown on the terminal that is its standard error. It is stopped where
+    """Status and standard output of a run, and what is shown on the terminal that is its standard error. It is stopped when
     these bytes have been shown."""
     ours, theirs = pty.openpty()
     child = subprocess.Popen(words, stdout=subprocess.PIPE, stderr=theirs)

@@ -109,7 +109,7 @@ def pngs_are_joined(program, folder):
                     join_and_compare(some, columns, rows, rule, depth)
     finally:
         images.BLOCK = kept
-    # one that alone is lit is taken as it is, and so is one where all are dark
+    # one that alone is lit is taken as it is, and so is one if all are dark
     dark, lit = (png_of_p4((64, 9, rows_of(kind, 64, 9, draw)), 8) for kind in ("dark", "lit"))
     for pngs, areas, wanted in (([dark, lit], [0, 576], (lit, 576)), ([dark, dark], [0, 0], (dark, 0))):
         same(images.joined(pngs, areas, "evenodd"), wanted, "one that alone is lit")
@@ -398,7 +398,7 @@ def printers_are_those_of_prusaslicer(program, folder):
         return leave_out("the table of printers beside PrusaSlicer's profiles", ["prusa-slicer"])
     with open(PROFILES, encoding="utf-8") as file:
         text_of_profiles = file.read()
-    # what PrusaSlicer takes where a profile is silent
+    # what PrusaSlicer takes if a profile is silent
     usual = {"display_mirror_x": "1", "display_mirror_y": "0", "fast_tilt_time": "5", "slow_tilt_time": "8", "area_fill": "50"}
     for model, it in known.items():
         name = re.search(r"\[printer:([^\]]+)\]", it.source)[1]

@@ -1,6 +1,6 @@
 #!/usr/bin/env python3
-"""The options of stlslice-sl1, stlslice-pngs and stlslice-slabs are the same in --help, the manuals and the completions; so are
-the printers, rules and units; and what the shells complete is tried where they are here."""
+"""The options of stlslice-sl1, stlslice-pngs and stlslice-slabs are the same in --help, the manuals and the completions. So
+are the printers, rules and units. What the shells complete is tried if they are here."""
 
 import os
 import re

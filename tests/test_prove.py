@@ -1,8 +1,8 @@
 #!/usr/bin/env python3
-"""What make does before rt run: libraries side by side, each behind those that it depends on, and those beside the longest
-chain at a lower priority with half of the processors, but for one whose chain is nearly as long; all of them from nothing
-but where work is kept; an end with status 1 where one isn't proved or the quick pass has something to mend; and nothing at
-all where the toolchain's library is another than expected. It is tried with a library that stands in for the toolchain's."""
+"""What make does before rt run. It proves libraries side by side, each after those that it depends on. Those beside the
+longest chain have a lower priority and half of the processors, except one whose chain is nearly as long. A library is proved
+from nothing if none of its work is kept. The status is 1 if one isn't proved, or if the quick pass has something to mend.
+Nothing is done if the toolchain's library is another than expected. A library that stands in for it is used here."""
 
 import os
 import sys

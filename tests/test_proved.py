@@ -1,6 +1,6 @@
 #!/usr/bin/env python3
 """Each call, clause and definition that docs/PROVED.md, README and docs/embedding.md name is one of the sources, and the clauses
-that they name for a law or a call are clauses of it. A clause that they name in brackets is told of a call."""
+that they name for a law or a call are clauses of it. A clause that they name in brackets is given for a call."""
 
 import glob
 import os

@@ -1,5 +1,5 @@
 #!/usr/bin/env python3
-"""docs/proving.md: the answer that it shows is the one in the source, and the goal's function, lemma and clause are there. Where
+"""docs/proving.md: the answer that it shows is the one in the source, and the goal's function, lemma and clause are there. If
 Vim or Emacs is there, what the page puts into its settings types the signs."""
 
 import re

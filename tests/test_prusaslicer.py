@@ -1,5 +1,5 @@
 #!/usr/bin/env -S python3 -B
-"""stlslice-sl1, as installed, beside PrusaSlicer, where that is there: the images of a printer known by name, and of other screens,
+"""stlslice-sl1, as installed, beside PrusaSlicer, if that is there: the images of a printer known by name, and of other screens,
 have the same pixels; each line of prusaslicer.ini is one that PrusaSlicer writes too, and PrusaSlicer reads it back. And the
 script that compares both makes the table of docs/printing.md."""
 

@@ -78,8 +78,8 @@ def batch_of_tasks_is_the_whole(program, folder):
 
 
 def batch_system_runs_tasks(program, folder):
-    """By Slurm's sbatch where it is there: the slabs joined are the whole, also after one task was lost and ran again. Of a
-    part that is open each task fails, which sbatch tells by the program's status and the logs by its line."""
+    """By Slurm's sbatch if it is there: the slabs joined are the whole, also after one task was lost and ran again. Each task
+    of an open part fails: sbatch ends with the program's status, and the logs have its line."""
     env = batch_system(program, folder)
     here, slabs = os.path.join(folder, "a job"), os.path.join(folder, "a job", "its slabs")
     os.makedirs(slabs)

@@ -1,6 +1,6 @@
 #!/usr/bin/env python3
-"""tools/slow_proofs.py: of a check that is kept it names what took longest, the longest first, with the seconds of its parts; it
-says where no check is kept, and then ends with status 1."""
+"""tools/slow_proofs.py names what took longest in a check that is kept, the longest first, with the seconds of its parts. It
+says so and ends with status 1 if no check is kept."""
 
 import os
 import sys

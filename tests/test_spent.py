@@ -1,6 +1,6 @@
 #!/usr/bin/env python3
-"""tools/spent.py: a check of the prover below this process is told with its part, crate and seconds, another process isn't; and
-the table has the parts and what took longest."""
+"""tools/spent.py: a check of the prover below this process is given with its part, crate and seconds. Another process isn't.
+The table has the parts and what took longest."""
 
 import os
 import subprocess

@@ -1,6 +1,6 @@
 #!/usr/bin/env python3
-"""Without the toolchain make, make test, make demo, make library and make wheel say so in one line; and the built program
-needs nothing but the C library, of the version that this line tells at most."""
+"""Without the toolchain make, make test, make demo, make library and make wheel say so in one line. The built program needs
+nothing but the C library, of at most the version that this line gives."""
 
 import os
 import re

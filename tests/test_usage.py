@@ -23,8 +23,8 @@ def statuses(room, usage):
 
 
 def canvas(room, usage):
-    """The canvas that the page shows is the one that the recipe of docs/printing.md reckons for examples/bracket.stl: it holds
-    the part in its middle, whole."""
+    """The canvas that the page shows is the one that the recipe of docs/printing.md computes for examples/bracket.stl: it
+    holds the part in its middle, whole."""
     section = usage.split("## Units, pitch, canvas")[1].split("\n## ")[0]
     grid = re.search(r"`--grid=([-\d,]+)`", section)[1]
     holds("the recipe gives that canvas", f"\n{grid}\n" in text_of("docs/printing.md"))

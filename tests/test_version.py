@@ -1,7 +1,7 @@
 #!/usr/bin/env python3
-"""--version tells the version that stands in the source, and what the program was proved with: the toolchain that is
-here, by the name that the documents tell too. CHANGELOG.md tells of that version, and make takes it from there. The
-library tells it too, by its call and in stlslice.pc, and so does the wheel, where they are built."""
+"""--version gives the version that stands in the source, and what the program was proved with: the toolchain that is
+here, by the name that the documents give too. CHANGELOG.md has that version, and make takes it from the source. The
+library gives it too, by its call and in stlslice.pc, and so does the wheel, if they are built."""
 
 import ctypes
 import os
@@ -14,13 +14,13 @@ from common import LIBRARY, ROOT, Room, ended, holds, leave_out, same, text_of, 
 
 
 def number_of(text):
-    """A version as the library tells it: 1000000 for 1.0.0."""
+    """A version as the library gives it: 1000000 for 1.0.0."""
     major, minor, patch = map(int, text.split("."))
     return major * 1000000 + minor * 1000 + patch
 
 
 def of_library(room):
-    """The version that the built library, its stlslice.pc and a wheel made of it tell."""
+    """The version that the built library, its stlslice.pc and a wheel made of it give."""
     built = os.path.join(ROOT, LIBRARY)
     library = ctypes.CDLL(built)
     library.stlslice_version.restype = ctypes.c_uint32

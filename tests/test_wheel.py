@@ -1,7 +1,7 @@
 #!/usr/bin/env python3
-"""The wheel has module, library and licence, with the hashes that it tells; made twice it is the same bytes; and pip installs
-it, without a network, into an environment of its own, where the module answers the program's images and faults. Where numpy
-is there, the lines of README and of docs/embedding.md run in it too."""
+"""The wheel has module, library and licence, with the hashes that it gives. Made twice it is the same bytes. pip installs it,
+without a network, into an environment of its own, where the module answers the program's images and faults. If numpy is
+there, the lines of README and of docs/embedding.md run in it too."""
 
 import base64
 import csv
@@ -72,7 +72,7 @@ def used(room, python):
 
 
 def from_tree(room):
-    """The module of the tree takes the library that a variable names, and says what is missing where there is none."""
+    """The module of the tree takes the library that a variable names, and says what is missing if there is none."""
     told = room.environment["PYTHONPATH"] = os.path.join(ROOT, "python")
     for named, wanted in ((library(), (0, f"{version()}\n", "")), (room.file("none"), (1, "", "ImportError"))):
         ran = room.run(sys.executable, "-B", "-c", "import stlslice; print(stlslice.version())",

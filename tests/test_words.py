@@ -131,7 +131,7 @@ def main():
 
 
 def try_values(room):
-    """The program itself takes the values that are told, and none beside them: of an empty input it says status 3."""
+    """The program itself takes the values that are given, and none beside them. An empty input then gives status 3."""
     taken = {"--rule": ["evenodd", "nonzero", "positive"], "--unit": ["mm", "inch"], "--workers": ["1", "64"],
              "--pitch": ["1", "100000"], "--layer": ["1", "100000"], "--probe": ["0,0,0"],
              "--grid": ["16384,16384,65535,-128000000,-128000000,128000000"], "--depth": ["8", "1"]}
@@ -145,7 +145,7 @@ def try_values(room):
 
 
 def limits(said):
-    """The limits that --help tells of its numbers, by word."""
+    """The limits that --help gives for its numbers, by word."""
     return {name: tuple(map(int, re.search(r"(\d+) to (\d+)", said[name]).groups()))
             for name in ("--pitch", "--layer", "--workers")}
 

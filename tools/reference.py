@@ -49,7 +49,7 @@ class Names:
         return entry.path.split("/specs/")[1][:-len(".antt")].replace("/", ".")
 
     def imported(self, scope, word, rest=""):
-        """What a `use` line gives a name to: an entry, or None for what is not of these crates. `rest` is what stands behind
+        """What a `use` line gives a name to: an entry, or None for what is not of these crates. `rest` is what follows
         the point after the name of a whole module."""
         path, there = scope[word]
         parts = path.split(".")

@@ -17,7 +17,7 @@ class Refused(Exception):
 
 
 def say(line):
-    """Writes a line on standard error, behind the command's name."""
+    """Writes a line on standard error, after the command's name."""
     Progress.clear()
     print(f"{os.path.basename(sys.argv[0])}: {line}", file=sys.stderr, flush=True)
 

@@ -74,7 +74,7 @@ def moment():
 
 
 def fill(archive, sliced, job, now):
-    """Writes a PNG for each layer, and behind them the settings and the profile."""
+    """Writes a PNG for each layer, and after them the settings and the profile."""
 
     def entry(name, body):
         head = zipfile.ZipInfo(name, min(max(now[:6], (1980, 1, 1, 0, 0, 0)), LATEST))

@@ -157,7 +157,7 @@ def reads(file):
 
 
 def blocks(file):
-    """The text of the file in blocks that end behind a word `endloop`, so that no facet's corners are cut."""
+    """The text of the file in blocks that end after a word `endloop`, so that no facet's corners are cut."""
     rest = b""
     for more in reads(file):
         rest += more

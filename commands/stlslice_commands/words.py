@@ -1,4 +1,4 @@
-"""The options that both commands take."""
+"""The options that `stlslice-sl1` and `stlslice-pngs` take."""
 
 import argparse
 import os
@@ -28,7 +28,7 @@ class Listing(argparse.Action):
 
 
 def parser(description, output):
-    """A parser of the options that both commands take; `output` is what the second word names."""
+    """A parser of the options that `stlslice-sl1` and `stlslice-pngs` take; `output` is what the second word names."""
     made = argparse.ArgumentParser(description=description, allow_abbrev=False)
     add = made.add_argument
     add("part", type=nonempty, help="an STL, ASCII or binary, or - for standard input; another format, zip and gzip are refused "

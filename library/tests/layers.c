@@ -4,9 +4,8 @@
  *
  *     layers FILE ARRAYS PITCH LAYER RULE UNIT [COLUMNS ROWS LAYERS X0 Y0 Z0]
  *
- * ARRAYS has the numbers of points and of triangles, then the points and the triangles, in 4 bytes each; it is - where the text
- * is no facets.
- * The status is that of stlslice_open, and 100 where an answer is another than the header says. */
+ * ARRAYS has the numbers of points and of triangles, then the points and the triangles, in 4 bytes each. It is - if the text
+ * is no facets. The status is that of stlslice_open, and 100 if an answer is another than the header says. */
 #include "stlslice.h"
 
 #include <pthread.h>
@@ -81,7 +80,7 @@ static size_t bits_of(const uint8_t *image, size_t size, const stlslice_shape *s
     return count;
 }
 
-/* the loops of a layer: told, refused where a buffer is one short, and each of 2 points or more */
+/* the loops of a layer: given, refused if a buffer is one short, and each of 2 points or more */
 static void loops_of(stlslice_mesh *mesh, uint32_t k) {
     size_t points = 0, loops = 0, again = 0, more = 0;
     stlslice_status status = stlslice_loops(mesh, k, NULL, 0, &points, NULL, 0, &loops);

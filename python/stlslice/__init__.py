@@ -79,7 +79,7 @@ class RangeFault(Fault, ValueError):
 
 
 class MemoryFault(Fault, MemoryError):
-    """An allocation failed (status 6). A mesh that was asked is as it was before."""
+    """An allocation failed (status 6). The mesh stays as it was."""
 
 
 class ClosedFault(Fault, ValueError):
@@ -391,7 +391,7 @@ class Mesh:
 
     `shape` has the counts of layers, rows and columns. `origin` is the grid's corner of least x, y and z, in micrometres.
     `box` has the number and the box of all facets that were read. Layers count from 0 up, or from the top if k is
-    negative. All calls but `probe` raise `IndexError` if there is no layer k.
+    negative. Calls that take a layer k, except `probe`, raise `IndexError` if there is none.
     """
 
     def __init__(self, opens: Callable[..., int], pitch: int, layer: int, rule: str, grid: Optional[Sequence[int]],
@@ -515,7 +515,7 @@ class Mesh:
         return rays.along_x, rays.along_y
 
     def close(self) -> None:
-        """Frees the mesh. What is asked afterwards raises `ClosedFault`."""
+        """Frees the mesh. Later calls, except `close`, raise `ClosedFault`."""
         with self._lock:
             _lib.stlslice_close(self._handle)
 
