@@ -108,8 +108,8 @@ SPELLED = {
         ("docs/decisions/rounds-and-parts.md", "Each round has {} parts for each worker"),
     ],
     "stlslice::SET_LEN": [
-        ("docs/usage.md", "A set takes {M} MiB"),
-        ("docs/decisions/pages-for-dense-images.md", "A set has {M} MiB (`SET_LEN`)"),
+        ("docs/usage.md", "A set takes at most {M} MiB"),
+        ("docs/decisions/pages-for-dense-images.md", "A set has at most {M} MiB (`SET_LEN`)"),
     ],
     "stlslice::DRAWN_LIMIT": [
         ("docs/usage.md", "An image of more than {M} mebibyte"),

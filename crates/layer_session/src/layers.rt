@@ -1,5 +1,5 @@
 //! What is made of a job's layers: loops, as segments and as points, filled pixels and their number, images and PNGs.
-ghost use Rattle.std.specs.Prelude.{◌≡◌, ◌<◌, All, IfOk, OnOk};
+ghost use Rattle.std.specs.Prelude.{◌≡◌, ◌<◌, [], All, IfOk, OnOk};
 ghost use Rattle.std.specs.Io.KnownBytes.{Appends};
 ghost use Rattle.build_book.specs.Job.{stripe_count};
 ghost use Rattle.build_book.specs.Layer.{layer_segments};
@@ -18,7 +18,7 @@ ghost use Rattle.layer_session.specs.Answers.{image_of, is_white_pixel, png_of_l
 use build_book::{Job, slice_stripe};
 use contour::{Linker, Loops, Outlines, segments};
 use layer_png::{Depth, Mirrors, write_png};
-use raster::{Counted, Grid, Sink, Span, area, fill, write_layer};
+use raster::{Counted, Grid, Sink, Span, area, fill, image_len, write_layer};
 use std::alloc::{AllocError, Allocator};
 
 /// The loops of layer k of a job.
@@ -94,7 +94,7 @@ pub(crate) fn layer_image<A: Allocator + Copy + Send + Sync>(
     ensures { IfOk result (λ image. image.items ≡ image_of job.now k) }
 {
     let spans = layer_spans(alloc, job, k)?;
-    let mut sink = Counted::new(Vec::new(alloc));
+    let mut sink = sink_for(alloc, job.grid(), 1)?;
     put_image(job.grid(), spans.as_slice(), &mut sink)?;
     Ok(sink.into_inner())
 }
@@ -131,12 +131,26 @@ pub(crate) fn stripe_images<A: Allocator + Copy + Send + Sync>(
     requires { s < stripe_count job.now.grid }
     ensures { IfOk result (λ images. images.items ≡ stripe_images job.now s) }
 {
+    let grid = job.grid();
     let piece = slice_stripe(alloc, job, s)?;
-    let mut sink = Counted::new(Vec::new(alloc));
-    for layer in piece.layers() {
-        put_image(job.grid(), layer.spans(), &mut sink)?;
+    let layers = piece.layers();
+    let mut sink = sink_for(alloc, grid, layers.len())?;
+    for layer in layers {
+        put_image(grid, layer.spans(), &mut sink)?;
     }
     Ok(sink.into_inner())
+}
+
+/// A sink in memory, with room for `count` images of this grid.
+fn sink_for<A: Allocator>(
+    alloc: A,
+    grid: &Grid,
+    count: usize,
+) -> Result<Counted<Vec<u8, A>>, AllocError>
+    ensures { IfOk result (λ sink. sink.device.items ≡ []) }
+{
+    let room = image_len(grid).saturating_mul(count as u64);
+    Ok(Counted::new(Vec::with_capacity(alloc, room as usize)?))
 }
 
 /// Puts the image of the pixels in these spans after what a sink in memory has.

@@ -13,7 +13,8 @@
 //!   box of the mesh, or the two rays of a voxel.
 //! - [`RunFault`]: why a run wrote nothing, or not all. Its `Display` is the line on standard error, and its `status` the exit
 //!   status.
-//! - [`run_watched`]: does a task, and tells a [`Gate`] of each [`Piece`], the layers of a stripe, as it is made.
+//! - [`run_watched`]: does a task, and tells a [`Gate`] which stripe a worker begins, and which [`Piece`], the layers of that
+//!   stripe, it has made.
 //! - [`Source`], [`Sink`]: the devices that a run reads and writes. A call of them that fails returns [`Failed`], and
 //!   [`Failures`] counts those. [`Counted`] makes a device of any reader or writer.
 //! - [`image_len`]: the length of the image of a layer, in bytes.

@@ -60,7 +60,8 @@ pub fn run<R: Threads + Wait + Sync, A: Allocator + Copy + Send + Sync, I: Sourc
     run_watched(rt, alloc, task, source, sink, &OpenGate)
 }
 
-/// The same as [`run`], and tells a gate of the workers that slice. What a run returns is the same for every gate.
+/// The same as [`run`], with the same promise for every gate. The gate is told what the workers that slice do; no clause says
+/// when. A box and a probe never call it.
 pub fn run_watched<
     R: Threads + Wait + Sync,
     A: Allocator + Copy + Send + Sync,

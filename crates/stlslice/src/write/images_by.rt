@@ -31,6 +31,7 @@ pub(crate) fn write_images_by<R: Threads + Sync, A: Allocator + Copy + Send + Sy
         (transcript_of O.contents O.Failures.failure_count sink.old sink.new)
         (O.is_settled sink.new) (images_of build.now.job) }
 {
+    let workers = drawers(build.job().grid(), workers);
     let per = drawn_a_page(build, workers);
     if per == 0 {
         write_images(build, sink)
@@ -75,6 +76,12 @@ fn write_drawn_images<R: Threads + Sync, A: Allocator + Copy + Send + Sync, O: S
         Ok((drawn, free)) => write_by_pages(rt, &Images { build, per }, drawn, free, sink),
         Err(_) => write_images(build, sink),
     }
+}
+
+/// The number of workers that may draw at the same time: not more than a set has room for images of this grid.
+fn drawers(grid: &Grid, workers: u32) -> u32 {
+    let images = SET_LEN as u64 / image_len(grid).max(1);
+    u64::from(workers).min(images) as u32
 }
 
 /// The number of images of this grid that a page has, if a set has a page for each of these workers. It is 0 if an image is too

@@ -14,7 +14,7 @@ use std::alloc::Allocator;
 use std::mem::swap;
 use std::thread::{Threads, for_each_mut, join_mut};
 
-/// The greatest number of bytes of images in a set of pages, unless one image a page takes more.
+/// The greatest number of bytes of a set of pages.
 pub(crate) const SET_LEN: usize = 1 << 24;
 
 /// If a row has more spans than this on average, drawing images takes longer than writing them.

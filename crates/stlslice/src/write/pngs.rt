@@ -1,5 +1,5 @@
 //! The output of `--png`: the PNGs of all layers, one after the other.
-ghost use Rattle.std.specs.Prelude.{◌≡◌, ◌≤◌, ◌+◌, ◌++◌, length, max, vec_capacity, vec_len};
+ghost use Rattle.std.specs.Prelude.{◌≡◌, ◌≤◌, ◌+◌, ◌++◌, length, vec_capacity, vec_len};
 ghost use Rattle.layer_png.specs.Depth.{bits};
 ghost use Rattle.layer_png.specs.Layer.{shown};
 ghost use Rattle.layer_png.specs.Text.{most_png_bytes, png_text};
@@ -42,18 +42,11 @@ pub(crate) fn room_for_png<A: Allocator>(build: &Build<'_, A>, depth: Depth) -> 
     ensures { HasPngRoom build.now.job.grid depth build.now.layers result }
 {
     let grid = build.job().grid();
-    let mut room = 0;
+    let mut room: u64 = 0;
     for layer in build.layers() {
-        room = greater(room, most_png_bytes(grid, layer.spans().len(), depth));
+        room = room.max(most_png_bytes(grid, layer.spans().len(), depth));
     }
     room as usize
-}
-
-/// The greater of two counts.
-fn greater(a: u64, b: u64) -> u64
-    ensures { result ≡ max a b }
-{
-    if a < b { b } else { a }
 }
 
 /// Writes the PNGs of all layers of a build, each made in a buffer that it fits. Returns the number of bytes written.
