@@ -1,5 +1,5 @@
 //! Pages that raw PBM images of several layers are drawn into.
-ghost use Rattle.std.specs.Prelude.{◌≡◌, ◌<◌, ◌*◌, [], All, IfOk, vec_len};
+ghost use Rattle.std.specs.Prelude.{◌≡◌, ◌<◌, ◌*◌, [], IfOk};
 ghost use Rattle.stlslice.specs.Pages.{image_size};
 
 use crate::write::pages::Drawing;
@@ -10,6 +10,7 @@ use std::alloc::{AllocError, Allocator};
 /// The images of a build, of which `per` are drawn into a page.
 #[derive(Drop)]
 pub(crate) struct Images<'a, 'b, A: Allocator> {
+    pub(crate) alloc: A,
     pub(crate) build: &'a Build<'b, A>,
     pub(crate) per: usize,
     ghost some: { 0 < per },
@@ -40,6 +41,10 @@ impl<'a, 'b, A: Allocator + Copy + Send + Sync> Drawing<Page<A>> for Images<'a, 
         self.per
     }
 
+    fn page(&self) -> Result<Page<A>, AllocError> {
+        blank_page(self.alloc, self.build.job().grid(), self.per)
+    }
+
     fn draw(&self, start: usize, end: usize, page: &mut Page<A>) {
         let grid = self.build.job().grid();
         let layers = self.build.layers();
@@ -52,44 +57,6 @@ impl<'a, 'b, A: Allocator + Copy + Send + Sync> Drawing<Page<A>> for Images<'a, 
     fn bytes(page: &Page<A>) -> &[u8] {
         page.bytes()
     }
-}
-
-/// Two sets of `count` pages without images. Exactly `per` images of this grid fit each page.
-pub(crate) fn page_sets<A: Allocator + Copy>(
-    alloc: A,
-    grid: &Grid,
-    per: usize,
-    count: usize,
-) -> Result<(Vec<Page<A>, A>, Vec<Page<A>, A>), AllocError>
-    ensures count_drawn { IfOk result (λ sets. vec_len sets.0 ≡ count) }
-    ensures count_free { IfOk result (λ sets. vec_len sets.1 ≡ count) }
-    ensures blank_drawn { IfOk result (λ sets. All (λ page. page.bytes ≡ []) sets.0.items) }
-    ensures blank_free { IfOk result (λ sets. All (λ page. page.bytes ≡ []) sets.1.items) }
-    ensures room_drawn { IfOk result (λ sets. All (λ page. page.room ≡ per * image_size grid.now) sets.0.items) }
-    ensures room_free { IfOk result (λ sets. All (λ page. page.room ≡ per * image_size grid.now) sets.1.items) }
-{
-    let drawn = blank_pages(alloc, grid, per, count)?;
-    let free = blank_pages(alloc, grid, per, count)?;
-    Ok((drawn, free))
-}
-
-/// Pages without images. Exactly `per` images of this grid fit each.
-fn blank_pages<A: Allocator + Copy>(
-    alloc: A,
-    grid: &Grid,
-    per: usize,
-    count: usize,
-) -> Result<Vec<Page<A>, A>, AllocError>
-    ensures count { IfOk result (λ pages. vec_len pages ≡ count) }
-    ensures blank { IfOk result (λ pages. All (λ page. page.bytes ≡ []) pages.items) }
-    ensures room { IfOk result (λ pages. All (λ page. page.room ≡ per * image_size grid.now) pages.items) }
-{
-    let mut pages = Vec::with_capacity(alloc, count)?;
-    for _ in 0..count {
-        let page = blank_page(alloc, grid, per)?;
-        pages.push(page)?;
-    }
-    Ok(pages)
 }
 
 /// A page without images. Exactly `per` images of this grid fit it.

@@ -5,9 +5,9 @@ ghost use Rattle.stlslice.specs.Pages.{images_of};
 ghost use Rattle.stlslice.specs.Unwritten.{IsWritten};
 
 use crate::run_fault::RunFault;
-use crate::write::image_pages::{Images, page_sets};
+use crate::write::image_pages::Images;
 use crate::write::images::write_images;
-use crate::write::pages::{SET_LEN, has_many_spans, write_by_pages};
+use crate::write::pages::{SET_LEN, has_many_spans, page_sets, write_by_pages};
 use build_book::Build;
 use devices::Sink;
 use raster::{Grid, image_len};
@@ -72,8 +72,9 @@ fn write_drawn_images<R: Threads + Sync, A: Allocator + Copy + Send + Sync, O: S
         .div_ceil(per)
         .min(workers as usize)
         .max(1);
-    match page_sets(alloc, build.job().grid(), per, pages) {
-        Ok((drawn, free)) => write_by_pages(rt, &Images { build, per }, drawn, free, sink),
+    let images = Images { alloc, build, per };
+    match page_sets(alloc, &images, pages) {
+        Ok((drawn, free)) => write_by_pages(rt, &images, drawn, free, sink),
         Err(_) => write_images(build, sink),
     }
 }

@@ -1,5 +1,5 @@
 //! Images of several layers that are drawn at the same time, while those drawn before are written in order.
-ghost use Rattle.std.specs.Prelude.{◌≡◌, ◌<◌, ◌≤◌, ◌+◌, ◌*◌, ℕ, All, List, flat_map, length, min, vec_len};
+ghost use Rattle.std.specs.Prelude.{◌≡◌, ◌<◌, ◌≤◌, ◌+◌, ◌*◌, ℕ, [], All, IfOk, List, flat_map, length, min, vec_len};
 ghost use Rattle.devices.specs.Transcript.{transcript_of};
 ghost use Rattle.devices.specs.Devices.{greatest_count};
 ghost use Rattle.stlslice.specs.Pages.{ArePageSets, all_images, images_between};
@@ -10,7 +10,7 @@ use crate::run_fault::RunFault;
 use crate::write::flush::{put_more, settle};
 use build_book::Build;
 use devices::{Sink, WriteFault};
-use std::alloc::Allocator;
+use std::alloc::{AllocError, Allocator};
 use std::mem::swap;
 use std::thread::{Threads, for_each_mut, join_mut};
 
@@ -48,6 +48,11 @@ pub(crate) trait Drawing<P> {
         ensures value { result ≡ per self.now }
         ensures some { 0 < per self.now };
 
+    /// A page without images. The images of any `per` layers fit it.
+    fn page(&self) -> Result<P, AllocError>
+        ensures blank { IfOk result (λ page. bytes page ≡ []) }
+        ensures room { IfOk result (λ page. fits self.now page) };
+
     /// Draws the images of the layers from `start` up to, but not including, `end`, in place of those that the page has.
     fn draw(&self, start: usize, end: usize, page: &mut P)
         requires order { start ≤ end }
@@ -60,6 +65,39 @@ pub(crate) trait Drawing<P> {
     /// The bytes of a page's images.
     fn bytes(page: &P) -> &[u8]
         ensures { result.now ≡ bytes page.now };
+}
+
+/// Two sets of `count` pages without images, which any images fit.
+pub(crate) fn page_sets<P: Drop, D: Drawing<P>, A: Allocator + Copy>(
+    alloc: A,
+    drawing: &D,
+    count: usize,
+) -> Result<(Vec<P, A>, Vec<P, A>), AllocError>
+    ensures count_drawn { IfOk result (λ sets. vec_len sets.0 ≡ count) }
+    ensures count_free { IfOk result (λ sets. vec_len sets.1 ≡ count) }
+    ensures sets { IfOk result (λ sets. ArePageSets D.bytes (D.fits drawing.now) sets.0.items sets.1.items) }
+{
+    let drawn = blank_pages(alloc, drawing, count)?;
+    let free = blank_pages(alloc, drawing, count)?;
+    Ok((drawn, free))
+}
+
+/// Pages without images, which any images fit.
+fn blank_pages<P: Drop, D: Drawing<P>, A: Allocator + Copy>(
+    alloc: A,
+    drawing: &D,
+    count: usize,
+) -> Result<Vec<P, A>, AllocError>
+    ensures count { IfOk result (λ pages. vec_len pages ≡ count) }
+    ensures blank { IfOk result (λ pages. All (λ page. D.bytes page ≡ []) pages.items) }
+    ensures room { IfOk result (λ pages. All (D.fits drawing.now) pages.items) }
+{
+    let mut pages = Vec::with_capacity(alloc, count)?;
+    for _ in 0..count {
+        let page = drawing.page()?;
+        pages.push(page)?;
+    }
+    Ok(pages)
 }
 
 /// Writes the images of all layers, drawn into two sets of pages as [`put_by_pages`] does, and flushes them.

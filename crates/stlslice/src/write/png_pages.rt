@@ -1,5 +1,5 @@
 //! Pages that PNGs of several layers are made in.
-ghost use Rattle.std.specs.Prelude.{◌≡◌, ◌<◌, ◌≤◌, ◌+◌, ◌*◌, [], All, IfOk, vec_capacity, vec_len};
+ghost use Rattle.std.specs.Prelude.{◌≡◌, ◌<◌, ◌≤◌, ◌+◌, ◌*◌, [], IfOk, vec_capacity};
 ghost use Rattle.stlslice.specs.Pages.{images_between};
 ghost use Rattle.stlslice.specs.Pngs.{HasPngRoom};
 ghost use Rattle.layer_png.specs.Text.{layer_png};
@@ -21,6 +21,7 @@ pub(crate) struct Pngs<'a, 'b, A: Allocator> {
     pub(crate) room: usize,
     pub(crate) per: usize,
     ghost some: { 0 < per },
+    ghost each: { HasPngRoom build.now.job.grid depth build.now.layers room },
 }
 
 impl<'a, 'b, A: Allocator> Pngs<'a, 'b, A> {
@@ -30,7 +31,6 @@ impl<'a, 'b, A: Allocator> Pngs<'a, 'b, A> {
         requires order { start ≤ end }
         requires within { end ≤ self.now.build.now.job.grid.layers }
         requires few { end ≤ start + self.now.per }
-        requires each { HasPngRoom self.now.build.now.job.grid self.now.depth self.now.build.now.layers self.now.room }
         requires room { self.now.per * self.now.room ≤ vec_capacity bytes }
         ensures text { result.items ≡ images_between (layer_png self.now.build.now.job.grid self.now.build.now.job.rule
             self.now.build.now.job.solid.facets self.now.depth self.now.mirrors) start end }
@@ -48,7 +48,6 @@ impl<'a, 'b, A: Allocator> Pngs<'a, 'b, A> {
 
 impl<'a, 'b, A: Allocator + Copy + Send + Sync> Drawing<Vec<u8, A>> for Pngs<'a, 'b, A> {
     ghost use Rattle.std.specs.Prelude.{◌≤◌, ◌*◌, vec_capacity};
-    ghost use Rattle.stlslice.specs.Pngs.{HasPngRoom};
     ghost use Rattle.layer_png.specs.Text.{layer_png};
 
     ghost layers = { λ it. it.build.now.job.grid.layers };
@@ -59,7 +58,7 @@ impl<'a, 'b, A: Allocator + Copy + Send + Sync> Drawing<Vec<u8, A>> for Pngs<'a,
 
     ghost bytes = { λ page. page.items };
 
-    ghost fits = { λ it page. HasPngRoom it.build.now.job.grid it.depth it.build.now.layers it.room × (it.per * it.room ≤ vec_capacity page) };
+    ghost fits = { λ it page. it.per * it.room ≤ vec_capacity page };
 
     fn layers(&self) -> usize {
         // the limits bound the count of the bytes
@@ -69,6 +68,10 @@ impl<'a, 'b, A: Allocator + Copy + Send + Sync> Drawing<Vec<u8, A>> for Pngs<'a,
 
     fn per(&self) -> usize {
         self.per
+    }
+
+    fn page(&self) -> Result<Vec<u8, A>, AllocError> {
+        empty_page(self.alloc, self.room, self.per)
     }
 
     fn draw(&self, start: usize, end: usize, page: &mut Vec<u8, A>) {
@@ -81,45 +84,8 @@ impl<'a, 'b, A: Allocator + Copy + Send + Sync> Drawing<Vec<u8, A>> for Pngs<'a,
     }
 }
 
-/// Two sets of `count` empty pages. At least `per` PNGs of `room` bytes fit each page.
-pub(crate) fn buffer_sets<A: Allocator + Copy>(
-    alloc: A,
-    room: usize,
-    per: usize,
-    count: usize,
-) -> Result<(Vec<Vec<u8, A>, A>, Vec<Vec<u8, A>, A>), AllocError>
-    ensures count_drawn { IfOk result (λ sets. vec_len sets.0 ≡ count) }
-    ensures count_free { IfOk result (λ sets. vec_len sets.1 ≡ count) }
-    ensures blank { IfOk result (λ sets. All (λ page. page.items ≡ []) sets.0.items) }
-    ensures room_drawn { IfOk result (λ sets. All (λ page. per * room ≤ vec_capacity page) sets.0.items) }
-    ensures room_free { IfOk result (λ sets. All (λ page. per * room ≤ vec_capacity page) sets.1.items) }
-{
-    let drawn = buffers(alloc, room, per, count)?;
-    let free = buffers(alloc, room, per, count)?;
-    Ok((drawn, free))
-}
-
-/// Empty pages. At least `per` PNGs of `room` bytes fit each.
-fn buffers<A: Allocator + Copy>(
-    alloc: A,
-    room: usize,
-    per: usize,
-    count: usize,
-) -> Result<Vec<Vec<u8, A>, A>, AllocError>
-    ensures count { IfOk result (λ pages. vec_len pages ≡ count) }
-    ensures blank { IfOk result (λ pages. All (λ page. page.items ≡ []) pages.items) }
-    ensures room { IfOk result (λ pages. All (λ page. per * room ≤ vec_capacity page) pages.items) }
-{
-    let mut pages = Vec::with_capacity(alloc, count)?;
-    for _ in 0..count {
-        let page = buffer(alloc, room, per)?;
-        pages.push(page)?;
-    }
-    Ok(pages)
-}
-
 /// An empty page. At least `per` PNGs of `room` bytes fit it.
-fn buffer<A: Allocator>(alloc: A, room: usize, per: usize) -> Result<Vec<u8, A>, AllocError>
+fn empty_page<A: Allocator>(alloc: A, room: usize, per: usize) -> Result<Vec<u8, A>, AllocError>
     ensures blank { IfOk result (λ page. page.items ≡ []) }
     ensures room { IfOk result (λ page. per * room ≤ vec_capacity page) }
 {

@@ -1,12 +1,12 @@
 //! Writes the PNGs of all layers of a build by several workers, and decides whether these make them at the same time.
 ghost use Rattle.std.specs.Prelude.{◌<◌};
 ghost use Rattle.devices.specs.Transcript.{transcript_of};
-ghost use Rattle.stlslice.specs.Pngs.{HasPngRoom, pngs_of};
+ghost use Rattle.stlslice.specs.Pngs.{pngs_of};
 ghost use Rattle.stlslice.specs.Unwritten.{IsMadeAndWritten};
 
 use crate::run_fault::RunFault;
-use crate::write::pages::{SET_LEN, has_many_spans, write_by_pages};
-use crate::write::png_pages::{Pngs, buffer_sets};
+use crate::write::pages::{SET_LEN, has_many_spans, page_sets, write_by_pages};
+use crate::write::png_pages::Pngs;
 use crate::write::pngs::{room_for_png, write_pngs};
 use build_book::Build;
 use devices::Sink;
@@ -58,7 +58,6 @@ fn write_made_pngs<R: Threads + Sync, A: Allocator + Copy + Send + Sync, O: Sink
     workers: usize,
     sink: &mut O,
 ) -> Result<(), RunFault>
-    requires { HasPngRoom pngs.now.build.now.job.grid pngs.now.depth pngs.now.build.now.layers pngs.now.room }
     ensures { IsMadeAndWritten result
         (transcript_of O.contents O.Failures.failure_count sink.old sink.new)
         (O.is_settled sink.new) (pngs_of pngs.now.build.now.job pngs.now.depth pngs.now.mirrors) }
@@ -70,7 +69,7 @@ fn write_made_pngs<R: Threads + Sync, A: Allocator + Copy + Send + Sync, O: Sink
         .div_ceil(pngs.per)
         .min(workers)
         .max(1);
-    match buffer_sets(pngs.alloc, pngs.room, pngs.per, count) {
+    match page_sets(pngs.alloc, pngs, count) {
         Ok((drawn, free)) => write_by_pages(rt, pngs, drawn, free, sink),
         Err(_) => write_pngs(pngs.alloc, pngs.build, pngs.depth, pngs.mirrors, sink),
     }

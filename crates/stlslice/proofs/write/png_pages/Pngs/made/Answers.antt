@@ -31,7 +31,7 @@ add_png-bytes-requires-clause-room g c =
     let small : most ≤ it.room =
     room_at job.grid c.grid-grid.result.now it.depth it.build.now.layers c.layers-layers.result.now at.k c.index-layers-k.result
     c.spans.result.now it.room (c.grid-grid.ensures ∙ ap (λ (j : Job). j.grid) c.job.ensures) c.layers-layers.ensures.value c.spans.ensures
-    there c.index-layers-k.is c.requires.each in
+    there c.index-layers-k.is it.each in
     next_fits (at.k - c.args.start) it.per it.room at.bytes.len most (vec_capacity c.args.bytes) (vec_capacity at.bytes) at.invariant.few
     (omega (arith, c.loop-k-test.true, c.requires.few)) small c.requires.room at.invariant.capacity
 
@@ -50,7 +50,7 @@ loop-k-preserved g c =
     let small : most ≤ it.room =
     room_at job.grid c.grid-grid.result.now it.depth it.build.now.layers c.layers-layers.result.now at.k c.index-layers-k.result
     c.spans.result.now it.room (c.grid-grid.ensures ∙ ap (λ (j : Job). j.grid) c.job.ensures) c.layers-layers.ensures.value c.spans.ensures
-    there c.index-layers-k.is c.requires.each in
+    there c.index-layers-k.is it.each in
     let here : png ≡ f at.k =
     png_there job c.job.result.now c.grid-grid.result.now c.spans.result.now it.build.now.layers c.layers-layers.result.now at.k
     c.index-layers-k.result it.depth it.mirrors c.job.ensures c.grid-grid.ensures c.spans.ensures c.layers-layers.ensures.value
