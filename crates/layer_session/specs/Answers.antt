@@ -41,10 +41,12 @@ probed job i j k =
     then Ok (ray job.solid.facets (centre job.grid i j k), ray_y job.solid.facets (centre job.grid i j k))
     else Err (outside job.grid)
 
--- no memory for a layer of the grid, or no such layer in the grid
-abbrev pub IsLayerFault : Grid → ℕ → SessionFault → Type 0
-IsLayerFault g k f = ((f ≡ fault.Memory) × (k < g.layers)) ⊎ ((f ≡ outside g) × (g.layers ≤ k))
+-- of so many parts of the grid there is no memory for this one, or there is no such part
+abbrev pub IsPartFault : Grid → ℕ → ℕ → SessionFault → Type 0
+IsPartFault g count part f = ((f ≡ fault.Memory) × (part < count)) ⊎ ((f ≡ outside g) × (count ≤ part))
 
--- no memory for a stripe of the grid, or no such stripe in the grid
+abbrev pub IsLayerFault : Grid → ℕ → SessionFault → Type 0
+IsLayerFault g k f = IsPartFault g g.layers k f
+
 abbrev pub IsStripeFault : Grid → ℕ → SessionFault → Type 0
-IsStripeFault g s f = ((f ≡ fault.Memory) × (s < stripe_count g)) ⊎ ((f ≡ outside g) × (stripe_count g ≤ s))
+IsStripeFault g s f = IsPartFault g (stripe_count g) s f

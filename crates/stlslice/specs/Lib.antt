@@ -1,7 +1,7 @@
 pub mod RunFault
 pub mod SlicedText
 pub mod Outcome
-pub mod Unwritten
+pub mod Writing
 pub mod Put
 pub mod Loading
 pub mod Run

@@ -4,20 +4,14 @@ use Rattle.geometry.specs.Facet.{Facet}
 use Rattle.plane_segments.specs.Segment.{segments}
 use Rattle.contour.specs.Loops.{loops}
 use Rattle.raster.specs.declared.rule.Rule.{Rule}
-use Rattle.raster.specs.declared.span.Span.{Span}
 use Rattle.raster.specs.Filler.{area_of, below}
-use Rattle.raster.specs.Span.{covers}
 use Rattle.raster.specs.Grid.{Grid, plane}
-use Rattle.raster.specs.Image.{image_of_pixels, images}
+use Rattle.raster.specs.Image.{images}
 use Rattle.layer_png.specs.Text.{layer_png}
 use Rattle.layer_png.specs.declared.depth.Depth.{Depth}
 use Rattle.layer_png.specs.declared.mirrors.Mirrors.{Mirrors}
 use Rattle.stlslice.specs.declared.write.Output.{Output}
 use Rattle.stlslice.specs.declared.write.Output.TheVariants as output
-
--- the image of the pixels that lie in the spans
-abbrev pub image : Grid → List Span → List ℕ
-image g spans = image_of_pixels g.columns g.rows (covers spans)
 
 abbrev pub line_of_layer : ℕ → ℕ → ℕ → List ℕ
 line_of_layer number loops area =

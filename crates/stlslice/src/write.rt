@@ -3,7 +3,7 @@
 ghost use Rattle.std.specs.Prelude.{◌≡◌};
 ghost use Rattle.devices.specs.Transcript.{transcript_of};
 ghost use Rattle.stlslice.specs.SlicedText.{output_of, sliced_text};
-ghost use Rattle.stlslice.specs.Unwritten.{IsMadeAndWritten};
+ghost use Rattle.stlslice.specs.Writing.{IsMadeAndWritten};
 
 pub(crate) mod box_line;
 pub(crate) mod flush;

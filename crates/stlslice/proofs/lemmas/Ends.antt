@@ -19,7 +19,7 @@ use Rattle.stlslice.specs.declared.run_fault.RunFault.TheVariants as fault
 use Rattle.stlslice.specs.Outcome.{IsOutcome, grid_for, slicing}
 use Rattle.stlslice.specs.Run.{IsRun, IsRunFault}
 use Rattle.stlslice.specs.RunFault.{of_read}
-use Rattle.stlslice.specs.Unwritten.{IsUntouched, IsUnwritten}
+use Rattle.stlslice.specs.Writing.{IsUntouched, IsUnwritten}
 use Rattle.stlslice.proofs.lemmas.Faults.{IsReadingFault, IsWorkFault, by_input, failed_read, not_written}
 use Rattle.stlslice.proofs.lemmas.Slicing.{slicing_there}
 use Rattle.stlslice.specs.SlicedText.{sliced_text}

@@ -10,7 +10,6 @@ use Rattle.devices.specs.Devices.{greatest_count}
 use Rattle.raster.specs.Grid.{Grid, IsGrid, centre}
 use Rattle.raster.specs.Filler.{is_filled}
 use Rattle.raster.specs.Image.{image_of_pixels, images_limit, layer_image}
-use Rattle.raster.specs.Page.{Page}
 use Rattle.raster.proofs.lemmas.Images.{length-image, small-images}
 use Rattle.devices.specs.Transcript.{transcript}
 use Rattle.build_book.specs.Job.{Job}
@@ -167,12 +166,6 @@ few-bytes job held grid same of given =
 pub next-counted : (old now : Option (List ℕ)) (text : List ℕ) (written : ℕ) (part left : List ℕ) → length text ≤ greatest_count
     → IsUnderWay old now text 0 written part left → written + length part ≤ greatest_count
 next-counted old now text written part left few under = omega (arith, few, all-counted old now text 0 written part left under)
-
--- pages with just the room that is wanted have it
-pub room-enough : (per : ℕ) (grid taken : Grid) (pages : List Page) → taken ≡ grid
-    → All (λ page. page.room ≡ per * image_size taken) pages → All (λ page. per * image_size grid ≤ page.room) pages
-room-enough per grid taken pages same h =
-    λ k d low. omega (arith, h k d low, ap (λ (g : Grid). per * image_size g) same)
 
 -- one set went out, and the next one is drawn
 pub set-out : (f : ℕ → List ℕ) (n : ℕ) (old now new : Option (List ℕ)) (before after written total first end : ℕ) (part drawn : List ℕ)

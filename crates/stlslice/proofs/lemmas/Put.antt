@@ -10,7 +10,7 @@ use Rattle.devices.specs.declared.writing.WriteFault.{WriteFault}
 use Rattle.raster.proofs.lemmas.Written.{IsUnderWay, all-counted, all-out, more-out, moved, taken-on, written-within}
 use Rattle.devices.specs.Transcript.{Transcript, transcript}
 use Rattle.stlslice.specs.Put.{IsPut}
-use Rattle.stlslice.specs.Unwritten.{IsMadeAndWritten, IsUntouched, IsUnwritten, IsWritten}
+use Rattle.stlslice.specs.Writing.{IsMadeAndWritten, IsUntouched, IsUnwritten, IsWritten}
 use Rattle.stlslice.specs.declared.run_fault.RunFault.{RunFault}
 use Rattle.stlslice.specs.declared.run_fault.RunFault.TheVariants as fault
 use Rattle.stlslice.proofs.lemmas.Unwritten.{flush_failed}

@@ -9,14 +9,19 @@ use Rattle.plane_segments.specs.declared.segment.Segment.{Segment}
 use Rattle.contour.specs.Loops.{loops}
 use Rattle.raster.specs.Filler.{area_of, below}
 use Rattle.raster.specs.Grid.{Grid, plane}
-use Rattle.raster.specs.Image.{images, layer_image}
+use Rattle.raster.specs.Image.{image_of_pixels, images, layer_image}
+use Rattle.raster.specs.Span.{covers}
 use Rattle.raster.specs.declared.span.Span.{Span}
 use Rattle.raster.proofs.lemmas.Written.{IsUnderWay, begun, taken-on}
 use Rattle.build_book.specs.Layer.{AreLawfulFrom, IsLawful, Layer, layers_area}
 use Rattle.build_book.specs.Build.{IsComplete}
 use Rattle.build_book.specs.Job.{Job}
 use Rattle.build_book.proofs.lemmas.Images.{image_of_layer, lawful_at, part_more}
-use Rattle.stlslice.specs.SlicedText.{image, layer_line, line_of_layer, report_text, total_line}
+use Rattle.stlslice.specs.SlicedText.{layer_line, line_of_layer, report_text, total_line}
+
+-- the image of the pixels that lie in the spans
+abbrev pub image : Grid → List Span → List ℕ
+image g spans = image_of_pixels g.columns g.rows (covers spans)
 
 -- the layer in a place of a complete build is the lawful one of that number
 

@@ -12,7 +12,7 @@ use Rattle.devices.specs.Transcript.{Transcript}
 use Rattle.mesh_reading.proofs.lemmas.Faults.{passed_on}
 use Rattle.build_book.specs.Job.{Job}
 use Rattle.stlslice.specs.Pages.{images_of}
-use Rattle.stlslice.specs.Unwritten.{IsUnwritten}
+use Rattle.stlslice.specs.Writing.{IsUnwritten}
 use Rattle.stlslice.specs.declared.run_fault.RunFault.{RunFault}
 use Rattle.stlslice.specs.declared.run_fault.RunFault.TheVariants as fault
 use Rattle.stlslice.proofs.lemmas.Stream.{images_from, none_left}

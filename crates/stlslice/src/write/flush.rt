@@ -4,7 +4,7 @@ ghost use Rattle.std.specs.Io.KnownBytes.{Keeps};
 ghost use Rattle.devices.specs.Transcript.{transcript_of};
 ghost use Rattle.devices.specs.Devices.{Fails, greatest_count};
 ghost use Rattle.stlslice.specs.Put.{IsPut};
-ghost use Rattle.stlslice.specs.Unwritten.{IsWritten};
+ghost use Rattle.stlslice.specs.Writing.{IsWritten};
 ghost use Rattle.stlslice.specs.declared.run_fault.RunFault.TheVariants.{Write};
 
 use crate::run_fault::RunFault;

@@ -1,7 +1,7 @@
 //! The output of slicing: the images of all layers, one after the other.
 ghost use Rattle.devices.specs.Transcript.{transcript_of};
 ghost use Rattle.stlslice.specs.Pages.{images_of};
-ghost use Rattle.stlslice.specs.Unwritten.{IsWritten};
+ghost use Rattle.stlslice.specs.Writing.{IsWritten};
 
 use crate::run_fault::RunFault;
 use crate::write::flush::settle;

@@ -2,7 +2,7 @@
 ghost use Rattle.std.specs.Prelude.{◌<◌};
 ghost use Rattle.devices.specs.Transcript.{transcript_of};
 ghost use Rattle.stlslice.specs.Pages.{images_of};
-ghost use Rattle.stlslice.specs.Unwritten.{IsWritten};
+ghost use Rattle.stlslice.specs.Writing.{IsWritten};
 
 use crate::run_fault::RunFault;
 use crate::write::image_pages::Images;

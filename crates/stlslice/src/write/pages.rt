@@ -4,7 +4,7 @@ ghost use Rattle.devices.specs.Transcript.{transcript_of};
 ghost use Rattle.devices.specs.Devices.{greatest_count};
 ghost use Rattle.stlslice.specs.Pages.{ArePageSets, all_images, images_between};
 ghost use Rattle.stlslice.specs.Put.{IsPut};
-ghost use Rattle.stlslice.specs.Unwritten.{IsWritten};
+ghost use Rattle.stlslice.specs.Writing.{IsWritten};
 
 use crate::run_fault::RunFault;
 use crate::write::flush::{put_more, settle};
@@ -67,7 +67,7 @@ pub(crate) trait Drawing<P> {
         ensures { result.now ≡ bytes page.now };
 }
 
-/// Two sets of `count` pages without images, which any images fit.
+/// Two sets of `count` pages without images, which what is drawn fits.
 pub(crate) fn page_sets<P: Drop, D: Drawing<P>, A: Allocator + Copy>(
     alloc: A,
     drawing: &D,
@@ -82,7 +82,7 @@ pub(crate) fn page_sets<P: Drop, D: Drawing<P>, A: Allocator + Copy>(
     Ok((drawn, free))
 }
 
-/// Pages without images, which any images fit.
+/// Pages without images, which what is drawn fits.
 fn blank_pages<P: Drop, D: Drawing<P>, A: Allocator + Copy>(
     alloc: A,
     drawing: &D,

@@ -7,7 +7,7 @@ ghost use Rattle.devices.specs.Transcript.{transcript_of};
 ghost use Rattle.raster.specs.Span.{AreSpans};
 ghost use Rattle.stlslice.specs.Pngs.{HasPngRoom, pngs_of};
 ghost use Rattle.stlslice.specs.Put.{IsPut};
-ghost use Rattle.stlslice.specs.Unwritten.{IsMadeAndWritten};
+ghost use Rattle.stlslice.specs.Writing.{IsMadeAndWritten};
 
 use crate::run_fault::RunFault;
 use crate::write::flush::{put_more, settle};

@@ -2,7 +2,7 @@
 ghost use Rattle.std.specs.Prelude.{◌<◌};
 ghost use Rattle.devices.specs.Transcript.{transcript_of};
 ghost use Rattle.stlslice.specs.Pngs.{pngs_of};
-ghost use Rattle.stlslice.specs.Unwritten.{IsMadeAndWritten};
+ghost use Rattle.stlslice.specs.Writing.{IsMadeAndWritten};
 
 use crate::run_fault::RunFault;
 use crate::write::pages::{SET_LEN, has_many_spans, page_sets, write_by_pages};

@@ -6,12 +6,11 @@ use Rattle.raster.proofs.lemmas.Written.{IsUnderWay, moved}
 use Rattle.devices.specs.Transcript.{Transcript, transcript, transcript_of}
 use Rattle.build_book.specs.Job.{Job}
 use Rattle.stlslice.specs.Pages.{images_of}
-use Rattle.stlslice.specs.SlicedText.{image}
 use Rattle.stlslice.specs.Put.{IsPut}
 use Rattle.stlslice.specs.declared.run_fault.RunFault.TheVariants as fault
 use Rattle.stlslice.proofs.lemmas.Pages.{few-bytes}
 use Rattle.stlslice.proofs.lemmas.Put.{written-all, written-not}
-use Rattle.stlslice.proofs.lemmas.Stream.{image_there, images-begun, images_from, layer_at, layer_below, layers_end, with_image}
+use Rattle.stlslice.proofs.lemmas.Stream.{image, image_there, images-begun, images_from, layer_at, layer_below, layers_end, with_image}
 use Rattle.stlslice.proofs.lemmas.Unwritten.{chunk_failed, held_few, held_out, held_whole}
 use Rattle.stlslice.proofs.write.images.write_images.Goals as goal
 

@@ -4,9 +4,8 @@ use Rattle.raster.specs.Span.{covers}
 use Rattle.build_book.specs.Job.{Job}
 use Rattle.raster.specs.Grid.{Grid}
 use Rattle.stlslice.specs.Pages.{image_size, images_between}
-use Rattle.stlslice.specs.SlicedText.{image}
 use Rattle.stlslice.proofs.lemmas.Pages.{image-drawn, image-fits, length-is}
-use Rattle.stlslice.proofs.lemmas.Stream.{image_at, layer_among, layer_at}
+use Rattle.stlslice.proofs.lemmas.Stream.{image, image_at, layer_among, layer_at}
 use Rattle.stlslice.proofs.write.image_pages.ImagesDrawingPage.draw.Goals as goal
 
 pub draw-requires-clause-form : goal.draw-requires-clause-form
