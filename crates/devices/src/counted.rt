@@ -7,8 +7,8 @@ use std::io::{Read, Write};
 use std::marker::Model;
 
 /// A source over any reader, and a sink over any writer. It counts the failed calls. A writer that takes 0 bytes of a chunk
-/// that is not empty counts as failed. No clause says that each call is tried once, and that exactly the failed ones are
-/// counted; tests do.
+/// that is not empty counts as failed. No clause says that each call is tried once, that exactly the failed ones are counted,
+/// or that `settle` flushes the writer; tests do.
 #[derive(Drop)]
 pub struct Counted<T> {
     inner: T,

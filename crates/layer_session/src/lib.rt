@@ -29,6 +29,7 @@
 //!   `Session::outlines` return, re-exported from `contour`.
 //! - [`ArrayFault`], re-exported from `mesh_arrays`; [`Unit`], re-exported from `micro_num`; [`Rule`] and [`Grid`], re-exported
 //!   from `raster`; [`Depth`] and [`Mirrors`] of a PNG, re-exported from `layer_png`.
+//! - [`STEP_LIMIT`]: the greatest pitch and layer height; [`STRIPE_LAYERS`]: the number of layers of a stripe.
 //! - [`one_answer`]: a law. A setup and a text, or arrays, have one answer, a session or a fault, if memory suffices.
 //! - [`same_answer`]: a law. A text and arrays that are read as the same facets have the same answer.
 //!
@@ -43,7 +44,9 @@ mod session_fault;
 mod session_reader;
 mod setup;
 
+pub use build_book::STRIPE_LAYERS;
 pub use contour::{Loops, Node, Outlines, PlanePoint, Segment};
+pub use geometry::STEP_LIMIT;
 pub use laws::{one_answer, same_answer};
 pub use layer_png::{Depth, Mirrors};
 pub use mesh_arrays::ArrayFault;

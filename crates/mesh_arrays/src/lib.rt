@@ -3,7 +3,7 @@
 //! - [`read_arrays`]: the facets of the triangles, in order, or the one fault of the arrays.
 //! - [`ArrayFault`]: why arrays are no facets, with the number of the triangle.
 //! - [`one_outcome`]: a law. Arrays have one outcome.
-//! - [`Point`], [`Facet`] and [`FACET_LIMIT`], re-exported from `geometry`.
+//! - [`Point`], [`Facet`], [`FACET_LIMIT`] and [`COORDINATE_LIMIT`], re-exported from `geometry`.
 //!
 //! ```
 //! let points = [[0, 0, 0], [1000, 0, 0], [0, 1000, 0]];
@@ -21,6 +21,6 @@ mod laws;
 mod reading;
 
 pub use array_fault::ArrayFault;
-pub use geometry::{FACET_LIMIT, Facet, Point};
+pub use geometry::{COORDINATE_LIMIT, FACET_LIMIT, Facet, Point};
 pub use laws::one_outcome;
 pub use reading::read_arrays;

@@ -88,7 +88,7 @@ impl<A: Allocator> Round<A> {
     }
 }
 
-/// What several workers read, and what is done meanwhile.
+/// The round that is to be read, the one after it, and the facets that are not welded yet.
 #[derive(Drop)]
 pub(crate) struct Rounds<A: Allocator> {
     /// The facets of the round before, which are not welded yet.

@@ -13,7 +13,7 @@
 //! - [`Pass`]: what one thread draws with. A **draw** takes the next number by one `fetch_add` on the word. A pass has
 //!   **ended** once it has found a number for which there is no stripe.
 //! - [`claims_laws`]: what holds after any number of draws, by any number of passes in any order.
-//! - [`PASS_LIMIT`]: the greatest count of passes.
+//! - [`PASS_LIMIT`], [`STRIPE_LIMIT`]: the greatest counts of passes and of stripes.
 //!
 //! All numbers are counts of stripes, of passes or of draws; stripes count from 0.
 //!
@@ -28,4 +28,4 @@ mod machine;
 
 pub use crate::claims::{Claims, Pass};
 pub use crate::laws::claims_laws;
-pub use crate::limits::PASS_LIMIT;
+pub use crate::limits::{PASS_LIMIT, STRIPE_LIMIT};
