@@ -9,7 +9,7 @@ from common import PROGRAM, holds, same
 
 NUMBERS = "stlslice: --pitch and --layer take whole micrometres, as in --pitch 50 for 0.05 mm; --workers takes a whole number"
 PART = "stlslice: the part is read from standard input, as in stlslice --pitch 50 --layer 100 < part.stl"
-EQUALS = ("stlslice: a value that begins with a minus wants an equals sign; --grid takes three counts first, as in "
+EQUALS = ("stlslice: a value that begins with a minus needs an equals sign; --grid takes three counts first, as in "
           "--grid=400,300,120,-9500,-7500,0")
 AWAITED = "stlslice: a part in ASCII STL is awaited on standard input, as in stlslice --pitch 50 --layer 100 < part.stl"
 SLICE = ["--pitch", "50", "--layer", "100"]

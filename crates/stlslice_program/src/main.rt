@@ -34,7 +34,7 @@ const PART_ON_INPUT: &str =
 
 /// What is said of a value that begins with a minus, after the words that name it.
 const EQUALS_SIGN: &str =
-    "stlslice: a value that begins with a minus wants an equals sign; --grid takes three counts first, as in --grid=400,300,120,-9500,-7500,0";
+    "stlslice: a value that begins with a minus needs an equals sign; --grid takes three counts first, as in --grid=400,300,120,-9500,-7500,0";
 
 /// What is said if standard input is a terminal.
 const AWAITED: &str =

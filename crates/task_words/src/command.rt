@@ -39,11 +39,11 @@ const VERSION: &str = "1.0.0 (proved with rattle-kit-13 logic dac8208d650f15bf)"
 const ABOUT: &str = "Slices a closed triangle mesh into one image a layer.
 
 Reads ASCII STL on standard input and writes P4 images (raw PBM) on standard
-output, from the lowest layer up, with nothing between them. A pixel is 1 where
-its centre is inside the mesh. The first row of an image is that of the greatest
-y, the first pixel of a row that of the least x. Lengths in options and output
-are whole micrometres. With --png the images are PNGs. Binary STL is refused;
-stlslice-sl1, stlslice-pngs and stlslice-page read it.";
+output, from the lowest layer up, with nothing between them. A pixel is 1 if the
+centre of its voxel is inside the mesh. The first row of an image is that of the
+greatest y, the first pixel of a row that of the least x. Lengths in options and
+output are whole micrometres. With --png the images are PNGs. Binary STL is
+refused; stlslice-sl1, stlslice-pngs and stlslice-page read it.";
 
 const EXAMPLES: &str = "Examples:
   stlslice --pitch 50 --layer 100 < part.stl > layers.pbm
@@ -51,7 +51,7 @@ const EXAMPLES: &str = "Examples:
   stlslice --pitch 50 --layer 100 --report < part.stl
           loops and area of each layer
   stlslice --pitch 50 --layer 50 --png --mirror-x < part.stl > layers.png
-          PNGs, one after another, for a printer that wants them mirrored
+          PNGs, one after another, for a printer that needs them mirrored
   stlslice --pitch 50 --layer 50 --grid=400,300,120,-9500,-7500,0 < part.stl
           a printer's canvas; --grid= with an equals sign takes negative values
   stlslice --box < part.stl
@@ -128,7 +128,7 @@ fn pitch<'a>(alloc: Global) -> Arg<'a> {
         .value_name("N")
         .value_parser(value_parser!(u32).range(1..=i64::from(STEP_LIMIT)))
         .help(
-            "Width and depth of a pixel in micrometres, 1 to 100000,\nas in --pitch 50; needed unless --box is there",
+            "Width and depth of a pixel in micrometres, 1 to 100000,\nas in --pitch 50; needed unless --box is given",
         )
 }
 
@@ -138,7 +138,7 @@ fn layer<'a>(alloc: Global) -> Arg<'a> {
         .value_name("N")
         .value_parser(value_parser!(u32).range(1..=i64::from(STEP_LIMIT)))
         .help(
-            "Height of a layer in micrometres, 1 to 100000,\nas in --layer 100; needed unless --box is there",
+            "Height of a layer in micrometres, 1 to 100000,\nas in --layer 100; needed unless --box is given",
         )
 }
 
@@ -148,7 +148,7 @@ fn rule<'a>(alloc: Global) -> Arg<'a> {
         .value_name("R")
         .default_value("evenodd")
         .help(
-            "Which pixels are filled where shells overlap: evenodd leaves\nthe overlap empty; positive fills it, as a part with supports\nor several shells wants; nonzero fills it too, and shells that\nare inside out",
+            "Which pixels are filled where shells overlap: evenodd leaves\nthe overlap empty; positive fills it, as a part with supports\nor several shells needs; nonzero fills it too, and shells that\nare inside out",
         )
 }
 
