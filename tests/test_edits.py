@@ -419,6 +419,19 @@ def refused_batches(room):
     same("two edits of a function are never together", names, [["thing/of.a"], ["thing/of.b"], ["thing/of.c"]])
 
 
+def shown(room):
+    """What a check said is left in a folder that wasn't there."""
+    emptied(room)
+    planted(room, "of.a", "ANSWERED")
+    folder = os.path.join(room.path, "said", "here")
+    same("with what the check says shown", tries(room, "--show", folder)[1][-1], "1 passed, 0 failed")
+    texts = []
+    for name in os.listdir(folder):
+        with open(os.path.join(folder, name), encoding="utf-8") as it:
+            texts.append(it.read())
+    holds("one check said why", len(texts) == 1 and "returns-in-Some" in texts[0])
+
+
 def control(room):
     emptied(room)
     planted(room, "of.a", "ANSWERED")
@@ -644,6 +657,7 @@ def main():
         crate_in(room)
         each_kind(room)
         refused_batches(room)
+        shown(room)
         control(room)
         a_law(room)
         clauses_of_one_law(room)

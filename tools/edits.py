@@ -5,8 +5,8 @@
     tools/edits.py [--jobs N] --changed FILE..      those that a change of these files concerns, also of must-fail/
     tools/edits.py [--jobs N] --batch EDIT..        these together, in one check
 
---show FOLDER, before these, tries all anew and leaves in FOLDER what each check said. Without it, the results of a batch that
-passed are taken from build/edits if neither the batch, nor its crate, nor one below has changed.
+--show FOLDER, before these, tries all anew and leaves what each check said in FOLDER, which it makes. Without it, the results
+of a batch that passed are taken from build/edits if neither the batch, nor its crate, nor one below has changed.
 
 An edit is a file crates/NAME/edits/FUNCTION.FAULT.edit, in the form that `rt must-fail` reads (CONTRIBUTING.md). It is planted
 in a copy of the crate, together with others. The functions that none of them edits keep their statements, and their proofs
@@ -935,6 +935,8 @@ def main():
     signal.signal(signal.SIGINT, signal.SIG_DFL)
     try:
         batches, jobs, show = chosen(sys.argv[1:])
+        if show:
+            os.makedirs(show, exist_ok=True)
         toolchain().guarded()
         for below in {dep.folder: dep for batch in batches for dep in batch.crate.below()}.values():
             if below.build_rlib(["--jobs", "1"], anew=False):
