@@ -515,7 +515,7 @@ class Mesh:
         return rays.along_x, rays.along_y
 
     def close(self) -> None:
-        """Frees the mesh. Later calls, except `close`, raise `ClosedFault`."""
+        """Frees the mesh. Calls that then ask the library for a layer or a voxel raise `ClosedFault`."""
         with self._lock:
             _lib.stlslice_close(self._handle)
 

@@ -41,12 +41,14 @@ probed job i j k =
     then Ok (ray job.solid.facets (centre job.grid i j k), ray_y job.solid.facets (centre job.grid i j k))
     else Err (outside job.grid)
 
--- of so many parts of the grid there is no memory for this one, or there is no such part
-abbrev pub IsPartFault : Grid → ℕ → ℕ → SessionFault → Type 0
-IsPartFault g count part f = ((f ≡ fault.Memory) × (part < count)) ⊎ ((f ≡ outside g) × (count ≤ part))
+-- there is no memory for what has this index, or the grid has not so many
+abbrev pub IsIndexFault : Grid → ℕ → ℕ → SessionFault → Type 0
+IsIndexFault g count index f = ((f ≡ fault.Memory) × (index < count)) ⊎ ((f ≡ outside g) × (count ≤ index))
 
+-- no memory for layer k, or no such layer in the grid
 abbrev pub IsLayerFault : Grid → ℕ → SessionFault → Type 0
-IsLayerFault g k f = IsPartFault g g.layers k f
+IsLayerFault g k f = IsIndexFault g g.layers k f
 
+-- no memory for stripe s, or no such stripe in the grid
 abbrev pub IsStripeFault : Grid → ℕ → SessionFault → Type 0
-IsStripeFault g s f = IsPartFault g (stripe_count g) s f
+IsStripeFault g s f = IsIndexFault g (stripe_count g) s f

@@ -141,7 +141,7 @@ pub(crate) fn stripe_images<A: Allocator + Copy + Send + Sync>(
     Ok(sink.into_inner())
 }
 
-/// A sink in memory, with room for `count` images of this grid.
+/// A sink in memory, which `count` images of this grid fit. No clause says so.
 fn sink_for<A: Allocator>(
     alloc: A,
     grid: &Grid,

@@ -213,7 +213,7 @@ impl<A: Allocator + Copy + Send + Sync> Session<A> {
     /// The image of layer k as PNG (ISO 15948; RFC 2083), in greyscale of this depth, with these mirrors. A pixel is white if
     /// its voxel is filled, else black. Without mirrors the row of the greatest y is at the top.
     ///
-    /// `png`: exactly its bytes. `pixels`: what a reader finds in them.
+    /// `png`: exactly its bytes, whose number differs from layer to layer. `pixels`: what a reader finds in them.
     ///
     /// # Errors
     /// `Outside` exactly if there is no such layer; `Memory` only if an allocation failed.

@@ -39,7 +39,7 @@ text_of_pixels output.Report grid loops pixel =
 text_of_pixels (output.Pngs depth mirrors) grid loops pixel =
     flat_map (λ k. png_of_pixels grid depth mirrors (pixel k)) (below grid.layers)
 
--- A reader of PNG finds in each PNG an image of the grid's columns and rows. Its pixels are white or black. Column x
+-- A reader (ISO 15948) finds in each PNG an image of the grid's columns and rows. Its pixels are white or black. Column x
 -- of row y, from the left and from the top, shows the pixel of the layer that the mirrors put there: white if that is 1.
 abbrev pub ArePngs : Output → Grid → (ℕ → ℕ → ℕ → Bool) → Type 0
 ArePngs output.Images grid pixel = Unit {0}

@@ -30,8 +30,7 @@ pub fn one_answer()
 ///   closed loops, with each segment of its plane in exactly one. The ray from a voxel's centre has signed crossings with all
 ///   these facets. The voxel's pixel is 1 exactly if their sum is odd, or not zero, or above zero, by the rule. The text is the
 ///   images of the pixels, or the report, or the PNGs of the pixels. The report counts the loops and, as the area of a layer,
-///   its pixels that are 1. In a PNG a reader of PNG (ISO 15948) finds white exactly where a pixel is 1, in its place by the
-///   mirrors.
+///   its pixels that are 1. A reader (ISO 15948) finds white in a PNG exactly where a pixel is 1, in its place by the mirrors.
 /// - `all`: the other way round, each text of which this holds is what slicing writes for the input.
 /// - `run`: a run that succeeds has appended such a text to its sink, whatever the number of workers.
 pub fn written_pixels()

@@ -29,7 +29,7 @@ impl<'a, 'b, A: Allocator + Copy + Send + Sync> Drawing<Page<A>> for Images<'a, 
 
     ghost bytes = { λ page. page.bytes };
 
-    ghost fits = { λ it page. it.per * image_size it.build.now.job.grid ≤ page.room };
+    ghost fits = { λ it page. page.room ≡ it.per * image_size it.build.now.job.grid };
 
     fn layers(&self) -> usize {
         // the limits bound the count of the bytes

@@ -67,7 +67,7 @@ pub(crate) trait Drawing<P> {
         ensures { result.now ≡ bytes page.now };
 }
 
-/// Two sets of `count` pages without images, which what is drawn fits.
+/// Two sets of `count` pages. The images of any `per` layers fit each page. Those of the first set have no image.
 pub(crate) fn page_sets<P: Drop, D: Drawing<P>, A: Allocator + Copy>(
     alloc: A,
     drawing: &D,
@@ -82,7 +82,7 @@ pub(crate) fn page_sets<P: Drop, D: Drawing<P>, A: Allocator + Copy>(
     Ok((drawn, free))
 }
 
-/// Pages without images, which what is drawn fits.
+/// Pages without images. The images of any `per` layers fit each.
 fn blank_pages<P: Drop, D: Drawing<P>, A: Allocator + Copy>(
     alloc: A,
     drawing: &D,

@@ -22,7 +22,7 @@ draw-requires-clause-room g c =
     let job : Job = c.args.self.now.build.now.job in
     let per : ℕ = c.args.self.now.per in
     let same : c.grid-grid.result.now ≡ job.grid = c.grid-grid.ensures ∙ ap (λ (j : Job). j.grid) c.job.ensures in
-    let all : per * image_size job.grid ≤ c.loop-k.page.room = rw c.loop-k.invariant.room c.requires.room in
+    let all : per * image_size job.grid ≤ c.loop-k.page.room = omega (arith, c.loop-k.invariant.room, c.requires.room) in
     let fit : length c.loop-k.page.bytes + image_size job.grid ≤ c.loop-k.page.room =
     image-fits job per c.args.start c.loop-k.k c.args.end c.loop-k.page.room c.loop-k.page.bytes
     (omega arith) c.loop-k-test.true c.requires.few c.loop-k.invariant.text all in
