@@ -79,8 +79,7 @@ fn write_drawn_images<R: Threads + Sync, A: Allocator + Copy + Send + Sync, O: S
     }
 }
 
-/// The number of workers that may draw at the same time: at most `workers`, and at most as many as images of this grid fit a
-/// set.
+/// The number of workers that may draw at the same time: at most `workers`, and at most the number of images that a set has.
 fn drawers(grid: &Grid, workers: u32) -> u32 {
     let images = SET_LEN as u64 / image_len(grid).max(1);
     u64::from(workers).min(images) as u32
