@@ -42,16 +42,16 @@ class Case:
 
 
 CASES = [
-    Case("box327k", "box of 327,680 facets", ("sphere", 128, 60000), "--box"),
-    Case("box1m", "box of a million facets", ("sphere", 224, 60000), "--box"),
+    Case("box327k", "`--box` of a sphere of 327,680 facets", ("sphere", 128, 60000), "--box"),
+    Case("box1m", "`--box` of a sphere of a million facets", ("sphere", 224, 60000), "--box"),
     Case("sphere20k", "sphere of 20,480 facets, 1200 x 1200 x 1200", ("sphere", 32, 60000), "--pitch 50 --layer 50"),
     Case("sphere327k", "sphere of 327,680 facets, 1200 x 1200 x 1200", ("sphere", 128, 60000), "--pitch 50 --layer 50"),
     Case("decimals", "the same, short decimals", ("sphere", 128, 60000, "decimals"), "--pitch 50 --layer 50"),
     Case("report", "the same, report", ("sphere", 128, 60000), "--pitch 50 --layer 50 --report"),
     Case("sphere1m", "sphere of a million facets, 1200 x 1200 x 200", ("sphere", 224, 60000), "--pitch 50 --layer 300"),
-    Case("wide", "16384 x 16384 x 20", ("sphere", 8, 163840), "--pitch 10 --layer 8192"),
-    Case("tall", "64 x 64 x 65535", ("tower", 32, 100, 6400, 655350), "--pitch 100 --layer 10"),
-    Case("heap", "90 crossings a row", ("heap", 300, 30000), "--pitch 50 --layer 50"),
+    Case("wide", "sphere of 1,280 facets, 16384 x 16384 x 20", ("sphere", 8, 163840), "--pitch 10 --layer 8192"),
+    Case("tall", "tower of 6,464 facets, 64 x 64 x 65535", ("tower", 32, 100, 6400, 655350), "--pitch 100 --layer 10"),
+    Case("heap", "heap of 300 tetrahedra, 90 crossings a row", ("heap", 300, 30000), "--pitch 50 --layer 50"),
 ]
 
 
