@@ -16,7 +16,7 @@
  *
  * Buffers. A call with a buffer writes into its front, leaves the rest as it was, and reports how much it wrote. If the
  * buffer is too small, nothing is written, the size that is needed is reported, and the status is STLSLICE_NO_ROOM. So
- * a call with a null buffer of size 0 asks for the size; stlslice_mask and stlslice_stripe report it at once. At any
+ * a call with a null buffer of size 0 asks for the size, which is quick by stlslice_mask and stlslice_stripe. At any
  * other status buffer and size are as they were.
  *
  * Pointers. A text, an array or a buffer may be null if its size is 0. If any other pointer is null, the status is
@@ -60,7 +60,7 @@ enum { STLSLICE_FITTED = 0, STLSLICE_GIVEN = 1 };
 enum { STLSLICE_MIRROR_X = 1, STLSLICE_MIRROR_Y = 2 };
 
 /* How a text is read, and how a mesh is cut into voxels. */
-typedef struct {
+typedef struct stlslice_options {
     uint32_t pitch;                 /* a voxel's length along x and y, 1 to 100000 */
     uint32_t layer;                 /* a voxel's length along z, 1 to 100000 */
     uint32_t rule;                  /* STLSLICE_EVENODD, .. */
@@ -71,31 +71,31 @@ typedef struct {
 } stlslice_options;
 
 /* The facets of a text or of arrays: how many, and their least and greatest x, y and z. All are 0 if there is none. */
-typedef struct {
+typedef struct stlslice_corners {
     uint64_t facets;
     int32_t low[3], high[3];
 } stlslice_corners;
 
 /* A mesh that was opened: its facets, and the counts and the least corner of its grid. */
-typedef struct {
+typedef struct stlslice_shape {
     stlslice_corners corners;
     uint32_t columns, rows, layers;
     int32_t origin[3];
 } stlslice_shape;
 
 /* The signed crossings of the mesh by the rays along x and y from a voxel's centre. */
-typedef struct {
+typedef struct stlslice_rays {
     int32_t along_x, along_y;
 } stlslice_rays;
 
 /* A point of a layer's plane, in half-micrometres: each coordinate the nearest to the exact one, halves upward. */
-typedef struct {
+typedef struct stlslice_point {
     int64_t x2, y2;
 } stlslice_point;
 
 /* An opened mesh, or none. It begins as STLSLICE_CLOSED, or as zeros. Its fields are the library's. A copy may not be
  * used beside it. */
-typedef struct {
+typedef struct stlslice_mesh {
     bool is_open;
     void *at;
 } stlslice_mesh;

@@ -3,12 +3,17 @@
  * are not null, and slices that lie somewhere, even if they are empty. */
 #include "stlslice.h"
 
+/* the sizes of the proved library's types, and where fields lie in them */
 _Static_assert(sizeof(stlslice_options) == 44, "as `Options` of crates/stlslice_c/src/options.rt");
+_Static_assert(offsetof(stlslice_options, placing) == 16 && offsetof(stlslice_options, columns) == 20, "as `Options`");
+_Static_assert(offsetof(stlslice_options, origin) == 32, "as `Options`");
 _Static_assert(sizeof(stlslice_corners) == 32, "as `Corners` of crates/stlslice_c/src/shape.rt");
+_Static_assert(offsetof(stlslice_corners, low) == 8 && offsetof(stlslice_corners, high) == 20, "as `Corners`");
 _Static_assert(sizeof(stlslice_shape) == 56, "as `Shape` of crates/stlslice_c/src/shape.rt");
+_Static_assert(offsetof(stlslice_shape, columns) == 32 && offsetof(stlslice_shape, origin) == 44, "as `Shape`");
 _Static_assert(sizeof(stlslice_rays) == 8, "as `Rays` of crates/stlslice_c/src/shape.rt");
 _Static_assert(sizeof(stlslice_point) == 16, "as `LoopPoint` of crates/stlslice_c/src/loops.rt");
-_Static_assert(sizeof(stlslice_mesh) == 16, "as `Handle` of crates/stlslice_c/src/handle.rt");
+_Static_assert(sizeof(stlslice_mesh) == 16 && offsetof(stlslice_mesh, at) == 8, "as `Handle` of crates/stlslice_c/src/handle.rt");
 
 uint32_t proved_stlslice_version(void);
 uint32_t proved_stlslice_box(const uint8_t *, size_t, uint32_t, stlslice_corners *, uint8_t *, size_t);

@@ -352,6 +352,7 @@ static void lines(void) {
     const char *whole = "input ended before solid";
     for (size_t room = 1; room < 40; room++) {
         char *line = (char *)malloc(room);
+        CHECK(line != NULL);
         memset(line, 'x', room);
         CHECK(stlslice_box(text, 0, 0, &corners, line, room) == STLSLICE_TEXT);
         size_t length = strlen(whole) < room ? strlen(whole) : room - 1;

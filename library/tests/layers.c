@@ -128,6 +128,7 @@ static void *slice(void *given) {
         /* a buffer a byte short stays as it is */
         if (k % 64 == 0) {
             uint8_t *small = (uint8_t *)malloc(one - 1);
+            CHECK(small != NULL);
             memset(small, 0xa5, one - 1);
             CHECK(stlslice_mask(&work->mesh, k, small, one - 1, &size) == STLSLICE_NO_ROOM && size == one);
             for (size_t at = 0; at < one - 1; at++)
