@@ -26,25 +26,7 @@ SCREENS = {
     "SL1S": ((128, 81), (2560, 1620), "portrait", (1, 0), (2, 25), ["--printer", "SL1S"]),
     "SL1": ((120.96, 68.04), (2560, 1440), "portrait", (1, 0), (7.5, 35), ["--printer", "SL1"]),
 }
-PROFILE = """printer_technology = SLA
-printer_model = {model}
-display_width = {size[0]}
-display_height = {size[1]}
-display_pixels_x = {pixels[0]}
-display_pixels_y = {pixels[1]}
-display_orientation = {orientation}
-display_mirror_x = {mirrors[0]}
-display_mirror_y = {mirrors[1]}
-bed_shape = 0x0,{size[0]}x0,{size[0]}x{size[1]},0x{size[1]}
-layer_height = 0.05
-initial_layer_height = 0.05
-exposure_time = {exposures[0]}
-initial_exposure_time = {exposures[1]}
-faded_layers = 10
-supports_enable = 0
-pad_enable = 0
-gamma_correction = 0
-"""
+PROFILE = beside_prusaslicer.PROFILE + "printer_model = {model}\nfaded_layers = 10\n"
 
 
 def layers(path):
