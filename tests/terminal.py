@@ -1,4 +1,4 @@
-"""A shell under a terminal of its own, driven by keys."""
+"""A shell under a terminal of its own, driven by keys, and what its completions write."""
 
 import os
 import pty
@@ -7,6 +7,8 @@ import select
 import signal
 import sys
 import time
+
+from common import ROOT
 
 SECONDS = 20
 
@@ -46,3 +48,35 @@ class Terminal:
                 self.seen += os.read(self.end, 65536).decode(errors="replace")
             except OSError:
                 sys.exit(f"the shell ended; seen: {shown!r}")
+
+    def completed(self, typed):
+        """The line at a prompt, after this was typed and Tab. Ctrl-T shows it."""
+        self.keys(typed + "\t\x14")
+        line = re.search(r"(?m)^\[([^\n]*)\]\n", self.until(r"(?m)^\[[^\n]*\]\n"))[1]
+        self.keys("\x15\r")
+        self.until("> $")
+        return line
+
+
+def bash_in(room, *commands):
+    """A bash at its first prompt, with the completions of these commands."""
+    with open(room.file("rc"), "w") as file:
+        file.write("PS1='> '\nunset PROMPT_COMMAND\n" + "".join(f"source '{ROOT}/completions/{it}.bash'\n" for it in commands) +
+                   "bind 'set enable-bracketed-paste off' 'set bell-style none' 2> /dev/null\n"
+                   "shown() { printf '\\n[%s]\\n' \"$READLINE_LINE\"; }\nbind -x '\"\\C-t\": shown'\n")
+    return started(room, ["bash", "--noprofile", "--rcfile", room.file("rc"), "-i"])
+
+
+def zsh_in(room):
+    """A zsh at its first prompt, with all completions."""
+    with open(room.file(".zshrc"), "w") as file:
+        file.write("PS1='> '; unsetopt beep promptcr promptsp zle_bracketed_paste 2> /dev/null\n"
+                   f"fpath=('{ROOT}/completions' $fpath)\nautoload -Uz compinit; compinit -u -D\n"
+                   "shown() { zle -I; print -r -- \"[$BUFFER]\" }\nzle -N shown; bindkey '^T' shown\n")
+    return started(room, ["zsh", "-d", "-i"])
+
+
+def started(room, words):
+    shell = Terminal(words, {**room.environment, "TERM": "dumb", "HOME": room.path, "ZDOTDIR": room.path}, room.path)
+    shell.until("> $")
+    return shell

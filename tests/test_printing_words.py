@@ -7,7 +7,7 @@ import re
 import shutil
 
 from common import ROOT, Room, holds, same, skip, text_of
-from terminal import Terminal
+from terminal import bash_in, zsh_in
 
 OPTION = r"(?<![\w-])--[a-z-]+"
 ARCHIVE = {"--exposure", "--first-exposure", "--fade", "--material"}
@@ -82,38 +82,16 @@ LINES = {
 
 
 def bash_completes(room):
-    with open(room.file("rc"), "w") as file:
-        file.write("PS1='> '\nunset PROMPT_COMMAND\n"
-                   + "".join(f"source '{ROOT}/completions/stlslice-{it}.bash'\n" for it in COMMANDS) +
-                   "bind 'set enable-bracketed-paste off' 'set bell-style none' 2> /dev/null\n"
-                   "shown() { printf '\\n[%s]\\n' \"$READLINE_LINE\"; }\nbind -x '\"\\C-t\": shown'\n")
-    words = ["bash", "--noprofile", "--rcfile", room.file("rc"), "-i"]
-    with Terminal(words, {**room.environment, "TERM": "dumb", "HOME": room.path}, room.path) as bash:
-        bash.until("> $")
+    with bash_in(room, *(f"stlslice-{it}" for it in COMMANDS)) as shell:
         for typed, wanted in LINES.items():
-            bash.keys(typed + "\t\x14")
-            shown = bash.until(r"\n\[[^\n]*\]\n")
-            same(f"bash: {typed!r} and Tab", re.search(r"\n\[([^\n]*)\]\n", shown)[1], wanted)
-            bash.keys("\x15\r")
-            bash.until("> $")
+            same(f"bash: {typed!r} and Tab", shell.completed(typed), wanted)
 
 
 def zsh_completes(room):
-    with open(room.file(".zshrc"), "w") as file:
-        file.write(f"PS1='> '; unsetopt beep promptcr promptsp zle_bracketed_paste 2> /dev/null\n"
-                   f"fpath=('{ROOT}/completions' $fpath)\nautoload -Uz compinit; compinit -u -D\n"
-                   "shown() { zle -I; print -r -- \"[$BUFFER]\" }\nzle -N shown; bindkey '^T' shown\n")
-    environment = {**room.environment, "TERM": "dumb", "HOME": room.path, "ZDOTDIR": room.path}
-    with Terminal(["zsh", "-d", "-i"], environment, room.path) as zsh:
-        zsh.until("> $")
+    with zsh_in(room) as shell:
         for typed, wanted in LINES.items():
-            zsh.keys(typed + "\t\x14")
-            shown = zsh.until(r"(?m)^\[[^\n]*\]\n")
-            line = re.search(r"(?m)^\[([^\n]*)\]\n", shown)[1]
             # a word that takes a value may end in its equals sign, and its value may follow at once
-            same(f"zsh: {typed!r} and Tab", line.rstrip("= "), wanted.rstrip("= "))
-            zsh.keys("\x15\r")
-            zsh.until("> $")
+            same(f"zsh: {typed!r} and Tab", shell.completed(typed).rstrip("= "), wanted.rstrip("= "))
 
 
 def fish_completes(room):
