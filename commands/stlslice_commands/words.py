@@ -35,7 +35,7 @@ def parser(description, output):
         "with the command that converts or unpacks them")
     add("output", type=nonempty, help=output)
     add("--printer", action=Listing, metavar="MODEL",
-        help="a printer that is known by name: it brings canvas, pitch, mirrors and height; 'help' lists them")
+        help="a printer that is known by name: it brings canvas, pitch, mirrors and height; 'help' lists the printers")
     add("--canvas", type=canvas, metavar="COLUMNSxROWS", help="pixels of the screen, as its images have them")
     add("--pitch", type=pitch, metavar="N",
         help="a pixel in micrometres: 50, 47.25, or 19x24 for width and depth in the image, after any turn")
