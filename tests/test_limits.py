@@ -85,6 +85,7 @@ SPELLED = {
     ],
     "stl_text::WORD_FRONT": [
         ("docs/decisions/front-of-a-word.md", "keeps the first {} bytes of such a word"),
+        ("docs/usage.md", "holds the first {} bytes of a word"),
     ],
     "mesh_reading::LEAST_READ": [
         ("docs/decisions/front-of-a-word.md", "is offered at least {} bytes (`LEAST_READ`)"),
