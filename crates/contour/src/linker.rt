@@ -47,7 +47,7 @@ impl<A: Allocator> Model for Linker<A> {
 }
 
 impl<A: Allocator + Copy + Send + Sync> Linker<A> {
-    /// A linker for the planes of a mesh. `Err` only if an allocation failed.
+    /// A linker with memory for the edges of this mesh; [`Linker::loops`] takes any mesh. `Err` only if an allocation failed.
     pub fn new(alloc: A, s: &Solid<A>) -> Result<Linker<A>, AllocError> {
         Ok(Linker {
             alloc,

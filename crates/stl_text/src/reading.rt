@@ -10,7 +10,8 @@ use micro_num::Unit;
 use std::alloc::Allocator;
 use std::thread::Threads;
 
-/// The facets of an ASCII STL text in file order, at most `limit` of them.
+/// The facets of an ASCII STL text in file order, at most `limit` of them. ASCII STL is a format of 3D Systems'
+/// StereoLithography Interface Specification (1989).
 ///
 /// A text is one or more solids: `solid` and a name up to the end of its line, any number of facets, `endsolid` and the rest of
 /// its line. Keywords are read in any case, and a normal is any three words. The text's numbers are in `unit`; points are in
@@ -52,7 +53,7 @@ pub fn read_stl<A: Allocator + Copy + Send + Sync>(
 }
 
 /// The facets of an ASCII STL text in file order, at most `limit` of them, read by up to `workers` workers at the same time. It
-/// returns what [`read_stl_at_most`] returns, for every number of workers.
+/// returns what [`read_stl_at_most`] returns, for every number of workers, unless memory runs out (`Memory`).
 pub fn read_stl_by<R: Threads + Sync, A: Allocator + Copy + Send + Sync>(
     rt: &R,
     alloc: A,

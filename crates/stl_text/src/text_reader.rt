@@ -93,8 +93,8 @@ fn read_word<A: Allocator>(
 }
 
 /// A reader of an ASCII STL text that arrives in chunks. They may be cut anywhere, also in a word, a number, a name or a line
-/// break. Until a fault stops it, it keeps the facets until they are taken. Between two chunks, it then keeps no more of the
-/// text than the first 256 bytes of a word that is not whole yet. No clause says how much memory it takes.
+/// break. It keeps the facets until they are taken, and between two chunks no more of the text than the first 256 bytes of a
+/// word that is not whole yet. After a fault it reads no further. No clause says how much memory it takes.
 #[derive(Drop)]
 pub struct TextReader<A: Allocator> {
     /// The number of facets that the text may have in addition to those that were taken.

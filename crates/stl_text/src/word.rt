@@ -24,6 +24,7 @@ pub enum Word {
     Outer,
     Loop,
     Vertex,
+    /// A coordinate of a vertex, or a word of a normal.
     Number,
     EndLoop,
     EndFacet,

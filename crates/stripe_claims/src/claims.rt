@@ -116,9 +116,10 @@ impl<A: Allocator + Copy> Claims<A> {
         }
     }
 
-    /// The next number of the word if it is below `stripes`, else `None`. The draw appends the word to the pass's list and
-    /// raises the word by 1. Steps of the claims machine lead to the moment after that. So there the lists of all passes hold each
-    /// number below the word once and nothing else (`claims_laws`).
+    /// The number that the word holds, if it is below `stripes`, else `None`. The draw appends that number to the pass's list and
+    /// raises the word by 1. Steps of the claims machine lead to a moment with that word and that list (`drawn`). There the lists
+    /// of all passes hold each number below the word once and nothing else (`claims_laws`). That it is the moment after this draw
+    /// is the rule of the table.
     ///
     /// After a `None` the word is above `stripes`, and the pass has ended. Further draws with it return `None` without an
     /// atomic step. The pass must be of these claims. A draw never waits for another thread, and allocates nothing.
