@@ -309,7 +309,7 @@ WRONG = {
     "--height=0": "it takes millimetres above 0 and below 1000000, as 150 or 149.5",
     "--exposure=0": SECONDS, "--first-exposure=-2": SECONDS, "--fade=1000": "it takes a whole number, 0 to 999",
     # what follows in these lines is argparse's own, and not the same in each Python
-    "--turn=half": "invalid choice: 'half'", "--rule=xor": "invalid choice: 'xor'",
+    "--rule=xor": "invalid choice: 'xor'",
     "--unit=foot": "invalid choice: 'foot'", "--depth=2": "invalid choice: 2",
 }
 
@@ -319,6 +319,7 @@ def wrong_words_are_refused(program, folder):
     def refused(words, line):
         status, told, fault = run(script(SL1, words), cwd=folder)
         last = fault.decode().splitlines()[-1].split(" (choose from ")[0]
+    "--turn=half": "it takes auto, or no value", "--turn=quarter": "it takes auto, or no value",
         same((status, told, last), (2, b"", f"stlslice-sl1: error: {line}"), str(words))
 
     for word, line in WRONG.items():
