@@ -197,8 +197,10 @@ def text_is_changed_exactly(program, folder):
             same(found, wanted, f"{quarters} quarters, times {times}")
     refused(lambda: stl.changed(io.BytesIO(text([]).encode()), 1, 1, (1, 1, 1)), 1,
             "the part's text has a corner that can't be turned or multiplied")
-    large = text([(("1e999999", 0, 0), (0, 0, 0), (1, 1, 1))]).encode()
-    refused(lambda: stl.changed(io.BytesIO(large), 1, 0, (10, 10, 10)), 1, "the number 1e999999 can't be multiplied exactly")
+    # exponents that the program takes, though no other reader of decimals might
+    spelled = [("0e99999999999999999999", "1e-2000000", "-.50E-99999999999999999999")] * 3
+    source = io.BytesIO(text([tuple(spelled)], "vertex 1 of vertex").encode())
+    same(corners(0, (10, 10, 1000)), [("0e99999999999999999999", "10e-2000000", "-50000e-100000000000000000001")] * 3, "far exponents")
 
 
 def blocks_cut_no_facet(program, folder):
@@ -214,6 +216,30 @@ def blocks_cut_no_facet(program, folder):
 
 
 def shells_are_kept_together(program, folder):
+class Counted(io.BytesIO):
+    """A file that counts how often it is read, and how many bytes."""
+
+    count = 0
+
+    def read(self, size):
+        self.count += 1
+        return super().read(size)
+
+
+def long_names_take_linear_time(program, folder):
+    """A name of many blocks is read in ever larger ones, since what is held is looked at again with each."""
+    body = text(box((0, 0, 0), (1, 1, 1)), "x" * 200_000).encode()
+    kept = stl.BLOCK
+    try:
+        stl.BLOCK = 1
+        for read in (lambda file: list(stl.corners_of_text(file)), lambda file: b"".join(stl.blocks(file))):
+            file = Counted(body)
+            read(file)
+            assert file.count < 1000, f"{file.count} reads"
+    finally:
+        stl.BLOCK = kept
+
+
     bodies = [box((5 * k, 0, 0), (5 * k + 3, 3, 3)) for k in range(7)]
     mixed = [facet for facets in zip(*bodies) for facet in facets]
     spelled = text(mixed).replace("vertex 5 ", "vertex 5.0 ", 40).replace("vertex 8 ", "vertex 0.8e1 ", 9)
@@ -322,7 +348,7 @@ def reading_is_the_programs(program, folder):
 
     kept = stl.BLOCK
     try:
-        for stl.BLOCK in (1, 7, 1 << 20):
+        for stl.BLOCK in (*range(1, 30), 1 << 20):
             for body, line in NO_STL.items():
                 refused(lambda: read(body.encode("latin-1")), 3, line)
             for body in ALSO_STL:
@@ -354,8 +380,9 @@ def pitches_become_whole(program, folder):
         sides = words.pitch(word)
         same(slicing.common_pitch(sides), wanted, word)
         same([side * by for side, by in zip(sides, wanted[1])], [wanted[0]] * 2, f"{word}: sides")
-    refused(lambda: slicing.common_pitch(words.pitch("22.345x24.321")), 1,
-            "a pixel of 22.345 x 24.321 micrometres can't be made square: its sides have no common multiple up to 100,000")
+    for word, told in (("22.345x24.321", "22.345 x 24.321"), ("200000", "200000 x 200000"), ("123456.789", "123456.789 x 123456.789")):
+        refused(lambda: slicing.common_pitch(words.pitch(word)), 1, f"a pixel of {told} micrometres isn't taken: no whole number of them "
+                "up to 100,000 is a multiple of both sides")
 
 
 def values_are_read(program, folder):
