@@ -6,6 +6,7 @@ import argparse
 import ast
 import contextlib
 import decimal
+import errno
 import functools
 import glob
 import io
@@ -22,7 +23,7 @@ from parts import box, installed, leave_out, main, pixels_of_p4, pixels_of_png, 
 SHARE = os.path.join(os.path.dirname(os.path.dirname(installed())), "share", "stlslice")
 sys.path.insert(0, SHARE)
 
-from stlslice_commands import floats, images, parts, printers, shells, sl1, slicing, stl, words  # noqa: E402
+from stlslice_commands import faults, floats, images, parts, printers, shells, sl1, slicing, stl, words  # noqa: E402
 from stlslice_commands.faults import Refused  # noqa: E402
 from stlslice_commands.program import next_png  # noqa: E402
 
@@ -215,7 +216,6 @@ def blocks_cut_no_facet(program, folder):
         stl.BLOCK = kept
 
 
-def shells_are_kept_together(program, folder):
 class Counted(io.BytesIO):
     """A file that counts how often it is read, and how many bytes."""
 
@@ -240,6 +240,7 @@ def long_names_take_linear_time(program, folder):
         stl.BLOCK = kept
 
 
+def shells_are_kept_together(program, folder):
     bodies = [box((5 * k, 0, 0), (5 * k + 3, 3, 3)) for k in range(7)]
     mixed = [facet for facets in zip(*bodies) for facet in facets]
     spelled = text(mixed).replace("vertex 5 ", "vertex 5.0 ", 40).replace("vertex 8 ", "vertex 0.8e1 ", 9)
@@ -364,6 +365,35 @@ def reading_is_the_programs(program, folder):
         same((status, fault, int(told.split()[1])), (0, b"", len(read(body)) // 3), f"{body[:60]!r}")
 
 
+def files_are_whole_or_not_there(program, folder):
+    """Two runs for one output, as in containers, whose processes have the same number: each has a file of its own."""
+    out = os.path.join(folder, "out")
+    with faults.whole_file(out) as file:
+        file.write(b"one")
+        refused(lambda: fail_within(out), 1, "a fault")
+        same((len(os.listdir(folder)), os.path.exists(out)), (1, False), "files beside one that failed")
+        with faults.whole_file(out) as other:
+            other.write(b"other")
+        with open(out, "rb") as found:
+            same(found.read(), b"other", "the one that was ready first")
+    with open(out, "rb") as found:
+        same((found.read(), os.listdir(folder)), (b"one", ["out"]), "the one that was ready last")
+
+
+def fail_within(out):
+    with faults.whole_file(out) as file:
+        file.write(b"half")
+        raise Refused("a fault")
+
+
+def faults_have_lines(program, folder):
+    for fault, wanted in ((Refused("no", 3), ("no", 3)), (MemoryError(), ("out of memory", 6)),
+                          (OSError(errno.ENOMEM, "Cannot allocate memory"), ("out of memory", 6)),
+                          (OSError(errno.ENOSPC, "Full"), ("Full", 1)), (OSError(errno.ENOSPC, "Full", "a"), ("Full: a", 1)),
+                          (OSError(errno.EACCES, "No", f"{faults.aside('a')}/00000.png"), ("No: a/00000.png", 1))):
+        same(faults.end_of(fault), wanted, repr(fault))
+
+
 def formats_are_told(program, folder):
     packed = b"PK\x03\x04" + b"." * 26
     for head, kind in ((packed + b"[Content_Types].xml", "3MF"), (packed + b"part.stl", "zip"), (b"\x1f\x8b\x08\0", "gzip"),
@@ -455,5 +485,6 @@ def sources_are_for_old_python(program, folder):
 if __name__ == "__main__":
     main([decimals_are_shortest, pngs_are_cut_by_their_chunks, pngs_are_joined, pngs_are_made_smaller, binary_is_written_out,
           text_is_changed_exactly, blocks_cut_no_facet, shells_are_kept_together, corners_are_joined_as_by_the_program,
-          reading_is_the_programs, formats_are_told, pitches_become_whole,
+          reading_is_the_programs, long_names_take_linear_time, files_are_whole_or_not_there, faults_have_lines, formats_are_told,
+          pitches_become_whole,
           values_are_read, printers_are_those_of_prusaslicer, sources_are_for_old_python])

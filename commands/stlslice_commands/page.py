@@ -10,7 +10,7 @@ import json
 import os
 import re
 
-from .faults import Progress, Refused, aside, look_at_output, named
+from .faults import Progress, Refused, look_at_output, shown, whole_file
 from .images import head_of, smaller
 from .parts import as_text, opened
 from .program import Program
@@ -196,30 +196,17 @@ def page_of(given, layers):
              f"rule {given.rule}; {layers.volume():.3f} ml").replace(" x ", " × ")
     data = {"columns": columns, "rows": rows, "pitch": given.pitch, "layer": given.layer, "z": layers.low[2], "part": layers.part,
             "images": layers.images, "layers": list(zip(layers.numbers, layers.areas))}
-    parts = {"TITLE": html.escape(name), "ABOUT": about, "DATA": json.dumps(data, separators=(",", ":"))}
+    parts = {"TITLE": html.escape(shown(name)), "ABOUT": about, "DATA": json.dumps(data, separators=(",", ":"))}
     return re.sub("@(TITLE|ABOUT|DATA)@", lambda it: parts[it[1]], PAGE)
-
-
-def write_whole(path, text):
-    """Writes a file aside, and moves it into place when it is whole."""
-    beside = aside(path)
-    try:
-        with named(path), open(beside, "x", encoding="utf-8") as file:
-            file.write(text)
-        os.replace(beside, path)
-    finally:
-        if os.path.exists(beside):
-            os.remove(beside)
 
 
 def main():
     given = words().parse_args()
     look_at_output(given.output, given.part)
-    with opened(given.part) as source:
+    with whole_file(given.output) as file, opened(given.part) as source:
         layers = Layers(given, as_text(source))
         if not layers.volume():
             refuse_unlit(given, layers.size)
         layers.slice()
-    text = page_of(given, layers)
-    write_whole(given.output, text)
-    print(f"{given.output}: {layers.count} layers, {layers.volume():.3f} ml, {-(-len(text.encode()) // 1000)} kB")
+        size = file.write(page_of(given, layers).encode())
+    print(shown(f"{given.output}: {layers.count} layers, {layers.volume():.3f} ml, {-(-size // 1000)} kB"))

@@ -8,7 +8,7 @@ import re
 import shlex
 import sys
 
-from .faults import Refused, say
+from .faults import Refused, named, say
 from .stl import BLOCK, corners_of_binary, facets_of_binary, size_of, temporary, text_of
 
 # What makes an STL of each format that isn't one; each was tried. {0} is the file, {1} the STL to make.
@@ -21,13 +21,16 @@ OBJ = re.compile(rb"(?:\s|#[^\n]*\n)*(?:v|vn|vt|vp|f|o|g|s|mtllib|usemtl)[ \t]")
 @contextlib.contextmanager
 def opened(path):
     """The part as a file that can be read twice, a pipe copied first. One of another format is refused."""
+    if path == "-" and not sys.stdin:
+        raise Refused("standard input is closed")
     with contextlib.ExitStack() as stack:
         file = sys.stdin.buffer if path == "-" else stack.enter_context(open(path, "rb"))
         if path == "-" and sys.stdin.isatty():
             say("a part is awaited on standard input")
         if path == "-" or not file.seekable():
             file = stack.enter_context(temporary(iter(functools.partial(file.read, BLOCK), b"")))
-        refuse_others(file, path)
+        with named(path):
+            refuse_others(file, path)
         yield file
 
 

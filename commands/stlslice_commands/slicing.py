@@ -8,7 +8,7 @@ import itertools
 import math
 from fractions import Fraction
 
-from .faults import Progress, Refused, say
+from .faults import Progress, Refused, say, shown
 from .images import head_of, joined
 from .parts import as_text
 from .program import Program
@@ -149,7 +149,7 @@ class Sliced:
 
     def told(self, output):
         """The last line."""
-        return f"{output}: {in_mm(self.size)} mm, {self.millilitres(self.lit):.3f} ml, {self.layers} layers"
+        return shown(f"{output}: {in_mm(self.size)} mm, {self.millilitres(self.lit):.3f} ml, {self.layers} layers")
 
 
 def refuse_unlit(given, size):
