@@ -270,7 +270,8 @@ def part_is_not_overwritten(program, folder):
         same(found, (1, b"", f"stlslice-sl1: {out} is the part itself\n".encode()), "the part as its own archive")
         for command in (SL1, PAGE):
             with open(part, "rb") as file:
-                found = run(script(command, ["--canvas", "9x9", "--pitch", "50", "--program", program, "-", out]), stdin=file)
+                words = ["--canvas", "9x9", "--pitch", "50", "--program", program, "-", out]
+                found = run(script(command, words), stdin=file)
             same(found, (1, b"", f"{os.path.basename(command)}: {out} is the part itself\n".encode()), "the part on standard input")
     with open(example("bracket.stl"), "rb") as file, open(part, "rb") as copy:
         assert copy.read() == file.read(), "the part has changed"
@@ -536,7 +537,8 @@ def standard_error_may_be_closed_or_full(program, folder):
 def little_memory_is_told(program, folder):
     """A chunk of four gigabytes."""
     path = slicer(folder, printed(IMAGE[:33] + b"\377" * 4 + IMAGE[37:]))
-    words = ["--canvas", "8x1", "--pitch", "100", "--layer", "500", "--program", path, example("bracket.stl"), os.path.join(folder, "out")]
+    out = os.path.join(folder, "out")
+    words = ["--canvas", "8x1", "--pitch", "100", "--layer", "500", "--program", path, example("bracket.stl"), out]
     for command in (SL1, PNGS):
         found = run(["bash", "-c", 'ulimit -v 2000000; exec "$@"', "bash", *script(command, words)])
         same(found, (6, b"", f"{os.path.basename(command)}: out of memory\n".encode()), "little memory")

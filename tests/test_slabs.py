@@ -164,7 +164,8 @@ def wrong_words_are_refused(program, folder):
                                 (["no\n.stl", "x"], 1, "no\\x0a.stl can't be read")):
         same(run([SLABS, *words], cwd=folder, env=env), (status, b"", f"stlslice-slabs: {line}\n".encode()), str(words))
         for place in ("2>&-", "2> /dev/full"):
-            same(run(["bash", "-c", f'exec "$@" {place}', "bash", SLABS, *words], cwd=folder, env=env), (status, b"", b""), f"{words} {place}")
+            found = run(["bash", "-c", f'exec "$@" {place}', "bash", SLABS, *words], cwd=folder, env=env)
+            same(found, (status, b"", b""), f"{words} {place}")
     empty = os.path.join(folder, "empty.stl")
     with open(empty, "w") as file:
         file.write("solid\nendsolid\n")
@@ -308,8 +309,9 @@ def signals_end_all_slabs(program, folder):
     for number in (signal.SIGHUP, signal.SIGINT, signal.SIGTERM):
         open(pids, "w").close()
         start = time.monotonic()
-        child = subprocess.Popen([SLABS, "-l", "100", "-n", "3", "-j", "3", "-P", tool, example("bracket.stl"), "out"], cwd=folder, env=env,
-                                 stderr=subprocess.PIPE, preexec_fn=lambda: signal.signal(number, signal.SIG_DFL))
+        words = [SLABS, "-l", "100", "-n", "3", "-j", "3", "-P", tool, example("bracket.stl"), "out"]
+        child = subprocess.Popen(words, cwd=folder, env=env, stderr=subprocess.PIPE,
+                                 preexec_fn=lambda: signal.signal(number, signal.SIG_DFL))
         while content(pids).count(b"\n") < 3:
             time.sleep(0.05)
         for _ in range(3):

@@ -133,7 +133,7 @@ def text_of(facets):
 
 
 def temporary(texts):
-    """A file of these bytes, which is nowhere once it is closed."""
+    """A file of these bytes, which is nowhere once it is closed. A fault has the folder's name, or TMPDIR if there is no folder."""
     with named("TMPDIR"), named(tempfile.gettempdir()):
         file = tempfile.TemporaryFile()
         file.writelines(texts)
