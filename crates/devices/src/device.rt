@@ -1,5 +1,5 @@
 //! The traits of sources and sinks, which count their failed calls.
-ghost use Rattle.std.specs.Prelude.{◌≡◌, Bool, true, ◌≤◌, ◌<◌, IfOk, List, OnErr, OnOk, Ok, Option, length, take, ℕ};
+ghost use Rattle.std.specs.Prelude.{◌≡◌, Bool, false, true, ◌≤◌, ◌<◌, IfOk, List, OnErr, OnOk, Ok, Option, length, take, ℕ};
 ghost use Rattle.std.specs.Io.KnownBytes.{Appends, Consumes, IsAtEnd, Keeps};
 ghost use Rattle.devices.specs.Devices.{Fails};
 
@@ -43,12 +43,13 @@ pub trait Sink: Failures {
     ghost is_settled: { Self → Bool };
 
     /// Takes bytes from the front of `chunk` and returns their number: at least 1, unless `chunk` is empty. On an error it took
-    /// none.
+    /// none. What it took is not flushed until the next `settle`.
     fn put(&mut self, chunk: &[u8]) -> Result<usize, Failed>
         ensures within { IfOk result (λ n. n ≤ length chunk.now) }
         ensures some { IfOk result (λ n. 0 < length chunk.now → 0 < n) }
         ensures out { IfOk result (λ n. Appends (contents self.old) (contents self.new) (take n chunk.now)) }
         ensures none { OnErr result (Keeps (contents self.old) (contents self.new)) }
+        ensures unsettled { IfOk result (λ n. 0 < n → is_settled self.new ≡ false) }
         ensures ok { OnOk result (Self.Failures.failure_count self.new ≡ Self.Failures.failure_count self.old) }
         ensures err { OnErr result (Fails (Self.Failures.failure_count self.old) (Self.Failures.failure_count self.new)) };
 
