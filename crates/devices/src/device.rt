@@ -24,12 +24,14 @@ pub trait Source: Failures {
     /// The bytes that are still to come, if they are known.
     ghost remaining: { Self → Option (List ℕ) };
 
-    /// Reads bytes into the front of `buf` and returns their number: 0 only at the end, or if `buf` is empty.
+    /// Reads bytes into the front of `buf` and returns their number: 0 only at the end, or if `buf` is empty. On an error it took
+    /// none; what `buf` holds then is not said.
     fn pull(&mut self, buf: &mut [u8]) -> Result<usize, Failed>
         ensures length { length buf.new ≡ length buf.old }
         ensures within { IfOk result (λ n. n ≤ length buf.old) }
         ensures taken { IfOk result (λ n. Consumes (remaining self.old) (remaining self.new) (take n buf.new)) }
         ensures end { result ≡ Ok 0 → 0 < length buf.old → IsAtEnd (remaining self.new) }
+        ensures none { OnErr result (Keeps (remaining self.old) (remaining self.new)) }
         ensures ok { OnOk result (Self.Failures.failure_count self.new ≡ Self.Failures.failure_count self.old) }
         ensures err { OnErr result (Fails (Self.Failures.failure_count self.old) (Self.Failures.failure_count self.new)) };
 }
