@@ -20,10 +20,11 @@ def main():
     parser.add_argument("--size", type=float, default=2.0, metavar="MM", help="by how much it juts out (%(default)s)")
     parser.add_argument("--unit", default="mm", choices=["mm", "inch"], help="unit of the part's numbers (%(default)s)")
     given = parser.parse_args()
-    text = sys.stdin.read()
+    text = sys.stdin.buffer.read().decode("ascii", "replace")
     found = EDGE.search(text)
     if not found:
-        sys.exit("mark_edge.py: no open edge in: " + (text.strip() or "nothing"))
+        is_image = text.startswith(("P4\n", "\ufffdPNG"))
+        sys.exit("mark_edge.py: no open edge in: " + ("images (is > layers.pbm missing?)" if is_image else text.strip() or "nothing"))
     unit = 1000 if given.unit == "mm" else 25400
     ends = [int(n) / unit for n in found.groups()]
     sys.stdout.write(spindle(ends[:3], ends[3:], given.size * 1000 / unit))

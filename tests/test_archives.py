@@ -16,6 +16,7 @@ from parts import (ROOT, alone, box, environment, example, installed, main, p4_i
 
 SL1 = installed("stlslice-sl1")
 PNGS = installed("stlslice-pngs")
+PAGE = installed("stlslice-page")
 CANVAS = (331, 203)
 SMALL = ["--canvas", "331x203", "--pitch", "200", "--layer", "500", "--workers", "2"]
 
@@ -246,11 +247,17 @@ def output_that_is_no_plain_file_is_refused(program, folder):
         status, told, fault = run(script(SL1, SMALL + ["--program", program, example("bracket.stl"), out]))
         same((status, told, fault.decode()), (1, b"", f"stlslice-sl1: {out} is no plain file\n"), "an output that is no plain file")
     leaves_nothing(folder, ["link", "pipe"])
-    for command in (SL1, PNGS):
-        out = os.path.join(folder, "none", "out")
-        found = run(script(command, SMALL + ["--program", program, example("bracket.stl"), out]))
-        line = f"{os.path.basename(command)}: No such file or directory: {out}\n"
-        same(found, (1, b"", line.encode()), "an output in a folder that isn't there")
+    # before anything is sliced
+    never = slicer(folder, "", start="exit 9")
+    os.mkdir(os.path.join(folder, "empty"))
+    os.symlink("empty", os.path.join(folder, "link to it"))
+    for command, name, line in ((SL1, "none/out", "No such file or directory: {}"), (PNGS, "none/out", "No such file or directory: {}"),
+                                (PAGE, "none/out", "No such file or directory: {}"), (PNGS, "link", "{} is there already"),
+                                (PNGS, "link to it", "{} is a link or a mount point, in whose place no folder can be moved")):
+        out = os.path.join(folder, name)
+        found = run(script(command, ["--canvas", "8x1", "--pitch", "100", "--program", never, example("bracket.stl"), out]))
+        line = f"{os.path.basename(command)}: {line.format(out)}\n"
+        same(found, (1, b"", line.encode()), f"an output {name}")
 
 
 def part_is_not_overwritten(program, folder):
@@ -261,6 +268,10 @@ def part_is_not_overwritten(program, folder):
     for out in (part, link):
         found = run(script(SL1, SMALL + ["--program", program, part, out]))
         same(found, (1, b"", f"stlslice-sl1: {out} is the part itself\n".encode()), "the part as its own archive")
+        for command in (SL1, PAGE):
+            with open(part, "rb") as file:
+                found = run(script(command, ["--canvas", "9x9", "--pitch", "50", "--program", program, "-", out]), stdin=file)
+            same(found, (1, b"", f"{os.path.basename(command)}: {out} is the part itself\n".encode()), "the part on standard input")
     with open(example("bracket.stl"), "rb") as file, open(part, "rb") as copy:
         assert copy.read() == file.read(), "the part has changed"
     found = run(script(PNGS, SMALL + ["--program", program, example("bracket.stl"), "."]), cwd=folder)
@@ -308,8 +319,9 @@ WRONG = {
     "--pitch=0": "it takes micrometres above 0 and below 1000000, with at most three digits after the point, as 50, 47.25 or 19x24",
     "--height=0": "it takes millimetres above 0 and below 1000000, as 150 or 149.5",
     "--exposure=0": SECONDS, "--first-exposure=-2": SECONDS, "--fade=1000": "it takes a whole number, 0 to 999",
+    "--turn=half": "it takes auto, or no value", "--turn=quarter": "it takes auto, or no value",
     # what follows in these lines is argparse's own, and not the same in each Python
-    "--turn=half": "invalid choice: 'half'", "--rule=xor": "invalid choice: 'xor'",
+    "--rule=xor": "invalid choice: 'xor'",
     "--unit=foot": "invalid choice: 'foot'", "--depth=2": "invalid choice: 2",
 }
 
@@ -330,7 +342,7 @@ def wrong_words_are_refused(program, folder):
 
 
 def empty_names_are_refused(program, folder):
-    for command in (SL1, PNGS, installed("stlslice-page")):
+    for command in (SL1, PNGS, PAGE):
         for words, which in ((["", "out"], "part"), ([example("bracket.stl"), ""], "output")):
             status, told, fault = run(script(command, ["--canvas", "99x99", "--pitch", "50", *words]), cwd=folder)
             line = f"{os.path.basename(command)}: error: argument {which}: it takes a name"
@@ -359,12 +371,12 @@ def other_exposure_is_asked_for(program, folder):
             same(run(script(SL1, words)), (1, b"", said.encode()), str(words))
 
 
-def slicer(folder, body, layers=2):
-    """A stand-in for the slicer: it answers the box and the report, and slices as `body` says."""
+def slicer(folder, body, layers=2, start=""):
+    """A stand-in for the slicer: it answers the box and the report, and slices as `body` says; before all it does `start`."""
     path = os.path.join(folder, "slicer")
     report = "".join(f"layer {k} loops 1 area 8\n" for k in range(layers)) + f"total {8 * layers}\n"
     with open(path, "w") as file:
-        file.write("#!/bin/sh\ncase \"$*\" in *--box*) echo facets 12 box 0 0 0 800 100 1000; exit;; "
+        file.write(f"#!/bin/sh\n{start}\ncase \"$*\" in *--box*) echo facets 12 box 0 0 0 800 100 1000; exit;; "
                    f"*--report*) printf '{report}'; exit;; esac\n" + body)
     os.chmod(path, 0o755)
     return path
@@ -376,6 +388,11 @@ def printed(data):
 
 
 IMAGE = png_of_p4((8, 1, b"\377"), 8)
+
+
+def image_for(command):
+    """The same, of as many bits as the command asks for."""
+    return png_of_p4((8, 1, b"\377"), 1) if command == PAGE else IMAGE
 
 
 def broken_slicers_leave_nothing(program, folder):
@@ -391,12 +408,13 @@ def broken_slicers_leave_nothing(program, folder):
             (image + image + image, 1, "stlslice-sl1: the program wrote more layers than it was asked for"),
             (image + printed(png_of_p4((1, 8, b"\x80" * 8), 8)), 1, other), (image + printed(png_of_p4((8, 1, b"\377"), 1)), 1, other),
             (image + "printf 'P4\\n8 1\\n\\377 and as many bytes as a head has'\n", 1, other),
-            (image + "kill -KILL $$\n", 137, None),
+            (image + "kill -KILL $$\n", 137, "stlslice-sl1: the program was ended by signal 9: is there too little memory?"),
+            (image + "kill -SEGV $$\n", 139, "stlslice-sl1: the program was ended by signal 11"),
     ):
         words = ["--canvas", "8x1", "--pitch", "100", "--layer", "500", "--program", slicer(folder, body),
                  example("bracket.stl"), os.path.join(folder, "out.sl1")]
         found, _, fault = run(script(SL1, words))
-        same((found, fault.decode()), (status, line + "\n" if line else ""), body)
+        same((found, fault.decode()), (status, line + "\n"), body)
         leaves_nothing(folder, ["slicer"])
     words = ["--canvas", "8x1", "--pitch", "100", "--layer", "500", "--program", slicer(folder, image + image, 1),
              example("bracket.stl"), os.path.join(folder, "out.sl1")]
@@ -407,11 +425,17 @@ def broken_slicers_leave_nothing(program, folder):
 def full_disk_is_told(program, folder):
     """A limit of no bytes for each file stands for a full disk. A full standard output is told once, and is no success."""
     path = slicer(folder, 2 * printed(png_of_p4((8, 1, b"\377"), 1)))
-    for command, more in ((SL1, ["--depth", "1"]), (PNGS, ["--depth", "1"]), (installed("stlslice-page"), [])):
+    for command, more in ((SL1, ["--depth", "1"]), (PNGS, ["--depth", "1"]), (PAGE, [])):
         name, out = os.path.basename(command), os.path.join(folder, "out")
-        words = ["--canvas", "8x1", "--pitch", "100", "--layer", "500", "--program", path, *more, example("bracket.stl"), out]
-        found = run(["bash", "-c", 'ulimit -f 0; exec "$@"', "bash", *script(command, words)])
+        words = ["--canvas", "8x1", "--pitch", "100", "--layer", "500", "--program", path, *more]
+        found = run(["bash", "-c", 'ulimit -f 0; exec "$@"', "bash", *script(command, [*words, example("bracket.stl"), out])])
         same(found, (1, b"", f"{name}: File too large: {out}\n".encode()), name)
+        # copies of the part: of standard input, of its shells, in another unit
+        for copied in (["-"], *([[it, example("bracket.stl")] for it in ("--shells", "--unit=cm")] if more else [])):
+            with open(example("bracket.stl"), "rb") as file:
+                found = run(["bash", "-c", 'ulimit -f 1; exec "$@"', "bash", *script(command, [*words, *copied, out])],
+                            env=dict(os.environ, TMPDIR=folder), stdin=file)
+            same(found, (1, b"", f"{name}: File too large: {folder}\n".encode()), f"{name} {copied[0]}")
         found = run(["bash", "-c", 'exec env -u PYTHONUNBUFFERED "$@" > /dev/full', "bash", *script(command, ["--help"])])
         same(found, (1, b"", f"{name}: No space left on device: standard output\n".encode()), f"{name} --help")
         status, _, fault = run(["bash", "-c", 'exec "$@" >&-', "bash", *script(command, ["--help"])])
@@ -446,18 +470,108 @@ def pngs_are_taken_as_they_are(program, folder):
 
 
 def stopped_script_leaves_nothing(program, folder):
-    path = slicer(folder, printed(IMAGE) + "exec sleep 60\n")
-    child = subprocess.Popen(script(SL1, ["--canvas", "8x1", "--pitch", "100", "--layer", "500", "--program", path,
-                                          example("bracket.stl"), os.path.join(folder, "out.sl1")]))
-    for _ in range(200):
+    """By each signal, and by further ones that come at once. A signal that nohup ignores is none."""
+    for command in (SL1, PNGS, PAGE):
+        image = printed(image_for(command)).strip()
+        path = slicer(folder, f"for k in $(seq 500); do {image}; done\ntouch begun\nexec sleep 60\n", 500)
+        for number in (signal.SIGHUP, signal.SIGINT, signal.SIGTERM):
+            def listen():
+                for other in (signal.SIGHUP, signal.SIGINT, signal.SIGTERM):
+                    signal.signal(other, signal.SIG_IGN if other == signal.SIGHUP != number else signal.SIG_DFL)
+
+            words = ["--canvas", "8x1", "--pitch", "100", "--layer", "2", "--program", path, example("bracket.stl"), "out"]
+            child = subprocess.Popen(script(command, words), cwd=folder, stderr=subprocess.PIPE, preexec_fn=listen)
+            waited(lambda: os.path.exists(os.path.join(folder, "begun")))
+            assert any(name.endswith(".part") for name in os.listdir(folder)), "no file was begun"
+            child.send_signal(signal.SIGHUP if number != signal.SIGHUP else number)
+            while child.poll() is None:
+                child.send_signal(number)
+                time.sleep(0.0005)
+            same((child.returncode, child.stderr.read()), (128 + number, b""), f"{os.path.basename(command)}, signal {number}")
+            child.stderr.close()
+            os.remove(os.path.join(folder, "begun"))
+            leaves_nothing(folder, ["slicer"])
+
+
+def waited(is_so):
+    for _ in range(1200):
+        if is_so():
+            return
         time.sleep(0.05)
-        if any(name.endswith(".part") for name in os.listdir(folder)):
-            break
-    else:
-        raise AssertionError("no file was begun")
-    child.send_signal(signal.SIGTERM)
-    same(child.wait(timeout=60), 143, "status")
-    leaves_nothing(folder, ["slicer"])
+    raise AssertionError("nothing came in a minute")
+
+
+def early_signal_is_no_fault(program, folder):
+    """A signal that comes while the modules are read."""
+    with open(os.path.join(folder, "subprocess.py"), "w") as file:
+        file.write("import os, signal\nos.kill(os.getpid(), signal.SIGINT)\n")
+    for command in (SL1, PNGS, PAGE):
+        found = run(["env", "--default-signal=INT", *script(command, ["part", "out"])], env=dict(os.environ, PYTHONPATH=folder))
+        same(found, (130, b"", b""), os.path.basename(command))
+
+
+def standard_error_may_be_closed_or_full(program, folder):
+    """The status is the same then. A closed standard input has no part."""
+    part, out = os.path.join(folder, "part.stl"), os.path.join(folder, "out")
+    with open(part, "wb") as file:
+        file.write(b"solid".ljust(80) + bytes(4))
+    for command in (SL1, PNGS, PAGE):
+        name, path = os.path.basename(command), slicer(folder, 2 * printed(image_for(command)))
+        words = ["--canvas", "8x1", "--pitch", "100", "--layer", "500", "--program"]
+        for place in ("2>&-", "2> /dev/full"):
+            # a binary part, of which a line is said
+            for given, status in (([path, part, out], 0), ([path, "none", out], 1), ([part, part, out], 1), ([path], 2)):
+                found = run(["bash", "-c", f'exec "$@" {place}', "bash", *script(command, [*words, *given])], cwd=folder)
+                same((found[0], found[2]), (status, b""), f"{name} {given} {place}")
+            shutil.rmtree(out) if command == PNGS else os.remove(out)
+        found = run(["bash", "-c", 'exec "$@" <&-', "bash", *script(command, [*words, path, "-", out])])
+        same(found, (1, b"", f"{name}: standard input is closed\n".encode()), f"{name} without a standard input")
+        slicer(folder, "", start="echo stlslice: out of memory >&2; exit 6")
+        for place in ("2>&-", "2> /dev/full"):
+            found = run(["bash", "-c", f'exec "$@" {place}', "bash", *script(command, [*words, path, part, out])])
+            same(found, (6, b"", b""), f"{name} {place}: the program's status")
+        leaves_nothing(folder, ["part.stl", "slicer"])
+
+
+def little_memory_is_told(program, folder):
+    """A chunk of four gigabytes."""
+    path = slicer(folder, printed(IMAGE[:33] + b"\377" * 4 + IMAGE[37:]))
+    words = ["--canvas", "8x1", "--pitch", "100", "--layer", "500", "--program", path, example("bracket.stl"), os.path.join(folder, "out")]
+    for command in (SL1, PNGS):
+        found = run(["bash", "-c", 'ulimit -v 2000000; exec "$@"', "bash", *script(command, words)])
+        same(found, (6, b"", f"{os.path.basename(command)}: out of memory\n".encode()), "little memory")
+        leaves_nothing(folder, ["slicer"])
+
+
+def names_of_any_bytes_are_told(program, folder):
+    """Names with a line feed, and names that aren't UTF-8, on one line of text."""
+    name, shown = b"a\n\xff\x1b\xc3\xa4.sl1", "a\\x0a\\xff\\x1b\u00e4.sl1"
+    env = dict(os.environ, PYTHONIOENCODING="utf-8:strict", LC_ALL="C.UTF-8")
+    for command, more in ((SL1, [b"--material", b"grey\xff\x01"]), (PNGS, []), (PAGE, [])):
+        words = ["--canvas", "8x1", "--pitch", "100", "--layer", "500", "--program", slicer(folder, 2 * printed(image_for(command)))]
+        out = os.path.join(folder.encode(), name)
+        found = run([*script(command, words), *more, os.path.join(folder.encode(), b"no" + name), out], env=env)
+        line = f"{os.path.basename(command)}: No such file or directory: {folder}/no{shown}\n"
+        same(found, (1, b"", line.encode()), "a part that isn't there")
+        shutil.copy(example("bracket.stl"), os.path.join(folder.encode(), b"part" + name))
+        status, told, fault = run([*script(command, words), *more, os.path.join(folder.encode(), b"part" + name), out], env=env)
+        same((status, fault), (0, b""), os.path.basename(command))
+        assert told.startswith(f"{folder}/{shown}: ".encode()) and told.count(b"\n") == 1, told
+        if command == SL1:
+            with zipfile.ZipFile(os.fsdecode(out)) as archive:
+                settings = archive.read("config.ini").decode()
+            assert "materialName = grey\\xff\\x01\n" in settings and "jobDir = a___\u00e4\n" in settings, settings
+        elif command == PAGE:
+            with open(out, encoding="utf-8") as file:
+                assert f"<title>part{shown}: layers</title>" in file.read(), "another title"
+        shutil.rmtree(out) if command == PNGS else os.remove(out)
+
+
+def workers_are_the_processors_at_hand(program, folder):
+    one = str(min(os.sched_getaffinity(0)))
+    for command in (SL1, PNGS, PAGE):
+        told = run(["taskset", "-c", one, *script(command, ["--help"])])[1].decode()
+        assert "1 to 64 (1)" in " ".join(told.split()), told
 
 
 def pipes_and_units(program, folder):
@@ -506,4 +620,5 @@ if __name__ == "__main__":
           fault_keeps_what_was_there, output_that_is_no_plain_file_is_refused, part_is_not_overwritten, wrong_words_are_refused,
           empty_names_are_refused, missing_program_is_told, other_exposure_is_asked_for, pngs_are_taken_as_they_are,
           pitch_of_quarters_is_exact, broken_slicers_leave_nothing, full_disk_is_told, stopped_script_leaves_nothing,
-          pipes_and_units, options_are_those_of_the_page])
+          early_signal_is_no_fault, standard_error_may_be_closed_or_full, little_memory_is_told, names_of_any_bytes_are_told,
+          workers_are_the_processors_at_hand, pipes_and_units, options_are_those_of_the_page])

@@ -3,6 +3,7 @@
 what it leaves is looked at too. The blocks that need Debian packages are run by test_printing_tools.py."""
 
 import gzip
+import io
 import os
 import re
 import shutil
@@ -12,7 +13,7 @@ import zlib
 
 from pages import blocks
 from parts import (ROOT, batch_system, box, environment, example, installed, leave_out, main, p4_images, pixels_of_p4,
-                   pixels_of_png, run, same, text)
+                   pixels_of_png, png_of_p4, run, same, text)
 
 PAGE = os.path.join(ROOT, "docs", "printing.md")
 TOOLS = {"python3": ["python3"], "netpbm": ["pamsplit", "pnminvert", "pnmtopng"], "gnuplot-nox": ["gnuplot"],
@@ -320,6 +321,31 @@ def rules_are_as_in_the_table(program, folder):
             same((status, told.split()[-1]), (0, b"%d" % (1000 * volume)), f"{name} by {rule}")
 
 
+def examples_tell_what_they_cannot_read(program, folder):
+    """A damaged archive, and images in place of the slicer's line."""
+    png = png_of_p4((16, 1, b"\x12\x34"), 8)
+    sound = archive_of(png)
+    listed = sound.index(b"PK\1\2")
+    for body in (sound.replace(b"out00000.png", b"out00009.png", 1), sound[:45] + bytes([sound[45] ^ 1]) + sound[46:],
+                 sound[:listed + 10] + b"\x63" + sound[listed + 11:], archive_of(png[:20]), archive_of(png[:35]), archive_of(b""),
+                 archive_of(png[:45] + b"\0\0\0" + png[48:])):
+        with open(os.path.join(folder, "bad.sl1"), "wb") as file:
+            file.write(body)
+        status, told, fault = run([os.path.join(ROOT, "examples", "contact_sheet.py"), "bad.sl1", "bad.png"], cwd=folder)
+        assert (status, told) == (1, b"") and re.fullmatch(rb"contact_sheet.py: the archive can't be read: .*\n", fault), fault
+        same(os.listdir(folder), ["bad.sl1"], "files")
+    for images in (b"P4\n8 1\n\xff", png):
+        found = run([example("mark_edge.py")], input=images)
+        same(found, (1, b"", b"mark_edge.py: no open edge in: images (is > layers.pbm missing?)\n"), "a marker of images")
+
+
+def archive_of(png):
+    body = io.BytesIO()
+    with zipfile.ZipFile(body, "w") as archive:
+        archive.writestr("out00000.png", png, zipfile.ZIP_DEFLATED)
+    return body.getvalue()
+
+
 def examples_are_executable(program, folder):
     for name in ("examples/mark_edge.py", "examples/slabs.sbatch", "commands/stlslice-sl1", "commands/stlslice-pngs",
                  "commands/stlslice-page", "commands/stlslice-slabs"):
@@ -329,4 +355,5 @@ def examples_are_executable(program, folder):
 if __name__ == "__main__":
     main([recipes_do_what_they_say, commands_of_the_tables_run, recipes_follow_one_another, old_slabs_are_not_mixed_in,
           first_block_is_the_folder,
-          canvas_that_is_too_small_is_refused, refused_part_stops_recipes, rules_are_as_in_the_table, examples_are_executable])
+          canvas_that_is_too_small_is_refused, refused_part_stops_recipes, rules_are_as_in_the_table,
+          examples_tell_what_they_cannot_read, examples_are_executable])

@@ -6,6 +6,7 @@ import argparse
 import ast
 import contextlib
 import decimal
+import errno
 import functools
 import glob
 import io
@@ -22,7 +23,7 @@ from parts import box, installed, leave_out, main, pixels_of_p4, pixels_of_png, 
 SHARE = os.path.join(os.path.dirname(os.path.dirname(installed())), "share", "stlslice")
 sys.path.insert(0, SHARE)
 
-from stlslice_commands import floats, images, parts, printers, shells, sl1, slicing, stl, words  # noqa: E402
+from stlslice_commands import faults, floats, images, parts, printers, shells, sl1, slicing, stl, words  # noqa: E402
 from stlslice_commands.faults import Refused  # noqa: E402
 from stlslice_commands.program import next_png  # noqa: E402
 
@@ -197,8 +198,10 @@ def text_is_changed_exactly(program, folder):
             same(found, wanted, f"{quarters} quarters, times {times}")
     refused(lambda: stl.changed(io.BytesIO(text([]).encode()), 1, 1, (1, 1, 1)), 1,
             "the part's text has a corner that can't be turned or multiplied")
-    large = text([(("1e999999", 0, 0), (0, 0, 0), (1, 1, 1))]).encode()
-    refused(lambda: stl.changed(io.BytesIO(large), 1, 0, (10, 10, 10)), 1, "the number 1e999999 can't be multiplied exactly")
+    # exponents that the program takes, though no other reader of decimals might
+    spelled = [("0e99999999999999999999", "1e-2000000", "-.50E-99999999999999999999")] * 3
+    source = io.BytesIO(text([tuple(spelled)], "vertex 1 of vertex").encode())
+    same(corners(0, (10, 10, 1000)), [("0e99999999999999999999", "10e-2000000", "-50000e-100000000000000000001")] * 3, "far exponents")
 
 
 def blocks_cut_no_facet(program, folder):
@@ -209,6 +212,30 @@ def blocks_cut_no_facet(program, folder):
             found = list(stl.blocks(io.BytesIO(body)))
             same(b"".join(found), body, "blocks joined")
             assert all(block.count(b"vertex") % 3 == 0 for block in found), "a facet is cut"
+    finally:
+        stl.BLOCK = kept
+
+
+class Counted(io.BytesIO):
+    """A file that counts how often it is read, and how many bytes."""
+
+    count = 0
+
+    def read(self, size):
+        self.count += 1
+        return super().read(size)
+
+
+def long_names_take_linear_time(program, folder):
+    """A name of many blocks is read in ever larger ones, since what is held is looked at again with each."""
+    body = text(box((0, 0, 0), (1, 1, 1)), "x" * 200_000).encode()
+    kept = stl.BLOCK
+    try:
+        stl.BLOCK = 1
+        for read in (lambda file: list(stl.corners_of_text(file)), lambda file: b"".join(stl.blocks(file))):
+            file = Counted(body)
+            read(file)
+            assert file.count < 1000, f"{file.count} reads"
     finally:
         stl.BLOCK = kept
 
@@ -322,7 +349,7 @@ def reading_is_the_programs(program, folder):
 
     kept = stl.BLOCK
     try:
-        for stl.BLOCK in (1, 7, 1 << 20):
+        for stl.BLOCK in (*range(1, 30), 1 << 20):
             for body, line in NO_STL.items():
                 refused(lambda: read(body.encode("latin-1")), 3, line)
             for body in ALSO_STL:
@@ -336,6 +363,35 @@ def reading_is_the_programs(program, folder):
         body = body.encode("latin-1")
         status, told, fault = run([program, "--box"], input=body)
         same((status, fault, int(told.split()[1])), (0, b"", len(read(body)) // 3), f"{body[:60]!r}")
+
+
+def files_are_whole_or_not_there(program, folder):
+    """Two runs for one output, as in containers, whose processes have the same number: each has a file of its own."""
+    out = os.path.join(folder, "out")
+    with faults.whole_file(out) as file:
+        file.write(b"one")
+        refused(lambda: fail_within(out), 1, "a fault")
+        same((len(os.listdir(folder)), os.path.exists(out)), (1, False), "files beside one that failed")
+        with faults.whole_file(out) as other:
+            other.write(b"other")
+        with open(out, "rb") as found:
+            same(found.read(), b"other", "the one that was ready first")
+    with open(out, "rb") as found:
+        same((found.read(), os.listdir(folder)), (b"one", ["out"]), "the one that was ready last")
+
+
+def fail_within(out):
+    with faults.whole_file(out) as file:
+        file.write(b"half")
+        raise Refused("a fault")
+
+
+def faults_have_lines(program, folder):
+    for fault, wanted in ((Refused("no", 3), ("no", 3)), (MemoryError(), ("out of memory", 6)),
+                          (OSError(errno.ENOMEM, "Cannot allocate memory"), ("out of memory", 6)),
+                          (OSError(errno.ENOSPC, "Full"), ("Full", 1)), (OSError(errno.ENOSPC, "Full", "a"), ("Full: a", 1)),
+                          (OSError(errno.EACCES, "No", f"{faults.aside('a')}/00000.png"), ("No: a/00000.png", 1))):
+        same(faults.end_of(fault), wanted, repr(fault))
 
 
 def formats_are_told(program, folder):
@@ -354,8 +410,9 @@ def pitches_become_whole(program, folder):
         sides = words.pitch(word)
         same(slicing.common_pitch(sides), wanted, word)
         same([side * by for side, by in zip(sides, wanted[1])], [wanted[0]] * 2, f"{word}: sides")
-    refused(lambda: slicing.common_pitch(words.pitch("22.345x24.321")), 1,
-            "a pixel of 22.345 x 24.321 micrometres can't be made square: its sides have no common multiple up to 100,000")
+    for word, told in (("22.345x24.321", "22.345 x 24.321"), ("200000", "200000 x 200000"), ("123456.789", "123456.789 x 123456.789")):
+        refused(lambda: slicing.common_pitch(words.pitch(word)), 1, f"a pixel of {told} micrometres isn't taken: no whole number of them "
+                "up to 100,000 is a multiple of both sides")
 
 
 def values_are_read(program, folder):
@@ -428,5 +485,6 @@ def sources_are_for_old_python(program, folder):
 if __name__ == "__main__":
     main([decimals_are_shortest, pngs_are_cut_by_their_chunks, pngs_are_joined, pngs_are_made_smaller, binary_is_written_out,
           text_is_changed_exactly, blocks_cut_no_facet, shells_are_kept_together, corners_are_joined_as_by_the_program,
-          reading_is_the_programs, formats_are_told, pitches_become_whole,
+          reading_is_the_programs, long_names_take_linear_time, files_are_whole_or_not_there, faults_have_lines, formats_are_told,
+          pitches_become_whole,
           values_are_read, printers_are_those_of_prusaslicer, sources_are_for_old_python])

@@ -5,6 +5,7 @@ leaves nothing. What needs GNU parallel and an ssh server is in test_slabs_tools
 import glob
 import os
 import shutil
+import signal
 import socket
 import subprocess
 import time
@@ -148,6 +149,10 @@ def wrong_words_are_refused(program, folder):
                                 (["-l", "1000000", part, "x"], 2, "-l takes a whole number, 1 to 999999"),
                                 (["-n", "", part, "x"], 2, "-n takes a whole number, 1 to 999999"),
                                 (["-x", part, "x"], 2, "there is no option -x"),
+                                (["-r", "odd", "--words", part], 2, "-r takes evenodd, nonzero or positive"),
+                                (["-r", "nonzero;touch x", part, "x"], 2, "-r takes evenodd, nonzero or positive"),
+                                (["-u", "foot", part, "x"], 2, "-u takes mm or inch"),
+                                (["-S", ":;touch x", part, "x"], 2, "-S takes machines, as host1,host2,:"),
                                 (["--png", "--depth", "2", part, "x"], 2, "--depth takes 8 or 1"),
                                 (["--mirror-x", part, "x"], 2, "--depth, --mirror-x and --mirror-y go with --png"),
                                 (["--depth", "8", part, "x"], 2, "--depth, --mirror-x and --mirror-y go with --png"),
@@ -155,9 +160,11 @@ def wrong_words_are_refused(program, folder):
                                 ([part], 2, "it takes part.stl and layers.pbm, or --words and part.stl"),
                                 ([part, ""], 2, "the output has no name"),
                                 ([folder, "x"], 1, f"{folder} can't be read"),
-                                (["none.stl", "x"], 1, "none.stl can't be read")):
+                                (["none.stl", "x"], 1, "none.stl can't be read"),
+                                (["no\n.stl", "x"], 1, "no\\x0a.stl can't be read")):
         same(run([SLABS, *words], cwd=folder, env=env), (status, b"", f"stlslice-slabs: {line}\n".encode()), str(words))
-    same(run([SLABS, "-r", "odd", "--words", part], cwd=folder, env=env)[0], 0, "words of a rule aren't looked at here")
+        for place in ("2>&-", "2> /dev/full"):
+            same(run(["bash", "-c", f'exec "$@" {place}', "bash", SLABS, *words], cwd=folder, env=env), (status, b"", b""), f"{words} {place}")
     empty = os.path.join(folder, "empty.stl")
     with open(empty, "w") as file:
         file.write("solid\nendsolid\n")
@@ -222,6 +229,16 @@ def outputs_are_plain_files(program, folder):
     same(sorted(os.listdir(folder)), ["few", "link", "pipe"], "files")
 
 
+def pipe_gives_words_alone(program, folder):
+    """A part that can be read once is no part of slabs, which each read it."""
+    env, part, pipe = environment(program, folder), example("bracket.stl"), os.path.join(folder, "pipe")
+    os.mkfifo(pipe)
+    line = f"stlslice-slabs: {pipe} is no plain file, and each slab reads the part anew\n"
+    same(run([SLABS, pipe, "x"], cwd=folder, env=env), (1, b"", line.encode()), "a pipe")
+    found = run(["bash", "-c", '"$0" --words <(cat "$1")', SLABS, part], env=env)
+    same(found, run([SLABS, "--words", part], env=env), "words of a pipe")
+
+
 def parallel_slabs_are_the_whole(program, folder):
     env = environment(program, folder)
     part, out = os.path.join(folder, "it's my part.stl"), os.path.join(folder, "all layers.pbm")
@@ -245,27 +262,82 @@ def parallel_pngs_are_the_whole(program, folder):
         assert content(out) == wanted, f"{pngs}: bytes differ"
 
 
-def output_may_begin_with_a_dash(program, folder):
-    """A stand-in for the slicer answers the box, and writes its slab's grid as an image."""
-    tool = os.path.join(folder, "slicer")
-    with open(tool, "w") as file:
-        file.write("#!/bin/sh\ncase \"$*\" in\n*--box*) echo facets 12 box 0 0 0 1000 1000 900;;\n*) echo \"$*\";;\nesac\n")
-    os.chmod(tool, 0o755)
-    words = [SLABS, "-l", "100", "-n", "5", "-P", tool, example("bracket.stl"), "-f.pbm"]
-    same(run(words, cwd=folder, env=environment(program, folder)), (0, b"", b""), "run")
-    same(content(os.path.join(folder, "-f.pbm")), b"".join(b"--pitch 50 --layer 100 --rule evenodd --unit mm --grid=20,20,%d,0,0,%d\n" % it
-                                                          for it in ((5, 0), (4, 500))), "the slabs")
-    same(sorted(os.listdir(folder)), ["-f.pbm", "home", "slicer", "tools"], "files")
+def slicer(folder, body):
+    """A stand-in for the slicer: it answers the box, and slices as `body` says."""
+    path = os.path.join(folder, "slicer")
+    with open(path, "w") as file:
+        file.write(f"#!/bin/sh\ncase $* in\n*--box*) echo facets 12 box 0 0 0 1000 1000 900; exit;;\nesac\n{body}\n")
+    os.chmod(path, 0o755)
+    return path
+
+
+GRIDS = b"".join(b"--pitch 50 --layer 100 --rule evenodd --unit mm --grid=20,20,%d,0,0,%d\n" % it for it in ((5, 0), (4, 500)))
+
+
+def names_are_names(program, folder):
+    """Names that a shell, an option or a mark of GNU parallel could be taken for; a stand-in writes its slab's grid as an image."""
+    env, names = environment(program, folder), {"home", "tools", "slicer"}
+    tool = slicer(folder, 'echo "$*"')
+    for name in ("-f.pbm", "a b'c\"d", "{}{.}{#}", "$(touch x);`touch x`", "{=system('touch x')=}\n{}", "\\n \u00e4"):
+        part, path, out = f"./part {name}", f"./program {name}", name
+        shutil.copy(example("bracket.stl"), os.path.join(folder, part))
+        shutil.copy(tool, os.path.join(folder, path))
+        found = run([SLABS, "-l", "100", "-n", "5", "-P", path, part, out], cwd=folder, env=env)
+        same(found, (0, b"", b""), f"a run with {name!r}")
+        same(content(os.path.join(folder, out)), GRIDS, f"the slabs with {name!r}")
+        names |= {part[2:], path[2:], out}
+    same(set(os.listdir(folder)), names, "files")
+
+
+def settings_change_nothing(program, folder):
+    """Those of GNU parallel that a user may have."""
+    env, out = environment(program, folder), os.path.join(folder, "out")
+    os.mkdir(os.path.join(folder, "home", ".parallel"))
+    with open(os.path.join(folder, "home", ".parallel", "config"), "w") as file:
+        file.write("--line-buffer --tag\n")
+    env.update(PARALLEL="--tag", PARALLEL_SHELL="/bin/false")
+    found = run([SLABS, "-l", "100", "-n", "5", "-P", slicer(folder, 'echo "$*"'), example("bracket.stl"), out], env=env)
+    same(found, (0, b"", b""), "run")
+    same(content(out), GRIDS, "the slabs")
+
+
+def signals_end_all_slabs(program, folder):
+    """At once, and further signals leave nothing behind."""
+    env, pids = environment(program, folder), os.path.join(folder, "pids")
+    tool = slicer(folder, f"echo $$ >> '{pids}'\nexec sleep 60")
+    for number in (signal.SIGHUP, signal.SIGINT, signal.SIGTERM):
+        open(pids, "w").close()
+        start = time.monotonic()
+        child = subprocess.Popen([SLABS, "-l", "100", "-n", "3", "-j", "3", "-P", tool, example("bracket.stl"), "out"], cwd=folder, env=env,
+                                 stderr=subprocess.PIPE, preexec_fn=lambda: signal.signal(number, signal.SIG_DFL))
+        while content(pids).count(b"\n") < 3:
+            time.sleep(0.05)
+        for _ in range(3):
+            child.send_signal(number)
+            time.sleep(0.05)
+        same((child.wait(), child.stderr.read()), (128 + number, b""), f"signal {number}")
+        child.stderr.close()
+        assert time.monotonic() - start < 50, "the slabs went on"
+        # an ended process that nobody waited for has no words any more
+        left = [pid for pid in content(pids).decode().split() if os.path.exists(f"/proc/{pid}") and content(f"/proc/{pid}/cmdline")]
+        same(left, [], "slabs that go on")
+        same(sorted(os.listdir(folder)), ["home", "pids", "slicer", "tools"], "files")
+
+
+def standard_error_may_be_closed_or_full(program, folder):
+    env, out = environment(program, folder), os.path.join(folder, "out")
+    for place in ("2>&-", "2> /dev/full"):
+        for body, status in (('echo "$*"', 0), ("echo stlslice: out of memory >&2; exit 6", 6)):
+            words = [SLABS, "-l", "100", "-n", "5", "-P", slicer(folder, body), example("bracket.stl"), out]
+            same(run(["bash", "-c", f'exec "$@" {place}', "bash", *words], env=env), (status, b"", b""), f"{body} {place}")
+            same(content(out), GRIDS, "what was made")
+        os.remove(out)
 
 
 def first_failure_halts(program, folder):
-    """A stand-in for the slicer answers the box; of its slabs one fails, and those below and above it would take a minute."""
-    env = environment(program, folder)
-    tool, out = os.path.join(folder, "slicer"), os.path.join(folder, "out.pbm")
-    with open(tool, "w") as file:
-        file.write("#!/bin/sh\ncase \"$*\" in\n*--box*) echo facets 12 box 0 0 0 1000 1000 900;;\n"
-                   "*0,0,300) echo stlslice: out of memory >&2; exit 6;;\n*0,0,0|*0,0,600) sleep 60;;\nesac\n")
-    os.chmod(tool, 0o755)
+    """Of a stand-in's slabs one fails, and those below and above it would take a minute."""
+    env, out = environment(program, folder), os.path.join(folder, "out.pbm")
+    tool = slicer(folder, "case $* in *0,0,300) echo stlslice: out of memory >&2; exit 6;; *0,0,0|*0,0,600) sleep 60;; esac")
     with open(out, "w") as file:
         file.write("what was there before")
     start = time.monotonic()
@@ -295,7 +367,7 @@ def server(folder):
     with open(os.path.join(ssh, "log"), "wb") as log:
         child = subprocess.Popen(["/usr/sbin/sshd", "-D", "-e", "-f", os.path.join(ssh, "sshd_config")], stderr=log)
     words = ["ssh", "-F", os.path.join(ssh, "ssh_config")]
-    for _ in range(50):
+    for _ in range(600):
         if run(words + ["one", "true"])[0] == 0:
             return child, words
         time.sleep(0.1)
@@ -333,5 +405,5 @@ def missing_tools():
 
 if __name__ == "__main__":
     main([words_are_slabs_of_the_whole, words_are_pngs_of_the_whole, part_is_not_overwritten, batch_of_tasks_is_the_whole,
-          batch_system_runs_tasks, task_that_fails_leaves_nothing, wrong_words_are_refused, missing_tools_are_told,
-          outputs_are_plain_files])
+          batch_system_runs_tasks, task_that_fails_leaves_nothing, wrong_words_are_refused, pipe_gives_words_alone,
+          missing_tools_are_told, outputs_are_plain_files])

@@ -2,6 +2,6 @@
 later) and the program `stlslice`.
 
 `words` reads the options, with the table of `printers`; `parts` opens the part, `stl` and `shells` rewrite it, with the
-decimals of `floats`; `slicing` puts it on the screen; `program` runs the program; `images` joins PNGs; `sl1` and `pngs` write
-what was asked for; `faults` has how the commands end, and what they say on standard error.
+decimals of `floats`; `slicing` puts it on the screen; `program` runs the program; `images` joins PNGs; `sl1`, `pngs` and `page`
+write what was asked for; `faults` has how the commands end, and what they say on standard error.
 """

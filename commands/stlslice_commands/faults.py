@@ -1,10 +1,16 @@
 """How the commands end, and what they say on standard error."""
 
 import contextlib
+import errno
 import os
+import re
 import signal
 import sys
 import time
+
+SIGNALS = (signal.SIGHUP, signal.SIGINT, signal.SIGTERM)
+# Control characters, and what Python has for bytes of a name that are no UTF-8.
+UNSHOWN = re.compile("[\0-\x1f\x7f-\x9f\udc80-\udcff]")
 
 
 class Refused(Exception):
@@ -16,32 +22,67 @@ class Refused(Exception):
         self.status = status
 
 
+def shown(text):
+    """The text on one line, with what isn't shown as it is as \\xNN."""
+    return UNSHOWN.sub(lambda it: f"\\x{ord(it[0]) & 0xff:02x}", text)
+
+
+def write(file, text=""):
+    """Writes and flushes. If the file is full, what is left goes nowhere, so Python doesn't say it again."""
+    try:
+        file.write(text)
+        file.flush()
+    except OSError:
+        os.dup2(os.open(os.devnull, os.O_WRONLY), file.fileno())
+        raise
+
+
+def tell(text):
+    """Writes on standard error. If that is full, nothing is said."""
+    with contextlib.suppress(OSError):
+        write(sys.stderr, text)
+
+
 def say(line):
     """Writes a line on standard error, after the command's name."""
     Progress.clear()
-    print(f"{os.path.basename(sys.argv[0])}: {line}", file=sys.stderr, flush=True)
+    tell(shown(f"{os.path.basename(sys.argv[0])}: {line}") + "\n")
 
 
 def look_at_output(output, part):
     """Refuses an output that is there and no plain file, or is the part."""
     if os.path.lexists(output) and (os.path.islink(output) or not os.path.isfile(output)):
         raise Refused(f"{output} is no plain file")
+    part = 0 if part == "-" else part  # standard input, as it is open
     if os.path.exists(output) and os.path.exists(part) and os.path.samefile(output, part):
         raise Refused(f"{output} is the part itself")
 
 
 def aside(output):
-    """The name that an output has until it is whole."""
-    return f"{output}.{os.getpid()}.part"
+    """A name that an output has until it is whole, and no other run takes."""
+    return f"{output}.{os.urandom(4).hex()}.part"
 
 
 @contextlib.contextmanager
-def named(output):
-    """Gives the fault of a write, such as a full disk, the output's name. A fault of opening a file has a name already."""
+def whole_file(output):
+    """A file for bytes, made aside. It has the output's name once the block has ended well; otherwise it is removed."""
+    path = aside(output)
+    try:
+        with named(output), open(path, "xb") as file:
+            yield file
+        os.replace(path, output)
+    finally:
+        with contextlib.suppress(FileNotFoundError):
+            os.remove(path)
+
+
+@contextlib.contextmanager
+def named(place):
+    """Gives a fault without a name, such as that of a full disk, the name of the place. A fault of opening a file has a name."""
     try:
         yield
     except OSError as fault:
-        fault.filename = fault.filename or output
+        fault.filename = fault.filename or place
         raise
 
 
@@ -57,7 +98,7 @@ class Progress:
         now = time.monotonic()
         if now - cls.moment < 0.1 and not is_new or not sys.stderr.isatty():
             return
-        print(f"\r\x1b[K{text}", end="", file=sys.stderr, flush=True)
+        tell(f"\r\x1b[K{text}")
         cls.drawn, cls.moment = True, now
 
     @classmethod
@@ -72,40 +113,51 @@ class Progress:
 
     @classmethod
     def clear(cls):
-        if cls.drawn:
-            print("\r\x1b[K", end="", file=sys.stderr, flush=True)
+        tell("\r\x1b[K" if cls.drawn else "")
         cls.drawn, cls.moment = False, 0.0
 
 
-def flush():
-    """Flushes standard output, if it is open. If it is full, what is left goes nowhere, so Python doesn't say it again."""
-    try:
-        with named("standard output"):
-            if sys.stdout:
-                sys.stdout.flush()
-    except OSError:
-        os.dup2(os.open(os.devnull, os.O_WRONLY), sys.stdout.fileno())
-        raise
+def stop(number, _):
+    """Ends the command by a signal. Further ones are ignored, so that they don't cut short what is removed then."""
+    listen(signal.SIG_IGN)
+    sys.exit(128 + number)
+
+
+def listen(how):
+    for number in SIGNALS:
+        # what nohup ignores stays ignored
+        if signal.getsignal(number) != signal.SIG_IGN:
+            signal.signal(number, how)
+
+
+listen(stop)  # while the other modules are read, too
+
+
+def end_of(fault):
+    """The line and the status of a fault."""
+    if isinstance(fault, Refused):
+        return fault.line, fault.status
+    if isinstance(fault, MemoryError) or fault.errno == errno.ENOMEM:
+        return "out of memory", 6
+    # the line has the name that was given, not the one that an output has until it is whole
+    name = re.sub(r"\.[0-9a-f]{8}\.part", "", str(fault.filename or ""))
+    return f"{fault.strerror}: {name}" if name else str(fault.strerror), 1
 
 
 def ended(main):
-    """Runs a command, and ends with its status: 0, the program's, 1 for a fault of its own, 130 and 143 for signals."""
-    signal.signal(signal.SIGTERM, lambda number, _: sys.exit(128 + number))
+    """Runs a command, and ends with its status: 0, the program's, or that of a fault or of a signal."""
+    sys.stdout, sys.stderr = (it or open(os.devnull, "w") for it in (sys.stdout, sys.stderr))
+    sys.stdout.reconfigure(errors="backslashreplace")
     try:
         try:
             main()
         finally:
-            flush()
-    except Refused as fault:
-        if fault.line:
-            say(fault.line)
-        sys.exit(fault.status)
-    except OSError as fault:
-        # the line has the name that was given, not the one that an output has until it is whole
-        name = str(fault.filename or "").replace(aside(""), "")
-        say(f"{fault.strerror}: {name}" if name else str(fault.strerror))
-        sys.exit(1)
-    except KeyboardInterrupt:
-        sys.exit(130)
+            with named("standard output"):
+                write(sys.stdout)
+    except (Refused, MemoryError, OSError) as fault:
+        line, status = end_of(fault)
+        if line:
+            say(line)
+        sys.exit(status)
     finally:
         Progress.clear()

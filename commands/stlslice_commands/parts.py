@@ -1,16 +1,15 @@
 """What people have: an STL as text, a binary one, or another format, which is refused with the command that converts it."""
 
 import contextlib
+import functools
 import itertools
 import os
 import re
 import shlex
-import shutil
 import sys
-import tempfile
 
-from .faults import Refused, say
-from .stl import corners_of_binary, facets_of_binary, size_of, text_of
+from .faults import Refused, named, say
+from .stl import BLOCK, corners_of_binary, facets_of_binary, size_of, temporary, text_of
 
 # What makes an STL of each format that isn't one; each was tried. {0} is the file, {1} the STL to make.
 PRUSASLICER = "prusa-slicer --export-stl --output {1} {0}"
@@ -22,16 +21,16 @@ OBJ = re.compile(rb"(?:\s|#[^\n]*\n)*(?:v|vn|vt|vp|f|o|g|s|mtllib|usemtl)[ \t]")
 @contextlib.contextmanager
 def opened(path):
     """The part as a file that can be read twice, a pipe copied first. One of another format is refused."""
+    if path == "-" and not sys.stdin:
+        raise Refused("standard input is closed")
     with contextlib.ExitStack() as stack:
         file = sys.stdin.buffer if path == "-" else stack.enter_context(open(path, "rb"))
         if path == "-" and sys.stdin.isatty():
             say("a part is awaited on standard input")
         if path == "-" or not file.seekable():
-            copy = stack.enter_context(tempfile.TemporaryFile())
-            shutil.copyfileobj(file, copy)
-            copy.flush()
-            file = copy
-        refuse_others(file, path)
+            file = stack.enter_context(temporary(iter(functools.partial(file.read, BLOCK), b"")))
+        with named(path):
+            refuse_others(file, path)
         yield file
 
 

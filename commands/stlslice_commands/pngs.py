@@ -20,16 +20,17 @@ def main():
         raise Refused(f"{folder} is the current folder, which can't be made")
     if os.path.lexists(folder) and not (os.path.isdir(folder) and not os.listdir(folder)):
         raise Refused(f"{folder} is there already")
-    with opened(given.part) as source:
-        sliced = Sliced(given, source)
-        path = aside(folder)
+    if os.path.islink(folder) or os.path.ismount(folder):
+        raise Refused(f"{folder} is a link or a mount point, in whose place no folder can be moved")
+    path = aside(folder)
+    try:
         os.mkdir(path)
-        try:
+        with opened(given.part) as source:
+            sliced = Sliced(given, source)
             for number, (png, _) in enumerate(sliced.pngs()):
                 with named(folder), open(os.path.join(path, f"{number:05}.png"), "xb") as file:
                     file.write(png)
-            os.rename(path, folder)
-        finally:
-            if os.path.exists(path):
-                shutil.rmtree(path)
+        os.rename(path, folder)
+    finally:
+        shutil.rmtree(path, ignore_errors=True)
     print(sliced.told(folder))

@@ -1,10 +1,11 @@
 """A part of many facets as several texts of whole shells, each small enough for the program."""
 
+import tempfile
 from array import array
 
-from .faults import Refused
+from .faults import Refused, named
 from .parts import is_binary
-from .stl import KEPT, TEXT, begun, corners_of_binary, corners_of_text, ended
+from .stl import BEGIN, END, KEPT, TEXT, corners_of_binary, corners_of_text, scaled, temporary
 
 LIMIT = 1_048_576
 LONGEST = 255  # bytes of a number
@@ -20,10 +21,14 @@ def groups(file, unit):
     for shell in shell_of:
         sizes[shell] = sizes.get(shell, 0) + 1
     group_of, count = packed(sizes)
-    files = [begun() for _ in range(count)]
-    for corners, shell in zip(corners_of(file), shell_of):
-        files[group_of[shell]].write(TEXT % corners)
-    return [ended(it) for it in files]
+    files = [temporary([BEGIN]) for _ in range(count)]
+    with named(tempfile.gettempdir()):
+        for corners, shell in zip(corners_of(file), shell_of):
+            files[group_of[shell]].write(TEXT % corners)
+        for it in files:
+            it.write(END)
+            it.flush()
+    return files
 
 
 def packed(sizes):
@@ -84,9 +89,7 @@ def micrometres(word, unit):
     """A number of a text in whole micrometres, halves away from zero, as the program rounds it."""
     if len(word) > LONGEST:
         raise Refused(f"a number of {len(word):,} bytes is too long: at most {LONGEST} are taken", 3)
-    mantissa, _, exponent = word.lower().partition(b"e")
-    whole, _, part = mantissa.partition(b".")
-    number, shift = int(whole + part), int(exponent or 0) - len(part)
+    number, shift = scaled(word)
     size = abs(number) * MICROMETRES[unit]
     # beyond these any other number than 0 is too large, and all are nearly 0
     if shift > 12 or shift < -300:

@@ -8,7 +8,7 @@ import time
 import zipfile
 
 from . import words
-from .faults import Refused, aside, look_at_output, named, say
+from .faults import Refused, look_at_output, say, shown, whole_file
 from .parts import opened
 from .slicing import Sliced
 
@@ -40,16 +40,10 @@ def main():
     fill_in(given)
     now = moment()
     look_at_output(given.output, given.part)
-    with opened(given.part) as source:
+    with whole_file(given.output) as file, opened(given.part) as source:
         sliced = Sliced(given, source)
-        path = aside(given.output)
-        try:
-            with named(given.output), open(path, "xb") as file, zipfile.ZipFile(file, "w") as archive:
-                fill(archive, sliced, job_name(given.output), now)
-            os.replace(path, given.output)
-        finally:
-            if os.path.exists(path):
-                os.remove(path)
+        with zipfile.ZipFile(file, "w") as archive:
+            fill(archive, sliced, job_name(given.output), now)
     print(sliced.told(given.output))
 
 
@@ -150,7 +144,7 @@ def screen(given):
 
 
 def one_line(text):
-    return " ".join(text.split())
+    return shown(" ".join(text.split()))
 
 
 def exposure_of(number, given):

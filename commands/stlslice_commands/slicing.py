@@ -8,7 +8,7 @@ import itertools
 import math
 from fractions import Fraction
 
-from .faults import Progress, Refused, say
+from .faults import Progress, Refused, say, shown
 from .images import head_of, joined
 from .parts import as_text
 from .program import Program
@@ -149,7 +149,7 @@ class Sliced:
 
     def told(self, output):
         """The last line."""
-        return f"{output}: {in_mm(self.size)} mm, {self.millilitres(self.lit):.3f} ml, {self.layers} layers"
+        return shown(f"{output}: {in_mm(self.size)} mm, {self.millilitres(self.lit):.3f} ml, {self.layers} layers")
 
 
 def refuse_unlit(given, size):
@@ -167,9 +167,9 @@ def common_pitch(sides):
     one, other = (side.numerator for side in sides)
     size = one * other // math.gcd(one, other)
     if size > LARGEST_PITCH:
-        told = " x ".join(f"{float(side):g}" for side in sides)
-        raise Refused(f"a pixel of {told} micrometres can't be made square: its sides have no common multiple up to "
-                      f"{LARGEST_PITCH:,}")
+        told = " x ".join(f"{float(side):.10g}" for side in sides)
+        raise Refused(f"a pixel of {told} micrometres isn't taken: no whole number of them up to {LARGEST_PITCH:,} is a multiple of "
+                      "both sides")
     return size, [int(Fraction(size) / side) for side in sides]
 
 

@@ -1,17 +1,18 @@
 """STL as text: binary STL written out, and text whose coordinates are turned and multiplied. No number is rounded."""
 
-import decimal
+import itertools
 import math
 import os
 import re
 import struct
 import tempfile
 
-from .faults import Progress, Refused
+from .faults import Progress, Refused, named
 from .floats import shortest
 
 BLOCK = 1 << 20
 HEADER, FACET = 84, 50
+BEGIN, END = b"solid part\n", b"endsolid part\n"
 TEXT = b"facet normal 0 0 0\nouter loop\nvertex %b\nvertex %b\nvertex %b\nendloop\nendfacet\n"
 # Single numbers and corners that were met, each with its text, are forgotten beyond this many.
 KEPT = 1 << 17
@@ -26,7 +27,6 @@ ENDSOLID_LINE = re.compile(rb"(?i)\s*endsolid(?!\S)[^\r\n]*(?:[\r\n]|\Z)")
 WORD = re.compile(rb"\S+")
 ANY = "a word"
 WORDS = ["facet", "normal", *3 * [ANY], "outer", "loop", *3 * ["vertex", *3 * ["number"]], "endloop", "endfacet"]
-EXACT = decimal.Context(prec=1000, traps=[decimal.Inexact, decimal.InvalidOperation])
 
 
 def size_of(file):
@@ -85,7 +85,7 @@ def corners_of_text(file):
     """The texts of the three corners of each facet of an ASCII STL. Any other text is refused as the program refuses it, so no
     facet is lost."""
     text, begin, is_inside, solids = b"", 0, False, 0
-    for more in reads(file):
+    for more in reads(file, lambda: len(text)):
         text, at = text + more, 0
         while True:
             facet = is_inside and FACET_TEXT.match(text, at)
@@ -129,29 +129,25 @@ def refuse_unlike(text, at, begin, is_inside, is_last):
 
 def text_of(facets):
     """A file of the text of these facets."""
-    file = begun()
-    file.writelines(TEXT % corners for corners in facets)
-    return ended(file)
+    return temporary(itertools.chain([BEGIN], (TEXT % corners for corners in facets), [END]))
 
 
-def begun():
-    file = tempfile.TemporaryFile()
-    file.write(b"solid part\n")
+def temporary(texts):
+    """A file of these bytes, which is nowhere once it is closed."""
+    with named("TMPDIR"), named(tempfile.gettempdir()):
+        file = tempfile.TemporaryFile()
+        file.writelines(texts)
+        file.flush()
     return file
 
 
-def ended(file):
-    file.write(b"endsolid part\n")
-    file.flush()
-    return file
-
-
-def reads(file):
-    """The file's bytes from its start, some at a time; the last ones are none."""
+def reads(file, held):
+    """The file's bytes from its start, some at a time; the last ones are none. At least as many are read as the caller still
+    holds, since it looks at these again: so a name of any length takes linear time."""
     size, more = size_of(file), True
     file.seek(0)
     while more:
-        more = file.read(BLOCK)
+        more = file.read(max(BLOCK, held()))
         Progress.show(f"reading: {100 * file.tell() // max(1, size)} %")
         yield more
 
@@ -159,7 +155,7 @@ def reads(file):
 def blocks(file):
     """The text of the file in blocks that end after a word `endloop`, so that no facet's corners are cut."""
     rest = b""
-    for more in reads(file):
+    for more in reads(file, lambda: len(rest)):
         rest += more
         end = rest.lower().rfind(b"endloop") + len(b"endloop") if more else len(rest)
         if end >= len(b"endloop") or not more:
@@ -179,9 +175,7 @@ def changed(source, facets, quarters, times):
         x, y, z = (multiplied(word, by) for word, by in zip((x, y, found[6]), times))
         return b"".join((found[1], x, found[3], y, found[5], z))
 
-    file = tempfile.TemporaryFile()
-    file.writelines(VERTEX.sub(corner, block) for block in blocks(source))
-    file.flush()
+    file = temporary(VERTEX.sub(corner, block) for block in blocks(source))
     if count < 3 * facets:
         raise Refused("the part's text has a corner that can't be turned or multiplied")
     return file
@@ -200,7 +194,12 @@ def negated(word):
 def multiplied(word, by):
     if by == 1:
         return word
-    try:
-        return str(EXACT.multiply(decimal.Decimal(word.decode()), by)).encode()
-    except decimal.DecimalException:
-        raise Refused(f"the number {word.decode()} can't be multiplied exactly")
+    number, shift = scaled(word)
+    return b"%de%d" % (number * by, shift)
+
+
+def scaled(word):
+    """A number as a whole one and the power of ten that it is multiplied by."""
+    mantissa, _, exponent = word.lower().partition(b"e")
+    whole, _, part = mantissa.partition(b".")
+    return int(whole + part), int(exponent or 0) - len(part)

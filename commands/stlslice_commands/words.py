@@ -41,7 +41,7 @@ def parser(description, output):
         help="a pixel in micrometres: 50, 47.25, or 19x24 for width and depth in the image, after any turn")
     add("--layer", type=whole, default=50, metavar="N", help="height of a layer in micrometres (%(default)s)")
     add("--height", type=millimetres, metavar="MM", help="the printer's height in mm; a higher part is refused")
-    add("--turn", choices=["quarter", "auto"], metavar="[auto]",
+    add("--turn", type=turn, metavar="[auto]",
         help="turn the part by a quarter, counterclockwise from above; 'auto' does so only if it doesn't fit otherwise, and says so")
     add("--rule", default="positive", choices=RULES,
         help="which pixels are lit (%(default)s, which joins shells that overlap, as supports do)")
@@ -73,9 +73,15 @@ def read(made):
 
 
 def quarters(words):
-    """The words with the value of `--turn` written out: with none it is a quarter."""
+    """The words with a value of each `--turn`, since argparse would take the part as one: with none it is empty."""
     bare = [word == "--turn" and words[at + 1:at + 2] != ["auto"] for at, word in enumerate(words)]
-    return ["--turn=quarter" if is_bare else word for word, is_bare in zip(words, bare)]
+    return ["--turn=" if is_bare else word for word, is_bare in zip(words, bare)]
+
+
+def turn(text):
+    if text not in ("", "auto"):
+        raise argparse.ArgumentTypeError("it takes auto, or no value")
+    return text
 
 
 def nonempty(text):
@@ -102,8 +108,8 @@ def workers(text):
 
 
 def processors():
-    """As many workers as there are processors, and as the program takes."""
-    return min(os.cpu_count() or 1, MOST_WORKERS)
+    """As many workers as there are processors to be used, and as the program takes."""
+    return min(len(os.sched_getaffinity(0)), MOST_WORKERS)
 
 
 def millimetres(text):
