@@ -48,16 +48,15 @@ class Slicer {
         });
     }
 
-    async open(options) {
+    async open(options, of) {
         await this.started;
-        if (this.part !== part) {
+        if (this.part !== of) {
             this.part = null;
-            const read = part;
             // here, since WebKit reads no file in the worker of a page from disk
-            const all = await Promise.race([read.file.arrayBuffer(), this.ended]);
+            const all = await Promise.race([of.file.arrayBuffer(), this.ended]);
             const told = await this.call("read", { all }, [all]);
-            this.part = read;
-            read.is_binary = told.is_binary;
+            this.part = of;
+            of.is_binary = told.is_binary;
         }
         return this.call("open", options);
     }
@@ -102,6 +101,7 @@ async function slice() {
         await open_once(options_now(), () => mine === wish);
     }
     is_opening = false;
+    opened = null; // the new worker has no mesh
 }
 
 async function open_once(options, is_wished) {
@@ -110,8 +110,8 @@ async function open_once(options, is_wished) {
     const used = slicer;
     begin_wait(`Slicing ${opening.name}`);
     try {
-        const told = await used.open(options);
-        if (is_wished()) took(told, options, opening);
+        // also if another is wished by now, since the worker has this mesh
+        took(await used.open(options, opening), options, opening);
     } catch (fault) {
         if (is_wished()) refused(fault, opening);
     } finally {
@@ -447,12 +447,15 @@ function go_to_plotted(it) {
 // ---- saving
 
 async function save() {
-    if (!opened) return;
-    const of = opened, k = k_now();
-    try {
-        download(await slicer.call("png", { k }), `${of.of.name.replace(/\.stl$/i, "")}_${String(k).padStart(5, "0")}.png`);
-    } catch (fault) {
-        refused(fault, of.of);
+    for (let of = null; opened && of !== opened;) {
+        of = opened;
+        const k = k_now(), name = `${of.of.name.replace(/\.stl$/i, "")}_${String(k).padStart(5, "0")}.png`;
+        try {
+            const png = await slicer.call("png", { k });
+            if (of === opened) download(png, name);
+        } catch (fault) {
+            if (of === opened) refused(fault, of.of);
+        }
     }
 }
 
@@ -473,6 +476,7 @@ function take(file, name = file.name) {
 
 by("file").onchange = () => by("file").files.length && take(by("file").files[0]);
 by("file").onclick = () => { by("file").value = ""; };
+// Saves the layer of the slider. If another mesh was opened meanwhile, the worker has answered of that, and is asked again.
 by("form").onsubmit = (it) => { it.preventDefault(); slice(); };
 by("form").onchange = () => {
     by("canvas_label").hidden = by("grid").value !== "canvas";

@@ -5,11 +5,12 @@ import math
 import os
 import struct
 import subprocess
+import time
 
-from common import IDLE, area_of, example, holds, images_of, same, script
-
+from common import CHANGED, IDLE, area_of, example, holds, images_of, same, script
 
 SIGNATURE = b"\x89PNG\r\n\x1a\n"
+SECONDS = 60  # for a file to be saved
 
 
 def try_keys(page):
@@ -167,7 +168,19 @@ def try_large_canvas(page, program):
         same(f"the pixel of column {column} near by", page.value(NEAR % (column, row)), line[column] == "1")
 
 
+def at_openings(page, *scripts):
+    """Runs a script at each of the next openings, just before the worker is asked for it."""
+    page.value("""(() => {
+        const scripts = [%s];
+        slicer.call = (...words) => {
+            if (words[0] === "open") scripts.shift()?.();
+            return Slicer.prototype.call.apply(slicer, words);
+        };
+    })()""" % ", ".join(f"() => {{ {it} }}" for it in scripts))
+
+
 def try_saving(page, program):
+    """A layer that is saved has the program's bytes; if another mesh is opened meanwhile, the file is of that."""
     page.load()
     page.set(100, 100)
     page.take(example("bracket"))
@@ -175,15 +188,28 @@ def try_saving(page, program):
     same("layer", page.k(), 20)
     page.value("document.activeElement.blur()")
     page.browser.key("s", "KeyS", "s")
-    path = os.path.join(page.browser.saved, "bracket_00020.png")
-    for _ in range(200):
+    same_png(page, program, 20, 100)
+    # layer 31 of the mesh before is as high as layers 15 and 7 of these
+    page.value("go(31)")
+    same("layer", page.k(), 31)
+    at_openings(page, f"by('height').value = 400; {CHANGED}; queueMicrotask(save)", "save()")
+    page.change(height=200)
+    same_png(page, program, 15, 200)
+    page.until(f"{IDLE} && opened.options.layer === 400")
+    same_png(page, program, 7, 400)
+
+
+def same_png(page, program, k, layer):
+    """The page saves layer k as the program writes it."""
+    path = os.path.join(page.browser.saved, f"bracket_{k:05}.png")
+    end = time.monotonic() + SECONDS
+    while time.monotonic() < end and not (os.path.exists(path) and os.path.getsize(path)):
         page.value("new Promise((done) => setTimeout(done, 50))")
-        if os.path.exists(path) and os.path.getsize(path):
-            break
+    holds(f"{os.path.basename(path)} was saved", os.path.exists(path))
     with open(path, "rb") as file, open(example("bracket"), "rb") as part:
-        words = [program, "--pitch", "100", "--layer", "100", "--rule", "positive", "--png", "--depth", "1"]
+        words = [program, "--pitch", "100", "--layer", str(layer), "--rule", "positive", "--png", "--depth", "1"]
         pngs = subprocess.run(words, stdin=part, stdout=subprocess.PIPE, check=True).stdout.split(SIGNATURE)
-        same("the saved PNG", file.read(), SIGNATURE + pngs[21])
+        same(f"the saved PNG of layer {k}", file.read(), SIGNATURE + pngs[k + 1])
 
 
 def try_demos(page):

@@ -78,7 +78,7 @@ def must_refuse(page, line):
 MANY = """(async () => {
     const sizes = [], options = [400, 900, 250].map((pitch) => ({ pitch, layer: pitch, rule: 2, unit: 0 }));
     for (let i = 0; i < %d; i++) {
-        sizes.push((await slicer.open(options[i %% 3])).memory);
+        sizes.push((await slicer.open(options[i %% 3], part)).memory);
         if (i %% 7 === 0) await slicer.call("layer", { k: 5 });
         if (i %% 11 === 0) await slicer.call("open", { ...options[0], pitch: 0 }).catch(() => {});
     }
