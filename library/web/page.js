@@ -94,9 +94,9 @@ let wish = 0, is_opening = false;
 async function slice() {
     if (!part) return;
     wish++;
-    if (is_opening || !by("form").reportValidity()) return;
+    if (is_opening) return;
     is_opening = true;
-    for (let mine = 0; mine !== wish && part;) {
+    for (let mine = 0; mine !== wish && part && by("form").reportValidity();) {
         mine = wish;
         await open_once(options_now(), () => mine === wish);
     }
@@ -479,7 +479,9 @@ by("file").onclick = () => { by("file").value = ""; };
 // Saves the layer of the slider. If another mesh was opened meanwhile, the worker has answered of that, and is asked again.
 by("form").onsubmit = (it) => { it.preventDefault(); slice(); };
 by("form").onchange = () => {
-    by("canvas_label").hidden = by("grid").value !== "canvas";
+    const is_fitted = by("grid").value !== "canvas";
+    by("canvas_label").hidden = is_fitted;
+    for (const id of ["columns", "rows"]) by(id).disabled = is_fitted; // a wrong one that is hidden would stop each opening
     slice();
 };
 by("outlines").onchange = draw;

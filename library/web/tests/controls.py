@@ -179,6 +179,23 @@ def at_openings(page, *scripts):
     })()""" % ", ".join(f"() => {{ {it} }}" for it in scripts))
 
 
+def try_wrong_fields(page):
+    """A wrong field stops nothing when it is hidden. While it is seen nothing is opened, even if it became wrong meanwhile."""
+    page.load()
+    page.set(100, 100)
+    page.take(example("bracket"))
+    page.change(grid="canvas", columns="")
+    page.change(grid="fitted", height=200)
+    page.until(f"{IDLE} && opened.options.layer === 200")
+    same("what a browser restores of the form", page.value("by('form').autocomplete"), "off")
+    at_openings(page, f"by('pitch').value = ''; {CHANGED}")
+    page.change(height=300)
+    page.until("!is_opening")
+    same("the mesh, and the fault of a field that is cleared", page.value("[opened?.options.layer, by('fault').hidden]"), [300, True])
+    page.change(pitch=50)
+    page.until(f"{IDLE} && opened.options.pitch === 50")
+
+
 def try_saving(page, program):
     """A layer that is saved has the program's bytes; if another mesh is opened meanwhile, the file is of that."""
     page.load()
@@ -282,6 +299,7 @@ def try_all(page, room, program):
     try_drop(page)
     try_canvas(page, program)
     try_large_canvas(page, program)
+    try_wrong_fields(page)
     try_saving(page, program)
     try_demos(page)
     try_binary(page, room, program)
