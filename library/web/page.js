@@ -24,16 +24,20 @@ class Slicer {
         this.waiting = new Map();
         this.last = 0;
         this.part = null; // what the worker has read
+        this.fault = null; // why no call is made any more
         this.ended = new Promise((_, failed) => { this.stop = failed; });
         this.ended.catch(() => {});
         this.url = URL.createObjectURL(new Blob([by("worker").textContent], { type: "text/javascript" }));
-        this.worker = new Worker(this.url);
-        this.worker.onmessage = ({ data: { id, value, fault } }) => {
-            const { done, failed } = this.waiting.get(id);
-            this.waiting.delete(id);
-            this.has_stopped ||= fault?.stopped ?? false;
-            fault ? failed(Object.assign(new Error(fault.line), fault)) : done(value);
-        };
+        try {
+            this.worker = new Worker(this.url);
+            this.worker.onmessage = ({ data }) => this.hear(data);
+            this.worker.onerror = (it) => {
+                it.preventDefault(); // the page itself tells of it
+                this.break_off(it.message || "it cannot be loaded");
+            };
+        } catch (fault) {
+            this.break_off(fault.message);
+        }
         const wanted = location.hash === "#32" ? [32] : [64, 32];
         const modules = data.modules.filter(({ bits }) => wanted.includes(bits))
             .map(({ bits, packed }) => ({ bits, packed: unpacked_base64(packed) }));
@@ -41,8 +45,16 @@ class Slicer {
         this.started.catch(() => {});
     }
 
+    hear({ id, value, fault }) {
+        const { done, failed } = this.waiting.get(id);
+        this.waiting.delete(id);
+        this.has_stopped ||= fault?.stopped ?? false;
+        fault ? failed(Object.assign(new Error(fault.line), fault)) : done(value);
+    }
+
     call(name, value, moved = []) {
         return new Promise((done, failed) => {
+            if (this.fault) throw this.fault;
             this.waiting.set(++this.last, { done, failed });
             this.worker.postMessage({ id: this.last, call: name, value }, moved);
         });
@@ -61,11 +73,23 @@ class Slicer {
         return this.call("open", options);
     }
 
+    // The worker itself has failed, outside a call.
+    break_off(why) {
+        this.has_stopped = true;
+        this.fail(Object.assign(new Error(`the worker has failed: ${why}`), { stopped: true }));
+    }
+
+    // Fails the calls that wait, and every later one.
+    fail(fault) {
+        this.fault = fault;
+        this.stop(fault);
+        for (const { failed } of this.waiting.values()) failed(fault);
+    }
+
     end() {
-        this.stop(new Error("stopped"));
-        this.worker.terminate();
+        this.fail(new Error("stopped"));
+        this.worker?.terminate();
         URL.revokeObjectURL(this.url);
-        for (const { failed } of this.waiting.values()) failed(new Error("stopped"));
     }
 }
 

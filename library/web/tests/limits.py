@@ -155,3 +155,26 @@ def try_all(page, room):
     print(f"openings: {OPENINGS} in {try_openings(page) >> 20} MiB", flush=True)
     longest, took = try_large_part(page, room)
     print(f"a part of {FACETS} facets: shown after {took:.0f} ms, the page held up for {longest:.0f} ms at most", flush=True)
+DENIED = "globalThis.Worker = class { constructor() { throw new Error('denied'); } }"
+
+
+def try_broken_worker(page):
+    """The page says if the worker's script fails, or if the browser allows no worker. The next opening has a new worker."""
+    page.load()
+    page.value("(globalThis.script = by('worker').textContent, by('worker').textContent = 'throw new Error(\"broken\")', renew())")
+    page.take(example("bracket"))
+    same("what the page says", [page.text("fault_line"), page.text("fault_place")],
+         ["the worker has failed: Uncaught Error: broken", "Change an option or choose a part to start it anew."])
+    page.value("by('worker').textContent = script")
+    page.change(pitch=500)
+    page.until(f"{IDLE} && opened")
+    denied = page.browser.ask("Page.addScriptToEvaluateOnNewDocument", source=DENIED)["identifier"]
+    page.load()
+    page.browser.ask("Page.removeScriptToEvaluateOnNewDocument", identifier=denied)
+    same("what the page says first", page.text("fault_line"), "this browser cannot run the slicer: the worker has failed: denied")
+    page.take(example("bracket"))
+    same("what it says of a part", page.text("fault_line"), "the worker has failed: denied")
+
+
+    try_broken_worker(page)
+    print("a worker that fails, or is denied, is reported", flush=True)
