@@ -170,9 +170,11 @@ const TOOLS = ["nearer", "farther", "whole", "save"];
 
 let waits = null;
 function begin_wait(words) {
-    by("busy_words").textContent = words;
     clearTimeout(waits);
-    waits = setTimeout(() => { by("busy").hidden = false; }, 150);
+    waits = setTimeout(() => {
+        by("busy").hidden = false;
+        by("busy_words").textContent = words; // when they are seen, so that they are read aloud
+    }, 150);
 }
 
 function end_wait() {
@@ -537,6 +539,7 @@ addEventListener("keydown", (it) => {
     const act = KEYS[it.key.length === 1 ? it.key.toLowerCase() : it.key];
     if (!act || is_field || it.ctrlKey || it.altKey || it.metaKey) return;
     it.preventDefault();
+    if (!opened && it.key.length > 1) return; // arrows and the like scroll the hints
     act();
 });
 

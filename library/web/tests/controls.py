@@ -7,7 +7,8 @@ import struct
 import subprocess
 import time
 
-from common import CHANGED, IDLE, area_of, example, holds, images_of, same, script
+from common import CHANGED, IDLE, PHONE, area_of, example, holds, images_of, same, script
+from looks import broken
 
 SIGNATURE = b"\x89PNG\r\n\x1a\n"
 SECONDS = 60  # for a file to be saved
@@ -196,6 +197,21 @@ def try_wrong_fields(page):
     page.until(f"{IDLE} && opened.options.pitch === 50")
 
 
+def try_hints(page, room):
+    """With a fault shown the keys scroll its hints."""
+    page.load(PHONE)
+    page.take(broken(room))
+    same("whether Tab comes to the hints", page.value("by('fault').tabIndex"), 0)
+    for key, code in (("ArrowDown", 40), ("PageDown", 34), ("End", 35)):
+        page.value("by('fault').scrollTop = 0")
+        page.value("by('fault').focus()")
+        page.browser.ask("Input.dispatchKeyEvent", type="rawKeyDown", key=key, code=key, windowsVirtualKeyCode=code)
+        page.until("by('fault').scrollTop > 0")
+        page.browser.ask("Input.dispatchKeyEvent", type="keyUp", key=key, code=key, windowsVirtualKeyCode=code)
+    same("what the page's parts are", page.value("['image', 'plot', 'busy_words', 'fault'].map((id) => by(id).role)"),
+         ["img", "img", "status", "alert"])
+
+
 def try_saving(page, program):
     """A layer that is saved has the program's bytes; if another mesh is opened meanwhile, the file is of that."""
     page.load()
@@ -300,6 +316,7 @@ def try_all(page, room, program):
     try_canvas(page, program)
     try_large_canvas(page, program)
     try_wrong_fields(page)
+    try_hints(page, room)
     try_saving(page, program)
     try_demos(page)
     try_binary(page, room, program)
