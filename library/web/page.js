@@ -101,6 +101,7 @@ let slicer = new Slicer();
 function renew() {
     slicer.end();
     slicer = new Slicer();
+    opened = null; // the new worker has no mesh
 }
 
 // ---- opening a part
@@ -125,7 +126,6 @@ async function slice() {
         await open_once(options_now(), () => mine === wish);
     }
     is_opening = false;
-    opened = null; // the new worker has no mesh
 }
 
 async function open_once(options, is_wished) {
@@ -208,7 +208,8 @@ function tell_part() {
         ["Volume", areas.length === layers ? `${filled.toFixed(3)} ml` : `… layer ${grouped(areas.length)}`],
         ["Opened in", `${time.toFixed(0)} ms`]];
     by("facts").replaceChildren(...rows_told.flatMap(([name, value]) => [element("dt", name), element("dd", value)]));
-    by("command").replaceChildren(...command_of(options, grid).flatMap((it) => [element("span", it), " "]));
+    const pieces = (word) => word.match(/[^,]+,?/g).flatMap((it) => [element("span", it), element("wbr", "")]);
+    by("command").replaceChildren(...command_of(options, grid).flatMap((it) => [...pieces(it), " "]));
 }
 
 // The program's words for what the page shows.
@@ -472,6 +473,7 @@ function go_to_plotted(it) {
 
 // ---- saving
 
+// Saves the layer of the slider. If another mesh was opened meanwhile, the worker has answered of that, and is asked again.
 async function save() {
     for (let of = null; opened && of !== opened;) {
         of = opened;
@@ -502,7 +504,6 @@ function take(file, name = file.name) {
 
 by("file").onchange = () => by("file").files.length && take(by("file").files[0]);
 by("file").onclick = () => { by("file").value = ""; };
-// Saves the layer of the slider. If another mesh was opened meanwhile, the worker has answered of that, and is asked again.
 by("form").onsubmit = (it) => { it.preventDefault(); slice(); };
 by("form").onchange = () => {
     const is_fitted = by("grid").value !== "canvas";
@@ -538,8 +539,8 @@ addEventListener("keydown", (it) => {
     const is_field = it.target.matches?.("input:not([type=range]):not([type=checkbox]), select");
     const act = KEYS[it.key.length === 1 ? it.key.toLowerCase() : it.key];
     if (!act || is_field || it.ctrlKey || it.altKey || it.metaKey) return;
-    it.preventDefault();
     if (!opened && it.key.length > 1) return; // arrows and the like scroll the hints
+    it.preventDefault();
     act();
 });
 
