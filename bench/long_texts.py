@@ -4,11 +4,12 @@
     bench/long_texts.py PROGRAM [PART]
 
 Each is 2 GB long there; PART takes one part in PART of it. A text is written to the program as it takes it, and is held
-nowhere. The answer has to be right, and the memory at most 20 MB, 4 for --box. A line a text: its length, seconds, seconds a
-gigabyte, the most memory. A text of half the length shows whether the time grows with the length alone.
+nowhere. The answer has to be right, and the memory at most 20 MB, 4 for --box. A line a text: its length, seconds of processor
+time, seconds a gigabyte, the most memory. A text of half the length shows whether the time grows with the length alone.
 """
 
 import os
+import resource
 import subprocess
 import sys
 import time
@@ -90,9 +91,15 @@ def most_memory(child):
     return int(found[0].split()[1]) * 1024 if found else 0
 
 
+def spent():
+    """Seconds of processor time of the programs that have ended."""
+    used = resource.getrusage(resource.RUSAGE_CHILDREN)
+    return used.ru_utime + used.ru_stime
+
+
 def run(program, text, length):
-    """Seconds, the most memory, and status, output and fault of a run."""
-    start = time.perf_counter()
+    """Seconds of processor time, the most memory, and status, output and fault of a run."""
+    before = spent()
     with subprocess.Popen([program, *text.words], stdin=subprocess.PIPE, stdout=subprocess.PIPE,
                           stderr=subprocess.PIPE) as child:
         for chunk in chunks(text, length):
@@ -104,7 +111,7 @@ def run(program, text, length):
             memory = max(memory, now)
             time.sleep(0.001)
         said, fault = child.stdout.read(), child.stderr.read()
-    return time.perf_counter() - start, memory, (child.returncode, said, fault)
+    return spent() - before, memory, (child.returncode, said, fault)
 
 
 def try_all(program, part):
@@ -113,10 +120,6 @@ def try_all(program, part):
     for text in texts(part):
         half, _, _ = run(program, text, text.length // 2)
         seconds, memory, answer = run(program, text, text.length)
-        # what else the machine does may have taken the time
-        for _ in range(2):
-            if seconds > 3 * half + NOISE:
-                seconds = min(seconds, run(program, text, text.length)[0])
         label = f"{text.name}, {' '.join(text.words[-2:])}"
         print(f"{label:42} {text.length / MB:8.0f} MB {seconds:7.2f} s {seconds / text.length * 1000 * MB:6.2f} s/GB "
               f"{memory / MB:7.1f} MB", flush=True)

@@ -10,7 +10,7 @@ import time
 
 from common import ROOT
 
-SECONDS = 20
+SECONDS = 60
 
 
 class Terminal:

@@ -27,9 +27,11 @@ def main():
     same("its rows of PNGs", [row[0] for row in png_rows(page)], ["P4", "`--png`", "`--png --depth 1`"])
     words = ["bench/table.py", PROGRAM, "--runs=1", "--case=sphere20k"]
     with Room() as room:
+        days = [datetime.date.today()]
         alone = room.run(*words)
+        days.append(datetime.date.today())
         same("status of the table", alone.returncode, 0)
-        holds("it has the date", f"\n- Date: {datetime.date.today()}\n" in alone.stdout)
+        holds("it has the date", any(f"\n- Date: {it}\n" in alone.stdout for it in days))
         holds("it has the machine", re.search(r"\n- Machine: .+, \d+ processors, \d+ GiB\n", alone.stdout))
         (name, *cells), = rows(alone.stdout)
         same("its row", name, dict(named)["sphere20k"])

@@ -1,6 +1,7 @@
 #!/usr/bin/env python3
 """make check: what it proves, tries and tests for a change of a body, of a contract, of a lemma's proof, of a script and of
-nothing; and that it fails if one of these does. It is tried in a small repository, with an rt that stands in for the real one."""
+nothing; and that it fails if one of these does, or if there is no such revision. It is tried in a small repository, with an rt
+that stands in for the real one."""
 
 import os
 import re
@@ -64,7 +65,10 @@ FILES = {
     "crates/task_words/src/tests.rt": "#[test]\nfn c() {}\n",
     "tools/script": "#!/bin/sh\n",
     "tests/test_script.py": "#!/usr/bin/env python3\n# tries tools/script\n",
-    "tests/test_other.py": "#!/usr/bin/env python3\n",
+    "tests/test_other.py": "#!/usr/bin/env python3\nfrom shared import it\n",
+    "tests/shared.py": "it = 1\n",
+    "tools/parts/one.c": "",
+    "NOTES": "",
     "Makefile": MAKEFILE,
     ".gitignore": "log\nbuild/\n__pycache__/\nbin/\n",
 }
@@ -102,7 +106,7 @@ class Repository:
         self.left = [line.strip() for line in ran.stdout.splitlines() if line.startswith("  ")]
         with open(f"{self.top}/log", encoding="utf-8") as file:
             log = sorted(file.read().splitlines())
-        self.run("git", "checkout", "-q", ".")
+        self.run("git", "reset", "-q", "--hard")
         return log, re.findall(r"(?m)^(?:passed|FAILED): .*(?= \()", ran.stdout), ran.stdout.splitlines()[-1], ran.returncode
 
 
@@ -144,6 +148,16 @@ def main():
         put(f"{it.top}/crates/task_words/src/lib.rt", LOW.replace("return 1;", "return 2 - 1;"))
         same("so it is for a body that writes words", it.check()[1][-3:-1], built)
 
+        put(f"{it.top}/crates/task_words/src/lib.rt", LOW.replace("return 1;", "return 2 - 1;"))
+        put(f"{it.top}/crates/low/src/lib.rt", LOW.replace("return 1;", "return 2 - 1;"))
+        same("the tests of a crate, and the nearest of another", [line for line in it.check()[0] if line.startswith("rt test")],
+             ["rt test in low_tests", "rt test in task_words"])
+
+        os.mkdir(f"{it.top}/crates/task_words/proofs")
+        it.run("git", "mv", "crates/low/proofs/Facts.antt", "crates/task_words/proofs")
+        same("a file that was moved to another crate", [line for line in it.check()[0] if line.startswith("rt check")],
+             ["rt check in high", "rt check in low", "rt check in task_words"])
+
         put(f"{it.top}/crates/low/proofs/Facts.antt", LEMMA.replace("= refl", "= (refl)"))
         same("a lemma's proof", it.check()[0], [line for line in body if not line.startswith("edits.py")])
         same("what a lemma's proof leaves", it.left[2], "edits")
@@ -175,6 +189,17 @@ def main():
         put(f"{it.top}/tools/script", "#!/bin/sh\n#\n")
         it.run("make", "build/stlslice")
         same("a script", it.check(), ([], ["passed: 1 tests in tests/"], "1 passed, 0 failed", 0))
+        put(f"{it.top}/tests/test_other.py", "#!/usr/bin/env python3\n#\n")
+        same("a test", it.check()[1:], (["passed: 1 tests in tests/"], "1 passed, 0 failed", 0))
+        texts = {"test_script.py": FILES["tests/test_script.py"], "test_other.py": FILES["tests/test_other.py"]}
+        for file, names in (("tests/shared.py", {"test_other.py"}), ("tools/parts/one.c", {"test_script.py"}), ("tools/script", {"test_script.py"}), ("NOTES", set())):
+            same(f"tests of {file}", check.tests_of(file, texts), names)
+        put(f"{it.top}/NOTES", "one\n")
+        same("a file without a test", it.check(), ([], [], "0 passed, 0 failed", 0))
+        same("it is named", it.left[-1], "NOTES: no test names it")
+
+        ran = it.run("tools/check.py", "--base", "typo")
+        same("a revision that isn't there", (ran.returncode, ran.stdout, ran.stderr), (2, "", "check.py: typo is no revision of this repository\n"))
 
 
 if __name__ == "__main__":

@@ -20,6 +20,17 @@ import os
 RATTLE = os.path.join(os.path.dirname(os.path.abspath(__file__)), "rattle")
 
 
+class Base:
+    name = folder = "base"
+
+    def is_built(self):
+        return os.environ["BUILT"] == "yes"
+
+    def build_rlib(self, flags, anew):
+        note("built")
+        return int(os.environ["BUILT"] == "fails")
+
+
 class Crate:
     name = "thing"
 
@@ -27,7 +38,7 @@ class Crate:
         self.folder = f"{root}/crates/thing"
 
     def below(self):
-        return []
+        return [Base()]
 
     def count(self, pattern):
         return 10
@@ -46,6 +57,16 @@ def crates_below(root):
 
 def guarded():
     return []
+
+
+def note(what):
+    with open(os.environ["ASKED"] + ".built", "a") as it:
+        print(what, file=it)
+
+
+def lock(crates):
+    note(f"locked {len(crates)}")
+    return [os.open("/", os.O_RDONLY) for it in crates]
 
 
 def fits(*needs):
@@ -74,6 +95,9 @@ for line, row in enumerate(open("src/parts.rt").read().split("\n"), 1):
     if "UNKNOWN" in row:
         print(f"src/parts.rt:{line}:5: error: `ensures-value`: `UNKNOWN` is not in scope")
 lines = []
+# a check of two or more edits that breaks off before the harmless one's line, or after it and the first edit's
+is_cut = len(asked) > 2 and "CUT" in text
+is_late = is_cut and "CUT_LATE" in text
 for name in asked:
     path, last = name.replace("::", "/"), name.rpartition("::")[2]
     body = text.partition(f"fn {last}(")[2].partition("fn ")[0]
@@ -83,7 +107,7 @@ for name in asked:
         said = f"fn thing::{name}: {os.environ['CONTROL']}"
         holds_proof = os.path.exists(f"proofs/{path}/Proof.antt")
         said = f"fn thing::{name}: depends on a hole" if holds_proof else said
-        said = "" if os.environ["CONTROL"] == "missing" else said
+        said = "" if os.environ["CONTROL"] == "missing" or is_cut and not is_late else said
     elif "HIDDEN" in body and "BREAKS" in text:
         said = f"fn thing::{name}: no proof: the borrow checker's part in its proof is not made yet: a call of `thing::parts::looped`, which has no proof"
     elif "SEARCHED" in body or "HIDDEN" in body:
@@ -134,7 +158,9 @@ for name in asked:
     else:
         said = f"fn thing::{name}: no holes"
     lines.append(said)
-print("\n".join(lines))
+print("\n".join(lines[:2] if is_late else lines))
+if is_cut:
+    sys.exit(9)
 print(f"only={len(asked)} holes=0")
 sys.exit(1)
 '''
@@ -309,9 +335,10 @@ def emptied(room):
     os.mkdir(folder)
 
 
-def tries(room, *words, control="no holes"):
-    """What the tool does: its status, and the lines of its two outputs. `control` is what the check says of the harmless edit."""
-    room.environment.update(CONTROL=control, ASKED=room.file("asked"))
+def tries(room, *words, control="no holes", built="yes"):
+    """What the tool does: its status, and the lines of its two outputs. `control` is what the check says of the harmless edit, and
+    `built` whether the library below is built; `fails` if it can't be."""
+    room.environment.update(CONTROL=control, ASKED=room.file("asked"), BUILT=built)
     ran = room.run(sys.executable, "tools/edits.py", *words, cwd=room.path)
     holds("the tool ends well", "Traceback" not in ran.stderr or sys.exit(ran.stderr))
     return ran.returncode, ran.stdout.splitlines(), ran.stderr.splitlines()
@@ -399,6 +426,9 @@ def refused_batches(room):
     constant = written(room, "of.limit_of_5", "src/parts.rt", ("LIMIT: u32 = 4", "LIMIT: u32 = 5"))
     of_type = written(room, "of.wide", "src/parts.rt", ("pub struct Part {", "pub struct Part { more: u32,"))
     often = written(room, "looped.old_thrice", "src/parts.rt", ("-> u32", "-> u64"))
+    law = written(room, "law_of_two", "specs/Laws.antt", ("  true", "  false"))
+    imports = [written(room, f"{name}.import", "src/parts.rt", ("{IsLaw}", f"{{IsLaw, {name}}}"), (PLANTS[name], "let other = 4;"))
+               for name in ("looped", "of")]
     alone = "thing/{} is of a constant, a type or a definition, so it is tried alone"
     same_function = "thing/of.a and thing/{} are both of parts::Part::of, so they can't be tried together"
     batches = (
@@ -406,6 +436,8 @@ def refused_batches(room):
         ("two edits of other lines of one function", [one, below], same_function.format("of.c")),
         ("a constant in a batch", [wrong, constant], alone.format("of.limit_of_5")),
         ("a type in a batch", [wrong, of_type], alone.format("of.wide")),
+        ("a definition in a batch", [wrong, law], alone.format("law_of_two")),
+        ("two edits of one import", imports, "thing/looped.import and thing/of.import are both of one line, so they can't be tried together"),
         ("an `old` that stands more than once", [one, often], "thing/looped.old_thrice: an 'old:' text is in src/parts.rt 3 times, and not once"),
     )
     for what, batch, line in batches:
@@ -417,6 +449,7 @@ def refused_batches(room):
     groups = edits.grouped([edits.Edit(path, "thing", source) for path in (one, two, below, wrong)])
     names = sorted(sorted(it.name for it in group if it.functions[0].name == "of") for group in groups)
     same("two edits of a function are never together", names, [["thing/of.a"], ["thing/of.b"], ["thing/of.c"]])
+    same("nor are two of one import", len(edits.grouped([edits.Edit(path, "thing", source) for path in imports])), 2)
 
 
 def shown(room):
@@ -533,6 +566,28 @@ def one_whose_names_are_unknown(room):
     status, lines, _ = tries(room)
     holds("it is named", any(it.startswith("thing/of.a: BAD EDIT: error: `ensures-value`: `UNKNOWN` is not in scope") for it in lines))
     holds("the other one is judged", "thing/looped.a: refused by `returns-clause-value`" in lines)
+
+
+def a_check_that_breaks_off(room):
+    """Without the harmless edit's line nothing that it said counts. With it, what was refused by then is not tried again."""
+    for word, again in (("CUT", [["parts::looped"], ["parts::Part::of"]]), ("CUT_LATE", [["parts::Part::of"]])):
+        emptied(room)
+        planted(room, "of.a", "ANSWERED")
+        planted(room, "looped.a", f"SEARCHED_{word}")
+        same(f"{word}: both are refused", sorted(tries(room)[1][:2]), ["thing/looped.a: refused by `returns-clause-value`", "thing/of.a: refused by `returns-in-Some`"])
+        same("what is tried again", checks_in(room)[1:], again)
+
+
+def libraries_below(room):
+    """What isn't built below is built first, while no other command builds it."""
+    emptied(room)
+    planted(room, "of.a", "ANSWERED")
+    for built, status, wanted in (("yes", 0, ["locked 0"]), ("no", 0, ["locked 1", "built"]), ("fails", 2, ["locked 1", "built"])):
+        with contextlib.suppress(FileNotFoundError):
+            os.remove(room.file("asked.built"))
+        same(f"status, built: {built}", tries(room, built=built)[0], status)
+        with open(room.file("asked.built")) as it:
+            same("what was built", it.read().splitlines(), wanted)
 
 
 def checks_that_begin_with_the_last(room):
@@ -665,6 +720,8 @@ def main():
         one_that_hides_another(room)
         one_that_does_not_compile(room)
         one_whose_names_are_unknown(room)
+        a_check_that_breaks_off(room)
+        libraries_below(room)
         checks_that_begin_with_the_last(room)
         by_file(room)
         kept(room)

@@ -1,11 +1,16 @@
 #!/usr/bin/env python3
 """The gate's last line is the sum of rt ci's, of the batches of edits and of tests/run's, and it fails if one of them
-fails: tried with an rt and a tools/edits.py that stand in for the real ones, and tests of a line each."""
+fails: tried with an rt and a tools/edits.py that stand in for the real ones, and tests of a few lines each. The repository
+gets all libraries that were proved, or none."""
 
 import os
 import shutil
+import sys
 
-from common import ROOT, Room, holds, same
+from common import ROOT, Room, holds, same, text_of
+
+sys.path.insert(0, os.path.join(ROOT, "tools"))
+import gate as tool  # noqa: E402
 
 RT = """#!/bin/sh
 echo "what rt ci says on its way"
@@ -25,19 +30,31 @@ class Batch(collections.namedtuple("Batch", "name edits need")):
         return False
 
 
-def batches_of(root, names=(), folders=("edits",)):
-    assert not names and folders == ("edits", "must-fail")
+def batches_of(root, folders):
+    assert folders == ("edits", "must-fail")
     return [] if "{hole}" == "none" else [Batch("low", [Edit("one"), Edit("two")], 0), Batch("{other}", [Edit("three")], 0)]
 
 
 def try_batch(batch, root):
     if batch.edits[0].name == "{hole}":
         raise ValueError("broken")
-    return [(it, it.name not in ("{hole}", "{alone}", "{seen}"), "{said}" if it.name == "{seen}" else "tried") for it in batch.edits], 0
+    found = [(it, it.name not in ("{hole}", "{alone}", "{seen}"), "{said}" if it.name == "{seen}" else "tried") for it in batch.edits]
+    return found[::-1], 0
 
 
 def try_alone(edit, batch, root):
+    if "{breaks}":
+        raise ValueError("broken")
     return edit.name == "{alone}", "tried alone"
+"""
+# It leaves a process behind.
+TEST = """#!/usr/bin/env python3
+import subprocess
+left = subprocess.Popen(["sleep", "99"], stdout=subprocess.DEVNULL, stderr=subprocess.DEVNULL)
+with open("left", "w") as file:
+    print(left.pid, file=file)
+print("this is test {k}")
+exit({ends})
 """
 PROVE = """
 class toolchain:
@@ -53,7 +70,67 @@ def put(path, text):
     os.chmod(path, 0o755)
 
 
+class Crate:
+    """Stands in for the toolchain's. The stamp is the source."""
+
+    def __init__(self, root, name):
+        self.name, self.source = name, f"{root}/crates/{name}/src/lib.rt"
+        self.rlib = f"{root}/crates/{name}/out/rlib/{name}.rlib"
+
+    def stamp(self):
+        return text_of(self.source)
+
+    def is_built(self):
+        stamp = f"{os.path.dirname(self.rlib)}/stamp"
+        return os.path.isfile(stamp) and text_of(stamp) == self.stamp()
+
+    def build(self, of):
+        put(f"{self.rlib}/of", of)
+        put(f"{os.path.dirname(self.rlib)}/stamp", self.stamp())
+
+    def of(self):
+        """Who built it of the source as it is."""
+        return text_of(f"{self.rlib}/of") if self.is_built() else None
+
+
+class Toolchain:
+    def crates_below(self, root):
+        return [Crate(root, it) for it in sorted(os.listdir(f"{root}/crates"))]
+
+
+def libraries():
+    """Who built what there is, if `make` built some of the libraries and the gate proved two of them, one perhaps of another text."""
+    for by_make, is_changed, wanted in ((["low"], False, ["gate", "gate", None]), (["low", "high"], False, ["make", "make", None]),
+                                        (["high", "other"], True, ["gate", None, None])):
+        with Room() as room:
+            for name in ("crates.txt", "HANDLES", tool.edits.OTHERWISE, *(f"crates/{it}/src/lib.rt" for it in ("low", "high", "other"))):
+                put(room.file(name), name)
+            low, high, other = (Crate(room.path, it) for it in ("low", "high", "other"))
+            tool.ROOT = room.path
+            tree = tool.ProvedTree()
+            for it in (low, high):
+                it.build("gate")
+                tree.take(it.name)
+                shutil.rmtree(os.path.dirname(it.rlib))
+            if is_changed:
+                put(high.source, "changed")
+            for it in by_make:
+                Crate(room.path, it).build("make")
+            tree.hand_over(Toolchain())
+            tree.remove()
+            same(f"libraries, of which make built {by_make}", [it.of() for it in (low, high, other)], wanted)
+
+
+def runs(pid):
+    try:
+        with open(f"/proc/{pid}/cmdline") as file:
+            return file.read() != ""
+    except FileNotFoundError:
+        return False
+
+
 def main():
+    libraries()
     with Room() as room:
         for name in ("tests/run", "tools/gate.py", "tools/spent.py"):
             os.makedirs(room.file(os.path.dirname(name)), exist_ok=True)
@@ -62,13 +139,13 @@ def main():
         for name in ("crates/low/src/lib.rt", "crates.txt", "HANDLES", "tools/otherwise.txt"):
             put(room.file(name), "")
 
-        def gate(builds, last, status, tests, lines=1, other="low", hole="", alone="", seen="", said="", library="true"):
+        def gate(builds, last, status, tests, lines=1, other="low", hole="", alone="", breaks="", seen="", said="", library="true"):
             for name in os.listdir(room.file("tests")):
                 if name.startswith("test_"):
                     os.remove(room.file("tests", name))
             for k, ends in enumerate(tests):
-                put(room.file("tests", f"test_{k}.py"), f"#!/usr/bin/env python3\nprint('this is test {k}')\nexit({ends})\n")
-            put(room.file("tools", "edits.py"), EDITS.format(other=other, hole=hole, alone=alone, seen=seen, said=said))
+                put(room.file("tests", f"test_{k}.py"), TEST.format(k=k, ends=ends))
+            put(room.file("tools", "edits.py"), EDITS.format(other=other, hole=hole, alone=alone, breaks=breaks, seen=seen, said=said))
             put(room.file("Makefile"), f"library:\n\t{library}\nweb:\n")
             put(room.file("bin", "rt"), RT.format(builds=builds, last=last, status=status))
             ran = room.run(room.file("tools", "gate.py"), "out/program", cwd=room.path)
@@ -77,13 +154,18 @@ def main():
 
         well = "12 passed, 0 failed"
         same("all well", gate(BUILDS, well, 0, [0, 0]), ("17 passed, 0 failed", 0))
+        holds("what a test left behind has ended", not runs(text_of(room.file("left")).strip()))
         times = gate(BUILDS, well, 0, [0, 0], lines=99)[0].partition("minutes")[2].splitlines()
         parts = ["proofs of crates", "proofs of tests", "edits in must-fail/", "edits in batches", "the library", "tests/run", "the whole"]
         same("minutes by part", [line[:22].strip() for line in times[1:8]], parts)
         with open(room.file("build", "gate.txt")) as file:
             same("they are kept", file.read().partition("minutes")[2].splitlines(), times[:-1])
+        proves = "bash -c 'exec -a rattle python3 -c \"import time; time.sleep(2.5)\" --crate-name low'"
+        holds("what the library proves has its time in one row", "crates: low" not in gate(BUILDS, well, 0, [0], library=proves, lines=99)[0])
         same("a skipped test is named", gate(BUILDS, well, 0, [0, 77], lines=2),
              ("skipped: test_1.py: this is test 1\n16 passed, 0 failed", 0))
+        note = "rt: note: Rattle's own compiler did not compile this program, so only the LLVM build is run: error"
+        same("a compiler that refused it is named", gate(f'{BUILDS}; echo "{note}"', well, 0, [0, 0], lines=2), (f"{note}\n17 passed, 0 failed", 0))
         same("a failed test", gate(BUILDS, well, 0, [0, 3]), ("16 passed, 1 failed", 1))
         same("no test that ran", gate(BUILDS, well, 0, [77]), ("15 passed, 1 failed", 1))
         same("a failed proof", gate(BUILDS, "11 passed, 1 failed", 1, [0, 0]), ("16 passed, 1 failed", 1))
@@ -101,13 +183,17 @@ def main():
         same("one that is listed in vain", gate(BUILDS, well, 0, [0, 0], seen="three", said=said, lines=2), (f"three: {said}\n16 passed, 1 failed", 1))
         same("a tool that breaks off", gate(BUILDS, well, 0, [0, 0], hole="three", lines=2),
              ("three: NOT TRIED: ValueError('broken')\n16 passed, 1 failed", 1))
+        same("a tool that breaks off when it tries one alone", gate(BUILDS, well, 0, [0, 0], alone="one", breaks="yes", lines=2),
+             ("one: NOT TRIED: ValueError('broken')\n16 passed, 1 failed", 1))
         same("no edit at all", gate(BUILDS, well, 0, [0, 0], hole="none", lines=2),
              ("edits: NOT TRIED, since none was found\n14 passed, 1 failed", 1))
         same("edits of a crate that wasn't proved", gate(BUILDS, well, 0, [0, 0], other="high", lines=2),
              ("edits of high: NOT TRIED, since the crate is not proved\n16 passed, 1 failed", 1))
-        same("a library that isn't built", gate(BUILDS, well, 0, [0, 0], library="false"), ("17 passed, 1 failed", 1))
+        same("a library that isn't built", gate(BUILDS, well, 0, [0, 0], library="false", lines=2),
+             ("failed: make library web\n17 passed, 1 failed", 1))
         # the program of the run before stands there
-        same("an older program", gate("echo 'rt: low proved'", well, 0, [0, 0]), ("15 passed, 1 failed", 1))
+        same("an older program", gate("echo 'rt: low proved'", well, 0, [0, 0], lines=2),
+             ("failed: rt ci built no program, so nothing in tests/ was run\n15 passed, 1 failed", 1))
 
 
 if __name__ == "__main__":

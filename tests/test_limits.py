@@ -1,5 +1,6 @@
 #!/usr/bin/env python3
-"""The limits that documents, --help, the manual, the completions and the header spell are the constants of the sources."""
+"""The limits that documents, --help, the manual, the completions, the header, the commands, the pages and tests spell are the
+constants of the sources."""
 
 import ast
 import glob
@@ -24,9 +25,13 @@ SPELLED = {
         ("include/stlslice.h", "each at most {} from 0"),
         ("docs/PROVED.md", "at most {m} metres up"),
         ("python/stlslice/__init__.py", "points at most {m} metres from 0"),
+        ("commands/stlslice_commands/shells.py", "REACH = {}"),
+        ("commands/stlslice_commands/shells.py", "within {m} m of the origin"),
+        ("crates/test_meshes/src/published.rt", "FARTHEST: i32 = {};"),
     ],
     "geometry::CENTRE_LIMIT": [
         ("docs/formats.md", "is above {}; equal is allowed"),
+        ("crates/test_meshes/src/published.rt", "FARTHEST_CENTRE: i64 = {};"),
     ],
     "geometry::STEP_LIMIT": [
         ("--help", "Width and depth of a pixel in micrometres, 1 to {}"),
@@ -42,6 +47,13 @@ SPELLED = {
         ("include/stlslice.h", "along x and y, 1 to {} "),
         ("include/stlslice.h", "along z, 1 to {} "),
         ("docs/refused.md", "1..={}"),
+        ("commands/stlslice_commands/slicing.py", "LARGEST_PITCH = {}"),
+        ("commands/stlslice-page", "LARGEST = {} # micrometres"),
+        ("library/web/preview.html", 'id="pitch" value="50" min="1" max="{}"'),
+        ("library/web/preview.html", 'id="height" value="50" min="1" max="{}"'),
+        ("library/tests/hostile.c", "pitch and layer height take 1 to {} micrometres"),
+        ("library/tests/meshes.py", "pitch and layer height take 1 to {} micrometres"),
+        ("crates/test_meshes/src/published.rt", "GREATEST_STEP: u32 = {};"),
     ],
     "geometry::COLUMN_LIMIT": [
         ("--help", "three counts (at most {}, {} and"),
@@ -52,6 +64,9 @@ SPELLED = {
         ("docs/refused.md", "{} columns and rows"),
         ("SECURITY.md", "The grid may have {} x {} x"),
         ("README.md", "{} pixels a side"),
+        ("library/web/preview.html", 'id="columns" value="2560" min="1" max="{}"'),
+        ("library/web/preview.html", 'id="rows" value="1620" min="1" max="{}"'),
+        ("crates/test_meshes/src/published.rt", "MOST_COLUMNS: u32 = {};"),
     ],
     "geometry::LAYER_LIMIT": [
         ("--help", " and {}), and its least"),
@@ -61,6 +76,7 @@ SPELLED = {
         ("include/stlslice.h", " and {} */"),
         ("docs/refused.md", "{} layers"),
         ("SECURITY.md", " x {} voxels"),
+        ("crates/test_meshes/src/published.rt", "MOST_LAYERS: u32 = {};"),
     ],
     "geometry::FACET_LIMIT": [
         ("docs/usage.md", "A mesh has at most {} facets"),
@@ -69,6 +85,14 @@ SPELLED = {
         ("docs/refused.md", "More than {} facets"),
         ("SECURITY.md", "and the mesh {} facets"),
         ("README.md", "at most {} facets and"),
+        ("docs/printing.md", "| more than {} facets |"),
+        ("docs/printing.md", "[more than {} facets]"),
+        ("man/stlslice-sl1.1", "more than {} facets"),
+        ("man/stlslice-pngs.1", "more than {} facets"),
+        ("commands/stlslice_commands/shells.py", "LIMIT = {}"),
+        ("commands/stlslice_commands/words.py", "more than {} facets"),
+        ("commands/stlslice_commands/program.py", "a mesh has at most {} facets"),
+        ("library/tests/hostile.c", "most = {};"),
     ],
     "stripe_claims::PASS_LIMIT": [
         ("--help", "Number of threads, 1 to {}"),
@@ -78,10 +102,18 @@ SPELLED = {
         ("completions/stlslice.fish", "slice and draw, 1 to {} "),
         ("docs/PROVED.md", "1 to {} workers"),
         ("docs/decisions/single-worker.md", "has 1 to {} workers"),
+        ("docs/printing.md", "at most {} | threads of the slicer, 1 to {} |"),
+        ("commands/stlslice_commands/words.py", "MOST_WORKERS = {}"),
+        ("commands/stlslice_commands/words.py", "threads of the slicer, 1 to {} ("),
+        ("commands/stlslice-page", "threads of the slicer, 1 to {} ("),
+        *((f"man/stlslice-{it}.1", "Threads of the slicer, 1 to {}.") for it in ("sl1", "pngs", "page")),
+        *((f"completions/_stlslice-{it}", "threads of the slicer]:number (1 to {}):") for it in ("sl1", "page")),
+        *((f"completions/stlslice-{it}.fish", "Threads of the slicer, 1 to {}'") for it in ("sl1", "page")),
     ],
     "micro_num::WORD_LIMIT": [
         ("docs/formats.md", "At most {} bytes."),
         ("docs/refused.md", "{} bytes"),
+        ("commands/stlslice_commands/shells.py", "LONGEST = {} # bytes of a number"),
     ],
     "stl_text::WORD_FRONT": [
         ("docs/decisions/front-of-a-word.md", "keeps the first {} bytes of such a word"),
@@ -147,7 +179,7 @@ SMALL = {1: "a", 4: "four", 8: "eight"}
 
 def plain(text):
     """A text in one line, its numbers as bare digits."""
-    return " ".join(re.sub(r"(?<=\d),(?=\d{3}(?!\d))", "", text).split())
+    return " ".join(re.sub(r"(?<=\d)[,_](?=\d{3}(?!\d))", "", text).split())
 
 
 def said():
@@ -200,7 +232,7 @@ def main():
         for place, pattern in places:
             text = plain(told if place == "--help" else text_of(place))
             spelled = spellings(pattern, found[name])
-            holds(f"{place} tells {name} as {' or '.join(sorted(spelled))}", any(it in text for it in spelled))
+            holds(f"{place} tells {name} as {' or '.join(sorted(spelled))}", any(re.search(rf"(?<!\d){re.escape(it)}(?!\d)", text) for it in spelled))
     told = re.search(r"up to (\d+) mm", text_of("docs/decisions/facets-by-counting-sort.md"))[1]
     same("the millimetres that a counting sort takes", told, str(2 ** group_bits() // 1000))
 

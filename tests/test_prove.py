@@ -13,6 +13,7 @@ LIBRARY = '''
 import os, threading, time
 
 LOG, mutex = os.environ["LOG"], threading.Lock()
+first = threading.Barrier(3)
 DEPS = {"low": [], "twin": [], "middle": ["low", "twin"], "high": ["middle", "side"], "side": [], "other": []}
 LINES = {"low": 50, "twin": 45, "middle": 50, "high": 50, "side": 20, "other": 10}
 RATTLE = "rattle"
@@ -51,11 +52,17 @@ class Crate:
         return [*flags, *["--incremental"] * keeps]
 
     def says(self, *words):
-        for what in ("begins", "ends"):
-            with mutex, open(LOG, "a") as file:
-                print(self.name, what, *words, "nice", os.getpriority(os.PRIO_PROCESS, 0), file=file)
-            time.sleep(0.1 * (what == "begins"))
+        self.tells("begins", *words)
+        # those that can begin at once end when all of them have begun
+        if self.name in ("low", "twin", "side"):
+            first.wait(60)
+        time.sleep(0.1)
+        self.tells("ends", *words)
         return int(self.name == os.environ["FAILS"])
+
+    def tells(self, *words):
+        with mutex, open(LOG, "a") as file:
+            print(self.name, *words, "nice", os.getpriority(os.PRIO_PROCESS, 0), file=file)
 
     def build_rlib(self, flags, anew):
         return self.says("built" if self.is_built() else "kept", *flags, *["anew"] * anew)

@@ -1,6 +1,6 @@
 #!/usr/bin/env python3
-"""tools/spent.py: a check of the prover below this process is given with its part, crate and seconds. Another process isn't.
-The table has the parts and what took longest."""
+"""tools/spent.py: a check of the prover below this process is given with its part, crate and seconds, as long as that part is
+counted. Another process isn't. The table has the parts and what took longest."""
 
 import os
 import subprocess
@@ -12,6 +12,8 @@ from common import ROOT, holds, same
 sys.path.insert(0, os.path.join(ROOT, "tools"))
 import spent  # noqa: E402
 
+# a gate above this test would count what is called as the prover is
+spent.PROVER = "stand-in"
 BUSY = "import time\nend = time.monotonic() + 2.5\nwhile time.monotonic() < end: pass"
 
 
@@ -22,13 +24,17 @@ def busy(name, *words, folder=ROOT):
 def main():
     with tempfile.TemporaryDirectory(prefix="rt-edit-1-") as room, tempfile.TemporaryDirectory(prefix="edits-") as other:
         times = spent.Spent()
-        for child in [busy("rattle", "--crate-name", "low"), busy("rattle", "--crate-name", "low", "--test"),
-                      busy("rattle", "--crate-name", "high", folder=room), busy("rattle", "--crate-name", "high", folder=other),
-                      busy("another", "--crate-name", "high"), busy("rattle", "doc")]:
+        for child in [busy(spent.PROVER, "--crate-name", "low"), busy(spent.PROVER, "--crate-name", "low", "--test"),
+                      busy(spent.PROVER, "--crate-name", "high", folder=room), busy(spent.PROVER, "--crate-name", "high", folder=other),
+                      busy("another", "--crate-name", "high"), busy(spent.PROVER, "doc")]:
+            child.wait()
+        times.parts = {spent.BATCHES}
+        for child in [busy(spent.PROVER, "--crate-name", "late"), busy(spent.PROVER, "--crate-name", "late", folder=other)]:
             child.wait()
         times.stop()
     found = times.by_check()
-    same("parts and crates", sorted(found), sorted([(spent.PROOFS, "low"), (spent.TESTS, "low"), (spent.MUST_FAIL, "high"), (spent.BATCHES, "high")]))
+    same("parts and crates", sorted(found), sorted([(spent.PROOFS, "low"), (spent.TESTS, "low"), (spent.MUST_FAIL, "high"), (spent.BATCHES, "high"), (spent.BATCHES, "late")]))
+    holds("a part that isn't counted any more has ended by the clock", times.clock(spent.PROOFS) < times.clock(spent.BATCHES))
     holds("each took some time, and no more than it had", all(0 < it < 3 for it in found.values()))
     holds("by the clock it is the time that the check was seen", all(0 < times.clock(part) < 10 for part, _ in found))
     lines = list(spent.table([("a part", 60, 90)], [(2, "slow"), (3, "slower"), *[(1, "quick")] * 9]))

@@ -7,11 +7,13 @@ The change is all that differs from REV (HEAD), with files that git doesn't know
 - proves each changed crate over what earlier checks kept. It also proves the crates above if something changed that they
   can see: a definition, a signature, a contract, a type, the statement of a public lemma;
 - tries changed edits, those of changed sources, and those that a changed definition reaches, in batches;
-- proves and runs the nearest tests: of the crates of tests that use a changed crate, the one with the fewest libraries;
+- proves and runs the nearest tests: those of the changed crates, and of the crates of tests that use one, the one with the
+  fewest libraries;
 - builds the program and runs the tests in tests/, except the demo's, if something changed that other crates can see, or in a
-  crate of words that no clause fixes; if no crate changed, it runs those that name a changed file.
+  crate of words that no clause fixes; else it runs those that name a changed file, its module or its folder.
 
-At the end it reports what it didn't try, and 'N passed, N failed'. Only the gate, make test, tries all.
+At the end it reports what it didn't try, and 'N passed, N failed'. The status is 0 if none failed, 1 if one did, and 2 if REV
+is no revision. Only the gate, make test, tries all.
 """
 
 import argparse
@@ -27,7 +29,8 @@ ROOT = os.path.dirname(os.path.dirname(os.path.abspath(__file__)))
 PROGRAM = "build/stlslice"
 # It takes a minute, since it runs the sources unproved.
 SLOW_TESTS = ("test_demo_unproved",)
-# The crates whose bodies write words, which no clause fixes. A proved body of another one changes nothing in what is written.
+# The crates whose bodies write words, which no clause fixes. A proved body of another one changes nothing in what is written,
+# but for two texts of `Word::text` in stl_text, which reading_tests compares.
 OF_WORDS = {"task_words", "stlslice", "stlslice_program"}
 # A function's body: from the brace that ends its head's last line to the brace with the same indentation. A head has no blank
 # line and, unlike a trait's function without a body, no line that ends in a semicolon; and its clauses are no body.
@@ -37,12 +40,15 @@ COMMENT = re.compile(r"(?m)^\s*(//|--).*\n")
 
 
 def git(*words):
-    return subprocess.run(["git", *words], cwd=ROOT, stdout=subprocess.PIPE, text=True).stdout
+    """What git says, or None if it fails."""
+    ran = subprocess.run(["git", *words], cwd=ROOT, stdout=subprocess.PIPE, stderr=subprocess.DEVNULL, text=True)
+    return None if ran.returncode else ran.stdout
 
 
 def changed_files(base):
-    names = git("diff", "--name-only", base).split("\n") + git("ls-files", "--others", "--exclude-standard").split("\n")
-    return sorted({it for it in names if it})
+    """A file that was moved counts at both places."""
+    names = git("diff", "--name-only", "--no-renames", base) + git("ls-files", "--others", "--exclude-standard")
+    return sorted({*names.splitlines()})
 
 
 def text_of(name):
@@ -75,6 +81,27 @@ def crates():
     return {head.split()[0]: [it for it in tail.split() if it in names] for head, _, tail in rows}
 
 
+def tests():
+    """The tests in tests/, each with its text."""
+    names = sorted(it for it in os.listdir(os.path.join(ROOT, "tests")) if it.startswith("test_"))
+    return {it: text_of(f"tests/{it}") for it in names}
+
+
+def tests_of(file, texts):
+    """The tests that name a file, by their texts. If none does, those that name its module, and those that name the innermost of
+    its folders that one names. Of a test it is the test, and those that import it."""
+    def naming(word):
+        return {it for it, text in texts.items() if word and re.search(rf"(?<!\w){re.escape(word)}(?!\w)", text)}
+
+    folder, name = os.path.split(file)
+    module = naming(name.partition(".")[0])
+    if folder == "tests" and name in texts:
+        return {name} | module
+    while folder and not naming(folder):
+        folder = os.path.dirname(folder)
+    return naming(name) or module | naming(folder)
+
+
 def is_of_tests(name):
     return name.endswith("_tests")
 
@@ -88,15 +115,15 @@ class Change:
     """What differs from a revision, and which crates it concerns."""
 
     def __init__(self, base):
-        self.files = changed_files(base)
-        self.deps = crates()
+        self.files, self.deps, texts = changed_files(base), crates(), tests()
+        self.tests = {it: tests_of(it, texts) for it in self.files if not it.startswith("crates/")}
         inside = [re.match(r"crates/(\w+)/(src|specs|proofs)/", it) for it in self.files]
         self.sources = {it[1]: [] for it in inside if it and it[1] in self.deps}
         self.open = set()
         for name, told in zip(self.files, inside):
             if told and told[1] in self.deps:
                 self.sources[told[1]].append(name)
-                if seen_from_above(name, text_of(name)) != seen_from_above(name, git("show", f"{base}:{name}")):
+                if seen_from_above(name, text_of(name)) != seen_from_above(name, git("show", f"{base}:{name}") or ""):
                     self.open.add(told[1])
 
     def crates_to_prove(self):
@@ -108,10 +135,12 @@ class Change:
         return {*self.deps[crate]}.union(*(self.below(it) for it in self.deps[crate]))
 
     def nearest_tests(self):
-        """The crates of tests to run: each changed one, or the one with the fewest libraries below it, a changed one among them."""
-        changed = [it for it in self.sources if is_of_tests(it)]
+        """The crates whose tests are run: the changed ones that have tests. If none of these is a crate of tests, also the one with the
+        fewest libraries below it, a changed one among them."""
+        changed = [it for it in self.sources if has_tests(it)]
         users = [it for it in self.deps if is_of_tests(it) and self.below(it) & {*self.sources}]
-        return changed or sorted(users, key=lambda it: len(self.below(it)))[:1]
+        nearest = sorted(users, key=lambda it: len(self.below(it)))[:1]
+        return changed if any(map(is_of_tests, changed)) else changed + nearest
 
     def edits_to_try(self):
         """Words for tools/edits.py."""
@@ -120,11 +149,6 @@ class Change:
             changed = [it for it in names if text_of(it) or not it.endswith(".edit")]
             if changed:
                 yield ["--changed", *changed]
-
-    def tests_that_name_it(self):
-        names = [os.path.basename(it) for it in self.files if not it.startswith("crates/")]
-        tests = [it for it in sorted(os.listdir(os.path.join(ROOT, "tests"))) if it.startswith("test_")]
-        return [it for it in tests if it in names or any(name in text_of(f"tests/{it}") for name in names)]
 
 
 class Steps:
@@ -179,36 +203,41 @@ def try_crates(change, steps):
 def main():
     read = argparse.ArgumentParser(description=__doc__.split("\n")[0])
     read.add_argument("--base", default="HEAD", metavar="REV", help="what the change is compared with (HEAD)")
-    change, steps = Change(read.parse_args().base), Steps()
+    base = read.parse_args().base
+    if git("rev-parse", "--verify", f"{base}^{{commit}}") is None:
+        print(f"check.py: {base} is no revision of this repository", file=sys.stderr)
+        return 2
+    change, steps = Change(base), Steps()
     if not change.files:
         print("nothing has changed: name an older revision (make check BASE=REV)")
         return 0
-    tests = change.tests_that_name_it()
+    chosen = set().union(*change.tests.values())
     if not change.sources:
         try_edits(change, steps)
     elif try_crates(change, steps):
-        tests = [it for it in sorted(os.listdir(os.path.join(ROOT, "tests"))) if it.startswith("test_") and not it.startswith(SLOW_TESTS)]
-    tests = [] if steps.failed else tests
-    if tests:
-        steps.run(f"{len(tests)} tests in tests/", ["tests/run", PROGRAM, *tests])
+        chosen = {it for it in tests() if not it.startswith(SLOW_TESTS)}
+    chosen = [] if steps.failed else sorted(chosen)
+    if chosen:
+        steps.run(f"{len(chosen)} tests in tests/", ["tests/run", PROGRAM, *chosen])
     steps.join()
-    tell(change, steps, tests)
+    tell(change, steps, chosen)
     print(*[f"failed: {it}" for it in steps.failed], f"{steps.passed} passed, {len(steps.failed)} failed", sep="\n")
     return 1 if steps.failed else 0
 
 
-def tell(change, steps, tests):
+def tell(change, steps, chosen):
     """Says what was not tried."""
     proofs = [it for it in change.deps if f"proof of {it}" not in steps.begun and not is_of_tests(it)]
     tested = [it for it in change.deps if f"tests of {it}" not in steps.begun and has_tests(it)]
     edits = [word for it in steps.begun if it.startswith("edits ") for word in it.split()[1:] if word != "--changed"]
-    every = [it for it in os.listdir(os.path.join(ROOT, "tests")) if it.startswith("test_")]
     print("not tried:")
     print(f"  proofs of {', '.join(proofs) or 'no crate'}")
     print(f"  tests of {', '.join(tested) or 'no crate'}")
     print(f"  edits but those of {', '.join(edits)}" if edits else "  edits")
     program = "the program, and " if change.sources and "the program" not in steps.begun else ""
-    print(f"  {program}{len(every) - len(tests)} of {len(every)} tests in tests/")
+    print(f"  {program}{len(tests()) - len(chosen)} of {len(tests())} tests in tests/")
+    for it in (it for it, named in change.tests.items() if not named):
+        print(f"  {it}: no test names it")
 
 
 if __name__ == "__main__":

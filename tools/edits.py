@@ -25,7 +25,7 @@ Each check has one edit more, which means the same as before. It has to be repor
 is noticed.
 
 Each edit has a line, and the last line is 'N passed, N failed'. The status is 0 if none failed, 1 if one did, and 2 if
-nothing was tried. The libraries below a crate are built first, if they aren't.
+nothing could be begun. The libraries below a crate are built first, if they aren't.
 """
 
 import contextlib
@@ -467,11 +467,10 @@ def batches_of_crate(crate, paths):
     return [Batch(crate, source, it, kept) for it in grouped([Edit(path, crate.name, source) for path in paths])]
 
 
-def batches_of(root=ROOT, names=(), folders=("edits",)):
-    """The batches of a repository's edits, of each crate or of those that are named, lowest first. Call it in the main thread."""
+def batches_of(root, folders):
+    """The batches of a repository's edits, lowest crates first. Call it in the main thread."""
     toolchain().guarded()
-    crates = [it for it in toolchain().crates_below(root) if not names or it.name in names]
-    return [batch for crate in crates for batch in batches_of_crate(crate, edits_in(crate, folders))]
+    return [it for crate in toolchain().crates_below(root) for it in batches_of_crate(crate, edits_in(crate, folders))]
 
 
 # ---- one check
@@ -900,6 +899,19 @@ def concerned(crate, files):
     return found
 
 
+def build_below(crates):
+    """Builds the libraries below these crates that aren't built yet. Another command that would build one too waits for it."""
+    rtlib = toolchain()
+    rtlib.guarded()
+    left = [it for it in {it.folder: it for crate in crates for it in crate.below()}.values() if not it.is_built()]
+    held = rtlib.lock(left)
+    for it in left:
+        if it.build_rlib(["--jobs", "1"], anew=False):
+            raise Unfit(f"the library {it.name} isn't proved")
+    for it in held:
+        os.close(it)
+
+
 def chosen(words):
     """The batches that the command's words ask for, how many to try at a time, and where to leave what the checks say."""
     words, options = list(words), {"--jobs": "1", "--show": ""}
@@ -937,10 +949,7 @@ def main():
         batches, jobs, show = chosen(sys.argv[1:])
         if show:
             os.makedirs(show, exist_ok=True)
-        toolchain().guarded()
-        for below in {dep.folder: dep for batch in batches for dep in batch.crate.below()}.values():
-            if below.build_rlib(["--jobs", "1"], anew=False):
-                raise Unfit(f"the library {below.name} isn't proved")
+        build_below(it.crate for it in batches)
     except Unfit as why:
         print(f"edits.py: {why}", file=sys.stderr)
         return 2

@@ -13,7 +13,8 @@
 4. tests/run tests what people touch: the program, the library, packages, recipes, documents.
 
 What an earlier run left at PROGRAM is removed first, so nothing older is tested. The last lines say where the time went,
-what was skipped and what failed, and then 'N passed, N failed', the sum of all parts. The status is 0 if nothing failed.
+what was skipped (tests, or Rattle's own compiler) and what failed, and then 'N passed, N failed', the sum of all parts. The
+status is 0 if nothing failed.
 """
 
 import collections
@@ -38,7 +39,9 @@ import spent  # noqa: E402
 LIBRARY_CRATE = "stlslice_c"
 # The memory that a batch leaves free for what runs beside it.
 RESERVE = 3_000_000_000
+# Another kit of the same logic keeps what it proved, and then says `is kept`.
 PROVED = re.compile(r"rt: (\w+) (?:proved|is kept: .*)$")
+LLVM_ALONE = re.compile(r"rt: note: Rattle's own compiler did not ")
 COUNTS = re.compile(r"(?m)^(\d+) passed, (\d+) failed$")
 FAULTS = re.compile(r"rt: FAILED: |.*(NOT PROVED|NOT REFUSED|NOT TRIED)|.*: its tests FAILED$|failed: ")
 showing = threading.Lock()
@@ -92,15 +95,18 @@ class ProvedTree:
             shutil.copytree(f"{ROOT}/{made}", f"{self.path}/{made}", copy_function=link_or_copy)
 
     def hand_over(self, rtlib):
-        """Puts each library into the repository, marked as built, if the repository has none of these sources."""
-        mine = {it.name: it for it in rtlib.crates_below(self.path)}
-        for crate in rtlib.crates_below(ROOT):
-            source = mine.get(crate.name)
-            if source and os.path.isdir(source.rlib) and not crate.is_built() and crate.stamp() == source.stamp():
-                shutil.rmtree(os.path.dirname(crate.rlib), ignore_errors=True)
-                shutil.copytree(source.rlib, crate.rlib, copy_function=link_or_copy)
-                with open(f"{os.path.dirname(crate.rlib)}/stamp", "w", encoding="utf-8") as file:
-                    file.write(crate.stamp())
+        """Puts the libraries into the repository, marked as built, unless it has all of them. It gets all or none, since a library
+        fits only those that it was built over; one of other sources than were proved is removed."""
+        proved = {(it.name, it.stamp()): it.rlib for it in rtlib.crates_below(self.path) if os.path.isdir(it.rlib)}
+        crates = {it: (it.name, it.stamp()) for it in rtlib.crates_below(ROOT)}
+        if all(it.is_built() for it, wanted in crates.items() if wanted in proved):
+            return
+        for it, wanted in crates.items():
+            shutil.rmtree(os.path.dirname(it.rlib), ignore_errors=True)
+            if wanted in proved:
+                shutil.copytree(proved[wanted], it.rlib, copy_function=link_or_copy)
+                with open(f"{os.path.dirname(it.rlib)}/stamp", "w", encoding="utf-8") as file:
+                    file.write(wanted[1])
 
     def remove(self):
         shutil.rmtree(self.path, ignore_errors=True)
@@ -115,17 +121,18 @@ def link_or_copy(one, other):
 
 def tried(batch, root):
     """What came of each edit of a batch: a line, and whether it passed. What the batch can't judge is tried alone. An edit that
-    can't be read has failed, and so has one that is refused otherwise than the list says. A tool that breaks off fails the whole
-    batch."""
-    found = []
+    can't be read has failed, and so has one that is refused otherwise than the list says. A tool that breaks off fails what is
+    left of the batch."""
+    found = {}
     try:
         for edit, is_passed, text in edits.try_batch(batch, root)[0]:
             if not is_passed and not text.lower().startswith(("refused", "bad edit")):
                 is_passed, text = edits.try_alone(edit, batch, root)
-            found.append((f"{edit.name}: {text}", is_passed))
+            found[edit] = f"{edit.name}: {text}", is_passed
     except Exception as fault:  # noqa: BLE001
-        found += [(f"{edit.name}: NOT TRIED: {fault!r}", False) for edit in batch.edits[len(found) :]]
-    return found
+        for edit in batch.edits:
+            found.setdefault(edit, (f"{edit.name}: NOT TRIED: {fault!r}", False))
+    return list(found.values())
 
 
 class Batches:
@@ -201,10 +208,10 @@ def failures(*parts):
     return [line for ran in parts for line in ran.lines if FAULTS.match(line)]
 
 
-def skipped(tests):
-    """The tests that could not run here, each with what is missing."""
+def skipped(proofs, tests):
+    """The build of the program that `rt ci` went without, and the tests that could not run here, each with what is missing."""
     told = [re.match(r"skipped +(\S+) \([\d.]+ s\): (.*)", line) for line in tests.lines]
-    return [f"skipped: {it[1]}: {it[2]}" for it in told if it]
+    return [line for line in proofs.lines if LLVM_ALONE.match(line)] + [f"skipped: {it[1]}: {it[2]}" for it in told if it]
 
 
 def slowest(times, tests):
@@ -230,6 +237,8 @@ def main():
             batches.proved(told[1])
 
     proofs = run(["rt", "ci"], hear)
+    # what the library and tests/run prove has its time in their rows
+    times.parts = {spent.BATCHES}
     with batches.change:
         batches.most = batches.processors
         batches.change.notify_all()
@@ -240,16 +249,16 @@ def main():
         built = library()
         tests = run(["tests/run", program])
         more = counts(tests)
-        passed, failed = passed + more[0], failed + more[1] + (built.status != 0)
+        passed, failed = passed + more[0], failed + more[1]
+        faults = ["failed: make library web"] * (built.status != 0)
     else:
-        show("rt ci built no program, so nothing in tests/ was run")
-        failed = failed or 1
+        faults = ["failed: rt ci built no program, so nothing in tests/ was run"]
     batches.finish()
     tree.remove()
     times.stop()
-    passed, failed = passed + batches.passed, failed + batches.failed
+    passed, failed = passed + batches.passed, failed + batches.failed + len(faults)
     tell(times, began, built, tests)
-    for line in skipped(tests) + failures(proofs, tests) + batches.faults:
+    for line in skipped(proofs, tests) + failures(proofs, tests) + faults + batches.faults:
         print(line)
     print(f"{passed} passed, {failed} failed")
     return 1 if failed else 0

@@ -9,6 +9,8 @@ import os
 import threading
 import time
 
+# The program whose processes are checks.
+PROVER = "rattle"
 # What a check is for, by the words in its command or by the name of the folder in which it runs.
 PROOFS, TESTS, MUST_FAIL, BATCHES = "proofs of crates", "proofs of tests", "edits in must-fail/", "edits in batches"
 ROOMS = {"rt-edit-": MUST_FAIL, "edits-": BATCHES}
@@ -43,7 +45,7 @@ def is_below(found, pid, top):
 
 def check_of(it):
     """The part and the crate of a check, or None of another process."""
-    if os.path.basename(it.words[0]) != "rattle" or "--crate-name" not in it.words:
+    if os.path.basename(it.words[0]) != PROVER or "--crate-name" not in it.words:
         return None
     crate = it.words[it.words.index("--crate-name") + 1]
     room = next((part for start, part in ROOMS.items() if os.path.basename(it.folder).startswith(start)), None)
@@ -51,10 +53,10 @@ def check_of(it):
 
 
 class Spent:
-    """Looks at the processes below this one until it is stopped."""
+    """Looks at the processes below this one until it is stopped. Of the checks it counts those of its `parts`."""
 
     def __init__(self):
-        self.began = time.monotonic()
+        self.began, self.parts = time.monotonic(), {PROOFS, TESTS, MUST_FAIL, BATCHES}
         self.seconds, self.first, self.last, self.most_memory = {}, {}, {}, 0
         self.is_done = threading.Event()
         self.thread = threading.Thread(target=self.look_on, daemon=True)
@@ -70,7 +72,7 @@ class Spent:
         found, now = processes(), time.monotonic() - self.began
         for pid, it in found.items():
             check = check_of(it)
-            if check and is_below(found, pid, os.getpid()):
+            if check and check[0] in self.parts and is_below(found, pid, os.getpid()):
                 self.seconds[check, pid, it.began] = it.seconds
                 self.first.setdefault(check[0], now)
                 self.last[check[0]] = now

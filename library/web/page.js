@@ -24,16 +24,20 @@ class Slicer {
         this.waiting = new Map();
         this.last = 0;
         this.part = null; // what the worker has read
+        this.fault = null; // why no call is made any more
         this.ended = new Promise((_, failed) => { this.stop = failed; });
         this.ended.catch(() => {});
         this.url = URL.createObjectURL(new Blob([by("worker").textContent], { type: "text/javascript" }));
-        this.worker = new Worker(this.url);
-        this.worker.onmessage = ({ data: { id, value, fault } }) => {
-            const { done, failed } = this.waiting.get(id);
-            this.waiting.delete(id);
-            this.has_stopped ||= fault?.stopped ?? false;
-            fault ? failed(Object.assign(new Error(fault.line), fault)) : done(value);
-        };
+        try {
+            this.worker = new Worker(this.url);
+            this.worker.onmessage = ({ data }) => this.hear(data);
+            this.worker.onerror = (it) => {
+                it.preventDefault(); // the page itself tells of it
+                this.break_off(it.message || "it cannot be loaded");
+            };
+        } catch (fault) {
+            this.break_off(fault.message);
+        }
         const wanted = location.hash === "#32" ? [32] : [64, 32];
         const modules = data.modules.filter(({ bits }) => wanted.includes(bits))
             .map(({ bits, packed }) => ({ bits, packed: unpacked_base64(packed) }));
@@ -41,32 +45,51 @@ class Slicer {
         this.started.catch(() => {});
     }
 
+    hear({ id, value, fault }) {
+        const { done, failed } = this.waiting.get(id);
+        this.waiting.delete(id);
+        this.has_stopped ||= fault?.stopped ?? false;
+        fault ? failed(Object.assign(new Error(fault.line), fault)) : done(value);
+    }
+
     call(name, value, moved = []) {
         return new Promise((done, failed) => {
+            if (this.fault) throw this.fault;
             this.waiting.set(++this.last, { done, failed });
             this.worker.postMessage({ id: this.last, call: name, value }, moved);
         });
     }
 
-    async open(options) {
+    async open(options, of) {
         await this.started;
-        if (this.part !== part) {
+        if (this.part !== of) {
             this.part = null;
-            const read = part;
             // here, since WebKit reads no file in the worker of a page from disk
-            const all = await Promise.race([read.file.arrayBuffer(), this.ended]);
+            const all = await Promise.race([of.file.arrayBuffer(), this.ended]);
             const told = await this.call("read", { all }, [all]);
-            this.part = read;
-            read.is_binary = told.is_binary;
+            this.part = of;
+            of.is_binary = told.is_binary;
         }
         return this.call("open", options);
     }
 
+    // The worker itself has failed, outside a call.
+    break_off(why) {
+        this.has_stopped = true;
+        this.fail(Object.assign(new Error(`the worker has failed: ${why}`), { stopped: true }));
+    }
+
+    // Fails the calls that wait, and every later one.
+    fail(fault) {
+        this.fault = fault;
+        this.stop(fault);
+        for (const { failed } of this.waiting.values()) failed(fault);
+    }
+
     end() {
-        this.stop(new Error("stopped"));
-        this.worker.terminate();
+        this.fail(new Error("stopped"));
+        this.worker?.terminate();
         URL.revokeObjectURL(this.url);
-        for (const { failed } of this.waiting.values()) failed(new Error("stopped"));
     }
 }
 
@@ -78,6 +101,7 @@ let slicer = new Slicer();
 function renew() {
     slicer.end();
     slicer = new Slicer();
+    opened = null; // the new worker has no mesh
 }
 
 // ---- opening a part
@@ -95,9 +119,9 @@ let wish = 0, is_opening = false;
 async function slice() {
     if (!part) return;
     wish++;
-    if (is_opening || !by("form").reportValidity()) return;
+    if (is_opening) return;
     is_opening = true;
-    for (let mine = 0; mine !== wish && part;) {
+    for (let mine = 0; mine !== wish && part && by("form").reportValidity();) {
         mine = wish;
         await open_once(options_now(), () => mine === wish);
     }
@@ -110,8 +134,8 @@ async function open_once(options, is_wished) {
     const used = slicer;
     begin_wait(`Slicing ${opening.name}`);
     try {
-        const told = await used.open(options);
-        if (is_wished()) took(told, options, opening);
+        // also if another is wished by now, since the worker has this mesh
+        took(await used.open(options, opening), options, opening);
     } catch (fault) {
         if (is_wished()) refused(fault, opening);
     } finally {
@@ -146,9 +170,11 @@ const TOOLS = ["nearer", "farther", "whole", "save"];
 
 let waits = null;
 function begin_wait(words) {
-    by("busy_words").textContent = words;
     clearTimeout(waits);
-    waits = setTimeout(() => { by("busy").hidden = false; }, 150);
+    waits = setTimeout(() => {
+        by("busy").hidden = false;
+        by("busy_words").textContent = words; // when they are seen, so that they are read aloud
+    }, 150);
 }
 
 function end_wait() {
@@ -182,7 +208,8 @@ function tell_part() {
         ["Volume", areas.length === layers ? `${filled.toFixed(3)} ml` : `… layer ${grouped(areas.length)}`],
         ["Opened in", `${time.toFixed(0)} ms`]];
     by("facts").replaceChildren(...rows_told.flatMap(([name, value]) => [element("dt", name), element("dd", value)]));
-    by("command").replaceChildren(...command_of(options, grid).flatMap((it) => [element("span", it), " "]));
+    const pieces = (word) => word.match(/[^,]+,?/g).flatMap((it) => [element("span", it), element("wbr", "")]);
+    by("command").replaceChildren(...command_of(options, grid).flatMap((it) => [...pieces(it), " "]));
 }
 
 // The program's words for what the page shows.
@@ -446,13 +473,17 @@ function go_to_plotted(it) {
 
 // ---- saving
 
+// Saves the layer of the slider. If another mesh was opened meanwhile, the worker has answered of that, and is asked again.
 async function save() {
-    if (!opened) return;
-    const of = opened, k = k_now();
-    try {
-        download(await slicer.call("png", { k }), `${of.of.name.replace(/\.stl$/i, "")}_${String(k).padStart(5, "0")}.png`);
-    } catch (fault) {
-        refused(fault, of.of);
+    for (let of = null; opened && of !== opened;) {
+        of = opened;
+        const k = k_now(), name = `${of.of.name.replace(/\.stl$/i, "")}_${String(k).padStart(5, "0")}.png`;
+        try {
+            const png = await slicer.call("png", { k });
+            if (of === opened) download(png, name);
+        } catch (fault) {
+            if (of === opened) refused(fault, of.of);
+        }
     }
 }
 
@@ -475,7 +506,9 @@ by("file").onchange = () => by("file").files.length && take(by("file").files[0])
 by("file").onclick = () => { by("file").value = ""; };
 by("form").onsubmit = (it) => { it.preventDefault(); slice(); };
 by("form").onchange = () => {
-    by("canvas_label").hidden = by("grid").value !== "canvas";
+    const is_fitted = by("grid").value !== "canvas";
+    by("canvas_label").hidden = is_fitted;
+    for (const id of ["columns", "rows"]) by(id).disabled = is_fitted; // a wrong one that is hidden would stop each opening
     slice();
 };
 by("outlines").onchange = draw;
@@ -506,6 +539,7 @@ addEventListener("keydown", (it) => {
     const is_field = it.target.matches?.("input:not([type=range]):not([type=checkbox]), select");
     const act = KEYS[it.key.length === 1 ? it.key.toLowerCase() : it.key];
     if (!act || is_field || it.ctrlKey || it.altKey || it.metaKey) return;
+    if (!opened && it.key.length > 1) return; // arrows and the like scroll the hints
     it.preventDefault();
     act();
 });

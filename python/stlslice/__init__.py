@@ -139,7 +139,10 @@ def _library() -> ctypes.CDLL:
         "fault_text": [word, at, size],
         "close": [handle],
     }.items():
-        call = getattr(library, f"stlslice_{name}")
+        try:
+            call = getattr(library, f"stlslice_{name}")
+        except AttributeError as fault:
+            raise ImportError(f"{fault}: another library, or one older than this module") from fault
         call.argtypes = words
         call.restype = None if name in ("fault_text", "close") else ctypes.c_uint32
     return library

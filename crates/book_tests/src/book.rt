@@ -10,7 +10,7 @@ use std::alloc::{AllocError, Allocator, Global};
 use std::test::Fail;
 use test_meshes::{COLUMN, CUBE, Part, TWO_CUBES};
 
-// Whether a layer has this number of loops and this area.
+/// Whether a layer has this number of loops and this area.
 fn is_layer(build: &Build<'_, Global>, k: u32, (loops, area): (usize, u64)) -> bool {
     match build.layer(k) {
         Some(layer) => layer.loops().count() == loops && layer.area() == area,
@@ -18,10 +18,10 @@ fn is_layer(build: &Build<'_, Global>, k: u32, (loops, area): (usize, u64)) -> b
     }
 }
 
-// The loops and the areas of three layers, and the area of all.
+/// The loops and the areas of three layers, and the area of all.
 type Layers = ([(usize, u64); 3], u64);
 
-// Whether the build of an empty book has exactly these layers, which are late then.
+/// Whether the build of an empty book has exactly these layers, which are late then.
 fn is_built(
     alloc: Global,
     job: &Job<Global>,
@@ -38,7 +38,7 @@ fn is_built(
     )
 }
 
-// The same of two cubes, in voxels of two micrometres, by a rule.
+/// The same of two cubes, in voxels of two micrometres, by a rule.
 fn are_two_cubes(alloc: Global, rule: Rule, told: Layers) -> Result<bool, AllocError> {
     let job = job_of(alloc, TWO_CUBES, 2, rule)?;
     is_built(alloc, &job, told)
@@ -53,7 +53,7 @@ fn two_cubes_by_each_rule(rt: HostRuntime) -> Result<(), Fail> {
     Ok(())
 }
 
-// A row, and the columns from the first number on to before the second.
+/// A row, and the columns from the first number on to before the second.
 type Told = (u32, u32, u32);
 
 fn are_spans(spans: &[Span], told: &[Told]) -> bool {
@@ -65,7 +65,7 @@ fn are_spans(spans: &[Span], told: &[Told]) -> bool {
     spans.len() == told.len()
 }
 
-// Whether a layer has these spans.
+/// Whether a layer has these spans.
 fn has_spans(build: &Build<'_, Global>, k: u32, told: &[Told]) -> bool {
     match build.layer(k) {
         Some(layer) => are_spans(layer.spans(), told),
@@ -73,7 +73,7 @@ fn has_spans(build: &Build<'_, Global>, k: u32, told: &[Told]) -> bool {
     }
 }
 
-// Whether the layers of two cubes, in voxels of two micrometres and by a rule, have these spans in the build of an empty book.
+/// Whether the layers of two cubes, in voxels of two micrometres and by a rule, have these spans in the build of an empty book.
 fn have_spans(
     alloc: Global,
     rule: Rule,
@@ -84,12 +84,12 @@ fn have_spans(
     Ok(has_spans(&build, 0, low) && has_spans(&build, 1, middle) && has_spans(&build, 2, high))
 }
 
-// The layer of the first cube alone, and that of the second.
+/// The layer of the first cube alone, and that of the second.
 const FIRST: &[Told] = &[(0, 0, 2), (1, 0, 2)];
 
 const SECOND: &[Told] = &[(1, 1, 3), (2, 1, 3)];
 
-// The layer between, of which the middle pixel lies in both cubes.
+/// The layer between, of which the middle pixel lies in both cubes.
 const WITHOUT_THE_MIDDLE: &[Told] = &[(0, 0, 2), (1, 0, 1), (1, 2, 3), (2, 1, 3)];
 
 const WITH_THE_MIDDLE: &[Told] = &[(0, 0, 2), (1, 0, 3), (2, 1, 3)];
@@ -152,7 +152,7 @@ pub(crate) fn shown(book: &Book<'_, Global>) -> Shown {
 /// the book shows then.
 pub(crate) type Filing = (bool, u64, Refusal, Shown);
 
-// Whether filing a stripe has this outcome.
+/// Whether filing a stripe has this outcome.
 fn is_filed<'m>(
     alloc: Global,
     book: &mut Book<'m, Global>,
@@ -164,7 +164,7 @@ fn is_filed<'m>(
     Ok(refusal(book, piece) == refused && shown(book) == told)
 }
 
-// The number of the first stripe, filed in turn, with another outcome.
+/// The number of the first stripe, filed in turn, with another outcome.
 fn first_other_filing<'m>(
     alloc: Global,
     job: &'m Job<Global>,
@@ -180,7 +180,7 @@ fn first_other_filing<'m>(
     Ok(None)
 }
 
-// The same for the column and another mesh.
+/// The same for the column and another mesh.
 fn first_other_beside(
     alloc: Global,
     parts: &[Part<'_>],
@@ -226,7 +226,7 @@ fn stripe_of_another_job(rt: HostRuntime) -> Result<(), Fail> {
     Ok(())
 }
 
-// Files the stripes of a job that one slicer makes in this order.
+/// Files the stripes of a job that one slicer makes in this order.
 fn file_in_order<'m>(
     alloc: Global,
     book: &mut Book<'m, Global>,
@@ -242,10 +242,10 @@ fn file_in_order<'m>(
     Ok(())
 }
 
-// Stripes, how many layers a book of them has, and how many are late at its end.
+/// Stripes, how many layers a book of them has, and how many are late at its end.
 type Order<'a> = (&'a [u64], u32, u32);
 
-// Whether a book of a job, each layer of which is one voxel, has these counts.
+/// Whether a book of a job, each layer of which is one voxel, has these counts.
 fn is_finished(
     alloc: Global,
     job: &Job<Global>,
@@ -258,8 +258,8 @@ fn is_finished(
     Ok(is_filed && build.late() == late && build.total_area() == 17)
 }
 
-// Files the stripes of the column in each of these orders. Returns the number of the first order after which the book
-// has other counts than those given.
+/// Files the stripes of the column in each of these orders. Returns the number of the first order after which the book
+/// has other counts than those given.
 fn first_other_order(alloc: Global, orders: &[Order<'_>]) -> Result<Option<usize>, AllocError> {
     let job = job_of(alloc, COLUMN, 1, Rule::EvenOdd)?;
     for (n, order) in orders.iter().enumerate() {
@@ -284,7 +284,7 @@ fn one_slicer_in_any_order(rt: HostRuntime) -> Result<(), Fail> {
     Ok(())
 }
 
-// Why a book of this job does not take a piece of it if it compares no jobs.
+/// Why a book of this job does not take a piece of it if it compares no jobs.
 fn own_refusal<'m, A: Allocator + Copy + Send + Sync>(
     book: &mut Book<'m, A>,
     piece: Piece<'m, A>,
@@ -296,7 +296,7 @@ fn own_refusal<'m, A: Allocator + Copy + Send + Sync>(
     Some((fault, back.stripe()))
 }
 
-// Stripes of the column, filed in turn without a comparison of jobs: the result of each, and how many layers the book has then.
+/// Stripes of the column, filed in turn without a comparison of jobs: the result of each, and how many layers the book has then.
 static OWN_FILINGS: [(u64, Refusal, u32); 5] = [
     (2, None, 1),
     (0, None, 9),
@@ -305,7 +305,7 @@ static OWN_FILINGS: [(u64, Refusal, u32); 5] = [
     (2, Some((FileFault::Double { layer: 16 }, 2)), 17),
 ];
 
-// The number of the first stripe of a job with another outcome.
+/// The number of the first stripe of a job with another outcome.
 fn first_other_own(alloc: Global, job: &Job<Global>) -> Result<Option<usize>, AllocError> {
     let mut book = Book::open(alloc, job)?;
     for (n, (stripe, refused, filed)) in OWN_FILINGS.iter().enumerate() {
@@ -320,7 +320,7 @@ fn first_other_own(alloc: Global, job: &Job<Global>) -> Result<Option<usize>, Al
     Ok(None)
 }
 
-// The same for the column.
+/// The same for the column.
 fn first_other_own_of_column(alloc: Global) -> Result<Option<usize>, AllocError> {
     let job = job_of(alloc, COLUMN, 1, Rule::EvenOdd)?;
     first_other_own(alloc, &job)
@@ -332,8 +332,8 @@ fn own_stripes_of_a_column(rt: HostRuntime) -> Result<(), Fail> {
     Ok(())
 }
 
-// How many layers of a job are late if a book of it has the piece of stripe 1. It is 0 if the book refused it, or the area of
-// all is another.
+/// How many layers of a job are late if a book of it has the piece of stripe 1. It is 0 if the book refused it, or the area of
+/// all is another.
 fn late_after_a_piece<A: Allocator + Copy + Send + Sync>(
     alloc: A,
     job: &Job<A>,
@@ -351,7 +351,7 @@ fn late_after_a_piece<A: Allocator + Copy + Send + Sync>(
     })
 }
 
-// The layers of the column that are late after a piece.
+/// The layers of the column that are late after a piece.
 struct Late;
 
 impl Count for Late {
@@ -362,8 +362,8 @@ impl Count for Late {
     }
 }
 
-// How many layers of a job a book has with its first stripe, which is all of them. It is 0 if the book refused the stripe, a
-// layer is late, or the area of all is another.
+/// How many layers of a job a book has with its first stripe, which is all of them. It is 0 if the book refused the stripe, a
+/// layer is late, or the area of all is another.
 fn filed_of_one_stripe<A: Allocator + Copy + Send + Sync>(
     alloc: A,
     job: &Job<A>,
@@ -381,7 +381,7 @@ fn filed_of_one_stripe<A: Allocator + Copy + Send + Sync>(
     })
 }
 
-// The layers of two cubes, filed.
+/// The layers of two cubes, filed.
 struct Filed;
 
 impl Count for Filed {
@@ -392,7 +392,7 @@ impl Count for Filed {
     }
 }
 
-// How many layers of a job are late with an empty book; 0 if the area of all is another.
+/// How many layers of a job are late with an empty book; 0 if the area of all is another.
 fn late_of_none<A: Allocator + Copy + Send + Sync>(
     alloc: A,
     job: &Job<A>,
@@ -405,7 +405,7 @@ fn late_of_none<A: Allocator + Copy + Send + Sync>(
     })
 }
 
-// The layers of two cubes, all of them late.
+/// The layers of two cubes, all of them late.
 struct AllLate;
 
 impl Count for AllLate {
@@ -416,7 +416,7 @@ impl Count for AllLate {
     }
 }
 
-// More allocations than any of these counts asks for.
+/// More allocations than any of these counts asks for.
 const TURNS: u64 = 10_000;
 
 #[test]

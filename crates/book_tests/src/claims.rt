@@ -21,7 +21,7 @@ fn draw_at(claims: &Claims<Global>, passes: &mut Vec<Pass>, k: usize) -> Option<
     }
 }
 
-// The number of the first draw, by the pass with a number, that returns something else.
+/// The number of the first draw, by the pass with a number, that returns something else.
 fn first_other_draw(
     claims: &Claims<Global>,
     passes: &mut Vec<Pass>,
@@ -38,7 +38,7 @@ fn first_other_draw(
     None
 }
 
-// The same for two passes of claims to this number of stripes, with the word of the claims at the end.
+/// The same for two passes of claims to this number of stripes, with the word of the claims at the end.
 fn drawn_by_two(
     alloc: Global,
     stripes: u64,
@@ -74,7 +74,7 @@ fn no_stripes(rt: HostRuntime) -> Result<(), Fail> {
     Ok(())
 }
 
-// What one of two passes draws, and the word of the claims if neither pass comes back.
+/// What one of two passes draws, and the word of the claims if neither pass comes back.
 fn drawn_by_one(alloc: Global) -> Result<(Option<u64>, u64), AllocError> {
     let (claims, mut passes) = Claims::open(alloc, 3, 2)?;
     let drawn = draw_at(&claims, &mut passes, 1);
@@ -87,7 +87,7 @@ fn no_passes_handed_in(rt: HostRuntime) -> Result<(), Fail> {
     Ok(())
 }
 
-// All that one pass draws until it ends, or until memory runs out.
+/// All that one pass draws until it ends, or until memory runs out.
 fn draw_all(claims: &Claims<Global>, alloc: Global, mut pass: Pass) -> (Pass, Vec<u64>)
     requires { IsOwned claims.now pass }
     ensures { IsOwned claims.now result.0 }
@@ -104,7 +104,7 @@ fn draw_all(claims: &Claims<Global>, alloc: Global, mut pass: Pass) -> (Pass, Ve
     (pass, drawn)
 }
 
-// The passes, and what was drawn with them, each by a thread of its own.
+/// The passes, and what was drawn with them, each by a thread of its own.
 fn drawn_by_threads<R: Threads + Sync>(
     rt: &R,
     claims: &Claims<Global>,
@@ -124,7 +124,7 @@ fn drawn_by_threads<R: Threads + Sync>(
     Ok((back, all))
 }
 
-// Whether these are the numbers below a count, each once.
+/// Whether these are the numbers below a count, each once.
 fn are_below(mut numbers: Vec<u64>, count: usize) -> Result<bool, AllocError> {
     numbers.sort()?;
     for (k, number) in numbers.iter().enumerate() {
@@ -135,7 +135,7 @@ fn are_below(mut numbers: Vec<u64>, count: usize) -> Result<bool, AllocError> {
     Ok(numbers.len() == count)
 }
 
-// Whether four threads draw a thousand numbers, how many passes come back, and the word of the claims at the end.
+/// Whether four threads draw a thousand numbers, how many passes come back, and the word of the claims at the end.
 fn drawn_by_four<R: Threads + Sync>(
     rt: &R,
     alloc: Global,
@@ -152,7 +152,7 @@ fn four_threads_draw_a_thousand(rt: HostRuntime) -> Result<(), Fail> {
     Ok(())
 }
 
-// The passes that are opened.
+/// The passes that are opened.
 struct Opened;
 
 impl Count for Opened {

@@ -29,7 +29,7 @@ const PIXEL: &[Span] = &[Span {
     to: 1,
 }];
 
-// Whether this is all of the column: each layer is one loop round one pixel.
+/// Whether this is all of the column: each layer is one loop round one pixel.
 fn is_column<A: Allocator>(build: &Build<'_, A>) -> bool {
     for (k, layer) in build.layers().iter().enumerate() {
         if layer.number() as usize != k
@@ -43,7 +43,7 @@ fn is_column<A: Allocator>(build: &Build<'_, A>) -> bool {
     build.layers().len() == 17 && build.total_area() == 17
 }
 
-// Whether what this number of workers builds of a job is the column, and how many layers are late.
+/// Whether what this number of workers builds of a job is the column, and how many layers are late.
 fn built<A: Allocator + Copy + Send + Sync, R: Threads + Wait + Sync, G: Gate<A> + Sync>(
     rt: &R,
     alloc: A,
@@ -69,7 +69,7 @@ fn any_number_of_workers(rt: HostRuntime) -> Result<(), Fail> {
     Ok(())
 }
 
-// Whether these are the same loops, each the same list of segments.
+/// Whether these are the same loops, each the same list of segments.
 fn are_same_loops(one: &Loops<Global>, other: &Loops<Global>) -> bool {
     for number in 0..one.count() {
         if one.get(number) != other.get(number) {
@@ -79,7 +79,7 @@ fn are_same_loops(one: &Loops<Global>, other: &Loops<Global>) -> bool {
     one.count() == other.count()
 }
 
-// Whether two builds have the same layers: their numbers, their spans and their loops.
+/// Whether two builds have the same layers: their numbers, their spans and their loops.
 fn are_same(one: &Build<'_, Global>, other: &Build<'_, Global>) -> bool {
     for (layer, twin) in one.layers().iter().zip(other.layers()) {
         if layer.number() != twin.number()
@@ -92,7 +92,7 @@ fn are_same(one: &Build<'_, Global>, other: &Build<'_, Global>) -> bool {
     one.layers().len() == other.layers().len()
 }
 
-// Whether one, two and the most workers build a job alike, with no late layer.
+/// Whether one, two and the most workers build a job alike, with no late layer.
 fn is_built_alike<R: Threads + Wait + Sync>(
     rt: &R,
     alloc: Global,
@@ -105,7 +105,7 @@ fn is_built_alike<R: Threads + Wait + Sync>(
     Ok(late == [0; 3] && are_same(&one, &two) && are_same(&one, &most))
 }
 
-// The same for a mesh in voxels of a micrometre, by a rule.
+/// The same for a mesh in voxels of a micrometre, by a rule.
 fn is_mesh_built_alike<R: Threads + Wait + Sync>(
     rt: &R,
     alloc: Global,
@@ -116,7 +116,7 @@ fn is_mesh_built_alike<R: Threads + Wait + Sync>(
     is_built_alike(rt, alloc, &job)
 }
 
-// A tetrahedron of 26 layers in four stripes, each layer smaller than the one below it.
+/// A tetrahedron of 26 layers in four stripes, each layer smaller than the one below it.
 const SPIRE: &[Part] = &[(
     &[[0, 0, 0], [20, 0, 0], [0, 20, 0], [0, 0, 26]],
     &[[0, 2, 1], [0, 1, 3], [1, 2, 3], [2, 0, 3]],
@@ -133,14 +133,14 @@ fn builds_are_the_same_by_any_number_of_workers(rt: HostRuntime) -> Result<(), F
     Ok(())
 }
 
-// Holds the worker that arrives first, or the one that is the first to have made a piece, until the other has made two
-// pieces, for at most `TURNS` turns.
+/// Holds the worker that arrives first, or the one that is the first to have made a piece, until the other has made two
+/// pieces, for at most `TURNS` turns.
 #[derive(Drop)]
 struct HoldsTheFirst {
     at_made: bool,
-    // Workers by their numbers plus 1, or 0 for nobody.
+    /// Workers by their numbers plus 1, or 0 for nobody.
     held: AtomicU64,
-    // Such a worker in each of three bytes, for the stripe that it came to or made: byte s is that of stripe s.
+    /// Such a worker in each of three bytes, for the stripe that it came to or made: byte s is that of stripe s.
     arrived: AtomicU64,
     made: AtomicU64,
     made_by_others: AtomicU64,
@@ -151,10 +151,10 @@ struct HoldsTheFirst {
 
 const TURNS: u32 = 10_000_000;
 
-// The values of a byte.
+/// The values of a byte.
 const BYTE: u64 = 256;
 
-// The unit of a stripe's byte; 0 if there is no such stripe.
+/// The unit of a stripe's byte; 0 if there is no such stripe.
 fn unit_of(stripe: u64) -> u64 {
     match stripe {
         0 => 1,
@@ -178,7 +178,7 @@ impl HoldsTheFirst {
         }
     }
 
-    // Notes who came to a stripe. It counts if somebody had, or if there is no such stripe or worker.
+    /// Notes who came to a stripe. It counts if somebody had, or if there is no such stripe or worker.
     fn note(&self, places: &AtomicU64, worker: u64, stripe: u64) {
         let unit = unit_of(stripe);
         let before = places.fetch_add(worker.wrapping_mul(unit), SeqCst);
@@ -187,7 +187,7 @@ impl HoldsTheFirst {
         }
     }
 
-    // Counts if a worker has made a stripe that it had not come to before.
+    /// Counts if a worker has made a stripe that it had not come to before.
     fn note_order(&self, worker: u64, stripe: u64) {
         let unit = unit_of(stripe);
         if unit == 0 || self.arrived.load(SeqCst) / unit % BYTE != worker {
@@ -215,7 +215,7 @@ impl HoldsTheFirst {
         }
     }
 
-    // Whether each stripe was made once, by the worker that had come to it before, and the one held was let go.
+    /// Whether each stripe was made once, by the worker that had come to it before, and the one held was let go.
     fn is_served(&self) -> bool {
         let made = self.made.load(SeqCst);
         made % BYTE != 0
@@ -250,7 +250,7 @@ impl Gate<Global> for HoldsTheFirst {
     }
 }
 
-// Whether two workers build the column with no late layer, served by a gate that holds the first of them.
+/// Whether two workers build the column with no late layer, served by a gate that holds the first of them.
 fn is_built_while_held<R: Threads + Wait + Sync>(
     rt: &R,
     alloc: Global,
@@ -268,20 +268,20 @@ fn one_worker_is_held_while_the_other_works(rt: HostRuntime) -> Result<(), Fail>
     Ok(())
 }
 
-// So nobody holds the book's lock from the slicing of a piece on.
+/// So nobody holds the book's lock from the slicing of a piece on.
 #[test]
 fn one_worker_is_held_with_its_piece_while_the_other_works(rt: HostRuntime) -> Result<(), Fail> {
     assert_eq!(rt; is_built_while_held(&rt, rt.alloc(), true), Ok(true));
     Ok(())
 }
 
-// Holds the worker that arrives first in an allocation, with which it slices, until the other has made two pieces.
+/// Holds the worker that arrives first in an allocation, with which it slices, until the other has made two pieces.
 #[derive(Drop)]
 struct HoldsASlice<'a> {
     memory: &'a ShortMemory<Global>,
     arrived: AtomicU64,
     made: AtomicU64,
-    // Whether the first was still held when the other had made two pieces.
+    /// Whether the first was still held when the other had made two pieces.
     went_on: AtomicU64,
 }
 
@@ -295,7 +295,7 @@ impl<'a> HoldsASlice<'a> {
         }
     }
 
-    // Waits until the other worker comes to its first stripe: then it allocates nothing until the next allocation is held.
+    /// Waits until the other worker comes to its first stripe: then it allocates nothing until the next allocation is held.
     fn wait_for_the_other(&self) {
         for _ in 0..TURNS {
             if self.arrived.load(SeqCst) >= 2 {
@@ -335,7 +335,7 @@ impl<'a> Gate<&'a ShortMemory<Global>> for HoldsASlice<'a> {
     }
 }
 
-// Whether two workers build the column with no late layer while the first of them is held in the middle of a slice.
+/// Whether two workers build the column with no late layer while the first of them is held in the middle of a slice.
 fn is_built_beside_a_slice<R: Threads + Wait + Sync>(
     rt: &R,
     alloc: Global,
@@ -347,14 +347,14 @@ fn is_built_beside_a_slice<R: Threads + Wait + Sync>(
     Ok(found == (true, 0) && gate.went_on.load(SeqCst) == 1)
 }
 
-// So nobody holds the book's lock while it slices.
+/// So nobody holds the book's lock while it slices.
 #[test]
 fn one_worker_is_held_in_a_slice_while_the_other_works(rt: HostRuntime) -> Result<(), Fail> {
     assert_eq!(rt; is_built_beside_a_slice(&rt, rt.alloc()), Ok(true));
     Ok(())
 }
 
-// The same for the column in memory of which one allocation fails.
+/// The same for the column in memory of which one allocation fails.
 fn column_in<R: Threads + Wait + Sync>(
     rt: &R,
     memory: &ShortMemory<Global>,
@@ -367,12 +367,12 @@ fn column_in<R: Threads + Wait + Sync>(
     built(rt, memory, &job, workers, &OpenGate)
 }
 
-// More allocations than the job and the build of the column ask for.
+/// More allocations than the job and the build of the column ask for.
 const ALLOCATIONS: u64 = 2000;
 
-// Fails each allocation in turn until none is left to fail. Returns how many of the builds had late layers. The result is
-// `None` if an answer was neither the column nor a failed allocation. It is also `None` if a build with all its memory fails or
-// has such layers.
+/// Fails each allocation in turn until none is left to fail. Returns how many of the builds had late layers. The result is
+/// `None` if an answer was neither the column nor a failed allocation. It is also `None` if a build with all its memory fails or
+/// has such layers.
 fn fail_each<R: Threads + Wait + Sync>(rt: &R, alloc: Global, workers: u32) -> Option<u32>
     requires some { 1 ≤ workers }
     requires few { workers ≤ PASS_LIMIT }
@@ -400,7 +400,7 @@ fn each_allocation_of_a_build_fails_in_turn(rt: HostRuntime) -> Result<(), Fail>
     Ok(())
 }
 
-// Whether filing a stripe under the lock has this outcome. The book is looked at under a later lock.
+/// Whether filing a stripe under the lock has this outcome. The book is looked at under a later lock.
 fn is_filed_between<'m, R: Wait>(
     rt: &R,
     alloc: Global,
@@ -414,7 +414,7 @@ fn is_filed_between<'m, R: Wait>(
     Ok(found == refused && shown(&book.lock(rt)) == told)
 }
 
-// The number of the first stripe with another outcome.
+/// The number of the first stripe with another outcome.
 fn first_other_filing<'m, R: Wait>(
     rt: &R,
     alloc: Global,
@@ -430,7 +430,7 @@ fn first_other_filing<'m, R: Wait>(
     Ok(None)
 }
 
-// The same for a book of a job; and whether it is finished as the column, and how many layers are late.
+/// The same for a book of a job; and whether it is finished as the column, and how many layers are late.
 fn finished_between_locks<R: Wait>(
     rt: &R,
     alloc: Global,
@@ -443,7 +443,7 @@ fn finished_between_locks<R: Wait>(
     Ok((first, (is_column(&build), build.late())))
 }
 
-// The same for the column and another box.
+/// The same for the column and another box.
 fn column_between_locks<R: Wait>(
     rt: &R,
     alloc: Global,

@@ -11,7 +11,7 @@ use test_layers::layer;
 use test_meshes::{CUBE, Part, WIDE_ROWS};
 use test_solids::solid_of;
 
-// How many bytes a writer takes a call, and the fault with which it has no more room.
+/// How many bytes a writer takes a call, and the fault with which it has no more room.
 pub(crate) type Way = (usize, Option<ErrorKind>);
 
 pub(crate) const WAYS: [Way; 6] = [
@@ -31,8 +31,8 @@ pub(crate) fn writer(
     Counted::new(SmallWriter::new(alloc, room, most_per_call, fault, true))
 }
 
-// Whether exactly the first bytes of the image of these spans go out to a writer of this way up to its room. There is one
-// failure if these are not all.
+/// Whether exactly the first bytes of the image of these spans go out to a writer of this way up to its room. There is one
+/// failure if these are not all.
 fn is_taken(alloc: Global, g: &Grid, spans: &[Span], image: &[u8], way: Way, room: usize) -> bool
     requires { AreSpans g.now.columns g.now.rows spans.now }
 {
@@ -50,7 +50,7 @@ fn is_taken(alloc: Global, g: &Grid, spans: &[Span], image: &[u8], way: Way, roo
     found == told && w.failures() == failures && is_front
 }
 
-// Whether the image of the lowest layer of a solid, in voxels of a micrometre, goes out so.
+/// Whether the image of the lowest layer of a solid, in voxels of a micrometre, goes out so.
 fn is_layer_taken(
     alloc: Global,
     solid: &Solid<Global>,
@@ -63,7 +63,7 @@ fn is_layer_taken(
     Some(is_taken(alloc, &g, spans.as_slice(), image, way, room))
 }
 
-// The same for the solid of a mesh.
+/// The same for the solid of a mesh.
 fn is_filled(
     alloc: Global,
     parts: &[Part<'_>],
@@ -87,7 +87,7 @@ fn each_beginning_of_an_image(rt: HostRuntime) -> Result<(), Fail> {
     Ok(())
 }
 
-// A row of the image of wide rows: all black, two pixels from column 8 on, the last eight pixels, or white.
+/// A row of the image of wide rows: all black, two pixels from column 8 on, the last eight pixels, or white.
 fn push_wide_row(image: &mut Vec<u8>, row: u32) -> Result<(), AllocError> {
     for byte in 0..2048 {
         image.push(match (row, byte) {
@@ -99,7 +99,7 @@ fn push_wide_row(image: &mut Vec<u8>, row: u32) -> Result<(), AllocError> {
     Ok(())
 }
 
-// The image of wide rows, which is longer than what goes out at once.
+/// The image of wide rows, which is longer than what goes out at once.
 fn wide_image(alloc: Global) -> Result<Vec<u8>, AllocError> {
     let mut image = Vec::new(alloc);
     image.extend_from_slice(b"P4\n16384 28\n")?;
@@ -130,7 +130,7 @@ const SECOND_END: usize = FIRST_END + 12 * ROW_LEN;
 /// Ways in which the image of wide rows goes out.
 const WIDE_WAYS: [Way; 3] = [(1, None), (1000, Some(ErrorKind::Other)), (WIDE_LEN, None)];
 
-// Whether the image of wide rows goes out to a writer with this room, in each of these ways.
+/// Whether the image of wide rows goes out to a writer with this room, in each of these ways.
 fn is_wide_filled(alloc: Global, image: &[u8], room: usize) -> bool {
     for way in WIDE_WAYS {
         if is_filled(alloc, WIDE_ROWS, image, way, room) != Some(true) {
@@ -165,7 +165,7 @@ fn an_image_beyond_one_chunk(rt: HostRuntime) -> Result<(), Fail> {
     Ok(())
 }
 
-// Passes on what one call of a source gives: how many bytes, or `None` if either device failed.
+/// Passes on what one call of a source gives: how many bytes, or `None` if either device failed.
 fn pass<I: Source, O: Sink>(r: &mut I, w: &mut O) -> Option<usize> {
     let mut buf = [0; 8];
     let count = r.pull(&mut buf).ok()?;
@@ -173,7 +173,7 @@ fn pass<I: Source, O: Sink>(r: &mut I, w: &mut O) -> Option<usize> {
     Some(count)
 }
 
-// Passes on all that a source gives, in at most a hundred calls: whether it came to its end.
+/// Passes on all that a source gives, in at most a hundred calls: whether it came to its end.
 fn pass_all<I: Source, O: Sink>(r: &mut I, w: &mut O) -> bool {
     for _ in 0..100 {
         match pass(r, w) {
@@ -185,8 +185,8 @@ fn pass_all<I: Source, O: Sink>(r: &mut I, w: &mut O) -> bool {
     false
 }
 
-// How a reader of this many calls and a writer with this room pass on a text. Returns whether to the end, the bytes that the
-// writer took, and how often either failed.
+/// How a reader of this many calls and a writer with this room pass on a text. Returns whether to the end, the bytes that the
+/// writer took, and how often either failed.
 fn passed(alloc: Global, calls: u64, room: usize) -> (bool, Vec<u8>, [u64; 2]) {
     let mut r = Counted::new(OneByteReader {
         bytes: SMALL,
@@ -223,8 +223,8 @@ fn interrupted<T>(inner: T, calls: u64) -> Counted<InterruptedOnce<T>> {
     })
 }
 
-// The same if the call of the reader after `reads` calls, and that of the writer after `writes`, is interrupted. Both would go
-// on. Also returns how many bytes the reader still has.
+/// The same if the call of the reader after `reads` calls, and that of the writer after `writes`, is interrupted. Both would go
+/// on. Also returns how many bytes the reader still has.
 fn passed_until(alloc: Global, reads: u64, writes: u64) -> (bool, Vec<u8>, usize, [u64; 2]) {
     let reader = OneByteReader {
         bytes: SMALL,

@@ -12,7 +12,7 @@ use std::test::Fail;
 use test_meshes::{CUBE, CUBE_AND_PAIR, OCTAHEDRON, Part, TWO_CUBES};
 use test_solids::solid_of;
 
-// The facets of a loop, and the ray through it from a centre in its plane.
+/// The facets of a loop, and the ray through it from a centre in its plane.
 type Told<'a> = (&'a [u32], i32);
 
 fn is_of_facets(part: &[Segment], facets: &[u32]) -> bool {
@@ -24,7 +24,7 @@ fn is_of_facets(part: &[Segment], facets: &[u32]) -> bool {
     part.len() == facets.len()
 }
 
-// Whether the loops of the plane of a centre are just these.
+/// Whether the loops of the plane of a centre are just these.
 fn are_loops(s: &Solid<Global>, centre: &Centre, found: &Loops<Global>, told: &[Told<'_>]) -> bool
     requires { found.now ≡ all_loops (all_segments s.now.facets centre.now.z) }
 {
@@ -37,7 +37,7 @@ fn are_loops(s: &Solid<Global>, centre: &Centre, found: &Loops<Global>, told: &[
     found.count() == told.len()
 }
 
-// A mesh, a centre in half-micrometres, and the loops of the centre's plane.
+/// A mesh, a centre in half-micrometres, and the loops of the centre's plane.
 type Plane<'a> = (&'a [Part<'a>], [i64; 3], &'a [Told<'a>]);
 
 fn is_plane(alloc: Global, (parts, [x2, y2, z2], told): Plane<'_>) -> Option<bool> {
@@ -63,7 +63,7 @@ static PLANES: [Plane; 8] = [
     (TWO_CUBES, [2, 2, 6], &[(NEAR_LOOP, 1), (FAR_LOOP, 0)]),
 ];
 
-// The number of the first plane with other loops.
+/// The number of the first plane with other loops.
 fn first_other_plane(alloc: Global, planes: &[Plane<'_>]) -> Option<usize> {
     for (n, plane) in planes.iter().enumerate() {
         if is_plane(alloc, *plane) != Some(true) {
@@ -79,7 +79,7 @@ fn loops_of_planes_and_rays_through_them(rt: HostRuntime) -> Result<(), Fail> {
     Ok(())
 }
 
-// How many loops a plane has, by a linker that may have linked others.
+/// How many loops a plane has, by a linker that may have linked others.
 fn count_by_linker(
     alloc: Global,
     linker: &mut Linker<Global>,
@@ -91,7 +91,7 @@ fn count_by_linker(
     Some(found.count())
 }
 
-// Whether planes of two cubes have these counts of loops, by one linker for all.
+/// Whether planes of two cubes have these counts of loops, by one linker for all.
 fn are_counts(alloc: Global, planes: &[(u8, usize)]) -> Option<bool> {
     let solid = solid_of(alloc, TWO_CUBES).ok()?;
     let mut linker = Linker::new(alloc, &solid).ok()?;
@@ -111,10 +111,10 @@ fn planes_of_one_linker(rt: HostRuntime) -> Result<(), Fail> {
     Ok(())
 }
 
-// A height of a sweep, how many facets it has passed there, and those that it cuts.
+/// A height of a sweep, how many facets it has passed there, and those that it cuts.
 type Stand<'a> = (u8, u32, &'a [u32]);
 
-// Raises a sweep to a height, unless it is there, and returns whether it is there with these facets then.
+/// Raises a sweep to a height, unless it is there, and returns whether it is there with these facets then.
 fn stands_at(sweep: &mut Sweep<'_, Global>, (height, passed, active): Stand<'_>) -> Option<bool> {
     let height = i64::from(height);
     if sweep.height() < height {
@@ -123,7 +123,7 @@ fn stands_at(sweep: &mut Sweep<'_, Global>, (height, passed, active): Stand<'_>)
     Some(sweep.height() == height && sweep.passed() == passed && sweep.active() == active)
 }
 
-// Whether a sweep through two cubes has these facets at each of these heights, in turn.
+/// Whether a sweep through two cubes has these facets at each of these heights, in turn.
 fn are_stands(alloc: Global, stands: &[Stand<'_>]) -> Option<bool> {
     let solid = solid_of(alloc, TWO_CUBES).ok()?;
     let mut sweep = Sweep::start(alloc, &solid, 2).ok()?;
@@ -152,7 +152,7 @@ fn plane_through_two_cubes(rt: HostRuntime) -> Result<(), Fail> {
     Ok(())
 }
 
-// How many loops a mesh has at a height.
+/// How many loops a mesh has at a height.
 fn count_loops<A: Allocator + Copy + Send + Sync>(
     alloc: A,
     parts: &[Part<'_>],
@@ -164,7 +164,7 @@ fn count_loops<A: Allocator + Copy + Send + Sync>(
     Some(found.count())
 }
 
-// The loops of a box and a pair of facets.
+/// The loops of a box and a pair of facets.
 struct BoxLoops;
 
 impl Count for BoxLoops {
@@ -173,7 +173,7 @@ impl Count for BoxLoops {
     }
 }
 
-// The loops of two cubes in the plane that cuts both.
+/// The loops of two cubes in the plane that cuts both.
 struct TwoCubesLoops;
 
 impl Count for TwoCubesLoops {
@@ -189,7 +189,7 @@ fn each_allocation_of_loops_fails(rt: HostRuntime) -> Result<(), Fail> {
     Ok(())
 }
 
-// How many loops a plane of a mesh has, by a linker that links them once before if `is_again`.
+/// How many loops a plane of a mesh has, by a linker that links them once before if `is_again`.
 fn count_again<A: Allocator + Copy + Send + Sync>(
     alloc: A,
     linker: &mut Linker<A>,
@@ -205,7 +205,7 @@ fn count_again<A: Allocator + Copy + Send + Sync>(
     Some(found.count())
 }
 
-// The same by a new linker.
+/// The same by a new linker.
 fn count_linked<A: Allocator + Copy + Send + Sync>(
     alloc: A,
     parts: &[Part<'_>],
@@ -249,14 +249,14 @@ impl Count for TwoLoopsAgain {
     }
 }
 
-// How many allocations the second count makes beyond those of the first.
+/// How many allocations the second count makes beyond those of the first.
 fn more_allocations<F: Count, S: Count>(alloc: Global, usual: usize) -> Option<u64> {
     let first = first_free_turn::<F>(alloc, 200, usual)?;
     first_free_turn::<S>(alloc, 200, usual)?.checked_sub(first)
 }
 
-// A linker that has the memory for a plane takes some for the list of its segments, and for the ends of its loops only
-// if there are several.
+/// A linker that has the memory for a plane takes some for the list of its segments, and for the ends of its loops only
+/// if there are several.
 #[test]
 fn one_loop_takes_one_allocation(rt: HostRuntime) -> Result<(), Fail> {
     assert_eq!(rt;

@@ -10,7 +10,7 @@ use test_layers::{layer, layer_by};
 use test_meshes::{BOX, INWARD, push_facets};
 use test_solids::welded;
 
-// A box in voxels of 2 micrometres, from and without these columns, rows and layers.
+/// A box in voxels of 2 micrometres, from and without these columns, rows and layers.
 #[derive(Clone, Copy)]
 struct Brick {
     low: [u16; 3],
@@ -26,7 +26,7 @@ impl Brick {
         [2 * i32::from(x), 2 * i32::from(y), 2 * i32::from(z)]
     }
 
-    // The corners, in the order of the numbers in `BOX`.
+    /// The corners, in the order of the numbers in `BOX`.
     fn corners(&self) -> [[i32; 3]; 8] {
         [
             self.corner([false, false, false]),
@@ -50,8 +50,8 @@ impl Brick {
     }
 }
 
-// A number of bricks: brick n begins `step * n` columns from the first, modulo `columns`, and is up to `widest` wide. All
-// stand in row 0 of layer 0, two of three in row 1, and every second in layer 1. Every fourth is inward.
+/// A number of bricks: brick n begins `step * n` columns from the first, modulo `columns`, and is up to `widest` wide. All
+/// stand in row 0 of layer 0, two of three in row 1, and every second in layer 1. Every fourth is inward.
 #[derive(Clone, Copy)]
 struct Wall {
     bricks: u8,
@@ -88,7 +88,7 @@ impl Wall {
         welded(alloc, list).ok()
     }
 
-    // How many more bricks hold a voxel outward than inward.
+    /// How many more bricks hold a voxel outward than inward.
     fn count_at(&self, column: u32, row: u32, k: u32) -> Option<i16> {
         let mut count = 0i16;
         for n in 0..self.bricks {
@@ -100,7 +100,7 @@ impl Wall {
         Some(count)
     }
 
-    // Whether the spans of layer `k` have exactly the voxels for whose count the rule holds.
+    /// Whether the spans of layer `k` have exactly the voxels for whose count the rule holds.
     fn is_layer(&self, g: &Grid, rule: Rule, k: u32, spans: &[Span]) -> Option<bool> {
         for row in 0..g.rows() {
             for column in 0..g.columns() {
@@ -141,7 +141,7 @@ fn is_covered(spans: &[Span], column: u32, row: u32) -> bool {
         .any(|s| s.row == row && s.from <= column && column < s.to)
 }
 
-// The bricks, the step, the columns and the greatest width of walls. Row 0 of layer 0 has two crossings for each brick.
+/// The bricks, the step, the columns and the greatest width of walls. Row 0 of layer 0 has two crossings for each brick.
 static WALLS: [(u8, u16, u16, u16); 11] = [
     (1, 1, 1, 1),
     (3, 7, 19, 11),
@@ -169,7 +169,7 @@ fn wall_of((bricks, step, columns, widest): (u8, u16, u16, u16)) -> Wall {
     }
 }
 
-// The number of the first wall whose layers have other spans by a rule.
+/// The number of the first wall whose layers have other spans by a rule.
 fn first_other(alloc: Global, rule: Rule) -> Option<usize> {
     WALLS.iter().position(|wall| wall_of(*wall).are_layers(alloc, rule) != Some(true))
 }
@@ -192,10 +192,10 @@ fn walls_by_positive(rt: HostRuntime) -> Result<(), Fail> {
     Ok(())
 }
 
-// A wall with dense rows.
+/// A wall with dense rows.
 const DENSE: (u8, u16, u16, u16) = (30, 7, 19, 11);
 
-// The spans of a layer of it.
+/// The spans of a layer of it.
 struct Spans;
 
 impl Count for Spans {
@@ -216,8 +216,8 @@ fn each_allocation_fails_in_turn(rt: HostRuntime) -> Result<(), Fail> {
     Ok(())
 }
 
-// Whether the lowest layer of a wall fills as it should, by a filler that may have filled others; `Err` if an allocation
-// failed.
+/// Whether the lowest layer of a wall fills as it should, by a filler that may have filled others; `Err` if an allocation
+/// failed.
 fn is_filled<A: Allocator + Copy + Send + Sync>(
     filler: &mut Filler<A>,
     alloc: A,
@@ -231,7 +231,7 @@ fn is_filled<A: Allocator + Copy + Send + Sync>(
     Ok(wall.is_layer(g, Rule::NonZero, 0, spans.as_slice()) == Some(true))
 }
 
-// Whether the first fill of the lowest layer failed, and whether the first one that succeeded was right.
+/// Whether the first fill of the lowest layer failed, and whether the first one that succeeded was right.
 fn filled_at_last<A: Allocator + Copy + Send + Sync>(
     alloc: A,
     wall: &Wall,
@@ -250,7 +250,7 @@ fn filled_at_last<A: Allocator + Copy + Send + Sync>(
     }
 }
 
-// A fill of a layer of it, when the next one is by the same filler.
+/// A fill of a layer of it, when the next one is by the same filler.
 struct Fill;
 
 impl Retry for Fill {

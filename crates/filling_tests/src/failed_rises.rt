@@ -7,7 +7,7 @@ use std::test::Fail;
 use test_meshes::TWO_CUBES;
 use test_solids::solid_of;
 
-// A height of a sweep, how many facets it has passed there, and those that it cuts.
+/// A height of a sweep, how many facets it has passed there, and those that it cuts.
 type Stand<'a> = (i64, u32, &'a [u32]);
 
 const LOW: Stand<'static> = (2, 10, &[4, 5, 6, 7, 8, 9, 10, 11]);
@@ -18,7 +18,7 @@ const HIGH: Stand<'static> = (
     &[4, 5, 6, 7, 8, 9, 10, 11, 16, 17, 18, 19, 20, 21, 22, 23],
 );
 
-// Whether a sweep is so, and has a segment for each facet that it cuts.
+/// Whether a sweep is so, and has a segment for each facet that it cuts.
 fn stands_at<A: Allocator + Copy + Send + Sync>(
     sweep: &Sweep<'_, A>,
     (height, passed, active): Stand<'_>,
@@ -32,8 +32,8 @@ fn stands_at<A: Allocator + Copy + Send + Sync>(
     )
 }
 
-// Whether a rise ran out of memory, and whether the sweep was as before then, and at the new height after the rise that
-// succeeded.
+/// Whether a rise ran out of memory, and whether the sweep was as before then, and at the new height after the rise that
+/// succeeded.
 fn risen<A: Allocator + Copy + Send + Sync>(
     alloc: A,
     solid: &Solid<A>,
@@ -48,7 +48,7 @@ fn risen<A: Allocator + Copy + Send + Sync>(
     Ok((true, started && kept && stands_at(&sweep, HIGH)?))
 }
 
-// A rise of a sweep through two cubes.
+/// A rise of a sweep through two cubes.
 struct Rise;
 
 impl Retry for Rise {

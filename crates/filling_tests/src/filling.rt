@@ -11,7 +11,7 @@ use test_layers::{layer, layer_by};
 use test_meshes::{CUBE, INWARD_CUBE, OCTAHEDRON, ONE_INWARD, Part, TOUCHING, TWO_CUBES};
 use test_solids::solid_of;
 
-// The spans of a layer of boxes in voxels of 2; `None` if an allocation failed.
+/// The spans of a layer of boxes in voxels of 2; `None` if an allocation failed.
 fn layer_of<A: Allocator + Copy + Send + Sync>(
     alloc: A,
     parts: &[Part<'_>],
@@ -26,16 +26,16 @@ fn layer_of<A: Allocator + Copy + Send + Sync>(
     layer(alloc, &solid, &g, rule, k).ok()
 }
 
-// What is in one of two cubes that overlap, in layer 1.
+/// What is in one of two cubes that overlap, in layer 1.
 const ODD: &[Span] = &spans![0: 0, 2; 1: 0, 1; 1: 2, 3; 2: 1, 3];
 
-// The first of them alone, in layer 0.
+/// The first of them alone, in layer 0.
 const LOW: &[Span] = &spans![0: 0, 2; 1: 0, 2];
 
-// Boxes, a rule, and the spans of a layer by it.
+/// Boxes, a rule, and the spans of a layer by it.
 type Row<'a> = (&'a [Part<'a>], Rule, u32, &'a [Span]);
 
-// The number of the first row with other spans.
+/// The number of the first row with other spans.
 fn first_other(alloc: Global, rows: &[Row<'_>]) -> Option<usize> {
     for (n, (parts, rule, k, told)) in rows.iter().enumerate() {
         match layer_of(alloc, parts, *rule, *k) {
@@ -65,7 +65,7 @@ fn layers_of_two_cubes(rt: HostRuntime) -> Result<(), Fail> {
     Ok(())
 }
 
-// Writes the image of a layer after others.
+/// Writes the image of a layer after others.
 fn push_image(
     w: &mut Counted<Vec<u8>>,
     alloc: Global,
@@ -80,10 +80,10 @@ fn push_image(
     write_layer(g, spans.as_slice(), w).ok()
 }
 
-// A mesh, a rule, the size of voxels, and the images of all layers, one after the other, each from its last row down.
+/// A mesh, a rule, the size of voxels, and the images of all layers, one after the other, each from its last row down.
 type Images<'a> = (&'a [Part<'a>], Rule, u8, &'a [u8]);
 
-// Whether the layers of a mesh have these images.
+/// Whether the layers of a mesh have these images.
 fn are_images(alloc: Global, (parts, rule, size, told): Images<'_>) -> Option<bool> {
     if size == 0 {
         return None;
@@ -97,7 +97,7 @@ fn are_images(alloc: Global, (parts, rule, size, told): Images<'_>) -> Option<bo
     Some(w.inner().as_slice() == told)
 }
 
-// The number of the first mesh with other images.
+/// The number of the first mesh with other images.
 fn first_other_images(alloc: Global, rows: &[Images<'_>]) -> Option<usize> {
     for (n, row) in rows.iter().enumerate() {
         if are_images(alloc, *row) != Some(true) {
@@ -167,7 +167,7 @@ fn images_of_all_layers(rt: HostRuntime) -> Result<(), Fail> {
     Ok(())
 }
 
-// Whether layers of two cubes have these spans, by one filler for all.
+/// Whether layers of two cubes have these spans, by one filler for all.
 fn are_filled(alloc: Global, layers: &[(u32, &[Span])]) -> Option<bool> {
     let solid = solid_of(alloc, TWO_CUBES).ok()?;
     let g = Grid::fit(&solid, 2, 2).ok()?;
@@ -192,7 +192,7 @@ fn layers_of_one_filler(rt: HostRuntime) -> Result<(), Fail> {
     Ok(())
 }
 
-// The spans of a layer of two cubes.
+/// The spans of a layer of two cubes.
 struct Spans;
 
 impl Count for Spans {

@@ -10,8 +10,8 @@ use std::alloc::Global;
 use std::io::ErrorKind;
 use std::test::Fail;
 
-// Writes three images through one writer, and returns how many bytes went out. The second one is white; the spans are those
-// of the first and the third.
+/// Writes three images through one writer, and returns how many bytes went out. The second one is white; the spans are those
+/// of the first and the third.
 fn write_by_one<W: Sink>(
     outer: &Grid,
     spans: &[Span],
@@ -27,7 +27,7 @@ fn write_by_one<W: Sink>(
     writer.finish(w)
 }
 
-// The bytes of these images, each of which is written by itself.
+/// The bytes of these images, each of which is written by itself.
 fn text_of(alloc: Global, outer: &Grid, spans: &[Span], inner: &Grid) -> Option<Vec<u8>>
     requires { AreSpans outer.now.columns outer.now.rows spans.now }
 {
@@ -38,8 +38,8 @@ fn text_of(alloc: Global, outer: &Grid, spans: &[Span], inner: &Grid) -> Option<
     Some(w.into_inner())
 }
 
-// Whether exactly the first bytes of the images' text go out to a writer of this way up to its room, with one failure if these
-// are not all.
+/// Whether exactly the first bytes of the images' text go out to a writer of this way up to its room, with one failure if these
+/// are not all.
 fn is_filled(
     alloc: Global,
     outer: &Grid,
@@ -81,7 +81,7 @@ fn each_beginning_of_three_images(rt: HostRuntime) -> Result<(), Fail> {
     Ok(())
 }
 
-// Whether the call of the sink after this many calls begins at this byte of the images' text. That call is interrupted.
+/// Whether the call of the sink after this many calls begins at this byte of the images' text. That call is interrupted.
 fn begins_at(
     alloc: Global,
     outer: &Grid,
@@ -108,8 +108,8 @@ fn begins_at(
     found == told && text.get(..byte) == Some(w.inner().inner.taken.as_slice())
 }
 
-// Whether three images go out in calls of the sink that end at these bytes. The first and the third are 8 pixels wide, the
-// second as wide as a grid may be. Also whether a writer is filled that has room up to the byte before each of them.
+/// Whether three images go out in calls of the sink that end at these bytes. The first and the third are 8 pixels wide, the
+/// second as wide as a grid may be. Also whether a writer is filled that has room up to the byte before each of them.
 fn ends_at(
     alloc: Global,
     outer_rows: u32,
@@ -136,7 +136,7 @@ fn ends_at(
     Some(begins_at(alloc, &outer, spans, &inner, bytes, 0, 0) && ends.last() == Some(&bytes.len()))
 }
 
-// A call of the sink takes a chunk if the next row, or 15 bytes for the next header, would go beyond it.
+/// A call of the sink takes a chunk if the next row, or 15 bytes for the next header, would go beyond it.
 #[test]
 fn images_at_the_ends_of_chunks(rt: HostRuntime) {
     let alloc = rt.alloc();

@@ -10,7 +10,7 @@ use test_meshes::published::{FARTHEST, MOST_COLUMNS, MOST_LAYERS};
 use test_meshes::{BEAM, CUBE_OF_THREE, LONG_BEAM, Part};
 use test_solids::solid_of;
 
-// How many columns, rows and layers a grid has.
+/// How many columns, rows and layers a grid has.
 type Counts = Result<[u32; 3], GridFault>;
 
 fn counts(found: Result<Grid, GridFault>) -> Counts {
@@ -18,10 +18,10 @@ fn counts(found: Result<Grid, GridFault>) -> Counts {
     Ok([g.columns(), g.rows(), g.layers()])
 }
 
-// A corner, a pitch and a layer height, how many columns, rows and layers are asked for, and those of the grid.
+/// A corner, a pitch and a layer height, how many columns, rows and layers are asked for, and those of the grid.
 type Given = ([i32; 3], [u8; 2], [u32; 3], Counts);
 
-// One column more than a grid may have.
+/// One column more than a grid may have.
 const TOO_WIDE: Counts = Err(GridFault::TooLarge {
     columns: MOST_COLUMNS + 1,
     rows: 1,
@@ -111,7 +111,7 @@ fn given([x, y, z]: [i32; 3], [pitch, height]: [u8; 2], asked: [u32; 3]) -> Opti
     )))
 }
 
-// The number of the first row with another grid.
+/// The number of the first row with another grid.
 fn first_other_given(rows: &[Given]) -> Option<usize> {
     for (n, (corner, sizes, asked, told)) in rows.iter().enumerate() {
         if given(*corner, *sizes, *asked) != Some(*told) {
@@ -127,7 +127,7 @@ fn given_grids(rt: HostRuntime) -> Result<(), Fail> {
     Ok(())
 }
 
-// A mesh, the size of voxels, and how many columns, rows and layers of them it fits in.
+/// A mesh, the size of voxels, and how many columns, rows and layers of them it fits in.
 type Fitted<'a> = (&'a [Part<'a>], u8, Counts);
 
 static FITTED: [Fitted; 4] = [
@@ -145,7 +145,7 @@ fn fitted(alloc: Global, parts: &[Part<'_>], size: u8) -> Option<Counts> {
     Some(counts(Grid::fit(&solid, u32::from(size), u32::from(size))))
 }
 
-// The number of the first row with another grid.
+/// The number of the first row with another grid.
 fn first_other_fitted(alloc: Global, rows: &[Fitted<'_>]) -> Option<usize> {
     for (n, (parts, size, told)) in rows.iter().enumerate() {
         if fitted(alloc, parts, *size) != Some(*told) {
@@ -161,8 +161,8 @@ fn fitted_grids(rt: HostRuntime) -> Result<(), Fail> {
     Ok(())
 }
 
-// The voxels of a cube of 3 micrometres at a pitch and a layer height of 2, by column, row and layer, and their centres in
-// half-micrometres.
+/// The voxels of a cube of 3 micrometres at a pitch and a layer height of 2, by column, row and layer, and their centres in
+/// half-micrometres.
 static CENTRES: [([u32; 3], [i64; 3]); 5] = [
     ([0, 0, 0], [2, 2, 2]),
     ([1, 0, 0], [6, 2, 2]),
@@ -179,7 +179,7 @@ fn centre(g: &Grid, [column, row, layer]: [u32; 3]) -> Option<[i64; 3]> {
     Some([centre.x2(), centre.y2(), centre.z2()])
 }
 
-// The number of the first voxel with another centre.
+/// The number of the first voxel with another centre.
 fn first_other_centre(g: &Grid, rows: &[([u32; 3], [i64; 3])]) -> Option<usize> {
     for (n, (voxel, told)) in rows.iter().enumerate() {
         if centre(g, *voxel) != Some(*told) {
@@ -197,7 +197,7 @@ fn centres_of_voxels(rt: HostRuntime) -> Result<(), Fail> {
     Ok(())
 }
 
-// Whether the image of these spans, in a grid of these counts of columns and rows, has these bytes.
+/// Whether the image of these spans, in a grid of these counts of columns and rows, has these bytes.
 fn is_image(alloc: Global, columns: u32, rows: u32, spans: &[Span], bytes: &[u8]) -> Option<bool>
     requires { AreSpans columns rows spans.now }
 {

@@ -17,7 +17,7 @@ use test_solids::solid_of;
 /// The spans of a layer, and the bytes of its image.
 type Layer<'a> = (&'a [Span], &'a [u8]);
 
-// A mesh, the size of voxels in micrometres, and the layers, from the lowest up.
+/// A mesh, the size of voxels in micrometres, and the layers, from the lowest up.
 type Worked<'a> = (&'a [Part<'a>], u8, &'a [Layer<'a>]);
 
 /// Whether a layer has these spans and this image.
@@ -60,7 +60,7 @@ const LEAST_OF_EIGHT: &[Layer] = &[
     (&[], b"P4\n2 2\n\x00\x00"),
 ];
 
-// The centres lie at 1 and 3 micrometres; those at 3 lie in the far faces.
+/// The centres lie at 1 and 3 micrometres; those at 3 lie in the far faces.
 static THREE_BY_TWOS: Worked = (CUBE_OF_THREE, 2, LEAST_OF_EIGHT);
 
 #[test]
@@ -71,7 +71,7 @@ fn far_faces_hold_no_centre(rt: HostRuntime) -> Result<(), Fail> {
     Ok(())
 }
 
-// The first centre is the far corner of one cube and the near corner of the other.
+/// The first centre is the far corner of one cube and the near corner of the other.
 static SHARED_CORNER: Worked = (TOUCHING, 2, LEAST_OF_EIGHT);
 
 #[test]
@@ -84,7 +84,7 @@ fn a_shared_corner_lies_in_one_cube(rt: HostRuntime) -> Result<(), Fail> {
 
 static ONE_CENTRE: Worked = (OCTAHEDRON, 4, &[(&spans![0: 0, 1], b"P4\n1 1\n\x80")]);
 
-// The plane and the scanline of the only centre pass through four corners.
+/// The plane and the scanline of the only centre pass through four corners.
 #[test]
 fn an_octahedron_round_one_centre(rt: HostRuntime) -> Result<(), Fail> {
     for rule in [Rule::EvenOdd, Rule::NonZero, Rule::Positive] {
@@ -139,7 +139,7 @@ fn a_sheet_holds_no_centre(rt: HostRuntime) -> Result<(), Fail> {
     Ok(())
 }
 
-// The image of one row of as many black pixels as there may be.
+/// The image of one row of as many black pixels as there may be.
 fn widest_image(alloc: Global) -> Result<Vec<u8>, AllocError> {
     let mut image = Vec::new(alloc);
     image.extend_from_slice(b"P4\n16384 1\n")?;

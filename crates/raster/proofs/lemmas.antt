@@ -15,6 +15,7 @@ pub mod Boxes
 pub mod Segs
 pub mod Pixels
 pub mod Middles
+pub mod Grids
 pub mod Marks
 pub mod Turns
 pub mod ColumnSums

@@ -3,8 +3,9 @@
 ghost use Rattle.std.specs.Prelude.{◌≡◌, ◌↔◌, IsTrue};
 ghost use Rattle.raster.specs.Rule.{IsInside, is_inside};
 
-/// Which pixels are filled, by the sum of the signed crossings of the mesh with the ray from a pixel's centre. These are
-/// the winding rules of two-dimensional filling.
+/// Which pixels are filled, by the sum of the signed crossings of the mesh with the ray from a pixel's centre, its winding
+/// number. `EvenOdd` and `NonZero` are the fill rules of PostScript and SVG. `Positive` fills where that winding number is
+/// above 0.
 #[derive(Clone, Copy, Debug, PartialEq, Eq)]
 pub enum Rule {
     /// Filled if the sum is odd.

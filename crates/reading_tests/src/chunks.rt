@@ -13,12 +13,12 @@ use stl_text::{Facet, StlFault, TextReader};
 
 const LIMIT: u8 = 13;
 
-// A text of two facets, with a name and a rest of a line that look like facets, and each kind of line end.
+/// A text of two facets, with a name and a rest of a line that look like facets, and each kind of line end.
 const TWO: &[u8] = b" solid endfacet facet\r\n\x0bfacet normal nan facet 1e9\touter loop\r\
     vertex 0 0 0\nvertex 1.5 -2 3e1 vertex 1e-3 2E1 +.5\n\n endloop endfacet FACET normal a b c outer\nloop vertex\n1\n2\n3\n\
     vertex 4 5 6 vertex 7 8 9 endloop endfacet endsolid facet normal\n\rsolid\nendsolid";
 
-// The result for a text that is fed in two chunks.
+/// The result for a text that is fed in two chunks.
 fn in_two<R: Threads + Sync>(
     rt: &R,
     mut reader: TextReader<Global>,
@@ -30,7 +30,7 @@ fn in_two<R: Threads + Sync>(
     reader.finish()
 }
 
-// The result for a text that is fed in chunks of this size.
+/// The result for a text that is fed in chunks of this size.
 fn in_chunks<R: Threads + Sync>(
     rt: &R,
     mut reader: TextReader<Global>,
@@ -46,7 +46,7 @@ fn in_chunks<R: Threads + Sync>(
     reader.finish()
 }
 
-// The result for a text that is fed in chunks of this size, if the facets are taken off the reader after each chunk.
+/// The result for a text that is fed in chunks of this size, if the facets are taken off the reader after each chunk.
 fn taken_off(
     alloc: Global,
     mut reader: TextReader<Global>,
@@ -67,8 +67,8 @@ fn taken_off(
     Ok(facets)
 }
 
-// Whether the answer to a text is that of the whole in chunks of 1 to 17 bytes, with its facets taken off the reader or
-// not.
+/// Whether the answer to a text is that of the whole in chunks of 1 to 17 bytes, with its facets taken off the reader or
+/// not.
 fn is_chopped_well<R: Threads + Sync>(rt: &R, alloc: Global, text: Text<'_>, workers: u32) -> bool {
     let whole = text.whole(alloc);
     for size in 1..=17 {
@@ -84,7 +84,7 @@ fn is_chopped_well<R: Threads + Sync>(rt: &R, alloc: Global, text: Text<'_>, wor
     true
 }
 
-// Whether the answer to a text is that of the whole for each cut in two, and in chunks of 1 to 17 bytes.
+/// Whether the answer to a text is that of the whole for each cut in two, and in chunks of 1 to 17 bytes.
 fn is_cut_well<R: Threads + Sync>(rt: &R, alloc: Global, text: Text<'_>, workers: u32) -> bool {
     let whole = text.whole(alloc);
     for cut in 0..=text.bytes.len() {
@@ -96,7 +96,7 @@ fn is_cut_well<R: Threads + Sync>(rt: &R, alloc: Global, text: Text<'_>, workers
     is_chopped_well(rt, alloc, text, workers)
 }
 
-// The number of the first worked text whose answer is not that of the whole for each cut, if there is one.
+/// The number of the first worked text whose answer is not that of the whole for each cut, if there is one.
 fn first_cut_badly<R: Threads + Sync>(
     rt: &R,
     alloc: Global,
@@ -110,16 +110,16 @@ fn first_cut_badly<R: Threads + Sync>(
     Ok(None)
 }
 
-// The numbers of workers: one, the least that share a text, and the greatest that the program takes. These texts are too short
-// for parts: one thread reads them, whatever the number. Longer ones are in `text_parts` and `part_borders`.
+/// The numbers of workers: one, the least that share a text, and the greatest that the program takes. These texts are too short
+/// for parts: one thread reads them, whatever the number. Longer ones are in `text_parts` and `part_borders`.
 const WORKERS: [u32; 3] = [1, 2, 64];
 
-// A name that spells two facets, each after an `endfacet`, and the end of a solid.
+/// A name that spells two facets, each after an `endfacet`, and the end of a solid.
 const SPELLED: &[u8] =
     b"endfacet facet normal 0 0 0 outer loop vertex 1 1 1 vertex 1 1 2 vertex 1 2 1 endloop endfacet \
     FACET NORMAL 0 0 0 OUTER LOOP VERTEX 1 1 1 VERTEX 1 1 2 VERTEX 1 2 1 ENDLOOP ENDFACET endsolid";
 
-// A text in millimetres that may have up to `LIMIT` facets.
+/// A text in millimetres that may have up to `LIMIT` facets.
 fn limited(bytes: &[u8]) -> Text<'_> {
     Text {
         bytes,
@@ -146,7 +146,7 @@ fn worked_texts_in_chunks_by_64_workers(rt: HostRuntime) -> Result<(), Fail> {
     Ok(())
 }
 
-// Whether the answer to a text is that of the whole for each cut, by each number of workers.
+/// Whether the answer to a text is that of the whole for each cut, by each number of workers.
 fn is_cut_well_by_each<R: Threads + Sync>(rt: &R, alloc: Global, text: Text<'_>) -> bool {
     for workers in WORKERS {
         if !is_cut_well(rt, alloc, text, workers) {
@@ -156,7 +156,7 @@ fn is_cut_well_by_each<R: Threads + Sync>(rt: &R, alloc: Global, text: Text<'_>)
     true
 }
 
-// Names, and the rests of lines after `endsolid`, that spell facets: those are no facets wherever a chunk begins.
+/// Names, and the rests of lines after `endsolid`, that spell facets: those are no facets wherever a chunk begins.
 #[test]
 fn names_that_spell_facets_in_chunks(rt: HostRuntime) -> Result<(), Fail> {
     let mut bytes = Vec::new(rt.alloc());
@@ -187,7 +187,7 @@ fn solids_of_one_facet_in_chunks(rt: HostRuntime) -> Result<(), Fail> {
     Ok(())
 }
 
-// The places where a word may be long: the text before it, the byte that it repeats, and the text after it.
+/// The places where a word may be long: the text before it, the byte that it repeats, and the text after it.
 const LONG_WORDS: [(&[u8], u8, &[u8]); 8] = [
     (b"", b's', b" part\nendsolid"),
     (b"solid\nfacet", b't', b" normal 0 0 0"),
@@ -215,7 +215,7 @@ const LONG_WORDS: [(&[u8], u8, &[u8]); 8] = [
     (b"solid\nfacet normal 0 0 0 outer loop ", b'v', b" 0 0 0"),
 ];
 
-// The numbers of bytes of those words: about the 256 that a reader keeps of a word that is cut.
+/// The numbers of bytes of those words: about the 256 that a reader keeps of a word that is cut.
 const LONG: [usize; 6] = [251, 254, 255, 256, 257, 300];
 
 #[test]
@@ -229,7 +229,7 @@ fn long_words_in_chunks(rt: HostRuntime) -> Result<(), Fail> {
     Ok(())
 }
 
-// The thirteenth facet is the last that the limit permits.
+/// The thirteenth facet is the last that the limit permits.
 #[test]
 fn one_facet_too_many_in_chunks(rt: HostRuntime) -> Result<(), Fail> {
     let mut bytes = cube_file(rt.alloc())?;
@@ -262,7 +262,7 @@ fn each_beginning_in_chunks(rt: HostRuntime) -> Result<(), Fail> {
     Ok(())
 }
 
-// A text with another byte in place of one.
+/// A text with another byte in place of one.
 fn spoiled(alloc: Global, at: usize, byte: u8) -> Result<Vec<u8>, AllocError> {
     let mut text = Vec::new(alloc);
     for (k, b) in TWO.iter().enumerate() {

@@ -10,18 +10,18 @@ use std::test::Fail;
 use std::thread::Threads;
 use stl_text::{FACET_LIMIT, Facet, StlFault, TextReader, Word};
 
-// The number of groups of facets, of which each part has one, and that of the facets of each.
+/// The number of groups of facets, of which each part has one, and that of the facets of each.
 const GROUPS: u32 = 4;
 
 const FACETS: u32 = 40;
 
-// The length of the remark before a group, in bytes.
+/// The length of the remark before a group, in bytes.
 const REMARK: usize = 30_000;
 
-// The numbers of workers beside the thread that reads.
+/// The numbers of workers beside the thread that reads.
 const OTHERS: [u32; 2] = [2, 63];
 
-// A text of four parts, which ends after its last facet.
+/// A text of four parts, which ends after its last facet.
 fn unended(alloc: Global) -> Result<Vec<u8>, AllocError> {
     let mut text = Vec::new(alloc);
     text.extend_from_slice(b"solid part\n")?;
@@ -32,7 +32,7 @@ fn unended(alloc: Global) -> Result<Vec<u8>, AllocError> {
     Ok(text)
 }
 
-// The facets of that text.
+/// The facets of that text.
 fn facets_of(alloc: Global) -> Result<Vec<Facet>, AllocError> {
     let mut list = Vec::new(alloc);
     for _ in 0..GROUPS {
@@ -41,7 +41,7 @@ fn facets_of(alloc: Global) -> Result<Vec<Facet>, AllocError> {
     Ok(list)
 }
 
-// The result for a text in whose parts other workers look for runs of facets, and then the thread that reads.
+/// The result for a text in whose parts other workers look for runs of facets, and then the thread that reads.
 fn in_parts<R: Threads + Sync, A: Allocator + Copy + Send + Sync>(
     rt: &R,
     alloc: A,
@@ -59,15 +59,15 @@ fn in_parts<R: Threads + Sync, A: Allocator + Copy + Send + Sync>(
     reader.finish()
 }
 
-// How many turns had the usual result although an allocation failed, and how many reported that one did.
+/// How many turns had the usual result although an allocation failed, and how many reported that one did.
 #[derive(Clone, Copy)]
 struct Turns {
     usual: u32,
     lacking: u32,
 }
 
-// Fails each allocation in turn until none is left to fail. It is `None` if a result was neither of the two, or the last one,
-// which has all its memory, is not the usual one.
+/// Fails each allocation in turn until none is left to fail. It is `None` if a result was neither of the two, or the last one,
+/// which has all its memory, is not the usual one.
 fn turns_of<R: Threads + Sync>(
     rt: &R,
     alloc: Global,
@@ -100,8 +100,8 @@ fn turns_of<R: Threads + Sync>(
     None
 }
 
-// Whether a text has its usual result or lacks memory, by other workers too. By one thread the turns are always the same. The
-// reader does without what is lacking in the four runs, and reports what is lacking in its own list.
+/// Whether a text has its usual result or lacks memory, by other workers too. By one thread the turns are always the same. The
+/// reader does without what is lacking in the four runs, and reports what is lacking in its own list.
 fn fails_well<R: Threads + Sync>(
     rt: &R,
     alloc: Global,

@@ -10,12 +10,12 @@ use test_meshes::{
     TWO_CUBES, facets_of, text_of_facets,
 };
 
-// The facets that a text is read as.
+/// The facets that a text is read as.
 fn read(alloc: Global, text: &str) -> Option<Vec<Facet>> {
     read_stl(alloc, text.as_bytes(), Unit::Millimetre).ok()
 }
 
-// Whether the text of a mesh is this long, and is read as just its facets.
+/// Whether the text of a mesh is this long, and is read as just its facets.
 fn is_read(alloc: Global, parts: &[Part<'_>], len: usize) -> Option<bool> {
     let facets = facets_of(alloc, parts).ok()?;
     let text = text_of_facets(alloc, facets.as_slice()).ok()?;
@@ -46,7 +46,7 @@ fn meshes_are_read_from_their_texts(rt: HostRuntime) -> Result<(), Fail> {
     Ok(())
 }
 
-// The cube without its first facet. It is open, which the weld refuses and reading does not.
+/// The cube without its first facet. It is open, which the weld refuses and reading does not.
 #[test]
 fn an_open_mesh_is_read_from_its_text(rt: HostRuntime) -> Result<(), Fail> {
     let open_cube: &[Part] = &[(CUBE_CORNERS, &BOX[1..])];
@@ -54,7 +54,7 @@ fn an_open_mesh_is_read_from_its_text(rt: HostRuntime) -> Result<(), Fail> {
     Ok(())
 }
 
-// A facet below 0, and one at the ends of the range.
+/// A facet below 0, and one at the ends of the range.
 const FAR_AND_NEAR: &str = "solid t
 facet normal 0 0 0
 outer loop
@@ -73,7 +73,7 @@ endfacet
 endsolid t
 ";
 
-// The corners of its facets, in micrometres.
+/// The corners of its facets, in micrometres.
 static CORNERS: [[i32; 3]; 6] = [
     [-2, 0, -TWELVE],
     [0, -10, 100],

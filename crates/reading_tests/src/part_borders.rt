@@ -12,23 +12,23 @@ use std::test::Fail;
 use std::thread::Threads;
 use stl_text::{FACET_LIMIT, Facet, StlFault, Word, read_stl_by};
 
-// The number of facets of each group.
+/// The number of facets of each group.
 const GROUP: u32 = 3;
 
-// The length of no remark.
+/// The length of no remark.
 const NO_REMARK: usize = 0;
 
-// The length of a remark that makes a chunk of two parts.
+/// The length of a remark that makes a chunk of two parts.
 const LONG_REMARK: usize = LEAST_OF_TWO_PARTS;
 
-// The length of the remark before a passage in a text whose two parts meet behind the passage, if white space is added.
+/// The length of the remark before a passage in a text whose two parts meet behind the passage, if white space is added.
 const REMARK_BEFORE: usize = 33_500;
 
-// The length of the remark after the passage in that text.
+/// The length of the remark after the passage in that text.
 const REMARK_AFTER: usize = 32_200;
 
-// A passage of a text, and what is read of it: the number of facets with which a solid begins, or else a byte where `outer` is
-// wanted.
+/// A passage of a text, and what is read of it: the number of facets with which a solid begins, or else a byte where `outer` is
+/// wanted.
 #[derive(Clone, Copy)]
 struct Passage {
     bytes: &'static [u8],
@@ -36,7 +36,7 @@ struct Passage {
     wants_outer: Option<usize>,
 }
 
-// A rest of a line and a name that spell facets.
+/// A rest of a line and a name that spell facets.
 const NAMES: Passage = Passage {
     bytes: b"endsolid endfacet facet normal 0 0 0 outer loop vertex 1 1 1 vertex 1 1 2 vertex 1 2 1 endloop endfacet\n\
         solid endfacet facet normal 0 0 0 outer loop vertex 1 1 1 vertex 1 1 2 vertex 1 2 1 endloop endfacet facet\n",
@@ -44,7 +44,7 @@ const NAMES: Passage = Passage {
     wants_outer: None,
 };
 
-// A solid of one facet between names that end in `endfacet`.
+/// A solid of one facet between names that end in `endfacet`.
 const SOLID: Passage = Passage {
     bytes: b"endsolid facet endfacet\nsolid endfacet\nfacet normal 0 0 1 outer loop vertex 0 0 0 vertex 1.5 0 0\n\
         vertex 0 1 0 endloop endfacet endsolid endfacet\nsolid facet endfacet\n",
@@ -52,23 +52,23 @@ const SOLID: Passage = Passage {
     wants_outer: None,
 };
 
-// A facet with a normal that spells the end of one and the beginning of another.
+/// A facet with a normal that spells the end of one and the beginning of another.
 const NORMAL: Passage = Passage {
     bytes: b"facet normal endfacet facet normal outer loop vertex 0 0 0 vertex 1.5 0 0 vertex 0 1 0 endloop endfacet\n",
     facets: 1,
     wants_outer: None,
 };
 
-// A normal that spells the end of a facet and that of a solid. The reader wants `outer` at the beginning of the second line.
-// From there on the text would be another solid.
+/// A normal that spells the end of a facet and that of a solid. The reader wants `outer` at the beginning of the second line.
+/// From there on the text would be another solid.
 const BROKEN: Passage = Passage {
     bytes: b"facet normal endfacet endsolid a\nsolid b\n",
     facets: 0,
     wants_outer: Some(33),
 };
 
-// A text with a passage among its facets, which begins at the byte `from` and ends at `to`. The second facet of the last group
-// begins at `second`.
+/// A text with a passage among its facets, which begins at the byte `from` and ends at `to`. The second facet of the last group
+/// begins at `second`.
 #[derive(Drop)]
 struct PassageText {
     text: Vec<u8>,
@@ -77,7 +77,7 @@ struct PassageText {
     second: usize,
 }
 
-// A passage between groups of facets, with a remark before it and one after it.
+/// A passage between groups of facets, with a remark before it and one after it.
 fn text_around(
     alloc: Global,
     before: usize,
@@ -107,10 +107,10 @@ fn text_around(
     })
 }
 
-// The result of a reading.
+/// The result of a reading.
 type Answer = Result<Vec<Facet>, StlFault>;
 
-// The result for a text with a passage that begins at the byte `from`.
+/// The result for a text with a passage that begins at the byte `from`.
 fn answer(alloc: Global, passage: Passage, from: usize) -> Result<Answer, AllocError> {
     if let Some(byte) = passage.wants_outer {
         let at = from.saturating_add(byte);
@@ -124,7 +124,7 @@ fn answer(alloc: Global, passage: Passage, from: usize) -> Result<Answer, AllocE
     Ok(Ok(facets))
 }
 
-// Whether a text has this result if it is cut in two at each byte of its passage. One of the two chunks has two parts.
+/// Whether a text has this result if it is cut in two at each byte of its passage. One of the two chunks has two parts.
 fn is_passage_cut_well<R: Threads + Sync>(
     rt: &R,
     alloc: Global,
@@ -150,7 +150,7 @@ fn is_passage_cut_well<R: Threads + Sync>(
     true
 }
 
-// Adds line breaks to a text until its middle is at this byte.
+/// Adds line breaks to a text until its middle is at this byte.
 fn stretch(text: &mut Vec<u8>, middle: usize) -> Result<(), AllocError> {
     for _ in text.len()..middle.saturating_mul(2) {
         text.push(b'\n')?;
@@ -158,7 +158,7 @@ fn stretch(text: &mut Vec<u8>, middle: usize) -> Result<(), AllocError> {
     Ok(())
 }
 
-// Whether a text has this result if its two parts meet at each byte of its passage.
+/// Whether a text has this result if its two parts meet at each byte of its passage.
 fn is_parted_well<R: Threads + Sync>(
     rt: &R,
     alloc: Global,
@@ -189,7 +189,7 @@ fn is_parted_well<R: Threads + Sync>(
     Ok(true)
 }
 
-// Whether a passage is read as it should be at each cut: before a chunk of two parts, after one, and where its parts meet.
+/// Whether a passage is read as it should be at each cut: before a chunk of two parts, after one, and where its parts meet.
 fn is_read_well<R: Threads + Sync>(
     rt: &R,
     alloc: Global,
@@ -225,14 +225,14 @@ fn a_normal_that_spells_the_end_of_a_facet(rt: HostRuntime) -> Result<(), Fail> 
     Ok(())
 }
 
-// The fault comes though a run of facets begins in the normal, and goes on into the solid after it.
+/// The fault comes though a run of facets begins in the normal, and goes on into the solid after it.
 #[test]
 fn a_normal_that_spells_the_end_of_a_solid(rt: HostRuntime) -> Result<(), Fail> {
     assert!(rt; is_read_well(&rt, rt.alloc(), BROKEN)?);
     Ok(())
 }
 
-// The limit is passed in the last group, of which only the first facet is permitted: no run that goes on there is jumped over.
+/// The limit is passed in the last group, of which only the first facet is permitted: no run that goes on there is jumped over.
 #[test]
 fn a_limit_in_a_later_part(rt: HostRuntime) -> Result<(), Fail> {
     let limit = 3 * GROUP + 1;

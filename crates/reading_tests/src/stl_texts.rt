@@ -6,7 +6,7 @@ use std::test::Fail;
 use stl_text::{Facet, Point, StlFault, TextReader, Word, read_stl, read_stl_at_most};
 use test_meshes::published::{FARTHEST, INCH};
 
-// How the parts of a file are spelled.
+/// How the parts of a file are spelled.
 struct Style {
     opening: &'static [u8],
     facet: &'static [u8],
@@ -34,7 +34,7 @@ const LOUD: Style = Style {
     closing: b"ENDSOLID\r\n",
 };
 
-// The corners of a box's facets. The bits of a corner say where x, y and z take the greater value.
+/// The corners of a box's facets. The bits of a corner say where x, y and z take the greater value.
 const FACETS: [[u8; 3]; 12] = [
     [0b000, 0b010, 0b110],
     [0b000, 0b110, 0b100],
@@ -52,7 +52,7 @@ const FACETS: [[u8; 3]; 12] = [
 
 const AXES: [u8; 3] = [0b100, 0b010, 0b001];
 
-// Adds a solid, a cube from `low` to `high` in each direction.
+/// Adds a solid, a cube from `low` to `high` in each direction.
 fn put_cube(out: &mut Vec<u8>, style: &Style, low: &[u8], high: &[u8]) -> Result<(), AllocError> {
     out.extend_from_slice(style.opening)?;
     for corners in FACETS {
@@ -70,14 +70,14 @@ fn put_cube(out: &mut Vec<u8>, style: &Style, low: &[u8], high: &[u8]) -> Result
     out.extend_from_slice(style.closing)
 }
 
-// The file of the cube from 0 to 2 micrometres.
+/// The file of the cube from 0 to 2 micrometres.
 pub(crate) fn cube_file(alloc: Global) -> Result<Vec<u8>, AllocError> {
     let mut out = Vec::new(alloc);
     put_cube(&mut out, &PLAIN, b"0.000", b"0.002")?;
     Ok(out)
 }
 
-// Whether these are the facets of a cube.
+/// Whether these are the facets of a cube.
 fn are_cube(facets: &[Facet], low: i32, high: i32) -> bool {
     if facets.len() != FACETS.len() {
         return false;
@@ -132,7 +132,7 @@ impl Text<'_> {
     }
 }
 
-// What a text is read as: cubes, by the least and the greatest coordinate of each, or its fault.
+/// What a text is read as: cubes, by the least and the greatest coordinate of each, or its fault.
 type Answer = Result<&'static [(i32, i32)], StlFault>;
 
 /// A text with its result.
@@ -154,10 +154,10 @@ impl Worked {
     }
 }
 
-// A limit that none of the texts here passes.
+/// A limit that none of the texts here passes.
 const ENOUGH: u8 = 24;
 
-// Adds a text that is read in millimetres.
+/// Adds a text that is read in millimetres.
 fn put(
     list: &mut Vec<Worked>,
     bytes: Vec<u8>,
@@ -189,7 +189,7 @@ fn too_many(at: usize) -> Answer {
     Err(StlFault::TooMany { at })
 }
 
-// Adds texts with a fault in no facet or in the first one.
+/// Adds texts with a fault in no facet or in the first one.
 fn put_faulty(alloc: Global, list: &mut Vec<Worked>) -> Result<(), AllocError> {
     let rows: [(&[u8], Answer); 18] = [
         (b"", ended(Word::Solid)),
@@ -238,7 +238,7 @@ fn put_faulty(alloc: Global, list: &mut Vec<Worked>) -> Result<(), AllocError> {
     Ok(())
 }
 
-// Adds texts of no facets.
+/// Adds texts of no facets.
 fn put_empty(alloc: Global, list: &mut Vec<Worked>) -> Result<(), AllocError> {
     let rows: [&[u8]; 4] = [
         b"solid facet normal\nENDSOLID",
@@ -252,12 +252,12 @@ fn put_empty(alloc: Global, list: &mut Vec<Worked>) -> Result<(), AllocError> {
     Ok(())
 }
 
-// The cube from 0 to 2 micrometres.
+/// The cube from 0 to 2 micrometres.
 const CUBE: &[(i32, i32)] = &[(0, 2)];
 
-// Adds the file of a cube under several limits, with bytes before and after it. The mark with which some programs begin
-// a text is part of the first word. Facets are counted over all solids: the word after the second solid's name begins
-// at byte 1491.
+/// Adds the file of a cube under several limits, with bytes before and after it. The mark with which some programs begin
+/// a text is part of the first word. Facets are counted over all solids: the word after the second solid's name begins
+/// at byte 1491.
 fn put_limited(alloc: Global, list: &mut Vec<Worked>) -> Result<(), AllocError> {
     let cube = cube_file(alloc)?;
     let rows: [(&[u8], &[u8], u8, Answer); 9] = [
@@ -290,7 +290,7 @@ fn put_limited(alloc: Global, list: &mut Vec<Worked>) -> Result<(), AllocError> 
     Ok(())
 }
 
-// Adds the file of a cube that ends after a loop, two cubes in capitals, and a cube in inches.
+/// Adds the file of a cube that ends after a loop, two cubes in capitals, and a cube in inches.
 fn put_cubes(alloc: Global, list: &mut Vec<Worked>) -> Result<(), AllocError> {
     let mut short = cube_file(alloc)?;
     short.truncate(120);
@@ -310,7 +310,7 @@ fn put_cubes(alloc: Global, list: &mut Vec<Worked>) -> Result<(), AllocError> {
     Ok(())
 }
 
-// Adds a text with a number of 256 digits.
+/// Adds a text with a number of 256 digits.
 fn put_long_number(alloc: Global, list: &mut Vec<Worked>) -> Result<(), AllocError> {
     let mut bytes = b"solid\nfacet normal 0 0 1\nouter loop\nvertex 1 ".to_vec(alloc)?;
     for _ in 0..256 {
@@ -331,7 +331,7 @@ pub(crate) fn worked_texts(alloc: Global) -> Result<Vec<Worked>, AllocError> {
     Ok(list)
 }
 
-// Whether these are the facets of cubes, one after another.
+/// Whether these are the facets of cubes, one after another.
 fn are_cubes(facets: &[Facet], cubes: &[(i32, i32)]) -> bool {
     if facets.len() / FACETS.len() != cubes.len() {
         return false;
@@ -344,7 +344,7 @@ fn are_cubes(facets: &[Facet], cubes: &[(i32, i32)]) -> bool {
     true
 }
 
-// Whether a text is read as its result says.
+/// Whether a text is read as its result says.
 fn is_answered(worked: &Worked, found: &Result<Vec<Facet>, StlFault>) -> bool {
     match (found, &worked.answer) {
         (Ok(facets), Ok(cubes)) => are_cubes(facets, cubes),
@@ -426,7 +426,7 @@ fn faults_as_text(rt: HostRuntime) -> Result<(), Fail> {
     Ok(())
 }
 
-// The coordinates of the point with these.
+/// The coordinates of the point with these.
 fn placed([x, y, z]: [i32; 3]) -> Option<[i32; 3]> {
     let point = Point::new(x, y, z)?;
     Some([point.x(), point.y(), point.z()])

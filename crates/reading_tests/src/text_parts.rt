@@ -11,32 +11,32 @@ use stl_text::{FACET_LIMIT, Facet, Point, StlFault, TextReader, read_stl_at_most
 
 const WORKERS: [u32; 5] = [1, 2, 3, 7, 64];
 
-// The least number of workers that read parts, and the greatest that the program takes.
+/// The least number of workers that read parts, and the greatest that the program takes.
 pub(crate) const TWO_AND_MOST: [u32; 2] = [2, 64];
 
-// The least length of a text that is read in two parts, in bytes.
+/// The least length of a text that is read in two parts, in bytes.
 pub(crate) const LEAST_OF_TWO_PARTS: usize = 65_536;
 
-// The least length of the texts here, in bytes: each half is longer than the shortest chunk that is read in parts.
+/// The least length of the texts here, in bytes: each half is longer than the shortest chunk that is read in parts.
 const LONG: usize = 131_074;
 
-// The places where a text is broken: in its first line, and in each of several parts.
+/// The places where a text is broken: in its first line, and in each of several parts.
 const BREAKS: [usize; 8] = [9, 20_011, 40_002, 60_700, 70_001, 80_003, 110_004, 140_005];
 
-// The number of bytes from one place where a text is broken to the next. It is prime, so that the places lie all over a facet.
+/// The number of bytes from one place where a text is broken to the next. It is prime, so that the places lie all over a facet.
 const STRIDE: usize = 499;
 
-// The number of parts of a text of 1500 facets, and the numbers of those after the first.
+/// The number of parts of a text of 1500 facets, and the numbers of those after the first.
 const PARTS: usize = 4;
 
 const LATER_PARTS: [usize; PARTS - 1] = [1, 2, 3];
 
-// The first of the cuts of a text in two chunks, and their number, which is the length of the longest facet and more.
+/// The first of the cuts of a text in two chunks, and their number, which is the length of the longest facet and more.
 const FIRST_CUT: usize = 66_000;
 
 const CUTS: usize = 120;
 
-// A facet whose first number is `digit`, spelled in another way for each other digit.
+/// A facet whose first number is `digit`, spelled in another way for each other digit.
 fn put_facet(out: &mut Vec<u8>, digit: u8) -> Result<(), AllocError> {
     if digit % 2 == 0 {
         out.extend_from_slice(b"facet normal 0 0 1\n outer loop\n  vertex 0.")?;
@@ -50,7 +50,7 @@ fn put_facet(out: &mut Vec<u8>, digit: u8) -> Result<(), AllocError> {
     out.extend_from_slice(b" 1e-3 7 vertex 2 2 2 VERTEX 3 0 5 endloop EndFacet ")
 }
 
-// The facet that `put_facet` spells.
+/// The facet that `put_facet` spells.
 fn facet_of(digit: u8) -> Option<Facet> {
     let first = i32::from(digit & 7);
     if digit % 2 == 0 {
@@ -67,12 +67,12 @@ fn facet_of(digit: u8) -> Option<Facet> {
     ))
 }
 
-// The digit of a solid's facet of this number.
+/// The digit of a solid's facet of this number.
 fn digit_of(number: u32) -> u8 {
     (number % 251) as u8
 }
 
-// The first `count` facets of a solid.
+/// The first `count` facets of a solid.
 pub(crate) fn put_facets(out: &mut Vec<u8>, count: u32) -> Result<(), AllocError> {
     for k in 0..count {
         put_facet(out, digit_of(k))?;
@@ -80,7 +80,7 @@ pub(crate) fn put_facets(out: &mut Vec<u8>, count: u32) -> Result<(), AllocError
     Ok(())
 }
 
-// Adds the facets that `put_facets` spells.
+/// Adds the facets that `put_facets` spells.
 pub(crate) fn add_facets(list: &mut Vec<Facet>, count: u32) -> Result<(), AllocError> {
     for k in 0..count {
         list.push(facet_of(digit_of(k)).ok_or(AllocError)?)?;
@@ -88,7 +88,7 @@ pub(crate) fn add_facets(list: &mut Vec<Facet>, count: u32) -> Result<(), AllocE
     Ok(())
 }
 
-// Ends a solid, with `len` bytes on the rest of its line, and begins another.
+/// Ends a solid, with `len` bytes on the rest of its line, and begins another.
 pub(crate) fn put_remark(out: &mut Vec<u8>, len: usize) -> Result<(), AllocError> {
     out.extend_from_slice(b"endsolid ")?;
     for _ in 0..len {
@@ -97,7 +97,7 @@ pub(crate) fn put_remark(out: &mut Vec<u8>, len: usize) -> Result<(), AllocError
     out.extend_from_slice(b"\nsolid part\n")
 }
 
-// A solid of `count` facets, with its name at both ends.
+/// A solid of `count` facets, with its name at both ends.
 pub(crate) fn put_solid(out: &mut Vec<u8>, name: &[u8], count: u32) -> Result<(), AllocError> {
     out.extend_from_slice(b"solid ")?;
     out.extend_from_slice(name)?;
@@ -108,7 +108,7 @@ pub(crate) fn put_solid(out: &mut Vec<u8>, name: &[u8], count: u32) -> Result<()
     out.extend_from_slice(b"\n")
 }
 
-// Whether two results are the same.
+/// Whether two results are the same.
 pub(crate) fn are_same<A: Allocator, B: Allocator>(
     one: &Result<Vec<Facet, A>, StlFault>,
     other: &Result<Vec<Facet, B>, StlFault>,
@@ -120,7 +120,7 @@ pub(crate) fn are_same<A: Allocator, B: Allocator>(
     }
 }
 
-// The result for a text that is fed in two chunks.
+/// The result for a text that is fed in two chunks.
 pub(crate) fn in_two<R: Threads + Sync, A: Allocator + Copy + Send + Sync>(
     rt: &R,
     alloc: A,
@@ -136,7 +136,7 @@ pub(crate) fn in_two<R: Threads + Sync, A: Allocator + Copy + Send + Sync>(
     reader.finish()
 }
 
-// Whether each of these numbers of workers returns what one reader does, for the whole text and for its halves.
+/// Whether each of these numbers of workers returns what one reader does, for the whole text and for its halves.
 fn is_as_by_one<R: Threads + Sync>(
     rt: &R,
     alloc: Global,
@@ -157,7 +157,7 @@ fn is_as_by_one<R: Threads + Sync>(
     true
 }
 
-// Whether any number of workers returns what one reader does, for the whole text and for its halves.
+/// Whether any number of workers returns what one reader does, for the whole text and for its halves.
 fn any_workers<R: Threads + Sync>(rt: &R, alloc: Global, text: &[u8], limit: u32) -> bool
     requires { limit ≤ FACET_LIMIT }
 {
@@ -175,7 +175,7 @@ fn one_long_solid(rt: HostRuntime) -> Result<(), Fail> {
     Ok(())
 }
 
-// Each part of these texts may begin in a name, or in what follows `endsolid`, that spells whole facets.
+/// Each part of these texts may begin in a name, or in what follows `endsolid`, that spells whole facets.
 #[test]
 fn names_that_spell_facets(rt: HostRuntime) -> Result<(), Fail> {
     let mut name = Vec::new(rt.alloc());
@@ -194,8 +194,8 @@ fn names_that_spell_facets(rt: HostRuntime) -> Result<(), Fail> {
     Ok(())
 }
 
-// Solids of one facet: a run of facets goes on from one to the next. If a part begins in a name that ends in `endfacet`, the
-// worker finds a run that begins in the name, and the reader never comes to it.
+/// Solids of one facet: a run of facets goes on from one to the next. If a part begins in a name that ends in `endfacet`, the
+/// worker finds a run that begins in the name, and the reader never comes to it.
 #[test]
 fn solids_of_one_facet(rt: HostRuntime) -> Result<(), Fail> {
     for name in [&b"one"[..], b"endfacet", b"endfacet facet"] {
@@ -209,8 +209,8 @@ fn solids_of_one_facet(rt: HostRuntime) -> Result<(), Fail> {
     Ok(())
 }
 
-// Whether each of these numbers of workers returns what one reader does if bytes are replaced here and at each later break,
-// and if the text ends here.
+/// Whether each of these numbers of workers returns what one reader does if bytes are replaced here and at each later break,
+/// and if the text ends here.
 fn is_broken_well<R: Threads + Sync>(
     rt: &R,
     alloc: Global,
@@ -233,8 +233,8 @@ fn is_broken_well<R: Threads + Sync>(
     Ok(is_same && is_as_by_one(rt, alloc, &text[..at], FACET_LIMIT, numbers))
 }
 
-// Bytes are replaced in this part and in each later one, or the text ends there. The fault is the first one, as for one
-// reader.
+/// Bytes are replaced in this part and in each later one, or the text ends there. The fault is the first one, as for one
+/// reader.
 #[test]
 fn a_fault_in_each_part(rt: HostRuntime) -> Result<(), Fail> {
     let mut text = Vec::new(rt.alloc());
@@ -249,7 +249,7 @@ fn a_fault_in_each_part(rt: HostRuntime) -> Result<(), Fail> {
     Ok(())
 }
 
-// The same at each byte of a facet where parts meet, of the whole text and of its halves.
+/// The same at each byte of a facet where parts meet, of the whole text and of its halves.
 #[test]
 fn a_fault_at_each_byte_where_four_parts_meet(rt: HostRuntime) -> Result<(), Fail> {
     let mut text = Vec::new(rt.alloc());
@@ -264,7 +264,7 @@ fn a_fault_at_each_byte_where_four_parts_meet(rt: HostRuntime) -> Result<(), Fai
     Ok(())
 }
 
-// The limit is passed at the beginning, in each part, at the last facet and not at all.
+/// The limit is passed at the beginning, in each part, at the last facet and not at all.
 #[test]
 fn a_limit_in_each_part(rt: HostRuntime) -> Result<(), Fail> {
     let mut text = Vec::new(rt.alloc());
@@ -278,7 +278,7 @@ fn a_limit_in_each_part(rt: HostRuntime) -> Result<(), Fail> {
     Ok(())
 }
 
-// Keywords in capitals, of facets too.
+/// Keywords in capitals, of facets too.
 #[test]
 fn capitals(rt: HostRuntime) -> Result<(), Fail> {
     let mut text = Vec::new(rt.alloc());
@@ -291,7 +291,7 @@ fn capitals(rt: HostRuntime) -> Result<(), Fail> {
     Ok(())
 }
 
-// Whether two workers and the most of them have this result for a text that is cut in two here.
+/// Whether two workers and the most of them have this result for a text that is cut in two here.
 fn is_cut_well<R: Threads + Sync>(
     rt: &R,
     alloc: Global,
@@ -308,7 +308,7 @@ fn is_cut_well<R: Threads + Sync>(
     true
 }
 
-// The text is cut in two in each part, at each byte of some facets, and between them.
+/// The text is cut in two in each part, at each byte of some facets, and between them.
 #[test]
 fn a_facet_cut_at_each_byte(rt: HostRuntime) -> Result<(), Fail> {
     let mut text = Vec::new(rt.alloc());
@@ -326,14 +326,14 @@ fn a_facet_cut_at_each_byte(rt: HostRuntime) -> Result<(), Fail> {
     Ok(())
 }
 
-// A text of two parts, however many workers there are.
+/// A text of two parts, however many workers there are.
 fn two_parts(alloc: Global) -> Result<Vec<u8>, AllocError> {
     let mut text = Vec::new(alloc);
     put_solid(&mut text, b"endfacet facet", 720)?;
     Ok(text)
 }
 
-// Whether two workers and the most of them return what one reader does.
+/// Whether two workers and the most of them return what one reader does.
 fn two_and_most<R: Threads + Sync>(rt: &R, alloc: Global, text: &[u8], limit: u32) -> bool
     requires { limit ≤ FACET_LIMIT }
 {
@@ -347,7 +347,7 @@ fn two_and_most<R: Threads + Sync>(rt: &R, alloc: Global, text: &[u8], limit: u3
     true
 }
 
-// Two parts meet at each byte of a facet: two bytes more at the end of the text move the middle by one.
+/// Two parts meet at each byte of a facet: two bytes more at the end of the text move the middle by one.
 #[test]
 fn parts_that_meet_at_each_byte_of_a_facet(rt: HostRuntime) -> Result<(), Fail> {
     let mut text = two_parts(rt.alloc())?;
@@ -360,7 +360,7 @@ fn parts_that_meet_at_each_byte_of_a_facet(rt: HostRuntime) -> Result<(), Fail> 
     Ok(())
 }
 
-// Each byte of a facet where two parts meet is replaced.
+/// Each byte of a facet where two parts meet is replaced.
 #[test]
 fn a_fault_at_each_byte_where_parts_meet(rt: HostRuntime) -> Result<(), Fail> {
     let mut text = two_parts(rt.alloc())?;
@@ -376,7 +376,7 @@ fn a_fault_at_each_byte_where_parts_meet(rt: HostRuntime) -> Result<(), Fail> {
     Ok(())
 }
 
-// The limit is passed shortly before the second part, at its first facets and in it.
+/// The limit is passed shortly before the second part, at its first facets and in it.
 #[test]
 fn a_limit_where_parts_meet(rt: HostRuntime) -> Result<(), Fail> {
     let text = two_parts(rt.alloc())?;
@@ -387,13 +387,13 @@ fn a_limit_where_parts_meet(rt: HostRuntime) -> Result<(), Fail> {
     Ok(())
 }
 
-// Facets enough for a text with a part for each of 64 workers.
+/// Facets enough for a text with a part for each of 64 workers.
 const FACETS_OF_ALL_PARTS: u32 = 22_500;
 
-// Bytes in a late part of that text, in one in the middle and in an early one.
+/// Bytes in a late part of that text, in one in the middle and in an early one.
 const BYTES_OF_PARTS: [usize; 3] = [2_000_000, 1_000_000, 40_000];
 
-// A text that is long enough for a part to each of 64 workers, without a fault and with one in some of the parts.
+/// A text that is long enough for a part to each of 64 workers, without a fault and with one in some of the parts.
 #[test]
 fn sixty_four_parts(rt: HostRuntime) -> Result<(), Fail> {
     let mut text = Vec::new(rt.alloc());
@@ -408,7 +408,7 @@ fn sixty_four_parts(rt: HostRuntime) -> Result<(), Fail> {
     Ok(())
 }
 
-// Each allocation fails in turn: the result is out of memory or the mesh, and never another.
+/// Each allocation fails in turn: the result is out of memory or the mesh, and never another.
 #[test]
 fn each_allocation_of_a_reading_fails_in_turn(rt: HostRuntime) -> Result<(), Fail> {
     let mut text = Vec::new(rt.alloc());

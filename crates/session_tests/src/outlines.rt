@@ -18,13 +18,13 @@ macro_rules! points {
     };
 }
 
-// The cube at half a micrometre: the diagonals of its sides are cut next to their lower ends.
+/// The cube at half a micrometre: the diagonals of its sides are cut next to their lower ends.
 static LOW: [PlanePoint; 8] = points![1 0, 4 0, 4 1, 4 4, 1 4, 0 4, 0 1, 0 0];
 
-// The same at one and a half.
+/// The same at one and a half.
 static HIGH: [PlanePoint; 8] = points![3 0, 4 0, 4 3, 4 4, 3 4, 0 4, 0 3, 0 0];
 
-// The outlines of a layer of the session of a mesh's text.
+/// The outlines of a layer of the session of a mesh's text.
 fn outlines_of(
     alloc: Global,
     parts: &[Part<'_>],
@@ -34,7 +34,7 @@ fn outlines_of(
     open(alloc, parts, &fitted(size, Rule::NonZero))?.outlines(k)
 }
 
-// Whether these are exactly the outlines of a layer.
+/// Whether these are exactly the outlines of a layer.
 fn are_points(found: &Outlines<Global>, told: &[&[PlanePoint]]) -> bool {
     for (number, outline) in told.iter().enumerate() {
         if found.get(number) != Some(*outline) {
@@ -44,7 +44,7 @@ fn are_points(found: &Outlines<Global>, told: &[&[PlanePoint]]) -> bool {
     found.count() == told.len() && found.get(told.len()).is_none()
 }
 
-// Whether a layer of the session of a mesh's text has just these outlines.
+/// Whether a layer of the session of a mesh's text has just these outlines.
 fn has_outlines(
     alloc: Global,
     parts: &[Part<'_>],
@@ -65,7 +65,7 @@ fn a_cube_counterclockwise(rt: HostRuntime) -> Result<(), Fail> {
     Ok(())
 }
 
-// Its widest plane passes through four of its corners, and three steps up is the square of a quarter of the width.
+/// Its widest plane passes through four of its corners, and three steps up is the square of a quarter of the width.
 #[test]
 fn an_octahedron(rt: HostRuntime) -> Result<(), Fail> {
     let widest = points![4 0, 0 4, -4 0, 0 -4];
@@ -75,7 +75,7 @@ fn an_octahedron(rt: HostRuntime) -> Result<(), Fail> {
     Ok(())
 }
 
-// The two facets beside the cube share two of its nodes.
+/// The two facets beside the cube share two of its nodes.
 #[test]
 fn loops_that_touch(rt: HostRuntime) -> Result<(), Fail> {
     let pair = points![4 1, 4 4];
@@ -96,7 +96,7 @@ fn two_cubes_that_overlap(rt: HostRuntime) -> Result<(), Fail> {
     Ok(())
 }
 
-// The ends of a segment of an outline: the last one ends where the first starts.
+/// The ends of a segment of an outline: the last one ends where the first starts.
 fn segment_of(outline: &[PlanePoint], number: usize) -> Option<(PlanePoint, PlanePoint)> {
     let from = outline.get(number)?;
     let to = match outline.get(number.checked_add(1)?) {
@@ -106,7 +106,7 @@ fn segment_of(outline: &[PlanePoint], number: usize) -> Option<(PlanePoint, Plan
     Some((*from, *to))
 }
 
-// Whether a segment along x or y has the solid half a micrometre left of its middle, and not as far right of it.
+/// Whether a segment along x or y has the solid half a micrometre left of its middle, and not as far right of it.
 fn has_solid_on_left(
     solid: &Solid<Global>,
     (from, to): (PlanePoint, PlanePoint),
@@ -121,7 +121,7 @@ fn has_solid_on_left(
     Some(probe(solid, &left) == (1, 1) && probe(solid, &right) == (0, 0))
 }
 
-// Whether each segment of an outline has the solid on its left and not on its right.
+/// Whether each segment of an outline has the solid on its left and not on its right.
 fn have_solid_on_left(solid: &Solid<Global>, outline: &[PlanePoint], z2: i64) -> Option<bool> {
     for number in 0..outline.len() {
         if !has_solid_on_left(solid, segment_of(outline, number)?, z2)? {
@@ -131,13 +131,13 @@ fn have_solid_on_left(solid: &Solid<Global>, outline: &[PlanePoint], z2: i64) ->
     Some(true)
 }
 
-// Twice the area between a segment and the origin, in square half-micrometres, below 0 if the origin is on its right.
+/// Twice the area between a segment and the origin, in square half-micrometres, below 0 if the origin is on its right.
 fn doubled_area_to(from: PlanePoint, to: PlanePoint) -> i64 {
     let forth = from.x2.saturating_mul(to.y2);
     forth.saturating_sub(to.x2.saturating_mul(from.y2))
 }
 
-// Twice the area within an outline, in square half-micrometres: below 0 if it runs clockwise, seen from above.
+/// Twice the area within an outline, in square half-micrometres: below 0 if it runs clockwise, seen from above.
 fn doubled_area(outline: &[PlanePoint]) -> Option<i64> {
     let mut sum = 0i64;
     for number in 0..outline.len() {
@@ -147,11 +147,11 @@ fn doubled_area(outline: &[PlanePoint]) -> Option<i64> {
     Some(sum)
 }
 
-// An outline, and twice the area within it.
+/// An outline, and twice the area within it.
 type Told<'a> = (&'a [PlanePoint], i64);
 
-// Whether these are just these outlines of a solid at a height in half-micrometres, with the solid on the left of their
-// segments.
+/// Whether these are just these outlines of a solid at a height in half-micrometres, with the solid on the left of their
+/// segments.
 fn are_told(
     solid: &Solid<Global>,
     found: &Outlines<Global>,
@@ -170,7 +170,7 @@ fn are_told(
     Some(found.count() == told.len())
 }
 
-// The outlines of a solid in the plane of a centre.
+/// The outlines of a solid in the plane of a centre.
 fn outlined(
     alloc: Global,
     solid: &Solid<Global>,
@@ -181,7 +181,7 @@ fn outlined(
     Outlines::of(alloc, solid, linked, at.z2())
 }
 
-// Whether a mesh has just these outlines at a height in half-micrometres, and the solid on the left of their segments.
+/// Whether a mesh has just these outlines at a height in half-micrometres, and the solid on the left of their segments.
 fn are_outlines(alloc: Global, parts: &[Part<'_>], z2: i64, told: &[Told<'_>]) -> Option<bool> {
     let at = Centre::new(0, 0, z2)?;
     let solid = solid_of(alloc, parts).ok()?;
@@ -189,8 +189,8 @@ fn are_outlines(alloc: Global, parts: &[Part<'_>], z2: i64, told: &[Told<'_>]) -
     are_told(&solid, &found, z2, told)
 }
 
-// The first has the solid within it and the second, the cavity's, around it. No coordinate is odd, so that each segment
-// has a middle.
+/// The first has the solid within it and the second, the cavity's, around it. No coordinate is odd, so that each segment
+/// has a middle.
 const AROUND_A_CAVITY: &[Told] = &[
     (&points![6 0, 16 0, 16 6, 16 16, 6 16, 0 16, 0 6, 0 0], 512),
     (&points![12 4, 6 4, 4 4, 4 6, 4 12, 6 12, 12 12, 12 6], -128),
@@ -205,7 +205,7 @@ fn a_cavity_clockwise(rt: HostRuntime) -> Result<(), Fail> {
     Ok(())
 }
 
-// A box one micrometre wide and two high, left of 0: its diagonals are cut at a half of a half-micrometre.
+/// A box one micrometre wide and two high, left of 0: its diagonals are cut at a half of a half-micrometre.
 const NARROW: &[Part] = &[(
     &[
         [-1, 0, 0],
@@ -244,7 +244,7 @@ fn no_outlines_outside_the_grid(rt: HostRuntime) -> Result<(), Fail> {
     Ok(())
 }
 
-// The numbers of loops and of points of a layer, asked once more if there was no memory for them.
+/// The numbers of loops and of points of a layer, asked once more if there was no memory for them.
 fn counts<A: Allocator + Copy + Send + Sync>(
     session: &Session<A>,
 ) -> Result<(usize, usize), SessionFault> {
@@ -255,8 +255,8 @@ fn counts<A: Allocator + Copy + Send + Sync>(
     Ok((found.count(), found.points().len()))
 }
 
-// Fails each allocation in turn until none is left to fail. Returns how many of them gave `Memory`, and how many were mended by
-// the next try. It is `None` if a result was another.
+/// Fails each allocation in turn until none is left to fail. Returns how many of them gave `Memory`, and how many were mended by
+/// the next try. It is `None` if a result was another.
 fn failures(alloc: Global) -> Option<(u32, u32)> {
     let (mut told, mut tried) = (0u32, 0u32);
     for turn in 1..2000u64 {

@@ -13,7 +13,7 @@ use test_meshes::{
     text_of,
 };
 
-// Points and triangles of a mesh by tables: the points of all parts, one part after the other.
+/// Points and triangles of a mesh by tables: the points of all parts, one part after the other.
 fn arrays_of<A: Allocator + Copy>(
     alloc: A,
     parts: &[Part<'_>],
@@ -35,7 +35,7 @@ fn arrays_of<A: Allocator + Copy>(
     Ok((points, triangles))
 }
 
-// Whether arrays and the text of the same facets have the same answer.
+/// Whether arrays and the text of the same facets have the same answer.
 fn is_as_text(alloc: Global, parts: &[Part<'_>], setup: &Setup) -> Result<bool, AllocError> {
     let (points, triangles) = arrays_of(alloc, parts)?;
     let text = text_of(alloc, parts)?;
@@ -67,14 +67,14 @@ fn arrays_are_as_their_text(rt: HostRuntime) -> Result<(), Fail> {
     Ok(())
 }
 
-// The fault of arrays that open no session.
+/// The fault of arrays that open no session.
 fn fault_of(alloc: Global, points: &[[i32; 3]], triangles: &[[u32; 3]]) -> Option<SessionFault> {
     Session::open_mesh(alloc, points, triangles, &fitted(1, Rule::NonZero)).err()
 }
 
 const FAR: i32 = 128_000_000;
 
-// Points: two in range, at its ends, then three beyond it, along x, y and z.
+/// Points: two in range, at its ends, then three beyond it, along x, y and z.
 const POINTS: &[[i32; 3]] = &[
     [FAR, -FAR, FAR],
     [0, 0, 0],
@@ -139,7 +139,7 @@ fn the_lines_name_the_triangle(rt: HostRuntime) -> Result<(), Fail> {
     Ok(())
 }
 
-// The unit is of a text's numbers alone.
+/// The unit is of a text's numbers alone.
 #[test]
 fn the_unit_is_not_used(rt: HostRuntime) -> Result<(), Fail> {
     let alloc = rt.alloc();
@@ -155,8 +155,8 @@ fn the_unit_is_not_used(rt: HostRuntime) -> Result<(), Fail> {
     Ok(())
 }
 
-// Fails each allocation in turn until none is left to fail: how many of them were answered by `Memory`. `None` where an
-// answer was another.
+/// Fails each allocation in turn until none is left to fail: how many of them were answered by `Memory`. `None` where an
+/// answer was another.
 fn failures(alloc: Global, points: &[[i32; 3]], triangles: &[[u32; 3]]) -> Option<u32> {
     let mut told = 0u32;
     for turn in 1..2000u64 {

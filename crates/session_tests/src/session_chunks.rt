@@ -9,7 +9,7 @@ use std::alloc::{Allocator, Global};
 use std::test::Fail;
 use test_meshes::{BOX, CORNERS, CUBE, CUBE_AND_FLAT, OCTAHEDRON, Part, SHEET, TWO_CUBES, text_of};
 
-// The session of a text that is fed in chunks of this size.
+/// The session of a text that is fed in chunks of this size.
 fn in_chunks<A: Allocator + Copy + Send + Sync>(
     alloc: A,
     text: &[u8],
@@ -25,7 +25,7 @@ fn in_chunks<A: Allocator + Copy + Send + Sync>(
     reader.finish()
 }
 
-// Whether two sessions have the same image of their first layer.
+/// Whether two sessions have the same image of their first layer.
 fn are_images_same(one: &Session<Global>, other: &Session<Global>) -> bool {
     match (one.image(0), other.image(0)) {
         (Ok(image), Ok(told)) => image.as_slice() == told.as_slice(),
@@ -33,7 +33,7 @@ fn are_images_same(one: &Session<Global>, other: &Session<Global>) -> bool {
     }
 }
 
-// Whether two sessions tell the same of themselves and of their first layer.
+/// Whether two sessions tell the same of themselves and of their first layer.
 fn are_same(one: &Session<Global>, other: &Session<Global>) -> bool {
     one.facet_count() == other.facet_count()
         && one.bounds() == other.bounds()
@@ -42,7 +42,7 @@ fn are_same(one: &Session<Global>, other: &Session<Global>) -> bool {
         && are_images_same(one, other)
 }
 
-// Whether two results are the same.
+/// Whether two results are the same.
 pub(crate) fn are_answers_same(
     one: &Result<Session<Global>, SessionFault>,
     other: &Result<Session<Global>, SessionFault>,
@@ -54,7 +54,7 @@ pub(crate) fn are_answers_same(
     }
 }
 
-// Whether the result for a text is the same in chunks of 1 to 17 bytes, and in one chunk.
+/// Whether the result for a text is the same in chunks of 1 to 17 bytes, and in one chunk.
 fn is_chopped_well(alloc: Global, text: &[u8], setup: &Setup) -> bool {
     let whole = Session::open(alloc, text, setup);
     for size in [1, 2, 3, 5, 7, 11, 13, 17, usize::MAX] {
@@ -84,7 +84,7 @@ fn meshes_in_chunks(rt: HostRuntime) -> Result<(), Fail> {
     Ok(())
 }
 
-// The step goes before the text, and the text before the mesh.
+/// The step goes before the text, and the text before the mesh.
 #[test]
 fn faults_in_chunks(rt: HostRuntime) -> Result<(), Fail> {
     let alloc = rt.alloc();
@@ -97,8 +97,8 @@ fn faults_in_chunks(rt: HostRuntime) -> Result<(), Fail> {
     Ok(())
 }
 
-// Fails each allocation in turn until none is left to fail. Returns how many of them gave `Memory`. It is `None` if a result
-// was another.
+/// Fails each allocation in turn until none is left to fail. Returns how many of them gave `Memory`. It is `None` if a result
+/// was another.
 fn failures(alloc: Global, text: &[u8]) -> Option<u32> {
     let mut told = 0u32;
     for turn in 1..2000u64 {

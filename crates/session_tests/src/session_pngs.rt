@@ -16,7 +16,7 @@ const EACH_MIRRORS: [Mirrors; 4] = [
     Mirrors { x: true, y: true },
 ];
 
-// The PNG of a layer of a job, by its spans.
+/// The PNG of a layer of a job, by its spans.
 fn png_of(
     alloc: Global,
     job: &Job<Global>,
@@ -38,7 +38,7 @@ fn png_of(
     .ok()
 }
 
-// Whether a layer of a session has this PNG.
+/// Whether a layer of a session has this PNG.
 fn is_png(session: &Session<Global>, k: u32, depth: Depth, mirrors: Mirrors, png: &[u8]) -> bool {
     match session.png(k, depth, mirrors) {
         Ok(found) => found.as_slice() == png,
@@ -46,7 +46,7 @@ fn is_png(session: &Session<Global>, k: u32, depth: Depth, mirrors: Mirrors, png
     }
 }
 
-// Whether the layers of a mesh have the PNGs of their spans, and of both depths not the same.
+/// Whether the layers of a mesh have the PNGs of their spans, and of both depths not the same.
 fn are_pngs_of(alloc: Global, parts: &[Part<'_>], mirrors: Mirrors) -> Option<bool> {
     let session = open(alloc, parts, &fitted(1, Rule::NonZero)).ok()?;
     let job = job_of(alloc, parts, 1, Rule::NonZero)?;
@@ -73,7 +73,7 @@ fn pngs_are_those_of_the_spans(rt: HostRuntime) -> Result<(), Fail> {
     Ok(())
 }
 
-// Signature, size, depth, and greyscale without interlace; the last four bytes are the CRC that Python's zlib tells.
+/// Signature, size, depth, and greyscale without interlace; the last four bytes are the CRC that Python's zlib tells.
 const HEAD: &[u8] =
     b"\x89PNG\r\n\x1a\n\0\0\0\rIHDR\0\0\0\x01\0\0\0\x01\x08\0\0\0\0\x3a\x7e\x9b\x55";
 
@@ -85,7 +85,7 @@ fn a_png_of_one_pixel(rt: HostRuntime) -> Result<(), Fail> {
     Ok(())
 }
 
-// Whether a layer of the column's session is outside.
+/// Whether a layer of the column's session is outside.
 fn is_outside(session: &Session<Global>, k: u32) -> bool {
     let outside = SessionFault::Outside {
         columns: 1,

@@ -21,7 +21,7 @@ use test_solids::solid_of;
 
 const EACH_RULE: [Rule; 3] = [Rule::EvenOdd, Rule::NonZero, Rule::Positive];
 
-// A setup of voxels of one size in micrometres, in a grid that fits the mesh.
+/// A setup of voxels of one size in micrometres, in a grid that fits the mesh.
 pub(crate) fn fitted(size: u32, rule: Rule) -> Setup {
     Setup {
         unit: Unit::Millimetre,
@@ -41,7 +41,7 @@ pub(crate) fn open<A: Allocator + Copy + Send + Sync>(
     Session::open(alloc, text.as_bytes(), setup)
 }
 
-// The image of a layer of a job, by its spans.
+/// The image of a layer of a job, by its spans.
 fn image_of(alloc: Global, job: &Job<Global>, k: u32) -> Option<Vec<u8, Global>> {
     if k >= job.grid().layers() {
         return None;
@@ -52,7 +52,7 @@ fn image_of(alloc: Global, job: &Job<Global>, k: u32) -> Option<Vec<u8, Global>>
     Some(sink.into_inner())
 }
 
-// Whether a layer of a session has this image.
+/// Whether a layer of a session has this image.
 fn is_image(session: &Session<Global>, k: u32, image: &[u8]) -> bool {
     match session.image(k) {
         Ok(found) => found.as_slice() == image,
@@ -60,7 +60,7 @@ fn is_image(session: &Session<Global>, k: u32, image: &[u8]) -> bool {
     }
 }
 
-// Whether a stripe of a session has these images.
+/// Whether a stripe of a session has these images.
 fn is_stripe(session: &Session<Global>, s: u64, images: &[u8]) -> bool {
     match session.stripe(s) {
         Ok(found) => found.as_slice() == images,
@@ -68,7 +68,7 @@ fn is_stripe(session: &Session<Global>, s: u64, images: &[u8]) -> bool {
     }
 }
 
-// How many bytes the images of a stripe of a session have.
+/// How many bytes the images of a stripe of a session have.
 fn stripe_len(session: &Session<Global>, s: u64) -> Option<usize> {
     match session.stripe(s) {
         Ok(found) => Some(found.len()),
@@ -76,7 +76,7 @@ fn stripe_len(session: &Session<Global>, s: u64) -> Option<usize> {
     }
 }
 
-// How many loops a layer of a session has.
+/// How many loops a layer of a session has.
 fn loop_count(session: &Session<Global>, k: u32) -> Option<usize> {
     match session.loops(k) {
         Ok(found) => Some(found.count()),
@@ -84,7 +84,7 @@ fn loop_count(session: &Session<Global>, k: u32) -> Option<usize> {
     }
 }
 
-// Whether a layer of a session has as many loops as these, and the same first one.
+/// Whether a layer of a session has as many loops as these, and the same first one.
 fn are_loops_like(session: &Session<Global>, k: u32, loops: &Loops<Global>) -> bool {
     match session.loops(k) {
         Ok(found) => found.count() == loops.count() && found.get(0) == loops.get(0),
@@ -92,7 +92,7 @@ fn are_loops_like(session: &Session<Global>, k: u32, loops: &Loops<Global>) -> b
     }
 }
 
-// Whether a layer of a session is this one of a job, and the images after it.
+/// Whether a layer of a session is this one of a job, and the images after it.
 fn is_layer_of(
     alloc: Global,
     session: &Session<Global>,
@@ -110,7 +110,7 @@ fn is_layer_of(
     )
 }
 
-// Whether the layers of one stripe of a session are those of a job.
+/// Whether the layers of one stripe of a session are those of a job.
 fn is_stripe_of(
     alloc: Global,
     session: &Session<Global>,
@@ -130,7 +130,7 @@ fn is_stripe_of(
     Some(is_stripe(session, s, images.as_slice()))
 }
 
-// The job of a mesh, with voxels of one size in micrometres.
+/// The job of a mesh, with voxels of one size in micrometres.
 pub(crate) fn job_of(
     alloc: Global,
     parts: &[Part<'_>],
@@ -145,7 +145,7 @@ pub(crate) fn job_of(
     Some(Job::new(solid, grid, rule))
 }
 
-// Whether all stripes of the session of a mesh's text are those of the mesh itself.
+/// Whether all stripes of the session of a mesh's text are those of the mesh itself.
 fn are_stripes_of(alloc: Global, parts: &[Part<'_>], size: u32, rule: Rule) -> Option<bool>
     requires low { 1 ≤ size }
     requires high { size ≤ 2 }
@@ -180,7 +180,7 @@ fn layers_are_those_of_the_mesh(rt: HostRuntime) -> Result<(), Fail> {
     Ok(())
 }
 
-// What is reported of a session as a whole: counts of facets, columns, rows, layers and stripes, and the rule.
+/// What is reported of a session as a whole: counts of facets, columns, rows, layers and stripes, and the rule.
 fn told(session: &Session<Global>) -> (usize, [u32; 3], u64, Rule) {
     let grid = session.grid();
     (
@@ -204,7 +204,7 @@ fn a_column_of_seventeen_layers(rt: HostRuntime) -> Result<(), Fail> {
     Ok(())
 }
 
-// The box holds a degenerate facet too, which the grid does not.
+/// The box holds a degenerate facet too, which the grid does not.
 #[test]
 fn the_box_is_that_of_all_facets(rt: HostRuntime) -> Result<(), Fail> {
     let far: &[Part] = &[
@@ -220,7 +220,7 @@ fn the_box_is_that_of_all_facets(rt: HostRuntime) -> Result<(), Fail> {
     Ok(())
 }
 
-// A setup of voxels of a micrometre in a grid of this many columns, rows and layers, from a corner on.
+/// A setup of voxels of a micrometre in a grid of this many columns, rows and layers, from a corner on.
 fn given([columns, rows, layers]: [u32; 3], [x, y, z]: [i32; 3]) -> Option<Setup> {
     let origin = Point::new(x, y, z)?;
     Some(Setup {
@@ -247,7 +247,7 @@ fn a_given_grid(rt: HostRuntime) -> Result<(), Fail> {
     Ok(())
 }
 
-// Whether opening a mesh's text fails, and the fault reads so.
+/// Whether opening a mesh's text fails, and the fault reads so.
 fn fails_with(alloc: Global, parts: &[Part<'_>], setup: &Setup, line: &str) -> Option<bool> {
     let fault = open(alloc, parts, setup).err()?;
     Some(format!(in alloc; "{fault}").ok()?.as_str() == line)
@@ -255,7 +255,7 @@ fn fails_with(alloc: Global, parts: &[Part<'_>], setup: &Setup, line: &str) -> O
 
 const STEP: &str = "pitch and layer height take 1 to 100000 micrometres";
 
-// The step goes before the mesh, and the mesh before the grid.
+/// The step goes before the mesh, and the mesh before the grid.
 #[test]
 fn faults_read_as_the_program_s(rt: HostRuntime) -> Result<(), Fail> {
     let alloc = rt.alloc();
@@ -285,7 +285,7 @@ fn faults_read_as_the_program_s(rt: HostRuntime) -> Result<(), Fail> {
     Ok(())
 }
 
-// A text goes before the grid, too.
+/// A text goes before the grid, too.
 #[test]
 fn faults_of_a_text_and_of_a_grid(rt: HostRuntime) -> Result<(), Fail> {
     let alloc = rt.alloc();
@@ -300,14 +300,14 @@ fn faults_of_a_text_and_of_a_grid(rt: HostRuntime) -> Result<(), Fail> {
     Ok(())
 }
 
-// What is reported of a layer, a stripe or a voxel outside the column's grid.
+/// What is reported of a layer, a stripe or a voxel outside the column's grid.
 const OUTSIDE: SessionFault = SessionFault::Outside {
     columns: 1,
     rows: 1,
     layers: 17,
 };
 
-// Whether a layer of the column's session is outside, whatever is asked of it.
+/// Whether a layer of the column's session is outside, whatever is asked of it.
 fn is_outside(session: &Session<Global>, k: u32) -> bool {
     session.image(k).err() == Some(OUTSIDE)
         && session.area(k) == Err(OUTSIDE)
@@ -331,7 +331,7 @@ fn nothing_lies_outside_the_grid(rt: HostRuntime) -> Result<(), Fail> {
     Ok(())
 }
 
-// What a session returns, one call after the other; every call is made again if one of them has no memory.
+/// What a session returns, one call after the other; every call is made again if one of them has no memory.
 fn answers(
     memory: &ShortMemory<Global>,
 ) -> Result<(usize, usize, usize, u64, usize), SessionFault> {
@@ -344,7 +344,7 @@ fn answers(
     first
 }
 
-// The lengths of an image, of a PNG and of a stripe, an area and a count of loops.
+/// The lengths of an image, of a PNG and of a stripe, an area and a count of loops.
 fn answers_of<A: Allocator + Copy + Send + Sync>(
     session: &Session<A>,
 ) -> Result<(usize, usize, usize, u64, usize), SessionFault> {
@@ -359,8 +359,8 @@ fn answers_of<A: Allocator + Copy + Send + Sync>(
     ))
 }
 
-// Fails each allocation in turn until none is left to fail. Returns how many of them gave `Memory`, and how many were mended by
-// the next try. It is `None` if a result was another.
+/// Fails each allocation in turn until none is left to fail. Returns how many of them gave `Memory`, and how many were mended by
+/// the next try. It is `None` if a result was another.
 fn failures(alloc: Global) -> Option<(u32, u32)> {
     let usual = (13, 110, 78, 28, 2);
     let (mut told, mut tried) = (0u32, 0u32);

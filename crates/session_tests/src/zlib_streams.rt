@@ -4,11 +4,11 @@ use short_memory::{Count, Retry, ShortMemory, failures, first_free_turn};
 use std::alloc::{AllocError, Allocator, Global};
 use std::test::Fail;
 
-// The bytes with which each stream begins.
+/// The bytes with which each stream begins.
 const HEAD: &[u8] =
     b"\x78\x01\xed\xc1\x03\xa0\x04\x0a\x02\x04\xa0\x39\xdb\xb6\x6d\xdb\xb6\x6d\xdb\xb6\x6d\xdb\xb6\x6d\xdb\xb6\x6d\xfb\xe6\x3f\xdb\x5c\x54";
 
-// A byte, how often it stands there, and what follows the head in the stream of this run.
+/// A byte, how often it stands there, and what follows the head in the stream of this run.
 const ONE_RUN: &[(u8, u64, &[u8])] = &[
     (0, 1, b"\x39\x00\x00\x01\x00\x01"),
     (0, 2, b"\xc9\x01\x00\x02\x00\x01"),
@@ -72,7 +72,7 @@ const ONE_RUN: &[(u8, u64, &[u8])] = &[
     ),
 ];
 
-// Bytes, how often each stands there, and what follows the head in the stream of these runs.
+/// Bytes, how often each stands there, and what follows the head in the stream of these runs.
 const SEVERAL: &[(&[(u8, u64)], &[u8])] = &[
     (&[], b"\x07\x00\x00\x00\x00\x01"),
     (&[(7, 0)], b"\x07\x00\x00\x00\x00\x01"),
@@ -101,11 +101,11 @@ const SEVERAL: &[(&[(u8, u64)], &[u8])] = &[
     ),
 ];
 
-// What follows the head in the stream of all runs of the first table.
+/// What follows the head in the stream of all runs of the first table.
 const ALL: &[u8] =
     b"\x49\x92\x64\x42\xc6\x5d\xc6\x5e\x48\x48\x42\xc6\x1d\x19\x7b\x04\x12\x48\x02\x99\x00\x01\x00\x00\x00\x00\x00\x00\x00\x00\x68\xdb\xb6\x13\x3a\xee\x3a\xf6\x4a\x4b\x5b\x3a\xee\xe8\xd8\xa3\xd0\x42\x5b\xe8\x04\x28\x00\x00\x00\x00\x00\x00\x00\x00\xc0\xa3\x1e\xf5\xa8\x47\x3d\xea\x51\x8f\x9a\xf0\xa8\x71\xf7\xa8\xb1\xf7\x28\x1e\xf5\x28\x1e\xf5\xa8\x47\xf1\xa8\x71\xc7\xa3\xc6\x1e\x8f\x82\x47\x3d\x0a\x1e\xf5\xa8\x47\xc1\xa3\x26\xc0\xa3\x00\x00\x00\x00\x00\x00\x00\x00\x00\x0e\x00\x95\xbf\xf5\x58";
 
-// Whether bytes are a front, the head of a stream, and this rest of it.
+/// Whether bytes are a front, the head of a stream, and this rest of it.
 fn is_stream(bytes: &[u8], front: &[u8], rest: &[u8]) -> bool {
     match bytes.strip_prefix(front) {
         Some(stream) => stream.strip_prefix(HEAD) == Some(rest),
@@ -113,7 +113,7 @@ fn is_stream(bytes: &[u8], front: &[u8], rest: &[u8]) -> bool {
     }
 }
 
-// Bytes that stand in a vector before its stream.
+/// Bytes that stand in a vector before its stream.
 const FRONT: &[u8] = b"front";
 
 fn front<A: Allocator>(alloc: A) -> Result<Vec<u8, A>, AllocError> {
@@ -142,7 +142,7 @@ fn no_runs_are_an_empty_stream(rt: HostRuntime) -> Result<(), Fail> {
     Ok(())
 }
 
-// Appends a run, once more if memory was refused: whether the first try failed.
+/// Appends a run, once more if memory was refused: whether the first try failed.
 fn put_at_last<A: Allocator>(
     writer: &mut ZlibWriter<A>,
     byte: u8,
@@ -168,7 +168,7 @@ fn runs_follow_one_another(rt: HostRuntime) -> Result<(), Fail> {
     Ok(())
 }
 
-// All runs of the first table in one stream.
+/// All runs of the first table in one stream.
 fn all_at_last<A: Allocator>(alloc: A) -> Result<(bool, bool), AllocError> {
     let mut writer = ZlibWriter::new(front(alloc)?)?;
     let mut failed = false;

@@ -31,7 +31,7 @@ fn cuts_the_octant(rt: HostRuntime) {
     assert!(rt; cuts(&f, -1).is_none());
 }
 
-// The point at which the line along x through the origin crosses a facet.
+/// The point at which the line along x through the origin crosses a facet.
 fn crossed(f: Option<Facet>) -> Option<Crossing> {
     crossing(&f?, 0, 0)
 }
@@ -56,7 +56,7 @@ fn western() -> Option<Facet> {
     facet([0, 2, 0], [-2, 0, 0], [0, 0, 2])
 }
 
-// A line along x goes into the octahedron here, where it goes out of it at the octant.
+/// A line along x goes into the octahedron here, where it goes out of it at the octant.
 #[test]
 fn crosses_a_facet_that_looks_west(rt: HostRuntime) {
     let Some(c) = crossed(western()) else {

@@ -8,18 +8,18 @@ use std::test::Fail;
 use test_meshes::{BOX, CORNERS, CUBE, CUBE_AND_FLAT, CUBE_AND_PAIR, Part, facets_of};
 use test_solids::welded;
 
-// How many facets a weld has kept and dropped, or its fault.
+/// How many facets a weld has kept and dropped, or its fault.
 type Outcome = Result<(usize, u32), WeldFault>;
 
-// Facets that are welded.
+/// Facets that are welded.
 #[derive(Drop)]
 enum Mesh<'a> {
     Parts(&'a [Part<'a>]),
-    // Those of the rings, of which there are enough to be welded by hashes.
+    /// Those of the rings, of which there are enough to be welded by hashes.
     Rings,
 }
 
-// The list of these facets.
+/// The list of these facets.
 fn list_of<A: Allocator + Copy>(alloc: A, mesh: &Mesh<'_>) -> Result<Vec<Facet, A>, AllocError> {
     match mesh {
         Mesh::Parts(parts) => facets_of(alloc, parts),
@@ -27,7 +27,7 @@ fn list_of<A: Allocator + Copy>(alloc: A, mesh: &Mesh<'_>) -> Result<Vec<Facet, 
     }
 }
 
-// The result of a weld; `None` if there is no memory for the list of facets itself.
+/// The result of a weld; `None` if there is no memory for the list of facets itself.
 fn outcome(memory: &ShortMemory<Global>, mesh: &Mesh<'_>) -> Option<Outcome> {
     let list = list_of(memory, mesh).ok()?;
     Some(match welded(memory, list) {
@@ -36,8 +36,8 @@ fn outcome(memory: &ShortMemory<Global>, mesh: &Mesh<'_>) -> Option<Outcome> {
     })
 }
 
-// Fails each allocation in turn until none is left to fail. Returns how many of the failed ones were the weld's. It is `None`
-// if one of these welds returned anything else, or the last result is not the usual one.
+/// Fails each allocation in turn until none is left to fail. Returns how many of the failed ones were the weld's. It is `None`
+/// if one of these welds returned anything else, or the last result is not the usual one.
 fn failures(alloc: Global, mesh: &Mesh<'_>, usual: Outcome) -> Option<u32> {
     let mut failed = 0u32;
     for turn in 1..200u64 {
@@ -67,7 +67,7 @@ fn closed_meshes(rt: HostRuntime) -> Result<(), Fail> {
     Ok(())
 }
 
-// Neither fault turns into the other.
+/// Neither fault turns into the other.
 #[test]
 fn an_open_box(rt: HostRuntime) -> Result<(), Fail> {
     let open = WeldFault::Open {

@@ -11,7 +11,7 @@ use std::test::Fail;
 use std::thread::Threads;
 use test_solids::welded;
 
-// A point that is in range.
+/// A point that is in range.
 fn in_range(point: Option<Point>) -> Result<Point, AllocError> {
     match point {
         Some(point) => Ok(point),
@@ -19,7 +19,7 @@ fn in_range(point: Option<Point>) -> Result<Point, AllocError> {
     }
 }
 
-// The rings, and a tetrahedron that has one edge with them.
+/// The rings, and a tetrahedron that has one edge with them.
 fn rings_and_tetrahedron<A: Allocator + Copy>(alloc: A) -> Result<Vec<Facet, A>, AllocError> {
     let mut list = rings(alloc, 4608)?;
     let a = in_range(ring_point(0, 0))?;
@@ -43,7 +43,7 @@ fn an_edge_of_four_half_edges(rt: HostRuntime) -> Result<(), Fail> {
     Ok(())
 }
 
-// The rings, of which the first facet comes twice.
+/// The rings, of which the first facet comes twice.
 fn rings_and_a_copy<A: Allocator + Copy>(alloc: A) -> Result<Vec<Facet, A>, AllocError> {
     let mut list = rings(alloc, 4608)?;
     let a = in_range(ring_point(0, 0))?;
@@ -61,13 +61,13 @@ fn an_edge_of_three_half_edges(rt: HostRuntime) -> Result<(), Fail> {
     Ok(())
 }
 
-// A point of the fan's rim.
+/// A point of the fan's rim.
 fn rim_point(number: u32) -> Option<Point> {
     let number = number % 2100;
     Point::new((number % 50) as i32, (number / 50) as i32, 1)
 }
 
-// A rim of 2,100 points, each joined to two others: more facets at these than the steps along chains allow for.
+/// A rim of 2,100 points, each joined to two others: more facets at these than the steps along chains allow for.
 fn fan<A: Allocator + Copy>(alloc: A) -> Result<Vec<Facet, A>, AllocError> {
     let mut list = Vec::new(alloc);
     let low = in_range(Point::new(0, 0, 0))?;
@@ -91,16 +91,16 @@ fn vertices_of_many_facets(rt: HostRuntime) -> Result<(), Fail> {
     Ok(())
 }
 
-// A point of a line on which the table of corners has the same first slot for each, as long as it has at most 2^20 slots.
+/// A point of a line on which the table of corners has the same first slot for each, as long as it has at most 2^20 slots.
 fn crowded_point(number: u32) -> Option<Point> {
     let number = (number % 200) as i32;
     Point::new(number * 192, number * 742, number * 651)
 }
 
-// The number of tetrahedra that are made of such points, four each: more points than the table looks at slots for one of them.
+/// The number of tetrahedra that are made of such points, four each: more points than the table looks at slots for one of them.
 const TETRAHEDRA: u32 = 25;
 
-// Adds two facets of a tetrahedron of such points, the first two or else the last two.
+/// Adds two facets of a tetrahedron of such points, the first two or else the last two.
 fn push_half<A: Allocator>(
     list: &mut Vec<Facet, A>,
     number: u32,
@@ -122,7 +122,7 @@ fn push_half<A: Allocator>(
     Ok(())
 }
 
-// The rings between the two halves of the tetrahedra, so that the table has grown when their points come again.
+/// The rings between the two halves of the tetrahedra, so that the table has grown when their points come again.
 fn crowded_tetrahedra_and_rings<A: Allocator + Copy>(
     alloc: A,
 ) -> Result<Vec<Facet, A>, AllocError> {
@@ -138,7 +138,7 @@ fn crowded_tetrahedra_and_rings<A: Allocator + Copy>(
     Ok(list)
 }
 
-// The rings' 4608 facets, 2304 points and 6912 edges, and 4, 4 and 6 of each tetrahedron.
+/// The rings' 4608 facets, 2304 points and 6912 edges, and 4, 4 and 6 of each tetrahedron.
 #[test]
 fn points_that_the_table_does_not_hold(rt: HostRuntime) -> Result<(), Fail> {
     let facets = crowded_tetrahedra_and_rings(rt.alloc())?;
@@ -148,7 +148,7 @@ fn points_that_the_table_does_not_hold(rt: HostRuntime) -> Result<(), Fail> {
     Ok(())
 }
 
-// Whether several threads weld the facets as one does.
+/// Whether several threads weld the facets as one does.
 fn is_welded_alike<R: Threads + Sync>(rt: &R, alloc: Global, facets: &[Facet]) -> bool {
     agree(&fed(alloc, facets, 1000), &fed_by(rt, alloc, facets))
 }
@@ -162,7 +162,7 @@ fn by_threads(rt: HostRuntime) -> Result<(), Fail> {
     Ok(())
 }
 
-// The facets of the fan, whose edges are numbered by sorts at last.
+/// The facets of the fan, whose edges are numbered by sorts at last.
 struct KeptOfFan;
 
 impl Count for KeptOfFan {
@@ -179,12 +179,12 @@ fn each_allocation_fails_in_turn(rt: HostRuntime) -> Result<(), Fail> {
     Ok(())
 }
 
-// More allocations than a weld asks for.
+/// More allocations than a weld asks for.
 const ALLOCATIONS: u64 = 200;
 
-// Several threads weld facets, and each allocation fails in turn until none is left to fail. Returns which turn that was. It is
-// `None` if a weld with a failed allocation returned anything but `Memory`, the last one has other counts, or `ALLOCATIONS`
-// turns do not suffice.
+/// Several threads weld facets, and each allocation fails in turn until none is left to fail. Returns which turn that was. It is
+/// `None` if a weld with a failed allocation returned anything but `Memory`, the last one has other counts, or `ALLOCATIONS`
+/// turns do not suffice.
 pub(crate) fn first_free_turn_by<R: Threads + Sync>(
     rt: &R,
     alloc: Global,

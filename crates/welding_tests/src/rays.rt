@@ -6,7 +6,7 @@ use std::test::Fail;
 use test_meshes::{INWARD_CUBE, OCTAHEDRON, Part, TOUCHING, TWO_CUBES};
 use test_solids::solid_of;
 
-// A mesh, a centre, and the rays along x and y from there.
+/// A mesh, a centre, and the rays along x and y from there.
 type Row<'a> = (&'a [Part<'a>], [i64; 3], (i32, i32));
 
 static PROBES: [Row; 5] = [
@@ -24,7 +24,7 @@ fn probed(alloc: Global, parts: &[Part<'_>], [x2, y2, z2]: [i64; 3]) -> Option<(
     Some(probe(&solid, &centre))
 }
 
-// The number of the first row with other rays.
+/// The number of the first row with other rays.
 fn first_other_probe(alloc: Global, rows: &[Row<'_>]) -> Option<usize> {
     for (n, (parts, at, rays)) in rows.iter().enumerate() {
         if probed(alloc, parts, *at) != Some(*rays) {
@@ -40,14 +40,14 @@ fn probes_of_meshes(rt: HostRuntime) -> Result<(), Fail> {
     Ok(())
 }
 
-// The ends of steps along x or y, and the rays along x from there through an octahedron.
+/// The ends of steps along x or y, and the rays along x from there through an octahedron.
 static STEPS: [([i64; 2], [i64; 2], (i32, i32)); 3] = [
     ([0, 0], [0, 3], (1, 1)),
     ([0, 3], [0, 4], (1, 0)),
     ([0, 0], [4, 0], (1, 0)),
 ];
 
-// The rays at two centres, if these differ in x or in y alone.
+/// The rays at two centres, if these differ in x or in y alone.
 fn stepped_in(solid: &Solid<Global>, start: &Centre, end: &Centre) -> Option<(i32, i32)> {
     if start.z2() != end.z2() {
         return None;
@@ -65,7 +65,7 @@ fn stepped(alloc: Global, from: [i64; 2], to: [i64; 2]) -> Option<(i32, i32)> {
     stepped_in(&solid, &start, &end)
 }
 
-// The number of the first row with other rays.
+/// The number of the first row with other rays.
 fn first_other_step(alloc: Global) -> Option<usize> {
     for (n, (from, to, rays)) in STEPS.iter().enumerate() {
         if stepped(alloc, *from, *to) != Some(*rays) {

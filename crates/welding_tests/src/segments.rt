@@ -6,7 +6,7 @@ use std::test::Fail;
 use test_meshes::{CUBE, CUBE_AND_PAIR, OCTAHEDRON, Part};
 use test_solids::solid_of;
 
-// A segment: its facet, and the vertices of the edge that it comes from and of the edge that it goes to.
+/// A segment: its facet, and the vertices of the edge that it comes from and of the edge that it goes to.
 type Told = (u32, [u32; 4]);
 
 fn told_of(segment: &Segment) -> Told {
@@ -14,7 +14,7 @@ fn told_of(segment: &Segment) -> Told {
     (facet, [from.low, from.high, to.low, to.high])
 }
 
-// Whether a mesh has just these segments at a height in half-micrometres.
+/// Whether a mesh has just these segments at a height in half-micrometres.
 fn is_plane(alloc: Global, parts: &[Part<'_>], z2: i64, told: &[Told]) -> Option<bool> {
     let at = Centre::new(0, 0, z2)?;
     let solid = solid_of(alloc, parts).ok()?;
@@ -27,7 +27,7 @@ fn is_plane(alloc: Global, parts: &[Part<'_>], z2: i64, told: &[Told]) -> Option
     Some(list.len() == told.len())
 }
 
-// The first of these heights at which a mesh has other segments.
+/// The first of these heights at which a mesh has other segments.
 fn first_other(alloc: Global, parts: &[Part<'_>], heights: &[i64], told: &[Told]) -> Option<i64> {
     for z2 in heights {
         if is_plane(alloc, parts, *z2, told) != Some(true) {
@@ -37,7 +37,7 @@ fn first_other(alloc: Global, parts: &[Part<'_>], heights: &[i64], told: &[Told]
     None
 }
 
-// The segments of the cube's sides, and those of the two facets beside it: of facet 10 once more, and of its mirror.
+/// The segments of the cube's sides, and those of the two facets beside it: of facet 10 once more, and of its mirror.
 const SIDES_AND_PAIR: &[Told] = &[
     (4, [0, 5, 4, 5]),
     (5, [0, 1, 0, 5]),

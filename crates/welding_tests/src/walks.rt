@@ -21,7 +21,7 @@ impl Draws {
         self.state >> 33
     }
 
-    // A number from -12 to 12.
+    /// A number from -12 to 12.
     fn coordinate(&mut self) -> i32 {
         (self.next() % 25) as i32 - 12
     }
@@ -40,7 +40,7 @@ impl Draws {
         Some(Facet::of(a, b, self.point(scale)?))
     }
 
-    // A height in half-micrometres, from the least that a facet may have to the greatest.
+    /// A height in half-micrometres, from the least that a facet may have to the greatest.
     fn height(&mut self, scale: i32) -> i64 {
         i64::from(self.coordinate().wrapping_mul(scale)) * 2 + (self.next() % 2) as i64
     }
@@ -54,8 +54,8 @@ const FAR_STEP: u32 = 100_000;
 /// What small coordinates are multiplied by there.
 const FAR_SCALE: i32 = 10_000_000;
 
-// The lattices that facets are looked at in. Columns and rows of the first lie inside the range of coordinates, and
-// those of the others beyond it to some side.
+/// The lattices that facets are looked at in. Columns and rows of the first lie inside the range of coordinates, and
+/// those of the others beyond it to some side.
 const LATTICES: [Lattice; 4] = [
     Lattice {
         x2: -13,
@@ -90,7 +90,7 @@ const LATTICES: [Lattice; 4] = [
 /// The sign and the column of a crossing.
 type Crossed = Option<(i32, u32)>;
 
-// What the next crossing of a walk is, if it is in this row.
+/// What the next crossing of a walk is, if it is in this row.
 fn walked(walk: &mut Option<Walk>, row: u32) -> Crossed {
     let walk = walk.as_mut()?;
     if walk.row() == row && row < walk.end() {
@@ -101,7 +101,7 @@ fn walked(walk: &mut Option<Walk>, row: u32) -> Crossed {
     }
 }
 
-// The crossing of a facet with a row alone.
+/// The crossing of a facet with a row alone.
 fn crossed(f: &Facet, lattice: &Lattice, at: &Centre) -> Crossed {
     let c = crossing(f, at.z2(), at.y2())?;
     Some((
@@ -110,7 +110,7 @@ fn crossed(f: &Facet, lattice: &Lattice, at: &Centre) -> Crossed {
     ))
 }
 
-// The y of a row's centres, in half-micrometres.
+/// The y of a row's centres, in half-micrometres.
 fn scanline(lattice: &Lattice, row: u32) -> i64 {
     i64::from(lattice.step)
         .wrapping_mul(2)
@@ -118,7 +118,7 @@ fn scanline(lattice: &Lattice, row: u32) -> i64 {
         .wrapping_add(lattice.y2)
 }
 
-// How many rows of a lattice a facet crosses at a height; `None` if the walk differs from the rows alone.
+/// How many rows of a lattice a facet crosses at a height; `None` if the walk differs from the rows alone.
 fn rows_crossed(f: &Facet, z2: i64, lattice: &Lattice) -> Option<u32> {
     let start = Centre::new(0, 0, z2)?;
     let mut walk = Walk::start(f, start.z2(), lattice);
@@ -134,7 +134,7 @@ fn rows_crossed(f: &Facet, z2: i64, lattice: &Lattice) -> Option<u32> {
     Some(count)
 }
 
-// How many rows this many facets cross, of coordinates in a scale; `None` if a walk differs from the rows alone.
+/// How many rows this many facets cross, of coordinates in a scale; `None` if a walk differs from the rows alone.
 fn all_crossed(facets: u32, scale: i32, lattice: &Lattice) -> Option<u32> {
     let mut draws = Draws { state: 7 };
     let mut count = 0u32;

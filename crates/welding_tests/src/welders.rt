@@ -67,7 +67,7 @@ pub(crate) fn agree(
     }
 }
 
-// The lengths of lists that are tried; 0 stands for one list of all.
+/// The lengths of lists that are tried; 0 stands for one list of all.
 fn first_apart(alloc: Global, facets: Vec<Facet>, sizes: &[usize]) -> Option<usize> {
     let copy = facets.clone().ok()?;
     let whole = welded(alloc, facets);
@@ -123,7 +123,7 @@ fn many_facets(rt: HostRuntime) -> Result<(), Fail> {
     Ok(())
 }
 
-// The facets of a mesh that is fed three at a time.
+/// The facets of a mesh that is fed three at a time.
 struct KeptOfLists;
 
 impl Count for KeptOfLists {
@@ -140,7 +140,7 @@ fn each_allocation_fails_in_turn(rt: HostRuntime) -> Result<(), Fail> {
     Ok(())
 }
 
-// The facets of the rings, fed 100 at a time.
+/// The facets of the rings, fed 100 at a time.
 struct KeptOfRingLists;
 
 impl Count for KeptOfRingLists {
@@ -157,7 +157,7 @@ fn each_allocation_fails_in_turn_among_many_facets(rt: HostRuntime) -> Result<()
     Ok(())
 }
 
-// Adds facets to a welder: whether it has taken them, or `None` if there is no room.
+/// Adds facets to a welder: whether it has taken them, or `None` if there is no room.
 fn added<A: Allocator + Copy + Send + Sync>(
     welder: &mut Welder<A>,
     facets: &[Facet],
@@ -168,7 +168,7 @@ fn added<A: Allocator + Copy + Send + Sync>(
     Some(welder.add(facets).is_ok())
 }
 
-// Adds facets to a new welder twice: whether it has taken them, and how many facets it has then.
+/// Adds facets to a new welder twice: whether it has taken them, and how many facets it has then.
 fn added_twice<A: Allocator + Copy + Send + Sync>(
     alloc: A,
     facets: &[Facet],
@@ -180,7 +180,7 @@ fn added_twice<A: Allocator + Copy + Send + Sync>(
     [(first, count), (second, welder.count())]
 }
 
-// A welder that lost its facets when memory ran out can be fed again.
+/// A welder that lost its facets when memory ran out can be fed again.
 #[test]
 fn a_welder_is_empty_after_a_failed_allocation(rt: HostRuntime) -> Result<(), Fail> {
     let memory = ShortMemory::new(rt.alloc(), 2);

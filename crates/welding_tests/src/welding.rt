@@ -32,7 +32,7 @@ static CLOSED: [(&[Part], Counts); 5] = [
     (&[], (0, 0, 0, 0)),
 ];
 
-// The number of the first mesh that has other counts.
+/// The number of the first mesh that has other counts.
 fn first_other(alloc: Global, rows: &[(&[Part<'_>], Counts)]) -> Option<usize> {
     for (n, (parts, told)) in rows.iter().enumerate() {
         if counts(solid_of(alloc, parts)) != Some(*told) {
@@ -77,7 +77,7 @@ fn box_without_its_first_facet(rt: HostRuntime) -> Result<(), Fail> {
     Ok(())
 }
 
-// Whether a solid is the cube.
+/// Whether a solid is the cube.
 fn is_cube(solid: &Solid<Global>) -> bool {
     let Some((least, greatest)) = solid.corners() else {
         return false;
@@ -90,13 +90,13 @@ fn is_cube(solid: &Solid<Global>) -> bool {
         && solid.same(solid)
 }
 
-// Whether a solid is the same as that of the cube and a degenerate facet.
+/// Whether a solid is the same as that of the cube and a degenerate facet.
 fn is_same(alloc: Global, solid: &Solid<Global>) -> Option<bool> {
     let other = solid_of(alloc, CUBE_AND_FLAT).ok()?;
     Some(solid.same(&other))
 }
 
-// Whether the cube's solid is the cube, and not the same as the other.
+/// Whether the cube's solid is the cube, and not the same as the other.
 fn is_itself(alloc: Global) -> Option<bool> {
     let solid = solid_of(alloc, CUBE).ok()?;
     Some(is_cube(&solid) && !is_same(alloc, &solid)?)
@@ -108,7 +108,7 @@ fn solid_of_a_box(rt: HostRuntime) -> Result<(), Fail> {
     Ok(())
 }
 
-// The facets of a solid.
+/// The facets of a solid.
 struct Kept;
 
 impl Count for Kept {
@@ -133,7 +133,7 @@ pub(crate) fn ring_point(row: u32, column: u32) -> Option<Point>
     Point::new(row * 5 % 48, column, row)
 }
 
-// The facet of three of them with this number; there are two between four neighbours.
+/// The facet of three of them with this number; there are two between four neighbours.
 fn ring_facet(number: u32) -> Option<Facet>
     requires { number < 4608 }
 {
@@ -164,7 +164,7 @@ pub(crate) fn rings<A: Allocator + Copy>(alloc: A, count: u32) -> Result<Vec<Fac
     Ok(list)
 }
 
-// The solid of the rings' first facets.
+/// The solid of the rings' first facets.
 fn welded_rings<A: Allocator + Copy + Send + Sync>(
     alloc: A,
     count: u32,

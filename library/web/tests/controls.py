@@ -5,11 +5,13 @@ import math
 import os
 import struct
 import subprocess
+import time
 
-from common import IDLE, area_of, example, holds, images_of, same, script
-
+from common import CHANGED, IDLE, PHONE, area_of, example, holds, images_of, same, script
+from looks import broken
 
 SIGNATURE = b"\x89PNG\r\n\x1a\n"
+SECONDS = 60  # for a file to be saved
 
 
 def try_keys(page):
@@ -167,7 +169,51 @@ def try_large_canvas(page, program):
         same(f"the pixel of column {column} near by", page.value(NEAR % (column, row)), line[column] == "1")
 
 
+def at_openings(page, *scripts):
+    """Runs a script at each of the next openings, just before the worker is asked for it."""
+    page.value("""(() => {
+        const scripts = [%s];
+        slicer.call = (...words) => {
+            if (words[0] === "open") scripts.shift()?.();
+            return Slicer.prototype.call.apply(slicer, words);
+        };
+    })()""" % ", ".join(f"() => {{ {it} }}" for it in scripts))
+
+
+def try_wrong_fields(page):
+    """A wrong field stops nothing when it is hidden. While it is seen nothing is opened, even if it became wrong meanwhile."""
+    page.load()
+    page.set(100, 100)
+    page.take(example("bracket"))
+    page.change(grid="canvas", columns="")
+    page.change(grid="fitted", height=200)
+    page.until(f"{IDLE} && opened.options.layer === 200")
+    same("what a browser restores of the form", page.value("by('form').autocomplete"), "off")
+    at_openings(page, f"by('pitch').value = ''; {CHANGED}")
+    page.change(height=300)
+    page.until("!is_opening")
+    same("the mesh, and the fault of a field that is cleared", page.value("[opened?.options.layer, by('fault').hidden]"), [300, True])
+    page.change(pitch=50)
+    page.until(f"{IDLE} && opened.options.pitch === 50")
+
+
+def try_hints(page, room):
+    """With a fault shown the keys scroll its hints."""
+    page.load(PHONE)
+    page.take(broken(room))
+    same("whether Tab comes to the hints", page.value("by('fault').tabIndex"), 0)
+    for key, code in (("ArrowDown", 40), ("PageDown", 34), ("End", 35)):
+        page.value("by('fault').scrollTop = 0")
+        page.value("by('fault').focus()")
+        page.browser.ask("Input.dispatchKeyEvent", type="rawKeyDown", key=key, code=key, windowsVirtualKeyCode=code)
+        page.until("by('fault').scrollTop > 0")
+        page.browser.ask("Input.dispatchKeyEvent", type="keyUp", key=key, code=key, windowsVirtualKeyCode=code)
+    same("what the page's parts are", page.value("['image', 'plot', 'busy_words', 'fault'].map((id) => by(id).role)"),
+         ["img", "img", "status", "alert"])
+
+
 def try_saving(page, program):
+    """A layer that is saved has the program's bytes; if another mesh is opened meanwhile, the file is of that."""
     page.load()
     page.set(100, 100)
     page.take(example("bracket"))
@@ -175,15 +221,28 @@ def try_saving(page, program):
     same("layer", page.k(), 20)
     page.value("document.activeElement.blur()")
     page.browser.key("s", "KeyS", "s")
-    path = os.path.join(page.browser.saved, "bracket_00020.png")
-    for _ in range(200):
+    same_png(page, program, 20, 100)
+    # layer 31 of the mesh before is as high as layers 15 and 7 of these
+    page.value("go(31)")
+    same("layer", page.k(), 31)
+    at_openings(page, f"by('height').value = 400; {CHANGED}; queueMicrotask(save)", "save()")
+    page.change(height=200)
+    same_png(page, program, 15, 200)
+    page.until(f"{IDLE} && opened.options.layer === 400")
+    same_png(page, program, 7, 400)
+
+
+def same_png(page, program, k, layer):
+    """The page saves layer k as the program writes it."""
+    path = os.path.join(page.browser.saved, f"bracket_{k:05}.png")
+    end = time.monotonic() + SECONDS
+    while time.monotonic() < end and not (os.path.exists(path) and os.path.getsize(path)):
         page.value("new Promise((done) => setTimeout(done, 50))")
-        if os.path.exists(path) and os.path.getsize(path):
-            break
+    holds(f"{os.path.basename(path)} was saved", os.path.exists(path))
     with open(path, "rb") as file, open(example("bracket"), "rb") as part:
-        words = [program, "--pitch", "100", "--layer", "100", "--rule", "positive", "--png", "--depth", "1"]
+        words = [program, "--pitch", "100", "--layer", str(layer), "--rule", "positive", "--png", "--depth", "1"]
         pngs = subprocess.run(words, stdin=part, stdout=subprocess.PIPE, check=True).stdout.split(SIGNATURE)
-        same("the saved PNG", file.read(), SIGNATURE + pngs[21])
+        same(f"the saved PNG of layer {k}", file.read(), SIGNATURE + pngs[k + 1])
 
 
 def try_demos(page):
@@ -256,6 +315,8 @@ def try_all(page, room, program):
     try_drop(page)
     try_canvas(page, program)
     try_large_canvas(page, program)
+    try_wrong_fields(page)
+    try_hints(page, room)
     try_saving(page, program)
     try_demos(page)
     try_binary(page, room, program)

@@ -12,6 +12,8 @@
     }
     for (const it of document.querySelectorAll("button, select, .button, .check, #form label"))
         if (is_seen(it) && it.scrollWidth > it.clientWidth + 1) found.push(`cut: ${it.textContent.trim().slice(0, 30)}`);
+    for (const it of document.querySelectorAll("#command span"))
+        if (it.getClientRects().length > 1 || it.getBoundingClientRect().height > 24) found.push(`broken: ${it.textContent}`);
     if (document.querySelector("#layer").getBoundingClientRect().bottom > innerHeight) found.push("the slider is below the window");
     if (document.documentElement.scrollWidth > innerWidth) found.push("the page is wider than the window");
     return found;

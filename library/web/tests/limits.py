@@ -6,7 +6,7 @@ from common import IDLE, example, holds, same, script
 from measure import ring_of
 
 OPENINGS = 3000
-FACETS = 200000  # of a large part
+FACETS = 500000  # of a large part, which takes longer to open than the page waits before it says that it slices
 STATUSES = {"0", "6"}
 
 
@@ -78,7 +78,7 @@ def must_refuse(page, line):
 MANY = """(async () => {
     const sizes = [], options = [400, 900, 250].map((pitch) => ({ pitch, layer: pitch, rule: 2, unit: 0 }));
     for (let i = 0; i < %d; i++) {
-        sizes.push((await slicer.open(options[i %% 3])).memory);
+        sizes.push((await slicer.open(options[i %% 3], part)).memory);
         if (i %% 7 === 0) await slicer.call("layer", { k: 5 });
         if (i %% 11 === 0) await slicer.call("open", { ...options[0], pitch: 0 }).catch(() => {});
     }
@@ -114,37 +114,73 @@ WATCH = """longest = 0, before = performance.now(), was_busy = false;
 })()"""
 
 
-def try_large_part(page, room):
-    """The page goes on while a large part is opened; opening can be stopped. Returns the longest pause, and the time."""
-    ring = os.path.join(room, "ring.stl")
-    ring_of(FACETS, ring)
+def opened_watched(page, path):
+    """Opens a part while the page is watched. Returns the longest pause, and the time."""
     page.load()
     page.set(100, 100)
     page.value(WATCH)
     began = page.value("performance.now()")
-    page.take(ring)
+    page.take(path)
     page.k()
     took = page.value("performance.now()") - began
-    longest = page.value("longest")
-    holds(f"the page was never held up for a third of the time: {longest:.0f} of {took:.0f} ms", 3 * longest < took)
     holds("the page says that it slices", page.value("was_busy"))
+    return page.value("longest"), took
+
+
+def try_large_part(page, room):
+    """The page goes on while a large part is opened; opening can be stopped. Returns the longest pause, and the time."""
+    ring = os.path.join(room, "ring.stl")
+    ring_of(FACETS, ring)
+    for _ in range(3):  # what else the machine does may hold the page up
+        longest, took = opened_watched(page, ring)
+        if 3 * longest < took:
+            break
+    holds(f"the page was never held up for a third of the time: {longest:.0f} of {took:.0f} ms", 3 * longest < took)
     try_stop(page, ring, "a part")
     page.value("(globalThis.read = File.prototype.arrayBuffer, File.prototype.arrayBuffer = () => new Promise(() => {}), 0)")
     try_stop(page, ring, "a part whose reading never ends")
     return longest, took
 
 
+# Clicks Stop as soon as the page has the button
+STOPS = """new MutationObserver((_, it) => {
+    if (by('busy').hidden) return;
+    it.disconnect();
+    by('stop').click();
+}).observe(by('busy'), { attributes: true })"""
+
+
 def try_stop(page, path, what):
     """The button stops the opening of a part, and the next part is opened."""
     page.value("by('file').value = ''")
+    page.value(STOPS)
     page.browser.choose("#file", path)
-    page.until("!by('busy').hidden")
-    page.value("by('stop').click()")
     page.until("!by('fault').hidden && by('busy').hidden")
     holds(f"{what} can be stopped", page.text("fault_line").startswith("stopped by hand"))
     page.value("(File.prototype.arrayBuffer = globalThis.read ?? File.prototype.arrayBuffer, 0)")
     page.take(example("bracket"))
     same(f"facets of the part after {what}", page.value("opened.facets"), 236)
+
+
+DENIED = "globalThis.Worker = class { constructor() { throw new Error('denied'); } }"
+
+
+def try_broken_worker(page):
+    """The page says if the worker's script fails, or if the browser allows no worker. The next opening has a new worker."""
+    page.load()
+    page.value("(globalThis.script = by('worker').textContent, by('worker').textContent = 'throw new Error(\"broken\")', renew())")
+    page.take(example("bracket"))
+    same("what the page says", [page.text("fault_line"), page.text("fault_place")],
+         ["the worker has failed: Uncaught Error: broken", "Change an option or choose a part to start it anew."])
+    page.value("by('worker').textContent = script")
+    page.change(pitch=500)
+    page.until(f"{IDLE} && opened")
+    denied = page.browser.ask("Page.addScriptToEvaluateOnNewDocument", source=DENIED)["identifier"]
+    page.load()
+    page.browser.ask("Page.removeScriptToEvaluateOnNewDocument", identifier=denied)
+    same("what the page says first", page.text("fault_line"), "this browser cannot run the slicer: the worker has failed: denied")
+    page.take(example("bracket"))
+    same("what it says of a part", page.text("fault_line"), "the worker has failed: denied")
 
 
 def try_all(page, room):
@@ -153,5 +189,7 @@ def try_all(page, room):
     right, stopped = try_full_stack(page)
     print(f"stack: {stopped} calls stopped at its end, after which the worker refused; {right} right", flush=True)
     print(f"openings: {OPENINGS} in {try_openings(page) >> 20} MiB", flush=True)
+    try_broken_worker(page)
+    print("a worker that fails, or is denied, is reported", flush=True)
     longest, took = try_large_part(page, room)
     print(f"a part of {FACETS} facets: shown after {took:.0f} ms, the page held up for {longest:.0f} ms at most", flush=True)

@@ -79,18 +79,18 @@ limits-from low pitch height a b c x y z e f g =
     ∙ ap (λ n. within_limits (grid_with low pitch height x n c)) f
     ∙ ap (λ n. within_limits (grid_with low pitch height x y n)) g
 
-no-cells : (a b c : ℕ) → 1 ≤ a → 1 ≤ b → 1 ≤ c → (a == 0 || b == 0 || c == 0) ≡ false
+pub no-cells : (a b c : ℕ) → 1 ≤ a → 1 ≤ b → 1 ≤ c → (a == 0 || b == 0 || c == 0) ≡ false
 no-cells a b c h k l = grind (arith, nat_tests, h, k, l)
 
-not-beyond : (n : ℕ) (z : ℤ) → z ≤ℤ pos n → int_lt (pos n) z ≡ false
+pub not-beyond : (n : ℕ) (z : ℤ) → z ≤ℤ pos n → int_lt (pos n) z ≡ false
 not-beyond n z h = grind (arith, ints, h)
 
-neither : (a b c : Bool) → a ≡ false → b ≡ false → c ≡ false → (a || b || c) ≡ false
+pub neither : (a b c : Bool) → a ≡ false → b ≡ false → c ≡ false → (a || b || c) ≡ false
 neither true b c f g h = f
 neither false true c f g h = g
 neither false false c f g h = h
 
-decided : {R : Type 0} (a b c : Bool) (x y z w : R) → a ≡ false → c ≡ false → cond a x (cond b y (cond c z w)) ≡ cond b y w
+pub decided : {R : Type 0} (a b c : Bool) (x y z w : R) → a ≡ false → c ≡ false → cond a x (cond b y (cond c z w)) ≡ cond b y w
 decided true b c x y z w e f = absurd (grind (arith, e))
 decided false true c x y z w e f = refl
 decided false false true x y z w e f = absurd (grind (arith, f))

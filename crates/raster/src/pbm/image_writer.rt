@@ -68,7 +68,8 @@ impl ImageWriter {
         Ok(())
     }
 
-    /// Sends the bytes that the writer still holds, and returns the number of bytes that it has sent in all.
+    /// Sends the bytes that the writer still holds, and returns the number of bytes that it has sent in all. On an error the
+    /// first `written` bytes of all images went out since the writer was made, which are fewer than all.
     pub fn finish<W: Sink>(self, w: &mut W) -> Result<u64, WriteFault>
         requires { self.sent + length self.held ≤ greatest_count }
         ensures ok { OnOk result (Appends (W.contents w.old) (W.contents w.new) self.held) }

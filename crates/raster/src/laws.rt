@@ -1,0 +1,16 @@
+//! The laws of grids, in words that do not say how a grid is checked or how its cells are counted.
+ghost use Rattle.std.specs.Prelude.{◌≡◌, ◌≤◌, ◌≤ℤ◌, ◌-ℤ◌, ◌*◌, ◌↔◌, Ok, pos, ℕ, ℤ};
+ghost use Rattle.geometry.specs.Limits.{IsStep};
+ghost use Rattle.geometry.specs.Point.{IsMeshPoint};
+ghost use Rattle.raster.specs.Grid.{Grid, IsGrid, cell_count, given_grid};
+
+/// States when given parts are a grid, and how many cells cover a mesh. It does nothing at run time.
+/// - `given`: a point of a mesh, two steps and three counts are a grid exactly if counts and centres are within their limits.
+/// - `cells`: cells of one length cover the range from one coordinate to another. Their number is the least that does, and at
+///   least 1.
+pub fn hold_grid_laws()
+    ensures given { (g : Grid) → IsMeshPoint g.origin → IsStep g.pitch → IsStep g.layer_height
+        → (given_grid g ≡ Ok g) ↔ IsGrid g }
+    ensures cells { (low high : ℤ) (step n : ℕ) → low ≤ℤ high → 1 ≤ step
+        → (cell_count low high step ≤ n) ↔ ((1 ≤ n) × ((high -ℤ low) ≤ℤ pos (n * step))) }
+{}
