@@ -74,7 +74,7 @@ def main():
             chromium.until("by('version').textContent")
             chromium.value("slice = async () => {}")
             chromium.choose("#file", path)
-            chromium.value("slicer.call('read', { file: by('file').files[0] })")
+            chromium.value("by('file').files[0].arrayBuffer().then((all) => slicer.call('read', { all }, [all]))")
             times[bits] = []
             for _ in range(RUNS):
                 times[bits].append(chromium.in_worker(IN_WORKER))

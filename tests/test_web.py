@@ -1,6 +1,6 @@
 #!/usr/bin/env python3
-"""If the page that slices is built, it shows in a browser what the program and the library return (library/web/test); and
-docs/embedding.md has the right numbers of lines that are trusted beside what is proved."""
+"""If the page that slices is built, it shows in a browser what the program and the library return (library/web/test), and can
+be timed (bench/page.py); and docs/embedding.md has the right numbers of lines that are trusted beside what is proved."""
 
 import os
 import re
@@ -48,6 +48,9 @@ def main():
         print(ran.stdout + ran.stderr)
         same("status and last line of library/web/test", (ran.returncode, ran.stdout.splitlines()[-1:]), (0, ["passed"]))
         holds("pictures of the page", len(os.listdir(room.file("pictures"))) == 8)
+        if os.path.exists(os.path.join(folder, os.pardir, "web", "stlslice32.wasm")):
+            ran = room.run(sys.executable, "bench/page.py", PAGE, folder, "1000")
+            same("status and lines of bench/page.py", (ran.returncode, ran.stderr, len(ran.stdout.splitlines())), (0, "", 2))
 
 
 if __name__ == "__main__":
