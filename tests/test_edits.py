@@ -525,6 +525,17 @@ def clauses_of_one_law(room):
         it.write(BOTH_ANSWERS)
 
 
+def laws_beside_functions(room):
+    """An edit of a definition that only laws see is tried beside edits of functions."""
+    emptied(room)
+    planted(room, "of.a", "ANSWERED")
+    written(room, "both.one", "specs/Both.antt", ("Is_one = true", "Is_one = broken"))
+    written(room, "both.two", "specs/Both.antt", ("Is_two = true", "Is_two = broken"))
+    same("laws beside a function", sorted(tries(room)[1][:3]),
+         ["thing/both.one: refused by `returns-clause-one`", "thing/both.two: refused by `returns-clause-two`", "thing/of.a: refused by `returns-in-Some`"])
+    same("in one check", checks_in(room), [["laws::both", "parts::Part::of"]])
+
+
 def checks_in(room):
     """The functions that each check was asked for, past the harmless one."""
     with open(room.file("asked")) as it:
@@ -716,6 +727,7 @@ def main():
         control(room)
         a_law(room)
         clauses_of_one_law(room)
+        laws_beside_functions(room)
         a_constant(room)
         one_that_hides_another(room)
         one_that_does_not_compile(room)

@@ -16,9 +16,9 @@ label goes by it, as in `rows-preserved`). A lemma of its answers stands for the
 such.
 
 An edit of a definition, in specs/, has to be refused in a function whose contract cites it, a law if there is one. Edits of
-laws are tried together if no clause depends on two of them. Each is then refused by a clause that depends on it. A definition
-in the contract of other functions is tried alone, since its edit changes all that read it. So is one of a law whose answers
-are one record: then no goal names the clause. An edit that is refused otherwise has failed, unless
+laws are tried together if no clause depends on two of them. Each is then refused by a clause that depends on it. If the answers
+of a law are one record, no goal names a clause, so one edit of that law is tried at a time. A definition that only laws see is
+tried beside edits of functions. Any other is tried alone, since its edit changes all that read it. An edit that is refused otherwise has failed, unless
 tools/edits_refused_otherwise.txt names it, with the goal and the reason.
 
 Each check has one edit more, which means the same as before. It has to be reported as proved. So a check that sees nothing
@@ -329,7 +329,7 @@ class Edit:
     def __init__(self, path, crate, source):
         self.path, self.name = path, f"{crate}/{os.path.basename(path)[: -len('.edit')]}"
         self.rows, self.functions, self.definitions, self.judged, self.reach, self.clauses = {}, [], [], [], [], set()
-        self.is_alone = True
+        self.is_alone, self.is_of_laws = True, False
         self.bad = self.apply(text_of(path), source)
         if not self.bad:
             self.place(source)
@@ -371,10 +371,18 @@ class Edit:
         named = self.name.rpartition("/")[2].rpartition(".")[0].rpartition(".")[2]
         among = (not others and self.functions) or stated
         self.judged = [it for it in among or source.functions if it.name == named] or among
+        self.is_of_laws = not self.is_alone and self.is_seen_by_laws_alone(source)
         if not self.judged:
             self.bad = "it is of no function, and its name begins with none: nothing says which one has to be refused"
         elif not self.is_alone and all(it.is_law() for it in [*self.functions, *self.judged]):
             self.clauses = self.clauses_of_laws(source)
+
+    def is_seen_by_laws_alone(self, source):
+        """Whether it is of definitions that nothing of src/ sees but laws. So it changes no other function's proof."""
+        names = source.resting_on(self.definitions)
+        seeing = {file for file, text in source.texts.items() if file.endswith(".rt") and seen_from(text, names)}
+        reach = [*self.reach, *(it for it in source.functions if it.file in seeing)]
+        return bool(self.definitions) and all(it.is_law() for it in reach)
 
     def clauses_of_laws(self, source):
         """The clauses that an edit of laws changes, or whose answers rest on what it changes. Of each the law, and the goal. None
@@ -417,11 +425,26 @@ def stop_on_clash(edits):
 
 
 def grouped(edits):
-    """The edits in few lists, each about as long as the others, in which no two clash. One of a definition is tried without
-    others, since a lemma that it refuses could be theirs. Those of laws go together if no clause depends on two of them."""
+    """The edits in few lists, each about as long as the others, in which no two clash. Those of laws go together if no clause
+    depends on two of them, and beside edits of functions if only laws see what they change. Another one of a definition is tried
+    without others, since a lemma that it refuses could be theirs."""
     fit = [it for it in edits if not it.bad and not it.is_alone]
     together, of_laws = [it for it in fit if not it.definitions], [it for it in fit if it.definitions and it.clauses]
-    return [*spread(together), *spread(of_laws), *([it] for it in edits if it not in together and it not in of_laws)]
+    lists = spread(together)
+    for more in [*spread(of_laws), *([it] for it in edits if it not in together and it not in of_laws)]:
+        free = [one for one in lists if may_join(more, one)]
+        if free:
+            min(free, key=len).extend(more)
+        else:
+            lists.append(more)
+    return lists
+
+
+def may_join(more, edits):
+    """Whether edits of definitions can be tried beside these of functions."""
+    pairs = [(it, other) for it in more for other in edits]
+    return (len(more) + len(edits) <= MOST and all(it.is_of_laws for it in more)
+            and not any(other.bad or other.definitions or it.clash(other) or it.differs(other) for it, other in pairs))
 
 
 def spread(edits):
