@@ -1,4 +1,4 @@
-"""The page's controls, used as by hand: files, slider, keys, wheel, plot, canvas, saving, examples."""
+"""The page's controls, used as by hand: files, slider, keys, wheel, plot, canvas, wrong fields, hints, saving, examples."""
 
 import base64
 import math

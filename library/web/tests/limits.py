@@ -1,4 +1,4 @@
-"""The page at its limits: little memory, a full stack, many openings, a large part."""
+"""The page at its limits: little memory, a full stack, many openings, a worker that fails, a large part."""
 
 import os
 
