@@ -72,7 +72,7 @@ abbrev pub IsInputFault : (List ℕ → ReadFault → Type 0) → Option (List �
 IsInputFault is known f = (f ≡ fault.Read) ⊎ (f ≡ fault.Memory) ⊎ ((input : List ℕ) × IsInput known input × is input f)
 
 -- What a call that reads a source to its end promises, by what is made of an input, and by which faults are an input's own.
-pub record IsReadAs {T : Type 0} (is_made : List ℕ → T → Type 0) (is_own : List ℕ → ReadFault → Type 0) (result : Result T ReadFault)
+pub record IsMadeOfSource {T : Type 0} (is_made : List ℕ → T → Type 0) (is_own : List ℕ → ReadFault → Type 0) (result : Result T ReadFault)
     (source : Transcript) : Type 0 where
   -- its result is made of the whole input
   pub ok : IfOk result (λ made. (input : List ℕ) × IsInput source.old input × is_made input made)

@@ -10,7 +10,7 @@ use geometry::{Facet, Point, extent_with};
 pub struct Extent {
     /// The number of facets.
     pub count: usize,
-    /// The points of the least and of the greatest x, y and z.
+    /// The corners of least and of greatest x, y and z, in micrometres; `None` if there are no facets.
     pub corners: Option<(Point, Point)>,
 }
 

@@ -4,7 +4,7 @@ ghost use Rattle.std.specs.Io.KnownBytes.{IsAtEnd};
 ghost use Rattle.geometry.specs.Facet.{Facet};
 ghost use Rattle.micro_num.specs.declared.unit.Unit.{Unit as LengthUnit};
 ghost use Rattle.devices.specs.Devices.{Fails};
-ghost use Rattle.mesh_reading.specs.Loading.{IsAllWelded, IsFedBySource, IsLoadFault, IsLoaded, IsMisread, IsReadAs, IsReadToEnd, IsSolidOf, IsTextExtent, OfText};
+ghost use Rattle.mesh_reading.specs.Loading.{IsAllWelded, IsFedBySource, IsLoadFault, IsLoaded, IsMadeOfSource, IsMisread, IsReadToEnd, IsSolidOf, IsTextExtent, OfText};
 ghost use Rattle.devices.specs.Transcript.{transcript_of};
 ghost use Rattle.mesh_reading.specs.declared.read_fault.ReadFault.TheVariants.{Read};
 
@@ -59,7 +59,7 @@ pub fn read_solid<A: Allocator + Copy + Send + Sync, I: Source>(
     source: &mut I,
     unit: Unit,
 ) -> Result<Solid<A>, ReadFault>
-    ensures { IsReadAs (IsSolidOf unit) (IsLoadFault unit) result
+    ensures { IsMadeOfSource (IsSolidOf unit) (IsLoadFault unit) result
         (transcript_of I.remaining I.Failures.failure_count source.old source.new) }
 {
     let mut fresh = Vec::new(alloc);
@@ -81,7 +81,7 @@ pub fn read_solid_by<R: Threads + Sync, A: Allocator + Copy + Send + Sync, I: So
     unit: Unit,
     workers: u32,
 ) -> Result<Solid<A>, ReadFault>
-    ensures { IsReadAs (IsSolidOf unit) (IsLoadFault unit) result
+    ensures { IsMadeOfSource (IsSolidOf unit) (IsLoadFault unit) result
         (transcript_of I.remaining I.Failures.failure_count source.old source.new) }
 {
     if workers < 2 {
@@ -191,7 +191,7 @@ pub fn read_extent<A: Allocator + Copy + Send + Sync, I: Source>(
     source: &mut I,
     unit: Unit,
 ) -> Result<Extent, ReadFault>
-    ensures { IsReadAs (IsTextExtent unit) (IsMisread unit) result
+    ensures { IsMadeOfSource (IsTextExtent unit) (IsMisread unit) result
         (transcript_of I.remaining I.Failures.failure_count source.old source.new) }
 {
     let mut reader = TextReader::new(alloc, FACET_LIMIT, unit);

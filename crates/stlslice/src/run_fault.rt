@@ -21,8 +21,8 @@ pub enum RunFault {
     /// The input does not read as facets. Nothing was written.
     #[error("stlslice: {0}")]
     Stl(StlFault),
-    /// The mesh is not closed: the numbers of half-edges from `from` to `to` and back differ. Of all such pairs with
-    /// `from` before `to` this is the least. Nothing was written.
+    /// The mesh is not closed: `there` half-edges run from `from` to `to`, and `back` half-edges run back. Both points are in
+    /// micrometres. Of all pairs whose two numbers differ, with `from` before `to`, this is the least. Nothing was written.
     #[error("stlslice: open edge {} {} {} to {} {} {} there {there} back {back}", .from.x(), .from.y(), .from.z(), .to.x(), .to.y(), .to.z())]
     Open {
         from: Point,
@@ -51,7 +51,8 @@ pub enum RunFault {
 }
 
 impl RunFault {
-    /// The exit status of a program that ends with this fault.
+    /// The exit status of a program that ends with this fault: 3 for `Stl`, 4 for `Open`, 5 for `Grid` and `Outside`, 6 for
+    /// `Memory`, 7 for `Read` and `Write`.
     pub fn status(&self) -> u8
         ensures { result ≡ run_status self.now }
     {

@@ -81,7 +81,8 @@ pub enum WordFault {
 }
 
 impl WordFault {
-    /// The exit status of a program that ends with this fault; 0 if the words ask for help or for the version.
+    /// The exit status of a program that ends with this fault: 0 if the words ask for help or for the version, 6 for `Memory`,
+    /// otherwise 2.
     pub fn status(&self) -> u8
         ensures { IsWordStatus self.now result }
     {

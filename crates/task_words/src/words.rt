@@ -118,22 +118,24 @@ fn slicing_of(
     }
 }
 
+/// The rule. The command has a default for it, so there is always a text.
 fn rule_of(matches: &ArgMatches<'_>) -> Result<Rule, WordFault>
     ensures { IfErr result (λ fault. fault ≡ BadRule) }
 {
-    match matches.get_str(RULE) {
-        Some(text) => read_rule(text).ok_or(WordFault::BadRule),
-        None => Ok(Rule::EvenOdd),
-    }
+    matches
+        .get_str(RULE)
+        .and_then(read_rule)
+        .ok_or(WordFault::BadRule)
 }
 
+/// The unit. The command has a default for it too.
 fn unit_of(matches: &ArgMatches<'_>) -> Result<Unit, WordFault>
     ensures { IfErr result (λ fault. fault ≡ BadUnit) }
 {
-    match matches.get_str(UNIT) {
-        Some(text) => read_unit(text).ok_or(WordFault::BadUnit),
-        None => Ok(Unit::Millimetre),
-    }
+    matches
+        .get_str(UNIT)
+        .and_then(read_unit)
+        .ok_or(WordFault::BadUnit)
 }
 
 fn grid_of(matches: &ArgMatches<'_>) -> Result<Option<Given>, WordFault>
@@ -179,13 +181,14 @@ fn pngs_of(matches: &ArgMatches<'_>) -> Result<Option<Pngs>, WordFault>
     Ok(Some(Pngs { depth, mirrors }))
 }
 
+/// The depth. The command has a default for it too.
 fn depth_of(matches: &ArgMatches<'_>) -> Result<Depth, WordFault>
     ensures { IfErr result (λ fault. fault ≡ BadDepth) }
 {
-    match matches.get_str(DEPTH) {
-        Some(text) => read_depth(text).ok_or(WordFault::BadDepth),
-        None => Ok(Depth::Eight),
-    }
+    matches
+        .get_str(DEPTH)
+        .and_then(read_depth)
+        .ok_or(WordFault::BadDepth)
 }
 
 /// The first option of PNGs that is given.

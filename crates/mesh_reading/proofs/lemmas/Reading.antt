@@ -17,7 +17,7 @@ use Rattle.mesh_weld.specs.Welder.{Welder}
 use Rattle.mesh_weld.specs.Welding.{IsWeldFault}
 use Rattle.mesh_weld.specs.declared.weld_fault.WeldFault.{WeldFault}
 use Rattle.mesh_weld.specs.declared.weld_fault.WeldFault.TheVariants as weld
-use Rattle.mesh_reading.specs.Loading.{AreWelded, HasWelded, IsFedBySource, IsInput, IsInputFault, IsLoadFault, IsLoaded, IsMisread, IsReadAs, IsReadToEnd, IsSolidOf, IsTextExtent, IsWeldedAsFed, OfText}
+use Rattle.mesh_reading.specs.Loading.{AreWelded, HasWelded, IsFedBySource, IsInput, IsInputFault, IsLoadFault, IsLoaded, IsMadeOfSource, IsMisread, IsReadToEnd, IsSolidOf, IsTextExtent, IsWeldedAsFed, OfText}
 use Rattle.devices.specs.Transcript.{Transcript}
 use Rattle.mesh_reading.specs.declared.extent.Extent.{Extent}
 use Rattle.mesh_reading.proofs.lemmas.Faults.{IsReadingFault, not_read, passed_on, unclosed}
@@ -72,7 +72,7 @@ no_read P none (inr h) = none h
 -- if all was read, the result is made of the input, or a fault of it, or memory is short
 read_as : {T : Type 0} (r : Result T ReadFault) (is_made : List ℕ → T → Type 0) (is_own : List ℕ → ReadFault → Type 0) (source : Transcript)
     (input : List ℕ) → IsInput source.old input → IsAtEnd source.new → source.failed ≡ source.failed_before → (is_own input fault.Read → ⊥)
-    → IfOk r (is_made input) → IfErr r (λ f. (f ≡ fault.Memory) ⊎ is_own input f) → IsReadAs is_made is_own r source
+    → IfOk r (is_made input) → IfErr r (λ f. (f ≡ fault.Memory) ⊎ is_own input f) → IsMadeOfSource is_made is_own r source
 read_as r is_made is_own source input is end sound none ok err = record {
   ok = IfOk-weaker r _ _ (λ made h. (input, is, h)) ok;
   err = IfErr-weaker r _ _ (λ f h. known f h) err;
@@ -91,7 +91,7 @@ read_whole : {T : Type 0} (r : Result T ReadFault) (is_made : List ℕ → T →
     → source.failed ≡ source.failed_before → ((input : List ℕ) → is_own input fault.Read → ⊥)
     → ((input : List ℕ) → IsAfter FACET_LIMIT unit taken reader input
     → IfOk r (is_made input) × IfErr r (λ f. (f ≡ fault.Memory) ⊎ is_own input f))
-    → IsReadAs is_made is_own r source
+    → IsMadeOfSource is_made is_own r source
 read_whole r is_made is_own source unit taken reader fed end sound none comes =
     let input : List ℕ = fed.0 in
     let is : IsInput source.old input = Consumes-whole source.old source.new input (λ (known : List ℕ). input ≡ known) fed.1 end refl in
@@ -101,7 +101,7 @@ read_whole r is_made is_own source unit taken reader fed end sound none comes =
 -- a mesh is made of all that was read
 pub solid_read : (r : Result Solid ReadFault) (source : Transcript) (unit : LengthUnit) (taken : List Facet) (reader : TextReader) (welder : Welder)
     → OfText welder reader (λ of fed. IsLoaded of fed r) → AreWelded taken welder → IsFedBySource unit taken reader source.old source.new
-    → IsAtEnd source.new → source.failed ≡ source.failed_before → IsReadAs (IsSolidOf unit) (IsLoadFault unit) r source
+    → IsAtEnd source.new → source.failed ≡ source.failed_before → IsMadeOfSource (IsSolidOf unit) (IsLoadFault unit) r source
 solid_read r source unit taken reader welder loads welded fed end sound =
     read_whole r (IsSolidOf unit) (IsLoadFault unit) source unit taken reader fed end sound (λ input h. not_read unit input fault.Read h refl)
     (λ input is.
@@ -112,7 +112,7 @@ solid_read r source unit taken reader welder loads welded fed end sound =
 pub extent_read : (r : Result Extent ReadFault) (source : Transcript) (unit : LengthUnit) (taken : List Facet) (reader : TextReader)
     → IsFedBySource unit taken reader source.old source.new → IsAtEnd source.new → source.failed ≡ source.failed_before
     → ((input : List ℕ) → IsAfter FACET_LIMIT unit taken reader input → IfOk r (IsTextExtent unit input) × IfErr r (IsReadingFault unit input))
-    → IsReadAs (IsTextExtent unit) (IsMisread unit) r source
+    → IsMadeOfSource (IsTextExtent unit) (IsMisread unit) r source
 extent_read r source unit taken reader fed end sound comes =
     read_whole r (IsTextExtent unit) (IsMisread unit) source unit taken reader fed end sound
     (λ input h. let no : fault.Read ≡ fault.Stl h.0 = h.1 in cc) comes
@@ -121,7 +121,7 @@ extent_read r source unit taken reader fed end sound comes =
 pub stopped_as : {T : Type 0} (r : Result T ReadFault) (is_made : List ℕ → T → Type 0) (is_own : List ℕ → ReadFault → Type 0) (source : Transcript)
     (f : ReadFault) → IsErrAnd r (λ x. x ≡ f) → (f ≡ fault.Read) ⊎ (f ≡ fault.Memory)
     → (f ≡ fault.Read → Fails source.failed_before source.failed) → (f ≢ fault.Read → source.failed ≡ source.failed_before)
-    → IsReadAs is_made is_own r source
+    → IsMadeOfSource is_made is_own r source
 stopped_as (Ok x) is_made is_own source f is why unread sound = absurd is
 stopped_as (Err x) is_made is_own source f is why unread sound = record {
   ok = tt;

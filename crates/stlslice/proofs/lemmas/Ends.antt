@@ -10,7 +10,7 @@ use Rattle.raster.specs.declared.rule.Rule.{Rule}
 use Rattle.build_book.specs.Job.{Job}
 use Rattle.task_words.specs.declared.task.Given.{Given}
 use Rattle.task_words.specs.declared.task.Task.{Task}
-use Rattle.mesh_reading.specs.Loading.{IsInput, IsInputFault, IsReadAs, IsSolidOf}
+use Rattle.mesh_reading.specs.Loading.{IsInput, IsInputFault, IsMadeOfSource, IsSolidOf}
 use Rattle.devices.specs.Transcript.{Transcript}
 use Rattle.mesh_reading.specs.declared.read_fault.ReadFault.{ReadFault}
 use Rattle.mesh_reading.specs.declared.read_fault.ReadFault.TheVariants as read
@@ -157,7 +157,7 @@ failed_reading (Err x) t source sink settled f is known whole unread sound kept 
 
 -- a run ends with a fault of reading its input
 pub unready : {T U : Type 0} (r : Result T RunFault) (t : Task) (source sink : Transcript) (settled : Bool) (is_made : List ℕ → U → Type 0)
-    (is_own : List ℕ → ReadFault → Type 0) (f : ReadFault) → IsErrAnd r (λ x. x ≡ of_read f) → IsReadAs is_made is_own (Err f) source
+    (is_own : List ℕ → ReadFault → Type 0) (f : ReadFault) → IsErrAnd r (λ x. x ≡ of_read f) → IsMadeOfSource is_made is_own (Err f) source
     → ((input : List ℕ) → is_own input f → IsReadingFault t input f) → IsUntouched sink → IsRun t r source sink settled
 unready r t source sink settled is_made is_own f is reading own kept =
     failed_reading r t source sink settled f is (by_input source.old is_own (IsReadingFault t) f own reading.err)
@@ -218,7 +218,7 @@ no_answer P (Err x) f e = tt
 
 -- a run ends with a fault after its reading, before the first byte is written
 pub ended_early : {T U : Type 0} (r : Result T RunFault) (t : Task) (source sink : Transcript) (settled : Bool) (is_made : List ℕ → U → Type 0)
-    (is_own : List ℕ → ReadFault → Type 0) (made : U) (f : RunFault) → IsReadAs is_made is_own (Ok made) source → IsUntouched sink
+    (is_own : List ℕ → ReadFault → Type 0) (made : U) (f : RunFault) → IsMadeOfSource is_made is_own (Ok made) source → IsUntouched sink
     → ((input : List ℕ) → is_made input made → IsWorkFault t input f) → IsErrAnd r (λ x. x ≡ f) → IsRun t r source sink settled
 ended_early r t source sink settled is_made is_own made f reading kept known e =
     let from = reading.ok in
@@ -227,7 +227,7 @@ ended_early r t source sink settled is_made is_own made f reading kept known e =
 
 -- a run writes this text after its reading
 pub ran : {T U : Type 0} (r : Result T RunFault) (t : Task) (source sink : Transcript) (settled : Bool) (is_made : List ℕ → U → Type 0)
-    (is_own : List ℕ → ReadFault → Type 0) (made : U) (text : List ℕ) → IsReadAs is_made is_own (Ok made) source
+    (is_own : List ℕ → ReadFault → Type 0) (made : U) (text : List ℕ) → IsMadeOfSource is_made is_own (Ok made) source
     → ((input : List ℕ) → is_made input made → IsOutcome t input (Ok text))
     → OnOk r (settled ≡ true) → OnOk r (Appends sink.old sink.new text) → OnOk r (sink.failed ≡ sink.failed_before)
     → IfErr r (λ f. ((f ≡ fault.Memory) × IsUntouched sink) ⊎ IsUnwritten sink text f) → IsRun t r source sink settled
@@ -241,7 +241,7 @@ ran r t source sink settled is_made is_own made text reading outcome flushed ok 
 
 -- the same, where memory is no fault of the writing
 pub ran_line : {T U : Type 0} (r : Result T RunFault) (t : Task) (source sink : Transcript) (settled : Bool) (is_made : List ℕ → U → Type 0)
-    (is_own : List ℕ → ReadFault → Type 0) (made : U) (text : List ℕ) → IsReadAs is_made is_own (Ok made) source
+    (is_own : List ℕ → ReadFault → Type 0) (made : U) (text : List ℕ) → IsMadeOfSource is_made is_own (Ok made) source
     → ((input : List ℕ) → is_made input made → IsOutcome t input (Ok text))
     → OnOk r (settled ≡ true) → OnOk r (Appends sink.old sink.new text) → OnOk r (sink.failed ≡ sink.failed_before)
     → IfErr r (IsUnwritten sink text) → IsRun t r source sink settled

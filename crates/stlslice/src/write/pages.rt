@@ -67,16 +67,19 @@ pub(crate) trait Drawing<P> {
         ensures { result.now ≡ bytes page.now };
 }
 
-/// Two sets of `count` pages. The images of any `per` layers fit each page. Those of the first set have no image.
+/// Two sets of pages for up to `workers` workers. A set has a page for each of them, but no more than all layers fill, and one at
+/// least. The images of any `per` layers fit each page. Those of the first set have no image.
 pub(crate) fn page_sets<P: Drop, D: Drawing<P>, A: Allocator + Copy>(
     alloc: A,
     drawing: &D,
-    count: usize,
+    workers: usize,
 ) -> Result<(Vec<P, A>, Vec<P, A>), AllocError>
-    ensures count_drawn { IfOk result (λ sets. vec_len sets.0 ≡ count) }
-    ensures count_free { IfOk result (λ sets. vec_len sets.1 ≡ count) }
+    ensures some_drawn { IfOk result (λ sets. 0 < vec_len sets.0) }
+    ensures some_free { IfOk result (λ sets. 0 < vec_len sets.1) }
     ensures sets { IfOk result (λ sets. ArePageSets D.bytes (D.fits drawing.now) sets.0.items sets.1.items) }
 {
+    let layers = drawing.layers();
+    let count = layers.div_ceil(drawing.per()).min(workers).max(1);
     let drawn = blank_pages(alloc, drawing, count)?;
     let free = blank_pages(alloc, drawing, count)?;
     Ok((drawn, free))
@@ -120,7 +123,7 @@ pub(crate) fn write_by_pages<
 }
 
 /// Writes the images of all layers, and returns the number of bytes written. They are drawn into the pages `free`, by one worker
-/// a page. Meanwhile those in the pages `drawn`, which have none at first, are written.
+/// a page. Meanwhile those in the pages `drawn` are written. At first the pages `drawn` have no image.
 fn put_by_pages<
     R: Threads + Sync,
     P: Send + Sync + Drop,

@@ -14,7 +14,8 @@ use layer_png::{Depth, Mirrors};
 use std::alloc::Allocator;
 use std::thread::Threads;
 
-/// The greatest number of bytes of a page, unless one PNG takes more. So a worker is done in some milliseconds, and others write.
+/// The greatest number of bytes of a page, unless one PNG takes more. A worker fills a page in some milliseconds, so the thread
+/// that writes seldom waits.
 const PAGE_LEN: usize = 1 << 20;
 
 /// The same as [`write_pngs`], for a build by several workers. If rows have many spans, up to `workers` workers make PNGs
@@ -34,23 +35,24 @@ pub(crate) fn write_pngs_by<R: Threads + Sync, A: Allocator + Copy + Send + Sync
         (O.is_settled sink.new) (pngs_of build.now.job depth mirrors) }
 {
     let room = room_for_png(build, depth);
-    let workers = makers(build, room, workers);
-    if workers == 0 {
-        return write_pngs(alloc, build, depth, mirrors, sink);
+    match makers(build, room, workers) {
+        Some(workers) => {
+            let per = pngs_a_page(build, room, workers);
+            let pngs = Pngs {
+                alloc,
+                build,
+                depth,
+                mirrors,
+                room,
+                per,
+            };
+            write_made_pngs(rt, &pngs, workers, sink)
+        }
+        None => write_pngs(alloc, build, depth, mirrors, sink),
     }
-    let per = pngs_a_page(build, room, workers);
-    let pngs = Pngs {
-        alloc,
-        build,
-        depth,
-        mirrors,
-        room,
-        per,
-    };
-    write_made_pngs(rt, &pngs, workers, sink)
 }
 
-/// Writes the PNGs of all layers, made in pages by up to `workers` workers. If there is no memory for the pages, one worker
+/// Writes the PNGs of all layers, made in pages by up to `workers` workers. If there is no memory for the pages, one writer
 /// does all.
 fn write_made_pngs<R: Threads + Sync, A: Allocator + Copy + Send + Sync, O: Sink>(
     rt: &R,
@@ -62,27 +64,20 @@ fn write_made_pngs<R: Threads + Sync, A: Allocator + Copy + Send + Sync, O: Sink
         (transcript_of O.contents O.Failures.failure_count sink.old sink.new)
         (O.is_settled sink.new) (pngs_of pngs.now.build.now.job pngs.now.depth pngs.now.mirrors) }
 {
-    let count = pngs
-        .build
-        .layers()
-        .len()
-        .div_ceil(pngs.per)
-        .min(workers)
-        .max(1);
-    match page_sets(pngs.alloc, pngs, count) {
+    match page_sets(pngs.alloc, pngs, workers) {
         Ok((drawn, free)) => write_by_pages(rt, pngs, drawn, free, sink),
         Err(_) => write_pngs(pngs.alloc, pngs.build, pngs.depth, pngs.mirrors, sink),
     }
 }
 
-/// The number of workers that make PNGs at the same time. It is 0 if one makes them all: if there is one, a set of pages has no
-/// room for two, or rows have few spans.
-fn makers<A: Allocator>(build: &Build<'_, A>, room: usize, workers: u32) -> usize {
+/// The number of workers that make PNGs at the same time. It is `None` if one writer does all: if there is one worker, a set of
+/// pages has no room for two PNGs, or rows have few spans.
+fn makers<A: Allocator>(build: &Build<'_, A>, room: usize, workers: u32) -> Option<usize> {
     let makers = (workers as usize).min(SET_LEN / room.max(1));
     if makers > 1 && has_many_spans(build) {
-        makers
+        Some(makers)
     } else {
-        0
+        None
     }
 }
 
