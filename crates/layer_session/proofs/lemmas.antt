@@ -1,3 +1,4 @@
+pub mod Images
 pub mod Inputs
 pub mod Lengths
 pub mod OneAnswer

@@ -1,5 +1,5 @@
 -- What the calls of a session return, and when they return a fault.
-use Rattle.std.specs.Prelude.{◌≡◌, ◌⊎◌, ◌<◌, ◌≤◌, ℕ, ℤ, List, Bool, Result, Ok, Err, flat_map, if◌then◌else◌}
+use Rattle.std.specs.Prelude.{◌≡◌, ◌⊎◌, ◌<◌, ◌≤◌, ◌-◌, ℕ, ℤ, List, Bool, Result, Ok, Err, flat_map, if◌then◌else◌}
 use Rattle.std.specs.List.{range_with_len}
 use Rattle.geometry.specs.Winding.{ray, ray_y}
 use Rattle.raster.specs.Filler.{is_filled}
@@ -16,6 +16,10 @@ use Rattle.layer_session.specs.declared.session_fault.SessionFault.TheVariants a
 -- the image of layer k of a job
 abbrev pub image_of : Job → ℕ → List ℕ
 image_of job k = layer_image job.grid job.rule job.solid.facets k
+
+-- the images of the layers from a number up to, but not including, another
+abbrev pub images_between : Job → ℕ → ℕ → List ℕ
+images_between job from to = flat_map (image_of job) (range_with_len from (to - from))
 
 -- the pixel of column x and row y of the PNG of layer k, from the left and from the top, is white: its voxel is filled
 abbrev pub is_white_pixel : Job → ℕ → Mirrors → ℕ → ℕ → Bool

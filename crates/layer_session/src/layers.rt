@@ -1,6 +1,5 @@
 //! What is made of a job's layers: loops, as segments and as points, filled pixels and their number, images and PNGs.
-ghost use Rattle.std.specs.Prelude.{◌≡◌, ◌<◌, [], All, IfOk, OnOk};
-ghost use Rattle.std.specs.Io.KnownBytes.{Appends};
+ghost use Rattle.std.specs.Prelude.{◌≡◌, ◌<◌, ◌≤◌, ◌≤ℤ◌, ◌+◌, ◌++◌, All, IfOk, OnOk, length};
 ghost use Rattle.build_book.specs.Job.{stripe_count};
 ghost use Rattle.build_book.specs.Layer.{layer_segments};
 ghost use Rattle.plane_segments.specs.Segment.{HasOrderedNodes};
@@ -11,14 +10,12 @@ ghost use Rattle.layer_png.specs.Layer.{grey};
 ghost use Rattle.layer_png.specs.Png.{IsPng};
 ghost use Rattle.raster.specs.Filler.{IsFillOf, area_of};
 ghost use Rattle.raster.specs.Grid.{plane};
-ghost use Rattle.raster.specs.Image.{image_of_pixels};
-ghost use Rattle.raster.specs.Span.{AreSpans, covers};
-ghost use Rattle.layer_session.specs.Answers.{image_of, is_white_pixel, png_of_layer, stripe_images};
+ghost use Rattle.layer_session.specs.Answers.{image_of, images_between, is_white_pixel, png_of_layer, stripe_images};
 
-use build_book::{Job, slice_stripe};
-use contour::{Linker, Loops, Outlines, segments};
+use build_book::Job;
+use contour::{Linker, Loops, Outlines, Sweep, segments};
 use layer_png::{Depth, Mirrors, write_png};
-use raster::{Counted, Grid, Sink, Span, area, fill, image_len, write_layer};
+use raster::{Filler, Page, Span, area, fill, image_len};
 use std::alloc::{AllocError, Allocator};
 
 /// The loops of layer k of a job.
@@ -94,9 +91,9 @@ pub(crate) fn layer_image<A: Allocator + Copy + Send + Sync>(
     ensures { IfOk result (λ image. image.items ≡ image_of job.now k) }
 {
     let spans = layer_spans(alloc, job, k)?;
-    let mut sink = sink_for(alloc, job.grid(), 1)?;
-    put_image(job.grid(), spans.as_slice(), &mut sink)?;
-    Ok(sink.into_inner())
+    let mut page = Page::new(alloc, image_len(job.grid()) as usize)?;
+    draw_spans(job, k, spans.as_slice(), &mut page);
+    Ok(page.into_bytes())
 }
 
 /// The PNG of layer k of a job.
@@ -131,33 +128,64 @@ pub(crate) fn stripe_images<A: Allocator + Copy + Send + Sync>(
     requires { s < stripe_count job.now.grid }
     ensures { IfOk result (λ images. images.items ≡ stripe_images job.now s) }
 {
-    let grid = job.grid();
-    let piece = slice_stripe(alloc, job, s)?;
-    let layers = piece.layers();
-    let mut sink = sink_for(alloc, grid, layers.len())?;
-    for layer in layers {
-        put_image(grid, layer.spans(), &mut sink)?;
-    }
-    Ok(sink.into_inner())
+    let (first, end) = job.layer_range(s);
+    let room = u64::from(end - first) * image_len(job.grid());
+    let mut page = Page::new(alloc, room as usize)?;
+    draw_layers(alloc, job, first, end, &mut page)?;
+    Ok(page.into_bytes())
 }
 
-/// A sink in memory, which `count` images of this grid fit. No clause says so.
-fn sink_for<A: Allocator>(
+/// Draws the images of the layers from `first` up to, but not including, `end`, by one sweep.
+fn draw_layers<A: Allocator + Copy + Send + Sync>(
     alloc: A,
-    grid: &Grid,
-    count: usize,
-) -> Result<Counted<Vec<u8, A>>, AllocError>
-    ensures { IfOk result (λ sink. sink.device.items ≡ []) }
+    job: &Job<A>,
+    first: u32,
+    end: u32,
+    page: &mut Page<A>,
+) -> Result<(), AllocError>
+    requires some { first < end }
+    requires within { end ≤ job.now.grid.layers }
+    requires room { length page.old.bytes + length (images_between job.now first end) ≤ page.old.room }
+    ensures { OnOk result (page.new.bytes ≡ page.old.bytes ++ images_between job.now first end) }
 {
-    let room = image_len(grid).saturating_mul(count as u64);
-    Ok(Counted::new(Vec::with_capacity(alloc, room as usize)?))
+    let mut sweep = Sweep::start(alloc, job.solid(), job.grid().plane(first))?;
+    let mut filler = Filler::new(alloc);
+    for k in first..end {
+        draw_layer(job, k, &mut sweep, &mut filler, page)?;
+    }
+    Ok(())
 }
 
-/// Puts the image of the pixels in these spans after what a sink in memory has.
-fn put_image<W: Sink>(grid: &Grid, spans: &[Span], sink: &mut W) -> Result<(), AllocError>
-    requires { AreSpans grid.now.columns grid.now.rows spans.now }
-    ensures { OnOk result (Appends (W.contents sink.old) (W.contents sink.new)
-        (image_of_pixels grid.now.columns grid.now.rows (covers spans.now))) }
+/// Raises the sweep to the plane of layer k, and draws the image of the layer.
+fn draw_layer<A: Allocator + Copy + Send + Sync>(
+    job: &Job<A>,
+    k: u32,
+    sweep: &mut Sweep<'_, A>,
+    filler: &mut Filler<A>,
+    page: &mut Page<A>,
+) -> Result<(), AllocError>
+    requires place { k < job.now.grid.layers }
+    requires solid { sweep.old.facets ≡ job.now.solid.facets }
+    requires height { sweep.old.height ≤ℤ plane job.now.grid k }
+    requires room { length page.old.bytes + length (image_of job.now k) ≤ page.old.room }
+    ensures solid { OnOk result (sweep.new.facets ≡ sweep.old.facets) }
+    ensures height { OnOk result (sweep.new.height ≡ plane job.now.grid k) }
+    ensures drawn { OnOk result (page.new.bytes ≡ page.old.bytes ++ image_of job.now k) }
+    ensures room { OnOk result (page.new.room ≡ page.old.room) }
 {
-    write_layer(grid, spans, sink).map_err(|_| AllocError)
+    sweep.advance(job.grid().plane(k))?;
+    let list = sweep.segments()?;
+    let spans = filler.fill(job.solid(), job.grid(), job.rule(), k, list.as_slice())?;
+    draw_spans(job, k, spans.as_slice(), page);
+    Ok(())
+}
+
+/// Draws the image of layer k, of which these spans are the filled pixels.
+fn draw_spans<A: Allocator>(job: &Job<A>, k: u32, spans: &[Span], page: &mut Page<A>)
+    requires filled { IsFillOf job.now.grid job.now.rule job.now.solid.facets k spans.now }
+    requires room { length page.old.bytes + length (image_of job.now k) ≤ page.old.room }
+    ensures drawn { page.new.bytes ≡ page.old.bytes ++ image_of job.now k }
+    ensures room { page.new.room ≡ page.old.room }
+{
+    page.draw(job.grid(), spans);
 }

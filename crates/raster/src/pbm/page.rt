@@ -1,4 +1,4 @@
-//! Images that are drawn before they are written, so that several threads can draw at the same time.
+//! Images that are drawn into memory, so that several threads can draw before one of them writes, or a caller can take them.
 ghost use Rattle.std.specs.Prelude.{◌≡◌, ◌≤◌, ◌+◌, [], ◌++◌, IfOk, length};
 ghost use Rattle.std.specs.Int.{div_ceil};
 ghost use Rattle.raster.specs.Span.{AreSpans, covers};
@@ -51,11 +51,22 @@ impl<A: Allocator> Page<A> {
         bytes
     }
 
-    /// Removes all images.
+    /// The bytes of the images, in the page's memory, without the free room after them.
+    pub fn into_bytes(self) -> Vec<u8, A>
+        ensures { result.items ≡ self.bytes }
+    {
+        let Page { mut room, filled } = self;
+        room.truncate(filled);
+        room
+    }
+
+    /// Removes all images: sets the bytes that they took to 0, as the others are.
     pub fn clear(&mut self)
         ensures { self.new ≡ record { bytes = []; room = self.old.room } }
     {
-        self.room.as_mut_slice().fill(0);
+        let filled = self.filled;
+        let (drawn, _) = self.room.split_at_mut(filled);
+        drawn.fill(0);
         self.filled = 0;
     }
 

@@ -1,16 +1,22 @@
-use Rattle.std.proofs.Common.{◌≡◌, ◌∙◌, rules}
-use Rattle.raster.specs.Filler.{is_filled}
-use Rattle.raster.specs.Grid.{centre}
-use Rattle.raster.specs.Image.{image_of_pixels}
-use Rattle.raster.specs.Span.{covers}
-use Rattle.raster.proofs.lemmas.Images.{same-image}
+use Rattle.std.proofs.Common.{◌≡◌, ◌∙◌, ◌++◌, ap, arith, length}
+use Rattle.raster.specs.Page.{Page}
+use Rattle.layer_session.specs.Answers.{image_of}
+use Rattle.layer_session.proofs.lemmas.Lengths.{length-image}
 use Rattle.layer_session.proofs.layers.layer_image.Goals as goal
+
+pub draw_spans-requires-clause-room : goal.draw_spans-requires-clause-room
+draw_spans-requires-clause-room g c =
+    let size : length (image_of c.args.job.now c.args.k) ≡ c.image_len.result =
+    length-image c.args.job.now c.args.k c.image_len.result c.grid.result.now c.grid.ensures c.image_len.ensures.value in
+    omega (
+      arith,
+      size,
+      ap (λ (p : Page). p.room) c.in_ok-page.ensures,
+      ap (λ (p : Page). length p.bytes) c.in_ok-page.ensures,
+    )
 
 pub returns : goal.returns
 returns g c =
-    let job = c.args.job.now in
-    let spans = c.in_ok-spans.spans.items in
-    let out : c.into_inner.result.items ≡ image_of_pixels job.grid.columns job.grid.rows (covers spans) = search rules in
-    out
-    ∙ same-image job.grid.columns job.grid.rows (covers spans) (λ i j. is_filled job.rule job.solid.facets (centre job.grid i j c.args.k))
-    c.in_ok-spans.ensures.filled
+    c.into_bytes.ensures
+    ∙ c.draw_spans.ensures.drawn
+    ∙ ap (λ (p : Page). p.bytes ++ image_of c.args.job.now c.args.k) c.in_ok-page.ensures
