@@ -8,12 +8,18 @@ use std::sync::{Mutex, Wait};
 use std::time::{Clock, Instant};
 use stlslice::{Gate, Piece, Task, image_len};
 
+/// The form of the images that a run writes.
+#[derive(Clone, Copy, PartialEq, Eq)]
+pub(crate) enum Images {
+    P4,
+    Pngs,
+}
+
 /// What a run does with the layers.
 #[derive(Clone, Copy, PartialEq, Eq)]
 pub(crate) enum Phase {
     Slicing,
-    Writing,
-    WritingPngs,
+    Writing(Images),
 }
 
 /// How far a phase is: in layers while slicing and while writing PNGs, else in bytes.
@@ -94,8 +100,8 @@ impl BarText {
     fn fmt_counts<W: fmt::Write>(&self, f: &mut Formatter<W>) -> fmt::Result {
         let (phase, unit) = match self.bar.phase {
             Phase::Slicing => ("slicing", "layers"),
-            Phase::Writing => ("writing", "bytes"),
-            Phase::WritingPngs => ("writing", "layers"),
+            Phase::Writing(Images::P4) => ("writing", "bytes"),
+            Phase::Writing(Images::Pngs) => ("writing", "layers"),
         };
         let percent = self.bar.steps_done(100);
         let done = self.bar.done;
@@ -114,8 +120,8 @@ impl BarText {
 pub(crate) struct Progress<'r, R> {
     rt: &'r R,
     is_terminal: bool,
-    /// How the run writes images. A report is written at once, so its bytes are not shown.
-    writing: Option<Phase>,
+    /// The images that the run writes, if it does. A report is written at once, so its bytes are not shown.
+    writing: Option<Images>,
     state: Mutex<State>,
 }
 
@@ -123,8 +129,8 @@ pub(crate) struct Progress<'r, R> {
 #[derive(Drop)]
 struct State {
     bar: Bar,
-    /// How much is to be written, once a piece was made: the bytes of all images, or the number of PNGs, whose bytes are not
-    /// known before.
+    /// How much is to be written, once a piece was made: the bytes of all P4 images, or the number of PNGs, whose bytes are not
+    /// known before. It is 0 if no images are written.
     to_write: u64,
     /// Whether a bar was shown.
     is_shown: bool,
@@ -143,9 +149,9 @@ impl<'r, R: Clock + Eprint + Wait> Progress<'r, R> {
             rt,
             is_terminal,
             writing: match task {
-                Task::Slice { report: false, .. } => Some(Phase::Writing),
-                Task::Png { .. } => Some(Phase::WritingPngs),
-                _ => None,
+                Task::Slice { report: false, .. } => Some(Images::P4),
+                Task::Png { .. } => Some(Images::Pngs),
+                Task::Slice { report: true, .. } | Task::Box { .. } | Task::Probe { .. } => None,
             },
             state: Mutex::new(State {
                 bar,
@@ -193,11 +199,11 @@ impl<'r, R: Clock + Eprint + Wait> Progress<'r, R> {
     }
 
     /// Begins the phase of writing, if it has not begun.
-    fn begin_writing(&self, phase: Phase) {
+    fn begin_writing(&self, images: Images) {
         let mut state = self.state.lock(self.rt);
         if state.bar.phase == Phase::Slicing {
             state.bar = Bar {
-                phase,
+                phase: Phase::Writing(images),
                 done: 0,
                 total: state.to_write,
                 begun: self.now(),
@@ -226,8 +232,9 @@ impl<'r, A: Allocator, R: Clock + Eprint + Wait> Gate<A> for Progress<'r, R> {
         let mut state = self.state.lock(self.rt);
         state.bar.total = layers;
         state.to_write = match self.writing {
-            Some(Phase::WritingPngs) => layers,
-            _ => image_len(grid).saturating_mul(layers),
+            Some(Images::P4) => image_len(grid).saturating_mul(layers),
+            Some(Images::Pngs) => layers,
+            None => 0,
         };
         self.advance(&mut state, piece.layers().len() as u64);
     }
@@ -243,14 +250,14 @@ pub(crate) struct ProgressWriter<'p, 'r, W, R> {
 
 impl<'p, 'r, W: Write, R: Clock + Eprint + Wait> Write for ProgressWriter<'p, 'r, W, R> {
     fn write(&mut self, buf: &[u8]) -> io::Result<usize> {
-        let Some(phase) = self.progress.writing else {
+        let Some(images) = self.progress.writing else {
             return self.to.write(buf);
         };
-        self.progress.begin_writing(phase);
+        self.progress.begin_writing(images);
         let count = self.to.write(buf)?;
-        self.progress.wrote(match phase {
-            Phase::WritingPngs => self.pngs.take(buf.get(..count).unwrap_or(buf)),
-            _ => count as u64,
+        self.progress.wrote(match images {
+            Images::P4 => count as u64,
+            Images::Pngs => self.pngs.take(buf.get(..count).unwrap_or(buf)),
         });
         Ok(count)
     }

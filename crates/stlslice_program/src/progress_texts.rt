@@ -1,5 +1,5 @@
 //! Tests the texts that show progress, on a terminal and elsewhere. No clause speaks of a `Display`.
-use crate::progress::{Bar, BarText, Phase};
+use crate::progress::{Bar, BarText, Images, Phase};
 use std::alloc::Global;
 
 /// What is shown, and its text.
@@ -22,7 +22,7 @@ const TEXTS: [Row; 5] = [
     (
         BarText {
             bar: Bar {
-                phase: Phase::Writing,
+                phase: Phase::Writing(Images::P4),
                 done: 5_402_640,
                 total: 5_402_640,
                 begun: None,
@@ -35,7 +35,7 @@ const TEXTS: [Row; 5] = [
     (
         BarText {
             bar: Bar {
-                phase: Phase::Writing,
+                phase: Phase::Writing(Images::P4),
                 done: 540_263,
                 total: 5_402_640,
                 begun: None,
@@ -48,7 +48,7 @@ const TEXTS: [Row; 5] = [
     (
         BarText {
             bar: Bar {
-                phase: Phase::WritingPngs,
+                phase: Phase::Writing(Images::Pngs),
                 done: 12,
                 total: 40,
                 begun: None,
