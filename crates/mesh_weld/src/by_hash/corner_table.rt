@@ -61,10 +61,11 @@ impl<A: Allocator + Copy> CornerTable<A> {
             .max(LEAST_BITS);
         let slots = 1usize.unbounded_shl(bits);
         let shift = 64u32.saturating_sub(bits);
-        let mut ids = vec![in alloc; NONE; slots.saturating_add(CHAIN_LIMIT)]?;
-        enter_points(ids.as_mut_slice(), points, shift);
-        self.ids = ids;
+        // the old table first: all ids are entered anew
+        self.ids = Vec::new(alloc);
+        self.ids = vec![in alloc; NONE; slots.saturating_add(CHAIN_LIMIT)]?;
         self.shift = shift;
+        enter_points(self.ids.as_mut_slice(), points, shift);
         Ok(())
     }
 
