@@ -51,7 +51,7 @@ fn told_points<A: Allocator>(
 ) -> Result<Vec<LoopPoint, A>, AllocError>
     ensures { IfOk result (λ points. points.items ≡ map point_told found.now) }
 {
-    let mut points = Vec::new(alloc);
+    let mut points = Vec::with_capacity(alloc, found.len())?;
     for point in found {
         points.push(told(point))?;
     }

@@ -49,20 +49,20 @@ impl Options {
         ensures some { IfSome result (IsPlaced self.now) }
         ensures none { IfNone result ((placing : Placing) → IsPlaced self.now placing → ⊥) }
     {
-        if self.placing == 0 {
-            return Some(Placing::Fitted);
+        match self.placing {
+            0 => Some(Placing::Fitted),
+            1 => {
+                let cells = self.cells;
+                let origin = Point::new(cells.origin_x, cells.origin_y, cells.origin_z)?;
+                Some(Placing::Given {
+                    columns: cells.columns,
+                    rows: cells.rows,
+                    layers: cells.layers,
+                    origin,
+                })
+            }
+            _ => None,
         }
-        if self.placing != 1 {
-            return None;
-        }
-        let cells = self.cells;
-        let origin = Point::new(cells.origin_x, cells.origin_y, cells.origin_z)?;
-        Some(Placing::Given {
-            columns: cells.columns,
-            rows: cells.rows,
-            layers: cells.layers,
-            origin,
-        })
     }
 }
 
