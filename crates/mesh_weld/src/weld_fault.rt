@@ -9,8 +9,8 @@ use thiserror::Error;
 /// Why facets are no solid.
 #[derive(Clone, Copy, Debug, PartialEq, Eq, Error)]
 pub enum WeldFault {
-    /// The least pair of points, `from` before `to`, between which the half-edges there and back differ in number. Both numbers
-    /// are counted over all facets.
+    /// The least pair of points, `from` before `to`, between which the half-edges there and back differ in number. The points
+    /// are in micrometres. Over all facets, `there` half-edges run from `from` to `to`, and `back` half-edges run back.
     #[error("open edge {} {} {} to {} {} {} there {there} back {back}", .from.x(), .from.y(), .from.z(), .to.x(), .to.y(), .to.z())]
     Open {
         from: Point,
