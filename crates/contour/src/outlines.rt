@@ -92,7 +92,7 @@ fn start_points<A: Allocator>(
     requires height { IsAtMost CENTRE_LIMIT z2 }
     ensures { IfOk result (λ points. points.items ≡ map (start_point s.now.facets z2) list.now) }
 {
-    let mut points = Vec::new(alloc);
+    let mut points = Vec::with_capacity(alloc, list.len())?;
     for segment in list {
         points.push(start_of(s, segment, z2))?;
     }

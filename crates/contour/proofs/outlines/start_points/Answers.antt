@@ -8,7 +8,7 @@ use Rattle.contour.proofs.lemmas.Links.{in-facets}
 use Rattle.contour.proofs.outlines.start_points.Goals as goal
 
 pub loop-segment-init : goal.loop-segment-init
-loop-segment-init g c = c.new-points.ensures.items
+loop-segment-init g c = c.in_ok-points.ensures.items
 
 pub start_of-requires-clause-facet : goal.start_of-requires-clause-facet
 start_of-requires-clause-facet g c =
