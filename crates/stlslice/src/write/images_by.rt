@@ -59,8 +59,8 @@ fn write_drawn_images<R: Threads + Sync, A: Allocator + Copy + Send + Sync, O: S
     }
 }
 
-/// The number of workers that draw images at the same time. It is `None` if one writer does all: if there is one worker, a set
-/// of pages has no room for two images, an image is too long for a page, or rows have few spans.
+/// The number of workers that draw images at the same time. It is `None` if one writer does all. That is so if there is one
+/// worker, a set of pages has no room for two images, an image is too long for a page, or rows have few spans.
 fn drawers<A: Allocator>(build: &Build<'_, A>, workers: u32) -> Option<usize> {
     let len = image_len(build.job().grid()) as usize;
     let drawers = (workers as usize).min(SET_LEN / len.max(1));

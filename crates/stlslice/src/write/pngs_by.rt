@@ -70,8 +70,8 @@ fn write_made_pngs<R: Threads + Sync, A: Allocator + Copy + Send + Sync, O: Sink
     }
 }
 
-/// The number of workers that make PNGs at the same time. It is `None` if one writer does all: if there is one worker, a set of
-/// pages has no room for two PNGs, or rows have few spans.
+/// The number of workers that make PNGs at the same time. It is `None` if one writer does all. That is so if there is one
+/// worker, a set of pages has no room for two PNGs, or rows have few spans.
 fn makers<A: Allocator>(build: &Build<'_, A>, room: usize, workers: u32) -> Option<usize> {
     let makers = (workers as usize).min(SET_LEN / room.max(1));
     if makers > 1 && has_many_spans(build) {
