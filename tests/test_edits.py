@@ -7,6 +7,7 @@ import contextlib
 import os
 import shutil
 import sys
+import tempfile
 
 from common import ROOT, Room, holds, same
 
@@ -447,9 +448,76 @@ def refused_batches(room):
     same("a crate that isn't there", tries(room, "nothing")[0], 2)
     source = edits.Source(room.file("crates", "thing"))
     groups = edits.grouped([edits.Edit(path, "thing", source) for path in (one, two, below, wrong)])
-    names = sorted(sorted(it.name for it in group if it.functions[0].name == "of") for group in groups)
-    same("two edits of a function are never together", names, [["thing/of.a"], ["thing/of.b"], ["thing/of.c"]])
-    same("nor are two of one import", len(edits.grouped([edits.Edit(path, "thing", source) for path in imports])), 2)
+    same("edits of a function that may be copied are together", [sorted(it.name for it in group) for group in groups],
+         [["thing/looped.a", "thing/of.a", "thing/of.b", "thing/of.c"]])
+    same("two of one import are not", len(edits.grouped([edits.Edit(path, "thing", source) for path in imports])), 2)
+
+
+def copies(room):
+    """Of two edits of one function in a check, each but the first is in a copy, which has the function's contract and proof."""
+    emptied(room)
+    paths = [planted(room, "looped.a", "LEMMA"), planted(room, "looped.b", "HARMLESS"), planted(room, "of.a", "ANSWERED"),
+             written(room, "of.b", "src/parts.rt", ("let part = 2;", "let part = 3;"), ("Part { n: part }", "Part { n: part + SEARCHED }"))]
+    same("each is judged by itself", sorted(tries(room)[1][:4]),
+         ["thing/looped.a: refused by `returns-clause-many`", "thing/looped.b: NOT REFUSED: no holes", "thing/of.a: refused by `returns-in-Some`",
+          "thing/of.b: refused by `returns-clause-value`"])
+    same("in one check", checks_in(room), [["parts::Part::of", "parts::Part::of_copy_2", "parts::looped", "parts::looped_copy_1"]])
+
+    crate = StandIn(room)
+    batch, = edits.batches_of_crate(crate, paths)
+    source, rows = batch.source, batch.source.texts["src/parts.rt"].split("\n")
+    copied = next(it for it in source.functions if it.name == "of_copy_2")
+    own = next(it for it in source.functions if it.name == "of")
+    same("a copy has the lines of its function, but for the name", [it.replace("of_copy_2", "of") for it in rows[copied.first : copied.last + 1]],
+         rows[own.first : own.last + 1])
+    copied_rows = {at for it in source.functions if "_copy_" in it.name for at in range(it.first - 1, it.last + 1)}
+    same("the rest stands as it stood", "\n".join(it for at, it in enumerate(rows) if at not in copied_rows), SOURCE)
+    same("its proof is of the copy", source.texts["proofs/parts/looped_copy_1/Answers.antt"], ANSWERS.replace("parts.looped.Goals", "parts.looped_copy_1.Goals"))
+    moved = {it.name: it for it in batch.edits}
+    same("lines of an edit in a copy", sorted((rows[at], new) for (_, at), new in moved["thing/of.b"].rows.items()),
+         [("        Part { n: part }", "        Part { n: part + SEARCHED }"), ("        let part = 2;", "        let part = 3;")])
+    same("the edit as it was read", (moved["thing/of.b"].filed.functions[0].name, moved["thing/of.a"].functions[0].name), ("of", "of"))
+    with tempfile.TemporaryDirectory() as folder:
+        edits.plant(batch, folder, edits.harmless(batch))
+        with open(f"{folder}/src/parts.rt") as it:
+            text = it.read()
+        holds("both bodies are planted", "let part = 2; ANSWERED();" in text and "Part { n: part + SEARCHED }" in text)
+        holds("with the copy's proof", os.path.isfile(f"{folder}/proofs/parts/looped_copy_1/Answers.antt"))
+
+
+def uncopied(room):
+    """What may not be copied: it is of a trait, calls itself or others by a cycle, or is a law, or its proof is read elsewhere, or
+    is more than answers."""
+    folder = room.file("crates", "thing")
+    source = edits.Source(folder)
+    same("by kind", [it.symbol for it in source.functions if source.may_be_copied(it)], ["parts::looped", "parts::Part::of", "parts::Part::n", "parts::plain"])
+    texts = {**source.texts, "proofs/lemmas/Limits.antt": LIMITS + "use Rattle.thing.proofs.parts.looped.Goals as goal\n",
+             "proofs/parts/Part/of/Proof.antt": "-- by hand", "proofs/parts/fn/Part/n/each/Answers.antt": "-- of a closure",
+             "src/parts.rt": SOURCE.replace("    let plain = n;", "    let plain = crate::parts::plain(n);")}
+    changed = edits.Source(folder, texts, source)
+    same("by proof", [it.symbol for it in changed.functions if changed.may_be_copied(it)], [])
+    texts = {**source.texts, "src/parts.rt": SOURCE.replace("fn plain", "#[cycle(both)]\nfn plain").replace("pub fn looped", 'pub extern "C" fn looped')}
+    changed = edits.Source(folder, texts, source)
+    same("by attribute and kind of call", [it.symbol for it in changed.functions if changed.may_be_copied(it)], ["parts::Part::of", "parts::Part::n"])
+    for body, wanted in (("n(1)", True), ("self.n()", True), ("Self::n()", True), ("a::n::<u8>()", True), ("self.n", False), ("other.n()", False),
+                         ("Vec::n()", False), ("open(n)", False)):
+        own = edits.functions_of("src/a.rt", f"fn n() {{\n    {body}\n}}\n", {})[0]
+        same(f"a call of itself: {body}", own.calls_itself(), wanted)
+
+
+def what_rt_ci_says(room):
+    """The goal that a line of `rt ci` names counts if it is a clause or an invariant of the edit's own function."""
+    emptied(room)
+    edit = edits.Edit(planted(room, "looped.a", "SEARCHED"), "thing", edits.Source(room.file("crates", "thing")))
+    note = "note: src/parts.rt:{}:5: it is not proved that what `f` ensures holds when it returns (`{}`); `search` gave up at one of its limits"
+    error = "./proofs/parts/{}/Answers.antt:27:34: error: `{}`: as printed, the two types differ only where one has `mathlib.Core.Option.som"
+    for said, wanted in ((note.format(12, "returns-clause-value"), "returns-clause-value"), (note.format(12, "add-preserved"), "add-preserved"),
+                         (note.format(12, "store-requires"), None), (note.format(12, "add-smaller"), None), (note.format(29, "returns-clause-value"), None),
+                         (note.format(12, "returns").replace("src/parts", "src/laws"), None),
+                         (error.format("looped", "returns-then"), "returns-then"), (error.format("looped", "fetch_add-number-requires"), None),
+                         (error.format("looped", "sum_is"), None), (error.format("Part/of", "returns"), None),
+                         ("./proofs/parts/looped/Answers.antt:27:34: error: `returns`: record `After` has no field `grown`", None), ("", None)):
+        same(f"said: {said}", edits.shown_by(edit, said), wanted)
 
 
 def shown(room):
@@ -604,7 +672,7 @@ def libraries_below(room):
 def checks_that_begin_with_the_last(room):
     emptied(room)
     for fault in "abc":
-        planted(room, f"of.{fault}", "ANSWERED")
+        planted(room, f"from.{fault}", "ANSWERED")
     with contextlib.suppress(FileNotFoundError):
         os.remove(room.file("asked.kept"))
     same("three checks", tries(room)[1][-1], "3 passed, 0 failed")
@@ -723,6 +791,9 @@ def main():
         crate_in(room)
         each_kind(room)
         refused_batches(room)
+        copies(room)
+        uncopied(room)
+        what_rt_ci_says(room)
         shown(room)
         control(room)
         a_law(room)

@@ -18,6 +18,7 @@ echo "what rt ci says on its way"
 echo "{last}"
 exit {status}
 """
+ALONE = "echo 'rt: must-fail low/{}.edit: refused, as it must be{}'; "
 BUILDS = "echo 'rt: low proved'; mkdir -p out; printf '#!/bin/sh\\n' > out/program; chmod 755 out/program"
 EDITS = """
 import collections
@@ -25,14 +26,31 @@ OTHERWISE = "tools/otherwise.txt"
 Edit = collections.namedtuple("Edit", "name")
 
 
-class Batch(collections.namedtuple("Batch", "name edits need")):
+class Crate:
+    name = "low"
+
+
+class Batch:
+    need = 0
+
+    def __init__(self, crate, source, edits, kept):
+        self.crate, self.source, self.edits, self.kept = crate, source, edits, kept
+        self.name = crate if isinstance(crate, str) else crate.name
+
     def finds_work(self):
         return False
 
 
 def batches_of(root, folders):
-    assert folders == ("edits", "must-fail")
-    return [] if "{hole}" == "none" else [Batch("low", [Edit("one"), Edit("two")], 0), Batch("{other}", [Edit("three")], 0)]
+    if folders == ("must-fail",):
+        return [Batch(Crate(), None, [Edit("low/by_clause"), Edit("low/by_call")], None)]
+    assert folders == ("edits",)
+    return [] if "{hole}" == "none" else [Batch("low", None, [Edit("one"), Edit("two")], None), Batch("{other}", None, [Edit("three")], None)]
+
+
+def shown_by(edit, said):
+    assert not said.startswith(": ")
+    return said if said.startswith("returns") else None
 
 
 def try_batch(batch, root):
@@ -121,6 +139,20 @@ def libraries():
             same(f"libraries, of which make built {by_make}", [it.of() for it in (low, high, other)], wanted)
 
 
+def room_for_batches():
+    """A batch begins if a processor is free at a look that came after the last one began, or if none runs."""
+    batches = tool.Batches.__new__(tool.Batches)
+    batches.processors, batches.last = 2, 10
+
+    class times:
+        running = looked = 0
+
+    batches.times = times
+    for own, running, looked, wanted in ((0, 9, 0, True), (1, 1, 11, True), (1, 1, 9, False), (1, 2, 11, False), (2, 3, 11, False)):
+        batches.running, times.running, times.looked = own, running, looked
+        same(f"room beside {own} of {running} checks at {looked}", batches.has_room(), wanted)
+
+
 def runs(pid):
     try:
         with open(f"/proc/{pid}/cmdline") as file:
@@ -131,6 +163,7 @@ def runs(pid):
 
 def main():
     libraries()
+    room_for_batches()
     with Room() as room:
         for name in ("tests/run", "tools/gate.py", "tools/spent.py"):
             os.makedirs(room.file(os.path.dirname(name)), exist_ok=True)
@@ -164,6 +197,13 @@ def main():
         holds("what the library proves has its time in one row", "crates: low" not in gate(BUILDS, well, 0, [0], library=proves, lines=99)[0])
         same("a skipped test is named", gate(BUILDS, well, 0, [0, 77], lines=2),
              ("skipped: test_1.py: this is test 1\n16 passed, 0 failed", 0))
+        same("an edit in must-fail/ for which rt ci names a clause is not tried again",
+             gate(BUILDS + "; " + ALONE.format("by_clause", ": returns-value"), well, 0, [0, 0]), ("17 passed, 0 failed", 0))
+        for said in ("", ": call-requires"):
+            same(f"another one is{said}", gate(BUILDS + "; " + ALONE.format("by_call", said), well, 0, [0, 0]), ("18 passed, 0 failed", 0))
+        same("and may fail", gate(BUILDS + "; " + ALONE.format("by_call", ""), well, 0, [0, 0], hole="low/by_call", lines=2),
+             ("low/by_call: NOT TRIED: ValueError('broken')\n17 passed, 1 failed", 1))
+        same("one that is refused and isn't known", gate(BUILDS + "; " + ALONE.format("other", ""), well, 0, [0, 0]), ("17 passed, 0 failed", 0))
         note = "rt: note: Rattle's own compiler did not compile this program, so only the LLVM build is run: error"
         same("a compiler that refused it is named", gate(f'{BUILDS}; echo "{note}"', well, 0, [0, 0], lines=2), (f"{note}\n17 passed, 0 failed", 0))
         same("a failed test", gate(BUILDS, well, 0, [0, 3]), ("16 passed, 1 failed", 1))

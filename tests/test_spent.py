@@ -6,6 +6,7 @@ import os
 import subprocess
 import sys
 import tempfile
+import time
 
 from common import ROOT, holds, same
 
@@ -24,15 +25,20 @@ def busy(name, *words, folder=ROOT):
 def main():
     with tempfile.TemporaryDirectory(prefix="rt-edit-1-") as room, tempfile.TemporaryDirectory(prefix="edits-") as other:
         times = spent.Spent()
-        for child in [busy(spent.PROVER, "--crate-name", "low"), busy(spent.PROVER, "--crate-name", "low", "--test"),
-                      busy(spent.PROVER, "--crate-name", "high", folder=room), busy(spent.PROVER, "--crate-name", "high", folder=other),
-                      busy("another", "--crate-name", "high"), busy(spent.PROVER, "doc")]:
+        checks = [busy(spent.PROVER, "--crate-name", "low"), busy(spent.PROVER, "--crate-name", "low", "--test"),
+                  busy(spent.PROVER, "--crate-name", "high", folder=room), busy(spent.PROVER, "--crate-name", "high", folder=other),
+                  busy("another", "--crate-name", "high"), busy(spent.PROVER, "doc")]
+        time.sleep(2)
+        seen = times.running, time.monotonic() - times.looked
+        for child in checks:
             child.wait()
         times.parts = {spent.BATCHES}
         for child in [busy(spent.PROVER, "--crate-name", "late"), busy(spent.PROVER, "--crate-name", "late", folder=other)]:
             child.wait()
         times.stop()
     found = times.by_check()
+    same("checks that run", seen[0], 4)
+    holds("by a look that was just now", 0 < seen[1] < 2)
     same("parts and crates", sorted(found), sorted([(spent.PROOFS, "low"), (spent.TESTS, "low"), (spent.MUST_FAIL, "high"), (spent.BATCHES, "high"), (spent.BATCHES, "late")]))
     holds("a part that isn't counted any more has ended by the clock", times.clock(spent.PROOFS) < times.clock(spent.BATCHES))
     holds("each took some time, and no more than it had", all(0 < it < 3 for it in found.values()))

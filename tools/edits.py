@@ -10,7 +10,9 @@ of a batch that passed are taken from build/edits if neither the batch, nor its 
 
 An edit is a file crates/NAME/edits/FUNCTION.FAULT.edit, in the form that `rt must-fail` reads (CONTRIBUTING.md). It is planted
 in a copy of the crate, together with others. The functions that none of them edits keep their statements, and their proofs
-are left out. So each edited function is judged by itself: it has to be refused by a goal of its own, or of a closure in it.
+are left out. If several are of one function, each but the first is planted in a copy of it, which has another name and the
+same contract and proof. So each edited function is judged by itself: it has to be refused by a goal of its own, or of a closure
+in it.
 That goal is a clause (`returns..`), or the invariant of a loop or of a type (`loop-..`, `invariant_of-..`; a loop that has a
 label goes by it, as in `rows-preserved`). A lemma of its answers stands for the goals that depend on it, if all of them are
 such.
@@ -29,6 +31,7 @@ nothing could be begun. The libraries below a crate are built first, if they are
 """
 
 import contextlib
+import copy
 import hashlib
 import json
 import os
@@ -52,7 +55,7 @@ OTHERWISE = "tools/edits_refused_otherwise.txt"
 KEPT = "build/edits"
 
 # The most edits of one check. More take as long each, and more memory together.
-MOST = 30
+MOST = 40
 
 # The seconds that a check gets, and more for each edit, before it is stopped and its edits are tried by halves; and those of
 # a whole crate.
@@ -91,11 +94,12 @@ def clauses_of(contract):
 
 
 class Function:
-    """A function: its path below the crate as the toolchain spells it, its lines, and the one on which its body opens."""
+    """A function: its path below the crate as the toolchain spells it, its lines, the one on which its body opens, and whether
+    it is of a trait."""
 
-    def __init__(self, symbol, file, first, opens, last, lines):
+    def __init__(self, symbol, file, first, opens, last, lines, is_of_trait=False):
         self.symbol, self.file, self.first, self.opens, self.last = symbol, file, first, opens, last
-        self.name = symbol.rpartition("::")[2]
+        self.name, self.is_of_trait = symbol.rpartition("::")[2], is_of_trait
         self.head = lines[first : (last if opens is None else opens) + 1]
         self.body = [] if opens is None else lines[opens : last + 1]
 
@@ -119,6 +123,10 @@ class Function:
         label, _, rest = goal.partition("-")
         labels = re.findall(r"(?m)^\s*'(\w+): (?:while|for|loop)\b", "\n".join(self.body))
         return bool(OF_CONTRACT.match(goal)) or label in labels and bool(re.match(r"(?:init|preserved)\b", rest))
+
+    def calls_itself(self):
+        within, text = self.symbol.rpartition("::")[0].rpartition("::")[2] or "crate", "\n".join(self.body).partition("{")[2]
+        return bool(re.search(rf"(?:(?<![\w.:])|\bself\.|\b(?:Self|self|{within})::){self.name}(?:::<|\()", text))
 
     def may_be_left_out(self):
         """Whether a proof can be written for it alone: it has a body, doesn't call itself, and is no `drop`."""
@@ -158,6 +166,11 @@ def owner(head):
     return re.match(NAMED, of)[1] + re.match(NAMED, name)[1] + "".join(given)
 
 
+def is_of_trait(head):
+    """Whether the functions of an impl or a trait are those that a trait names."""
+    return bool(re.match(r"(pub(\([a-z]+\))? )?(unsafe )?trait\b", head)) or " for " in " ".join(head.split()).partition(" where ")[0]
+
+
 def opening(lines, at, indent):
     """The line on which the body opens of the function whose head begins at a line, or None, and the line on which the function
     ends. The layout is that of `rt fmt`: what is inside stands deeper."""
@@ -184,17 +197,18 @@ def place_of(file):
 
 def functions_of(file, text, homes):
     """The functions of a source file of a crate, without its tests. Those of a type stand in its own module, which homes names."""
-    lines, found, block = text.split("\n"), [], []
+    lines, found, block, of_trait = text.split("\n"), [], [], False
     for at, line in enumerate(lines):
         if IS_BLOCK.match(line):
-            block = [owner("\n".join(lines[at:]).partition("{")[0])]
+            head = "\n".join(lines[at:]).partition("{")[0]
+            block, of_trait = [owner(head)], is_of_trait(head)
         elif line.startswith("}"):
-            block = []
+            block, of_trait = [], False
         it = IS_FUNCTION.match(line)
         if it and "#[test]" not in lines[at - 1]:
             opens, last = opening(lines, at, it[1])
             within = [*homes.get(block[0], place_of(file)), *block] if block and it[1] else place_of(file)
-            found.append(Function("::".join([*within, it[2]]), file, at, opens, last, lines))
+            found.append(Function("::".join([*within, it[2]]), file, at, opens, last, lines, of_trait))
     return found
 
 
@@ -204,17 +218,24 @@ def functions_of(file, text, homes):
 IS_ITEM = re.compile(r"(?!use |pub use |mod |pub mod |--)(?:(?:pub|unfoldable|abbrev|record|data) )*([^\s:({]+)(?: .*)?[:=]")
 
 
-class Source:
-    """The files of a crate: the text of each, the functions of src/, and those for which the toolchain reads no proof of ours."""
+def texts_in(folder):
+    """The texts of a crate's files, by their paths."""
+    found = {}
+    for part in ("src", "specs", "proofs"):
+        for at, folders, names in os.walk(f"{folder}/{part}"):
+            folders.sort()
+            for name in sorted(it for it in names if it.endswith((".rt", ".antt"))):
+                found[os.path.relpath(f"{at}/{name}", folder)] = text_of(f"{at}/{name}")
+    return found
 
-    def __init__(self, folder):
-        self.folder, self.texts, self.functions, self.unread = folder, {}, [], set()
-        for part in ("src", "specs", "proofs"):
-            for at, folders, names in os.walk(f"{folder}/{part}"):
-                folders.sort()
-                for name in sorted(it for it in names if it.endswith((".rt", ".antt"))):
-                    file = os.path.relpath(f"{at}/{name}", folder)
-                    self.texts[file] = text_of(f"{at}/{name}")
+
+class Source:
+    """The files of a crate: the text of each, the functions of src/, and those for which the toolchain reads no proof of ours.
+    With texts of its own it differs from `filed`, the crate as it stands in its folder."""
+
+    def __init__(self, folder, texts=None, filed=None):
+        self.folder, self.texts, self.functions = folder, texts or texts_in(folder), []
+        self.filed, self.unread = filed or self, filed.unread if filed else set()
         sources = {file: text for file, text in self.texts.items() if file.endswith(".rt")}
         homes = {name: place_of(file) for file, text in sources.items() for name in re.findall(IS_TYPE, text)}
         for file, text in sources.items():
@@ -224,6 +245,25 @@ class Source:
     def at(self, file, row):
         """The function on a line of a file, or None."""
         return next((it for it in self.functions if it.file == file and it.first <= row <= it.last), None)
+
+    def attributes(self, function):
+        """The attributes above a function."""
+        lines, at = self.texts[function.file].split("\n"), function.first
+        while lines[at - 1].lstrip().startswith("#["):
+            at -= 1
+        return lines[at : function.first]
+
+    def may_be_copied(self, function):
+        """Whether a copy of the function may stand beside it: no trait names it, it is no law, and its proof consists of answers and
+        invariants that nothing else reads."""
+        path = function.symbol.replace("::", "/")
+        own = {f"proofs/{path}/{name}" for name in ("Answers.antt", "Invariants.antt")}
+        places = re.compile(rf"proofs\.{re.escape(path.replace('/', '.'))}\b")
+        within = f"proofs/{'/fn/'.join(path.split('/', 1))}/"
+        return (bool(function.body) and not (function.calls_itself() or function.is_of_trait or function.is_law())
+                and not any("extern" in it or "cycle(" in it for it in [*function.head, *self.attributes(function)])
+                and not any(it.startswith((f"proofs/{path}/", within)) and it not in own for it in self.texts)
+                and not any(places.search(text) for file, text in self.texts.items() if file not in own))
 
     def is_import(self, file, row):
         return bool(re.match(r"(pub |ghost )*use ", self.texts[file].split("\n")[row]))
@@ -324,10 +364,11 @@ def reached(source, definitions):
 class Edit:
     """An edit as its file has it: which lines of which files it changes, and the functions whose lines these are. It also has
     the functions of which one has to be refused, and all whose proof it can change. One of laws has the clauses that depend
-    on it. It is `bad` if it can't be applied."""
+    on it. It is `bad` if it can't be applied. `filed` is the edit as it was read, if it now stands in a copy of its function."""
 
     def __init__(self, path, crate, source):
         self.path, self.name = path, f"{crate}/{os.path.basename(path)[: -len('.edit')]}"
+        self.filed, self.may_move = self, False
         self.rows, self.functions, self.definitions, self.judged, self.reach, self.clauses = {}, [], [], [], [], set()
         self.is_alone, self.is_of_laws = True, False
         self.bad = self.apply(text_of(path), source)
@@ -376,6 +417,8 @@ class Edit:
             self.bad = "it is of no function, and its name begins with none: nothing says which one has to be refused"
         elif not self.is_alone and all(it.is_law() for it in [*self.functions, *self.judged]):
             self.clauses = self.clauses_of_laws(source)
+        one = self.functions[0] if len(self.functions) == 1 and self.judged == self.functions else None
+        self.may_move = bool(one) and all(source.at(*row) is one for row in self.rows) and source.may_be_copied(one)
 
     def is_seen_by_laws_alone(self, source):
         """Whether it is of definitions that nothing of src/ sees but laws. So it changes no other function's proof."""
@@ -408,6 +451,20 @@ class Edit:
         both = [it for it in self.reach if it in other.functions or it in other.judged]
         both += [it for it in other.reach if it in self.functions or it in self.judged]
         return both[0] if both else None
+
+
+    def may_stand_beside(self, other):
+        """Whether one check can have both, in copies of one function if need be."""
+        return self.may_move and other.may_move or not (self.clash(other) or self.differs(other))
+
+    def moved(self, source, places, names):
+        """The same in another source of the crate, where these are the places of its lines and the names of its functions."""
+        it, known = copy.copy(self), {it.symbol: it for it in source.functions}
+        it.rows = {places[row]: new for row, new in self.rows.items()}
+        for part in ("functions", "judged", "reach"):
+            setattr(it, part, [known[names.get(one.symbol, one.symbol)] for one in getattr(self, part)])
+        it.clauses = {(known[law.symbol], goal) for law, goal in self.clauses}
+        return it
 
 
 def stop_on_clash(edits):
@@ -449,17 +506,58 @@ def may_join(more, edits):
 
 def spread(edits):
     """The edits in few lists, in which no two clash."""
-    number, parts = {}, {it: it.clauses or {*it.functions, *it.judged} for it in edits}
+    number, parts = {}, {it: set() if it.may_move else it.clauses or {*it.functions, *it.judged} for it in edits}
     for part in (part for it in edits for part in parts[it]):
         number[part] = number.get(part, 0) + 1
     lists = [[] for _ in range(max([-(-len(edits) // MOST), *number.values()]))]
-    for it in sorted(edits, key=lambda it: (-len(it.reach), -max(number[part] for part in parts[it]), it.name)):
-        free = [one for one in lists if not any(it.clash(other) or it.differs(other) for other in one)]
+    for it in sorted(edits, key=lambda it: (-len(it.reach), -max([number[part] for part in parts[it]], default=0), it.name)):
+        free = [one for one in lists if all(it.may_stand_beside(other) for other in one)]
         if not free:
             free = [[]]
             lists += free
         min(free, key=len).append(it)
     return [it for it in lists if it]
+
+
+def renamed(text, function, name):
+    """A text of the function's own code or proofs, with another name for it."""
+    path = re.escape(".".join(function.symbol.split("::")[:-1]))
+    text = re.sub(rf"\bfn {function.name}\b", f"fn {name}", text)
+    return re.sub(rf"((?:proofs|specs\.contracts)\.{path})\.{function.name}(?![\w-])", rf"\1.{name}", text)
+
+
+def with_copies(source, edits):
+    """A source with copies of functions, and the edits of a batch, of which no two are of one function or copy."""
+    again = [it for at, it in enumerate(edits) if it.may_move and any(it.functions == other.functions for other in edits[:at])]
+    texts, places, names, own = dict(source.texts), {}, {}, {}
+    for file in {file for edit in edits for file, _ in edit.rows} | {it.functions[0].file for it in again}:
+        lines = []
+        for row, line in enumerate(source.texts[file].split("\n")):
+            places[file, row] = file, len(lines)
+            lines.append(line)
+            for it in again:
+                function = it.functions[0]
+                if (function.file, function.last) == (file, row):
+                    name = f"{function.name}_copy_{again.index(it) + 1}"
+                    names[it] = {function.symbol: f"{function.symbol.rpartition('::')[0]}::{name}"}
+                    lines += ["", *source.attributes(function)]
+                    own[it] = {(file, at): (file, len(lines) + at - function.first) for at in range(function.first, function.last + 1)}
+                    lines += copied(source, function, name, texts)
+        texts[file] = "\n".join(lines)
+    if not again:
+        return source, edits
+    wide = Source(source.folder, texts, source)
+    return wide, [it.moved(wide, own.get(it, places), names.get(it, {})) for it in edits]
+
+
+def copied(source, function, name, texts):
+    """The lines of a function under another name. Its proof is added to the texts under that name."""
+    path = function.symbol.replace("::", "/")
+    for file in [it for it in source.texts if os.path.dirname(it) == f"proofs/{path}"]:
+        to = f"{os.path.dirname(os.path.dirname(file))}/{name}/{os.path.basename(file)}"
+        texts[to] = renamed(source.texts[file], function, name)
+    lines = source.texts[function.file].split("\n")[function.first : function.last + 1]
+    return [renamed(lines[0], function, name), *lines[1:]]
 
 
 # ---- batches
@@ -487,7 +585,8 @@ def edits_in(crate, folders=("edits",)):
 
 def batches_of_crate(crate, paths):
     source, kept = Source(crate.folder), Kept()
-    return [Batch(crate, source, it, kept) for it in grouped([Edit(path, crate.name, source) for path in paths])]
+    groups = grouped([Edit(path, crate.name, source) for path in paths])
+    return [Batch(crate, *with_copies(source, it), kept) for it in groups]
 
 
 def batches_of(root, folders):
@@ -551,6 +650,11 @@ def copy_with(batch, room, rows):
     for part in ("src", "specs", "proofs"):
         if os.path.isdir(f"{batch.crate.folder}/{part}"):
             shutil.copytree(f"{batch.crate.folder}/{part}", f"{room}/{part}")
+    for file, text in batch.source.texts.items():
+        if batch.source.filed.texts.get(file) != text:
+            os.makedirs(os.path.dirname(f"{room}/{file}"), exist_ok=True)
+            with open(f"{room}/{file}", "w", encoding="utf-8") as it:
+                it.write(text)
     for file in {file for file, _ in rows}:
         lines = batch.source.texts[file].split("\n")
         for at in (at for other, at in rows if other == file):
@@ -722,6 +826,17 @@ def refusal(edit, batch, check):
     return (best[0], bool(of_contract)) if best else (None, False)
 
 
+def shown_by(edit, said):
+    """The goal that a line of `rt ci` names as not proved in one of the edit's functions, if it shows a contract, or None."""
+    place = re.match(r"(?:note: )?(?:\./)?(\S+?):(\d+):\d+: (?:error: `([^`]+)`|it is not proved that .*? \(`([^`]+)`\))", said)
+    for it in edit.judged if place and not ONLY_NAMES.search(said) else []:
+        of_answers = place[1] == f"proofs/{it.symbol.replace('::', '/')}/Answers.antt"
+        of_code = place[1] == it.file and it.first < int(place[2]) <= it.last + 1
+        if (of_answers or of_code) and it.shows_contract(place[3] or place[4]):
+            return place[3] or place[4]
+    return None
+
+
 def listed_otherwise(root):
     """The edits that no clause refuses: of each the goal that does, and the reason."""
     found = {}
@@ -820,7 +935,7 @@ def try_or_recall(batch, root=ROOT, show=None):
         told = json.loads(text_of(file))
         return [(it, True, told[it.name]) for it in batch.edits], 0
     results, seconds = try_batch(batch, root, show)
-    is_same = file == kept_at(batch, root) and Source(batch.crate.folder).texts == batch.source.texts
+    is_same = file == kept_at(batch, root) and texts_in(batch.crate.folder) == batch.source.filed.texts
     if all(passed for _, passed, _ in results) and is_same:
         os.makedirs(os.path.dirname(file), exist_ok=True)
         with tempfile.NamedTemporaryFile("w", dir=os.path.dirname(file), delete=False, encoding="utf-8") as it:
@@ -864,7 +979,7 @@ def try_alone(edit, batch, root=ROOT):
     What refuses only the proof of another function counts as the goal `elsewhere`, and a limit of the prover as `limit`."""
     if edit.bad:
         return False, f"BAD EDIT: {edit.bad}"
-    one = Batch(batch.crate, batch.source, [edit], batch.kept)
+    one, edit = Batch(batch.crate, batch.source.filed, [edit.filed], batch.kept), edit.filed
     with tempfile.TemporaryDirectory(prefix="edits-") as room:
         copy_with(one, room, edit.rows)
         said = check(one, [], room)

@@ -4,11 +4,10 @@
     gate.py PROGRAM
 
 1. `rt ci` proves each crate and its tests, tries the edits in must-fail/, runs the tests, and builds and runs PROGRAM.
-2. Beside it tools/edits.py tries all edits in batches, at a lower priority: those of a crate once it is proved. Those in
-   must-fail/ are tried again, and count twice, since `rt ci` takes any refusal, and this only a clause's.
-   With fewer than four processors they wait until `rt ci` has ended.
-   What a batch can't judge is tried alone. What something else than a clause refuses has failed, unless
-   tools/edits_refused_otherwise.txt says why.
+2. Beside it tools/edits.py tries the other edits in batches, at a lower priority: those of a crate once it is proved, while
+   fewer checks run than there are processors. `rt ci` takes any refusal, and this only a clause's. So an edit in must-fail/ for
+   which `rt ci` names no clause is tried here too, and then counts twice. What a batch can't judge is tried alone. What
+   something else than a clause refuses has failed, unless tools/edits_refused_otherwise.txt says why.
 3. The library, and the page that has it, are built from what was proved.
 4. tests/run tests what people touch: the program, the library, packages, recipes, documents.
 
@@ -41,6 +40,7 @@ LIBRARY_CRATE = "stlslice_c"
 RESERVE = 3_000_000_000
 # Another kit of the same logic keeps what it proved, and then says `is kept`.
 PROVED = re.compile(r"rt: (\w+) (?:proved|is kept: .*)$")
+REFUSED = re.compile(r"rt: must-fail (\S+)\.edit: refused, as it must be(?:: )?(.*)$")
 LLVM_ALONE = re.compile(r"rt: note: Rattle's own compiler did not ")
 COUNTS = re.compile(r"(?m)^(\d+) passed, (\d+) failed$")
 FAULTS = re.compile(r"rt: FAILED: |.*(NOT PROVED|NOT REFUSED|NOT TRIED)|.*: its tests FAILED$|failed: ")
@@ -136,15 +136,15 @@ def tried(batch, root):
 
 
 class Batches:
-    """Tries the batches of edits of each crate once it is proved, some at a time."""
+    """Tries the batches of edits of each crate once it is proved, as many at a time as leave a processor for each check."""
 
-    def __init__(self, root, processors):
-        self.root, self.change = root, threading.Condition()
+    def __init__(self, root, processors, times):
+        self.root, self.change, self.times = root, threading.Condition(), times
         self.waiting, self.ready, self.running = collections.defaultdict(list), [], 0
-        # those in must-fail/ are tried once more, since `rt ci` takes any refusal and this a clause's alone
-        for batch in edits.batches_of(root, folders=("edits", "must-fail")):
+        for batch in edits.batches_of(root, folders=("edits",)):
             self.waiting[batch.name].append(batch)
-        self.processors, self.most, self.is_last = processors, processors // 2 if processors >= 4 else 0, False
+        self.of_must_fail = {edit.name: batch for batch in edits.batches_of(root, folders=("must-fail",)) for edit in batch.edits}
+        self.processors, self.is_last, self.last = processors, False, 0
         self.begun, self.passed, self.failed, self.faults = set(), 0, 0, []
         self.threads = [threading.Thread(target=self.work, daemon=True) for _ in range(processors)]
         for it in self.threads:
@@ -155,6 +155,19 @@ class Batches:
             self.ready += self.waiting.pop(crate, [])
             self.change.notify_all()
 
+    def refused(self, name, said):
+        """Takes what `rt ci` says of an edit in must-fail/. If that names no clause, the edit is tried once more, by itself."""
+        batch = self.of_must_fail.get(name)
+        edit = next((it for it in batch.edits if it.name == name), None) if batch else None
+        if edit and not edits.shown_by(edit, said):
+            with self.change:
+                self.ready.append(edits.Batch(batch.crate, batch.source, [edit], batch.kept))
+                self.change.notify_all()
+
+    def has_room(self):
+        """Whether a processor is free: by the last look at the checks that run, and once what began since then is in it."""
+        return not self.running or self.times.running < self.processors and self.times.looked > self.last
+
     def next(self):
         """The next batch, or None if there will be none."""
         with self.change:
@@ -162,14 +175,15 @@ class Batches:
                 if not self.ready and self.is_last:
                     return None
                 fits = [it for it in self.ready if not self.running or spent.available() > it.need + RESERVE]
-                if fits and self.running < self.most:
-                    # a crate's first check keeps what its others begin with
-                    batch = min(fits, key=lambda it: it.name in self.begun and not it.finds_work())
+                if fits and self.running < self.processors and self.has_room():
+                    # a crate's first check keeps what its others begin with, and long checks at the end would run by themselves
+                    batch = min(fits, key=lambda it: (it.name in self.begun and not it.finds_work(), -it.need))
                     self.running += 1
+                    self.last = time.monotonic() + 1
                     self.begun.add(batch.name)
                     self.ready.remove(batch)
                     return batch
-                self.change.wait(5)
+                self.change.wait(1)
 
     def work(self):
         while True:
@@ -188,7 +202,7 @@ class Batches:
     def finish(self):
         """Waits until all are tried; those of crates that were not proved are named."""
         with self.change:
-            self.most, self.is_last = self.processors, True
+            self.is_last = True
             self.change.notify_all()
         for it in self.threads:
             it.join()
@@ -228,20 +242,19 @@ def main():
     if os.path.exists(program):
         os.remove(program)
     began, times, tree = time.monotonic(), spent.Spent(), ProvedTree()
-    batches = Batches(tree.path, len(os.sched_getaffinity(0)))
+    batches = Batches(tree.path, len(os.sched_getaffinity(0)), times)
 
     def hear(line):
-        told = PROVED.match(line)
+        told, refused = PROVED.match(line), REFUSED.match(line)
         if told:
             tree.take(told[1])
             batches.proved(told[1])
+        if refused:
+            batches.refused(refused[1], refused[2])
 
     proofs = run(["rt", "ci"], hear)
     # what the library and tests/run prove has its time in their rows
     times.parts = {spent.BATCHES}
-    with batches.change:
-        batches.most = batches.processors
-        batches.change.notify_all()
     passed, failed = counts(proofs)
     built = tests = Ran(1, [], 0, 0)
     if os.access(program, os.X_OK):

@@ -53,10 +53,12 @@ def check_of(it):
 
 
 class Spent:
-    """Looks at the processes below this one until it is stopped. Of the checks it counts those of its `parts`."""
+    """Looks at the processes below this one until it is stopped. Of the checks it counts those of its `parts`. `running` is the
+    number of all, at the last look, and `looked` its time."""
 
     def __init__(self):
         self.began, self.parts = time.monotonic(), {PROOFS, TESTS, MUST_FAIL, BATCHES}
+        self.running, self.looked = 0, 0
         self.seconds, self.first, self.last, self.most_memory = {}, {}, {}, 0
         self.is_done = threading.Event()
         self.thread = threading.Thread(target=self.look_on, daemon=True)
@@ -69,13 +71,15 @@ class Spent:
             self.look()
 
     def look(self):
-        found, now = processes(), time.monotonic() - self.began
-        for pid, it in found.items():
-            check = check_of(it)
-            if check and check[0] in self.parts and is_below(found, pid, os.getpid()):
+        looked, found = time.monotonic(), processes()
+        checks = [(check_of(it), pid, it) for pid, it in found.items()]
+        checks = [it for it in checks if it[0] and is_below(found, it[1], os.getpid())]
+        self.running, self.looked = len(checks), looked
+        for check, pid, it in checks:
+            if check[0] in self.parts:
                 self.seconds[check, pid, it.began] = it.seconds
-                self.first.setdefault(check[0], now)
-                self.last[check[0]] = now
+                self.first.setdefault(check[0], looked - self.began)
+                self.last[check[0]] = looked - self.began
 
     def stop(self):
         self.is_done.set()
