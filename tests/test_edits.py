@@ -508,16 +508,19 @@ def uncopied(room):
 def what_rt_ci_says(room):
     """The goal that a line of `rt ci` names counts if it is a clause or an invariant of the edit's own function."""
     emptied(room)
-    edit = edits.Edit(planted(room, "looped.a", "SEARCHED"), "thing", edits.Source(room.file("crates", "thing")))
+    text = SOURCE.replace("pub fn looped", "#[tactic(auto)]\n#[inline]\npub fn looped")
+    source = edits.Source(room.file("crates", "thing"), {**edits.texts_in(room.file("crates", "thing")), "src/parts.rt": text})
+    edit = edits.Edit(planted(room, "looped.a", "SEARCHED"), "thing", source)
     note = "note: src/parts.rt:{}:5: it is not proved that what `f` ensures holds when it returns (`{}`); `search` gave up at one of its limits"
     error = "./proofs/parts/{}/Answers.antt:27:34: error: `{}`: as printed, the two types differ only where one has `mathlib.Core.Option.som"
     for said, wanted in ((note.format(12, "returns-clause-value"), "returns-clause-value"), (note.format(12, "add-preserved"), "add-preserved"),
+                         (note.format(7, "returns"), "returns"), (note.format(20, "returns"), "returns"), (note.format(6, "returns"), None), (note.format(21, "returns"), None),
                          (note.format(12, "store-requires"), None), (note.format(12, "add-smaller"), None), (note.format(29, "returns-clause-value"), None),
                          (note.format(12, "returns").replace("src/parts", "src/laws"), None),
                          (error.format("looped", "returns-then"), "returns-then"), (error.format("looped", "fetch_add-number-requires"), None),
                          (error.format("looped", "sum_is"), None), (error.format("Part/of", "returns"), None),
                          ("./proofs/parts/looped/Answers.antt:27:34: error: `returns`: record `After` has no field `grown`", None), ("", None)):
-        same(f"said: {said}", edits.shown_by(edit, said), wanted)
+        same(f"said: {said}", edits.shown_by(edit, source, said), wanted)
 
 
 def shown(room):

@@ -30,6 +30,10 @@ class Crate:
     name = "low"
 
 
+class Source:
+    filed = None
+
+
 class Batch:
     need = 0
 
@@ -43,12 +47,12 @@ class Batch:
 
 def batches_of(root, folders):
     if folders == ("must-fail",):
-        return [Batch(Crate(), None, [Edit("low/by_clause"), Edit("low/by_call")], None)]
+        return [Batch(Crate(), Source(), [Edit("low/by_clause"), Edit("low/by_call")], None)]
     assert folders == ("edits",)
     return [] if "{hole}" == "none" else [Batch("low", None, [Edit("one"), Edit("two")], None), Batch("{other}", None, [Edit("three")], None)]
 
 
-def shown_by(edit, said):
+def shown_by(edit, source, said):
     assert not said.startswith(": ")
     return said if said.startswith("returns") else None
 

@@ -826,12 +826,13 @@ def refusal(edit, batch, check):
     return (best[0], bool(of_contract)) if best else (None, False)
 
 
-def shown_by(edit, said):
-    """The goal that a line of `rt ci` names as not proved in one of the edit's functions, if it shows a contract, or None."""
+def shown_by(edit, source, said):
+    """The goal that a line of `rt ci` names as not proved in one of the edit's functions, if it shows a contract, or None. A place
+    may be that of the function's attributes."""
     place = re.match(r"(?:note: )?(?:\./)?(\S+?):(\d+):\d+: (?:error: `([^`]+)`|it is not proved that .*? \(`([^`]+)`\))", said)
-    for it in edit.judged if place and not ONLY_NAMES.search(said) else []:
+    for it in edit.filed.judged if place and not ONLY_NAMES.search(said) else []:
         of_answers = place[1] == f"proofs/{it.symbol.replace('::', '/')}/Answers.antt"
-        of_code = place[1] == it.file and it.first < int(place[2]) <= it.last + 1
+        of_code = place[1] == it.file and it.first - len(source.attributes(it)) < int(place[2]) <= it.last + 1
         if (of_answers or of_code) and it.shows_contract(place[3] or place[4]):
             return place[3] or place[4]
     return None

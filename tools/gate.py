@@ -159,7 +159,7 @@ class Batches:
         """Takes what `rt ci` says of an edit in must-fail/. If that names no clause, the edit is tried once more, by itself."""
         batch = self.of_must_fail.get(name)
         edit = next((it for it in batch.edits if it.name == name), None) if batch else None
-        if edit and not edits.shown_by(edit, said):
+        if edit and not edits.shown_by(edit, batch.source.filed, said):
             with self.change:
                 self.ready.append(edits.Batch(batch.crate, batch.source, [edit], batch.kept))
                 self.change.notify_all()
