@@ -88,10 +88,11 @@ for line, row in enumerate(open("src/parts.rt").read().split("\n"), 1):
         sys.exit(1)
 with open(os.environ["ASKED"], "a") as it:
     print(*asked, file=it)
-kept = sys.argv[sys.argv.index("--incremental") + 1]
+kept = sys.argv[sys.argv.index("--incremental") + 1] if "--incremental" in sys.argv else None
 with open(os.environ["ASKED"] + ".kept", "a") as it:
-    print(len(os.listdir(kept)), file=it)
-open(f"{kept}/{len(os.listdir(kept))}", "w").close()
+    print(len(os.listdir(kept)) if kept else "none", file=it)
+if kept:
+    open(f"{kept}/{len(os.listdir(kept))}", "w").close()
 for line, row in enumerate(open("src/parts.rt").read().split("\n"), 1):
     if "UNKNOWN" in row:
         print(f"src/parts.rt:{line}:5: error: `ensures-value`: `UNKNOWN` is not in scope")
@@ -597,7 +598,7 @@ def clauses_of_one_law(room):
 
 
 def laws_beside_functions(room):
-    """An edit of a definition that only laws see is tried beside edits of functions."""
+    """An edit of a definition that only laws see is tried beside edits of functions, of which the first check has as many as can be."""
     emptied(room)
     planted(room, "of.a", "ANSWERED")
     written(room, "both.one", "specs/Both.antt", ("Is_one = true", "Is_one = broken"))
@@ -674,13 +675,21 @@ def libraries_below(room):
 
 def checks_that_begin_with_the_last(room):
     emptied(room)
-    for fault in "abc":
+    for fault in "abcd":
         planted(room, f"from.{fault}", "ANSWERED")
+    planted(room, "of.a", "ANSWERED")
     with contextlib.suppress(FileNotFoundError):
         os.remove(room.file("asked.kept"))
-    same("three checks", tries(room)[1][-1], "3 passed, 0 failed")
+    same("four checks", tries(room)[1][-1], "5 passed, 0 failed")
     with open(room.file("asked.kept")) as it:
-        same("each begins with what the last one kept", it.read().split(), ["0", "1", "2"])
+        same("each begins with what the last one kept, but for the largest", sorted(it.read().split()), ["0", "1", "2", "none"])
+    emptied(room)
+    planted(room, "from.a", "ANSWERED")
+    planted(room, "from.b", "ANSWERED")
+    os.remove(room.file("asked.kept"))
+    same("two checks", tries(room)[1][-1], "2 passed, 0 failed")
+    with open(room.file("asked.kept")) as it:
+        same("nothing is kept for one", it.read().split(), ["none", "none"])
 
 
 def folders_of_checks():

@@ -54,8 +54,8 @@ from prove import toolchain  # noqa: E402
 OTHERWISE = "tools/edits_refused_otherwise.txt"
 KEPT = "build/edits"
 
-# The most edits of one check. More take as long each, and more memory together.
-MOST = 40
+# The most edits of one check. Few checks are quickest: each reads the crate and all libraries below. A large one takes more memory.
+MOST = 120
 
 # The seconds that a check gets, and more for each edit, before it is stopped and its edits are tried by halves; and those of
 # a whole crate.
@@ -482,9 +482,9 @@ def stop_on_clash(edits):
 
 
 def grouped(edits):
-    """The edits in few lists, each about as long as the others, in which no two clash. Those of laws go together if no clause
-    depends on two of them, and beside edits of functions if only laws see what they change. Another one of a definition is tried
-    without others, since a lemma that it refuses could be theirs."""
+    """The edits in few lists, in which no two clash. Those of laws go together if no clause depends on two of them, and beside edits
+    of functions if only laws see what they change. Another one of a definition is tried without others, since a lemma that it
+    refuses could be theirs."""
     fit = [it for it in edits if not it.bad and not it.is_alone]
     together, of_laws = [it for it in fit if not it.definitions], [it for it in fit if it.definitions and it.clauses]
     lists = spread(together)
@@ -505,18 +505,15 @@ def may_join(more, edits):
 
 
 def spread(edits):
-    """The edits in few lists, in which no two clash."""
-    number, parts = {}, {it: set() if it.may_move else it.clauses or {*it.functions, *it.judged} for it in edits}
-    for part in (part for it in edits for part in parts[it]):
-        number[part] = number.get(part, 0) + 1
-    lists = [[] for _ in range(max([-(-len(edits) // MOST), *number.values()]))]
-    for it in sorted(edits, key=lambda it: (-len(it.reach), -max([number[part] for part in parts[it]], default=0), it.name)):
-        free = [one for one in lists if all(it.may_stand_beside(other) for other in one)]
+    """The edits in few lists, in which no two clash. The first has as many as it can."""
+    lists = []
+    for it in sorted(edits, key=lambda it: (it.may_move, -len(it.reach), it.name)):
+        free = [one for one in lists if len(one) < MOST and all(it.may_stand_beside(other) for other in one)]
         if not free:
             free = [[]]
             lists += free
-        min(free, key=len).append(it)
-    return [it for it in lists if it]
+        free[0].append(it)
+    return lists
 
 
 def renamed(text, function, name):
@@ -571,8 +568,8 @@ class Batch:
         self.need = 1_000_000_000 + 15_000_000 * len(edits) + 150_000 * crate.count(rb"\n")
 
     def finds_work(self):
-        """Whether an earlier check of the crate kept what this one begins with."""
-        return self.kept.last is not None
+        """Whether an earlier check of the crate kept what this one begins with, if it begins with any."""
+        return self.kept is None or self.kept.last is not None
 
 
 def edits_in(crate, folders=("edits",)):
@@ -584,9 +581,11 @@ def edits_in(crate, folders=("edits",)):
 
 
 def batches_of_crate(crate, paths):
-    source, kept = Source(crate.folder), Kept()
-    groups = grouped([Edit(path, crate.name, source) for path in paths])
-    return [Batch(crate, *with_copies(source, it), kept) for it in groups]
+    source = Source(crate.folder)
+    groups = sorted(grouped([Edit(path, crate.name, source) for path in paths]), key=len)
+    # to keep work takes a ninth longer, so the largest does not
+    kept = Kept() if len(groups) > 2 else None
+    return [Batch(crate, *with_copies(source, it), None if it is groups[-1] else kept) for it in groups]
 
 
 def batches_of(root, folders):
@@ -700,7 +699,7 @@ class Check:
 
 
 class Kept:
-    """What a check of a crate's batches kept, its lemmas above all: the next one begins with it. The toolchain takes from there
+    """What a check of a crate's small batches kept, its lemmas above all: the next one begins with it. The toolchain takes from there
     only what it finds to be of the texts as they stand. A check writes a new file for each module and changes none, so such a
     file may stand in several folders at once. Each folder has lists of its own, which a check does change."""
 
@@ -730,9 +729,9 @@ def link_module(one, other):
 
 def check(batch, asked, room):
     """Checks these functions of the copy of a crate in a folder, past those that are left out; the whole crate if none is named."""
-    rtlib, kept = toolchain(), batch.kept.begin() if asked else None
-    only = [word for it in asked for word in ("--only", it.symbol)]
-    words = [*batch.crate.words(["--jobs", "1"], keeps=False), *(["--allow-holes", "--incremental", kept.name] if asked else []), *only]
+    rtlib, kept = toolchain(), batch.kept.begin() if asked and batch.kept else None
+    flags = [*(["--allow-holes"] if asked else []), *(["--incremental", kept.name] if kept else [])]
+    words = [*batch.crate.words(["--jobs", "1"], keeps=False), *flags, *(word for it in asked for word in ("--only", it.symbol))]
     with tempfile.TemporaryFile("w+", encoding="utf-8", errors="replace") as said:
         whole = [*rtlib.guarded(), "nice", "-n", str(NICENESS), rtlib.RATTLE, "check", *words]
         ran = subprocess.Popen(whole, cwd=room, stdin=subprocess.DEVNULL, stdout=said, stderr=subprocess.STDOUT)
