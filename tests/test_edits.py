@@ -331,7 +331,7 @@ def planted(room, name, word):
 def emptied(room):
     folder = room.file("crates", "thing", "edits")
     shutil.rmtree(folder, ignore_errors=True)
-    shutil.rmtree(room.file("build"), ignore_errors=True)
+    shutil.rmtree(room.file("cache"), ignore_errors=True)
     with contextlib.suppress(FileNotFoundError):
         os.remove(room.file("asked"))
     os.mkdir(folder)
@@ -340,7 +340,7 @@ def emptied(room):
 def tries(room, *words, control="no holes", built="yes"):
     """What the tool does: its status, and the lines of its two outputs. `control` is what the check says of the harmless edit, and
     `built` whether the library below is built; `fails` if it can't be."""
-    room.environment.update(CONTROL=control, ASKED=room.file("asked"), BUILT=built)
+    room.environment.update(CONTROL=control, ASKED=room.file("asked"), BUILT=built, XDG_CACHE_HOME=room.file("cache"))
     ran = room.run(sys.executable, "tools/edits.py", *words, cwd=room.path)
     holds("the tool ends well", "Traceback" not in ran.stderr or sys.exit(ran.stderr))
     return ran.returncode, ran.stdout.splitlines(), ran.stderr.splitlines()
@@ -771,10 +771,14 @@ def kept(room):
     batch, = edits.batches_of_crate(StandIn(room), [room.file("crates", "thing", "edits", "of.a.edit")])
     with open(room.file("crates", "thing", "src", "parts.rt"), "a") as it:
         it.write("// changed after it was read\n")
+    edits.KEPT = room.file("cache", "stlslice", "edits")
     tried, edits.try_batch = edits.try_batch, lambda *_: ([(it, True, "refused") for it in batch.edits], 0)
     edits.try_or_recall(batch, room.path)
     edits.try_batch = tried
     same("another source", tries(room, control="missing")[1][-1], "0 passed, 1 failed")
+    shutil.rmtree(room.file("cache"))
+    with open(room.file("cache"), "w"):
+        same("without a place for them", tries(room)[1][-1], "1 passed, 0 failed")
 
 
 def the_repository_s_own():

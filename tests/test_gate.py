@@ -57,7 +57,7 @@ def shown_by(edit, source, said):
     return said if said.startswith("returns") else None
 
 
-def try_batch(batch, root):
+def try_or_recall(batch, root):
     if batch.edits[0].name == "{hole}":
         raise ValueError("broken")
     found = [(it, it.name not in ("{hole}", "{alone}", "{seen}"), "{said}" if it.name == "{seen}" else "tried") for it in batch.edits]

@@ -6,7 +6,8 @@
     tools/edits.py [--jobs N] --batch EDIT..        these together, in one check
 
 --show FOLDER, before these, tries all anew and leaves what each check said in FOLDER, which it makes. Without it, the results
-of a batch that passed are taken from build/edits if neither the batch, nor its crate, nor one below has changed.
+of a batch that passed are taken from ~/.cache/stlslice/edits if neither the batch, nor its crate, nor one below, nor the
+toolchain has changed. So a second gate on the same machine takes them from there, in any checkout.
 
 An edit is a file crates/NAME/edits/FUNCTION.FAULT.edit, in the form that `rt must-fail` reads (CONTRIBUTING.md). It is planted
 in a copy of the crate, together with others. The functions that none of them edits keep their statements, and their proofs
@@ -52,7 +53,8 @@ sys.path.insert(0, os.path.join(ROOT, "tools"))
 from prove import toolchain  # noqa: E402
 
 OTHERWISE = "tools/edits_refused_otherwise.txt"
-KEPT = "build/edits"
+# Where the results of batches that passed are kept.
+KEPT = os.path.join(os.environ.get("XDG_CACHE_HOME") or os.path.expanduser("~/.cache"), "stlslice", "edits")
 
 # The most edits of one check. Few checks are quickest: each reads the crate and all libraries below. A large one takes more memory.
 MOST = 120
@@ -924,12 +926,12 @@ def kept_at(batch, root):
     """The file in which the results of the batch are kept. Its name is a hash of all that they depend on."""
     rests = [text_of(os.path.abspath(__file__)), batch.crate.stamp(), sorted(listed_otherwise(root).items())]
     rests += [(it.name, sorted(it.rows.items())) for it in batch.edits]
-    return f"{root}/{KEPT}/{hashlib.sha256(repr(rests).encode()).hexdigest()}"
+    return f"{KEPT}/{hashlib.sha256(repr(rests).encode()).hexdigest()}"
 
 
 def try_or_recall(batch, root=ROOT, show=None):
-    """Does the same as try_batch, and keeps in build/ the results of a batch that passed. Those of the same batch of the same
-    files come from there, and took no time. Nothing is kept if the crate's files have changed since they were read."""
+    """Does the same as try_batch, and keeps the results of a batch that passed. Those of the same batch of the same files come from
+    there, and took no time. Nothing is kept if the crate's files have changed since they were read, or there is no room."""
     file = kept_at(batch, root)
     with contextlib.suppress(OSError, ValueError):
         told = json.loads(text_of(file))
@@ -937,10 +939,11 @@ def try_or_recall(batch, root=ROOT, show=None):
     results, seconds = try_batch(batch, root, show)
     is_same = file == kept_at(batch, root) and texts_in(batch.crate.folder) == batch.source.filed.texts
     if all(passed for _, passed, _ in results) and is_same:
-        os.makedirs(os.path.dirname(file), exist_ok=True)
-        with tempfile.NamedTemporaryFile("w", dir=os.path.dirname(file), delete=False, encoding="utf-8") as it:
-            json.dump({edit.name: text for edit, _, text in results}, it)
-        os.replace(it.name, file)
+        with contextlib.suppress(OSError):
+            os.makedirs(KEPT, exist_ok=True)
+            with tempfile.NamedTemporaryFile("w", dir=KEPT, delete=False, encoding="utf-8") as it:
+                json.dump({edit.name: text for edit, _, text in results}, it)
+            os.replace(it.name, file)
     return results, seconds
 
 

@@ -7,7 +7,8 @@
 2. Beside it tools/edits.py tries the other edits in batches, at a lower priority: those of a crate once it is proved, while
    fewer checks run than there are processors. `rt ci` takes any refusal, and this only a clause's. So an edit in must-fail/ for
    which `rt ci` names no clause is tried here too, and then counts twice. What a batch can't judge is tried alone. What
-   something else than a clause refuses has failed, unless tools/edits_refused_otherwise.txt says why.
+   something else than a clause refuses has failed, unless tools/edits_refused_otherwise.txt says why. The results of a batch
+   that passed here, of the same files, are kept, as `rt ci` keeps what it proved.
 3. The library, and the page that has it, are built from what was proved.
 4. tests/run tests what people touch: the program, the library, packages, recipes, documents.
 
@@ -125,7 +126,7 @@ def tried(batch, root):
     left of the batch."""
     found = {}
     try:
-        for edit, is_passed, text in edits.try_batch(batch, root)[0]:
+        for edit, is_passed, text in edits.try_or_recall(batch, root)[0]:
             if not is_passed and not text.lower().startswith(("refused", "bad edit")):
                 is_passed, text = edits.try_alone(edit, batch, root)
             found[edit] = f"{edit.name}: {text}", is_passed
