@@ -9,6 +9,7 @@ ghost use Rattle.stripe_claims.specs.declared.limits.TheConstants.{PASS_LIMIT};
 
 use crate::book::{FILINGS, Filing, piece_of, refusal, shown};
 use crate::jobs::job_of;
+use crate::spans::spans;
 use build_book::{Book, Build, Job, Piece};
 use contour::Loops;
 use layer_pool::{Gate, OpenGate, PASS_LIMIT, build};
@@ -23,11 +24,7 @@ use std::thread;
 use std::thread::Threads;
 use test_meshes::{COLUMN, CUBE, CUBE_AND_PAIR, OCTAHEDRON, Part, TWO_CUBES};
 
-const PIXEL: &[Span] = &[Span {
-    row: 0,
-    from: 0,
-    to: 1,
-}];
+const PIXEL: &[Span] = &spans![0: 0, 1];
 
 /// Whether this is all of the column: each layer is one loop round one pixel.
 fn is_column<A: Allocator>(build: &Build<'_, A>) -> bool {

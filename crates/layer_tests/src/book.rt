@@ -3,6 +3,7 @@
 ghost use Rattle.std.specs.Prelude.{◌≡◌, IfOk};
 
 use crate::jobs::job_of;
+use crate::spans::spans;
 use build_book::{Book, Build, FileFault, Job, Piece, Slicer, slice_stripe};
 use raster::{Rule, Span};
 use short_memory::{Count, ShortMemory, first_free_turn};
@@ -53,22 +54,10 @@ fn two_cubes_by_each_rule(rt: HostRuntime) -> Result<(), Fail> {
     Ok(())
 }
 
-/// A row, and the columns from the first number on to before the second.
-type Told = (u32, u32, u32);
-
-fn are_spans(spans: &[Span], told: &[Told]) -> bool {
-    for (span, (row, from, to)) in spans.iter().zip(told) {
-        if span.row != *row || span.from != *from || span.to != *to {
-            return false;
-        }
-    }
-    spans.len() == told.len()
-}
-
 /// Whether a layer has these spans.
-fn has_spans(build: &Build<'_, Global>, k: u32, told: &[Told]) -> bool {
+fn has_spans(build: &Build<'_, Global>, k: u32, told: &[Span]) -> bool {
     match build.layer(k) {
-        Some(layer) => are_spans(layer.spans(), told),
+        Some(layer) => layer.spans() == told,
         None => false,
     }
 }
@@ -77,7 +66,7 @@ fn has_spans(build: &Build<'_, Global>, k: u32, told: &[Told]) -> bool {
 fn have_spans(
     alloc: Global,
     rule: Rule,
-    [low, middle, high]: [&[Told]; 3],
+    [low, middle, high]: [&[Span]; 3],
 ) -> Result<bool, AllocError> {
     let job = job_of(alloc, TWO_CUBES, 2, rule)?;
     let build = Book::open(alloc, &job)?.finish(&job)?;
@@ -85,14 +74,14 @@ fn have_spans(
 }
 
 /// The layer of the first cube alone, and that of the second.
-const FIRST: &[Told] = &[(0, 0, 2), (1, 0, 2)];
+const FIRST: &[Span] = &spans![0: 0, 2; 1: 0, 2];
 
-const SECOND: &[Told] = &[(1, 1, 3), (2, 1, 3)];
+const SECOND: &[Span] = &spans![1: 1, 3; 2: 1, 3];
 
 /// The layer between, of which the middle pixel lies in both cubes.
-const WITHOUT_THE_MIDDLE: &[Told] = &[(0, 0, 2), (1, 0, 1), (1, 2, 3), (2, 1, 3)];
+const WITHOUT_THE_MIDDLE: &[Span] = &spans![0: 0, 2; 1: 0, 1; 1: 2, 3; 2: 1, 3];
 
-const WITH_THE_MIDDLE: &[Told] = &[(0, 0, 2), (1, 0, 3), (2, 1, 3)];
+const WITH_THE_MIDDLE: &[Span] = &spans![0: 0, 2; 1: 0, 3; 2: 1, 3];
 
 #[test]
 fn spans_of_two_cubes_by_each_rule(rt: HostRuntime) -> Result<(), Fail> {
