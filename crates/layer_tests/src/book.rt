@@ -62,15 +62,24 @@ fn has_spans(build: &Build<'_, Global>, k: u32, told: &[Span]) -> bool {
     }
 }
 
-/// Whether the layers of two cubes, in voxels of two micrometres and by a rule, have these spans in the build of an empty book.
+/// Whether three layers have these spans in the build of an empty book.
 fn have_spans(
     alloc: Global,
-    rule: Rule,
+    job: &Job<Global>,
     [low, middle, high]: [&[Span]; 3],
 ) -> Result<bool, AllocError> {
-    let job = job_of(alloc, TWO_CUBES, 2, rule)?;
-    let build = Book::open(alloc, &job)?.finish(&job)?;
+    let build = Book::open(alloc, job)?.finish(job)?;
     Ok(has_spans(&build, 0, low) && has_spans(&build, 1, middle) && has_spans(&build, 2, high))
+}
+
+/// The same of two cubes, in voxels of two micrometres, by a rule.
+fn have_two_cubes_spans(
+    alloc: Global,
+    rule: Rule,
+    spans: [&[Span]; 3],
+) -> Result<bool, AllocError> {
+    let job = job_of(alloc, TWO_CUBES, 2, rule)?;
+    have_spans(alloc, &job, spans)
 }
 
 /// The layer of the first cube alone, and that of the second.
@@ -86,11 +95,11 @@ const WITH_THE_MIDDLE: &[Span] = &spans![0: 0, 2; 1: 0, 3; 2: 1, 3];
 #[test]
 fn spans_of_two_cubes_by_each_rule(rt: HostRuntime) -> Result<(), Fail> {
     let alloc = rt.alloc();
-    let odd = have_spans(alloc, Rule::EvenOdd, [FIRST, WITHOUT_THE_MIDDLE, SECOND]);
+    let odd = have_two_cubes_spans(alloc, Rule::EvenOdd, [FIRST, WITHOUT_THE_MIDDLE, SECOND]);
     assert!(rt; odd == Ok(true));
-    let some = have_spans(alloc, Rule::NonZero, [FIRST, WITH_THE_MIDDLE, SECOND]);
+    let some = have_two_cubes_spans(alloc, Rule::NonZero, [FIRST, WITH_THE_MIDDLE, SECOND]);
     assert!(rt; some == Ok(true));
-    let more = have_spans(alloc, Rule::Positive, [FIRST, WITH_THE_MIDDLE, SECOND]);
+    let more = have_two_cubes_spans(alloc, Rule::Positive, [FIRST, WITH_THE_MIDDLE, SECOND]);
     assert!(rt; more == Ok(true));
     Ok(())
 }
@@ -118,8 +127,10 @@ pub(crate) type Shown = (u32, u64, Option<u64>, Option<u64>);
 
 /// Why a book does not take a piece.
 pub(crate) fn refusal<'m>(book: &mut Book<'m, Global>, piece: Piece<'m, Global>) -> Refusal {
-    let (fault, back) = book.file(piece).err()?;
-    Some((fault, back.stripe()))
+    match book.file(piece) {
+        Ok(()) => None,
+        Err((fault, back)) => Some((fault, back.stripe())),
+    }
 }
 
 fn area_at(book: &Book<'_, Global>, k: u32) -> Option<u64> {
@@ -281,8 +292,10 @@ fn own_refusal<'m, A: Allocator + Copy + Send + Sync>(
     requires { piece.job ≡ book.old.job }
     ensures { book.new.job ≡ book.old.job }
 {
-    let (fault, back) = book.file_own(piece).err()?;
-    Some((fault, back.stripe()))
+    match book.file_own(piece) {
+        Ok(()) => None,
+        Err((fault, back)) => Some((fault, back.stripe())),
+    }
 }
 
 /// Stripes of the column, filed in turn without a comparison of jobs: the result of each, and how many layers the book has then.

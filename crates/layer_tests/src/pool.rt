@@ -89,6 +89,23 @@ fn are_same(one: &Build<'_, Global>, other: &Build<'_, Global>) -> bool {
     one.layers().len() == other.layers().len()
 }
 
+/// Whether this number of workers builds a job as it was built, with no late layer.
+fn is_built_again<R: Threads + Wait + Sync>(
+    rt: &R,
+    alloc: Global,
+    job: &Job<Global>,
+    workers: u32,
+    one: &Build<'_, Global>,
+) -> bool
+    requires some { 1 ≤ workers }
+    requires few { workers ≤ PASS_LIMIT }
+{
+    match build(rt, alloc, job, workers, &OpenGate) {
+        Ok(other) => other.late() == 0 && are_same(one, &other),
+        Err(AllocError) => false,
+    }
+}
+
 /// Whether one, two and the most workers build a job alike, with no late layer.
 fn is_built_alike<R: Threads + Wait + Sync>(
     rt: &R,
@@ -96,10 +113,11 @@ fn is_built_alike<R: Threads + Wait + Sync>(
     job: &Job<Global>,
 ) -> Result<bool, AllocError> {
     let one = build(rt, alloc, job, 1, &OpenGate)?;
-    let two = build(rt, alloc, job, 2, &OpenGate)?;
-    let most = build(rt, alloc, job, PASS_LIMIT, &OpenGate)?;
-    let late = [one.late(), two.late(), most.late()];
-    Ok(late == [0; 3] && are_same(&one, &two) && are_same(&one, &most))
+    Ok(
+        one.late() == 0
+            && is_built_again(rt, alloc, job, 2, &one)
+            && is_built_again(rt, alloc, job, PASS_LIMIT, &one),
+    )
 }
 
 /// The same for a mesh in voxels of a micrometre, by a rule.
