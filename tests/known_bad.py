@@ -59,20 +59,20 @@ AFTER_WRITE = "            Err(_) => Err(self.fail()),\n        }\n    }\n\n    
 
 BAD = {
     "a serial pool": Bad([(POOL, SPAWN, "run_worker(shared, worker, pass);")],
-                         "book_tests", "one_worker_is_held", "pool::one_worker_is_held_while_the_other_works"),
+                         "layer_tests", "one_worker_is_held", "pool::one_worker_is_held_while_the_other_works"),
     "a pool that holds the lock while arrived runs": Bad(
         [(POOL, ARRIVED, "    {\n        let _book = shared.book.lock(shared.rt);\n    " + ARRIVED + "    }\n")],
-        "book_tests", "one_worker_is_held", "pool::one_worker_is_held_while_the_other_works"),
+        "layer_tests", "one_worker_is_held", "pool::one_worker_is_held_while_the_other_works"),
     "a pool that holds the lock while a piece is made": Bad(
         [(POOL, SLICED, SLICED_UNDER_LOCK)],
-        "book_tests", "one_worker_is_held", "pool::one_worker_is_held_with_its_piece_while_the_other_works"),
+        "layer_tests", "one_worker_is_held", "pool::one_worker_is_held_with_its_piece_while_the_other_works"),
     "a pool that holds the lock while it slices": Bad(
         [(POOL, SLICED, SLICED_ALONE_UNDER_LOCK)],
-        "book_tests", "one_worker_is_held", "pool::one_worker_is_held_in_a_slice_while_the_other_works"),
+        "layer_tests", "one_worker_is_held", "pool::one_worker_is_held_in_a_slice_while_the_other_works"),
     "a finish that leaves stripes empty": Bad(
         [("crates/build_book/src/places.rt", "    for s in 0..job.stripes() {\n        late +=",
           "    for s in 1..job.stripes() {\n        late +=")],
-        "book_tests", "two_cubes", "book::two_cubes_by_each_rule"),
+        "layer_tests", "two_cubes", "book::two_cubes_by_each_rule"),
     "a probe that gives one ray twice": Bad(
         [("crates/mesh_weld/src/probing.rt", "(crossings(solid, centre), crossings_along_y(solid, centre))",
           "(crossings(solid, centre), crossings(solid, centre))")],
@@ -85,7 +85,7 @@ BAD = {
     "a fill that always answers out of memory": Bad(
         [("crates/raster/src/filler.rt", "    Filler::new(alloc).fill(s, g, rule, k, list)\n",
           "    let _spans = Filler::new(alloc).fill(s, g, rule, k, list);\n    Err(AllocError)\n")],
-        "filling_tests", "layers_of", "filling::layers_of_two_cubes"),
+        "layer_tests", "layers_of", "filling::layers_of_two_cubes"),
     "a run_watched that always answers out of memory": Bad(
         [("crates/stlslice/src/running.rt", "    match *task {\n        Task::Box { unit } => run_box(",
           "    let end: Result<(), RunFault> = Err(RunFault::Memory);\n    if end.is_err() {\n        return end;\n    }\n"
@@ -93,13 +93,13 @@ BAD = {
         "run_tests", "box_runs::boxes", "box_runs::boxes"),
     "a Counted whose reads always fail": Bad(
         [(COUNTED, TAKEN + AFTER_READ, FAILED + AFTER_READ)],
-        "filling_tests", "a_byte_at_a_time", "byte_writers::a_byte_at_a_time_from_reader_to_writer"),
+        "layer_tests", "a_byte_at_a_time", "byte_writers::a_byte_at_a_time_from_reader_to_writer"),
     "a Counted whose writes always fail": Bad(
         [(COUNTED, TAKEN + AFTER_WRITE, FAILED + AFTER_WRITE)],
-        "filling_tests", "a_byte_at_a_time", "byte_writers::a_byte_at_a_time_from_reader_to_writer"),
+        "layer_tests", "a_byte_at_a_time", "byte_writers::a_byte_at_a_time_from_reader_to_writer"),
     "a Counted that can't be flushed": Bad(
         [(COUNTED, "                self.is_settled = true;\n                Ok(())", "                Err(self.fail())")],
-        "filling_tests", "flush", "byte_writers::an_interrupted_flush_is_not_tried_again"),
+        "layer_tests", "flush", "byte_writers::an_interrupted_flush_is_not_tried_again"),
 }
 
 

@@ -1,6 +1,6 @@
-//! Tests of loads and of runs: the lines and statuses of faults, and the text of a run with enough memory. They also test what
-//! a failed device or allocation leaves. They are in a crate of their own, because a crate's tests are proved with the whole
-//! crate once more.
+//! Tests of the command's words, of loads and of runs: the lines and statuses of faults, and the text of a run with enough
+//! memory. They also test what a failed device or allocation leaves. They are in a crate of their own, because a crate's tests
+//! are proved with the whole crate once more.
 #![tactic(auto)]
 
 #[cfg(test)]
@@ -29,3 +29,5 @@ mod png_runs;
 mod probe_runs;
 #[cfg(test)]
 mod slice_runs;
+#[cfg(test)]
+mod words;

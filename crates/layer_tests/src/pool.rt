@@ -9,6 +9,7 @@ ghost use Rattle.stripe_claims.specs.declared.limits.TheConstants.{PASS_LIMIT};
 
 use crate::book::{FILINGS, Filing, piece_of, refusal, shown};
 use crate::jobs::job_of;
+use crate::spans::spans;
 use build_book::{Book, Build, Job, Piece};
 use contour::Loops;
 use layer_pool::{Gate, OpenGate, PASS_LIMIT, build};
@@ -23,11 +24,7 @@ use std::thread;
 use std::thread::Threads;
 use test_meshes::{COLUMN, CUBE, CUBE_AND_PAIR, OCTAHEDRON, Part, TWO_CUBES};
 
-const PIXEL: &[Span] = &[Span {
-    row: 0,
-    from: 0,
-    to: 1,
-}];
+const PIXEL: &[Span] = &spans![0: 0, 1];
 
 /// Whether this is all of the column: each layer is one loop round one pixel.
 fn is_column<A: Allocator>(build: &Build<'_, A>) -> bool {
@@ -92,6 +89,23 @@ fn are_same(one: &Build<'_, Global>, other: &Build<'_, Global>) -> bool {
     one.layers().len() == other.layers().len()
 }
 
+/// Whether this number of workers builds a job as it was built, with no late layer.
+fn is_built_again<R: Threads + Wait + Sync>(
+    rt: &R,
+    alloc: Global,
+    job: &Job<Global>,
+    workers: u32,
+    one: &Build<'_, Global>,
+) -> bool
+    requires some { 1 ≤ workers }
+    requires few { workers ≤ PASS_LIMIT }
+{
+    match build(rt, alloc, job, workers, &OpenGate) {
+        Ok(other) => other.late() == 0 && are_same(one, &other),
+        Err(AllocError) => false,
+    }
+}
+
 /// Whether one, two and the most workers build a job alike, with no late layer.
 fn is_built_alike<R: Threads + Wait + Sync>(
     rt: &R,
@@ -99,10 +113,11 @@ fn is_built_alike<R: Threads + Wait + Sync>(
     job: &Job<Global>,
 ) -> Result<bool, AllocError> {
     let one = build(rt, alloc, job, 1, &OpenGate)?;
-    let two = build(rt, alloc, job, 2, &OpenGate)?;
-    let most = build(rt, alloc, job, PASS_LIMIT, &OpenGate)?;
-    let late = [one.late(), two.late(), most.late()];
-    Ok(late == [0; 3] && are_same(&one, &two) && are_same(&one, &most))
+    Ok(
+        one.late() == 0
+            && is_built_again(rt, alloc, job, 2, &one)
+            && is_built_again(rt, alloc, job, PASS_LIMIT, &one),
+    )
 }
 
 /// The same for a mesh in voxels of a micrometre, by a rule.

@@ -3,6 +3,7 @@
 ghost use Rattle.std.specs.Prelude.{◌≡◌, IfOk};
 
 use crate::jobs::job_of;
+use crate::spans::spans;
 use build_book::{Book, Build, FileFault, Job, Piece, Slicer, slice_stripe};
 use raster::{Rule, Span};
 use short_memory::{Count, ShortMemory, first_free_turn};
@@ -53,55 +54,52 @@ fn two_cubes_by_each_rule(rt: HostRuntime) -> Result<(), Fail> {
     Ok(())
 }
 
-/// A row, and the columns from the first number on to before the second.
-type Told = (u32, u32, u32);
-
-fn are_spans(spans: &[Span], told: &[Told]) -> bool {
-    for (span, (row, from, to)) in spans.iter().zip(told) {
-        if span.row != *row || span.from != *from || span.to != *to {
-            return false;
-        }
-    }
-    spans.len() == told.len()
-}
-
 /// Whether a layer has these spans.
-fn has_spans(build: &Build<'_, Global>, k: u32, told: &[Told]) -> bool {
+fn has_spans(build: &Build<'_, Global>, k: u32, told: &[Span]) -> bool {
     match build.layer(k) {
-        Some(layer) => are_spans(layer.spans(), told),
+        Some(layer) => layer.spans() == told,
         None => false,
     }
 }
 
-/// Whether the layers of two cubes, in voxels of two micrometres and by a rule, have these spans in the build of an empty book.
+/// Whether three layers have these spans in the build of an empty book.
 fn have_spans(
     alloc: Global,
-    rule: Rule,
-    [low, middle, high]: [&[Told]; 3],
+    job: &Job<Global>,
+    [low, middle, high]: [&[Span]; 3],
 ) -> Result<bool, AllocError> {
-    let job = job_of(alloc, TWO_CUBES, 2, rule)?;
-    let build = Book::open(alloc, &job)?.finish(&job)?;
+    let build = Book::open(alloc, job)?.finish(job)?;
     Ok(has_spans(&build, 0, low) && has_spans(&build, 1, middle) && has_spans(&build, 2, high))
 }
 
-/// The layer of the first cube alone, and that of the second.
-const FIRST: &[Told] = &[(0, 0, 2), (1, 0, 2)];
+/// The same of two cubes, in voxels of two micrometres, by a rule.
+fn have_two_cubes_spans(
+    alloc: Global,
+    rule: Rule,
+    spans: [&[Span]; 3],
+) -> Result<bool, AllocError> {
+    let job = job_of(alloc, TWO_CUBES, 2, rule)?;
+    have_spans(alloc, &job, spans)
+}
 
-const SECOND: &[Told] = &[(1, 1, 3), (2, 1, 3)];
+/// The layer of the first cube alone, and that of the second.
+const FIRST: &[Span] = &spans![0: 0, 2; 1: 0, 2];
+
+const SECOND: &[Span] = &spans![1: 1, 3; 2: 1, 3];
 
 /// The layer between, of which the middle pixel lies in both cubes.
-const WITHOUT_THE_MIDDLE: &[Told] = &[(0, 0, 2), (1, 0, 1), (1, 2, 3), (2, 1, 3)];
+const WITHOUT_THE_MIDDLE: &[Span] = &spans![0: 0, 2; 1: 0, 1; 1: 2, 3; 2: 1, 3];
 
-const WITH_THE_MIDDLE: &[Told] = &[(0, 0, 2), (1, 0, 3), (2, 1, 3)];
+const WITH_THE_MIDDLE: &[Span] = &spans![0: 0, 2; 1: 0, 3; 2: 1, 3];
 
 #[test]
 fn spans_of_two_cubes_by_each_rule(rt: HostRuntime) -> Result<(), Fail> {
     let alloc = rt.alloc();
-    let odd = have_spans(alloc, Rule::EvenOdd, [FIRST, WITHOUT_THE_MIDDLE, SECOND]);
+    let odd = have_two_cubes_spans(alloc, Rule::EvenOdd, [FIRST, WITHOUT_THE_MIDDLE, SECOND]);
     assert!(rt; odd == Ok(true));
-    let some = have_spans(alloc, Rule::NonZero, [FIRST, WITH_THE_MIDDLE, SECOND]);
+    let some = have_two_cubes_spans(alloc, Rule::NonZero, [FIRST, WITH_THE_MIDDLE, SECOND]);
     assert!(rt; some == Ok(true));
-    let more = have_spans(alloc, Rule::Positive, [FIRST, WITH_THE_MIDDLE, SECOND]);
+    let more = have_two_cubes_spans(alloc, Rule::Positive, [FIRST, WITH_THE_MIDDLE, SECOND]);
     assert!(rt; more == Ok(true));
     Ok(())
 }
@@ -129,8 +127,10 @@ pub(crate) type Shown = (u32, u64, Option<u64>, Option<u64>);
 
 /// Why a book does not take a piece.
 pub(crate) fn refusal<'m>(book: &mut Book<'m, Global>, piece: Piece<'m, Global>) -> Refusal {
-    let (fault, back) = book.file(piece).err()?;
-    Some((fault, back.stripe()))
+    match book.file(piece) {
+        Ok(()) => None,
+        Err((fault, back)) => Some((fault, back.stripe())),
+    }
 }
 
 fn area_at(book: &Book<'_, Global>, k: u32) -> Option<u64> {
@@ -292,8 +292,10 @@ fn own_refusal<'m, A: Allocator + Copy + Send + Sync>(
     requires { piece.job ≡ book.old.job }
     ensures { book.new.job ≡ book.old.job }
 {
-    let (fault, back) = book.file_own(piece).err()?;
-    Some((fault, back.stripe()))
+    match book.file_own(piece) {
+        Ok(()) => None,
+        Err((fault, back)) => Some((fault, back.stripe())),
+    }
 }
 
 /// Stripes of the column, filed in turn without a comparison of jobs: the result of each, and how many layers the book has then.
