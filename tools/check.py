@@ -31,7 +31,7 @@ PROGRAM = "build/stlslice"
 SLOW_TESTS = ("test_demo_unproved",)
 # The crates whose bodies write words, which no clause fixes. A proved body of another one changes nothing in what is written,
 # but for two texts of `Word::text` in stl_text, which reading_tests compares.
-OF_WORDS = {"task_words", "stlslice", "stlslice_program"}
+OF_WORDS = {"task_words", "progress_line", "stlslice", "stlslice_program"}
 # A function's body: from the brace that ends its head's last line to the brace with the same indentation. A head has no blank
 # line and, unlike a trait's function without a body, no line that ends in a semicolon; and its clauses are no body.
 HEAD = r"(?:pub(?:\([\w:]+\))? )?(?:const |unsafe |extern \"C\" )*fn \w(?:(?!.*;$).+\n)*?(?!\s*(?:ensures|requires)\b).*"

@@ -1,17 +1,9 @@
 //! The program `stlslice`: slices the mesh on standard input, and writes to standard output.
 #![tactic(auto)]
 
-mod png_count;
-#[cfg(test)]
-mod png_streams;
-mod progress;
-#[cfg(test)]
-mod progress_texts;
-
-use crate::png_count::PngCount;
-use crate::progress::{Progress, ProgressWriter};
 use clap::Error as Refusal;
 use clap::error::ErrorKind as RefusalKind;
+use progress_line::{Progress, ProgressWriter};
 use std::env::{self, Env, FillError};
 use std::fmt::Display;
 use std::io::{self, ErrorKind, IsTerminal};
@@ -59,11 +51,7 @@ fn main(rt: HostRuntime) -> ExitCode {
     let mut source = Counted::new(rt.stdin());
     let end = if wants_progress(words.as_slice()) {
         let progress = Progress::new(&rt, &task, rt.stderr().is_terminal());
-        let mut sink = Counted::new(ProgressWriter {
-            to: rt.stdout(),
-            progress: &progress,
-            pngs: PngCount::new(),
-        });
+        let mut sink = Counted::new(ProgressWriter::new(rt.stdout(), &progress));
         let end = run_watched(&rt, alloc, &task, &mut source, &mut sink, &progress);
         progress.end();
         end

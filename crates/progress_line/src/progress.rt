@@ -1,35 +1,45 @@
 //! How far slicing is, shown on standard error: the layers that are made, then the bytes of their images, or the PNGs, that
 //! are written.
 use crate::png_count::PngCount;
+use build_book::Piece;
+use layer_pool::Gate;
+use raster::image_len;
 use std::alloc::Allocator;
 use std::fmt::{self, Display, Formatter};
 use std::io::{self, Write};
 use std::sync::{Mutex, Wait};
 use std::time::{Clock, Instant};
-use stlslice::{Gate, Piece, Task, image_len};
+use task_words::Task;
 
 /// The form of the images that a run writes.
 #[derive(Clone, Copy, PartialEq, Eq)]
-pub(crate) enum Images {
+pub enum Images {
+    /// P4, of a length that is known before.
     P4,
+    /// PNGs, of any length.
     Pngs,
 }
 
 /// What a run does with the layers.
 #[derive(Clone, Copy, PartialEq, Eq)]
-pub(crate) enum Phase {
+pub enum Phase {
+    /// It makes the layers.
     Slicing,
+    /// It writes their images.
     Writing(Images),
 }
 
 /// How far a phase is: in layers while slicing and while writing PNGs, else in bytes.
 #[derive(Clone, Copy)]
-pub(crate) struct Bar {
-    pub(crate) phase: Phase,
-    pub(crate) done: u64,
-    pub(crate) total: u64,
+pub struct Bar {
+    /// What the run does.
+    pub phase: Phase,
+    /// How many layers or bytes are done.
+    pub done: u64,
+    /// How many there are in all, or 0 if that is not known yet.
+    pub total: u64,
     /// When the phase began. `None` before that, and if the clock cannot be read.
-    pub(crate) begun: Option<Instant>,
+    pub begun: Option<Instant>,
 }
 
 impl Bar {
@@ -52,10 +62,13 @@ impl Bar {
 
 /// The text on a bar. On a terminal it takes the place of the text before it; elsewhere it is a line.
 #[derive(Clone, Copy)]
-pub(crate) struct BarText {
-    pub(crate) bar: Bar,
-    pub(crate) seconds_left: Option<u64>,
-    pub(crate) is_terminal: bool,
+pub struct BarText {
+    /// The bar.
+    pub bar: Bar,
+    /// The seconds that its phase will still take. `None` shows no time.
+    pub seconds_left: Option<u64>,
+    /// Whether it is shown on a terminal.
+    pub is_terminal: bool,
 }
 
 /// The number of cells of the bar that a terminal shows.
@@ -117,7 +130,7 @@ impl BarText {
 /// Shows how far a run is: on a terminal in one line, which is drawn anew at each percent, elsewhere by a line at each
 /// tenth. It is the gate of the workers; a [`ProgressWriter`] reports bytes to it.
 #[derive(Drop)]
-pub(crate) struct Progress<'r, R> {
+pub struct Progress<'r, R> {
     rt: &'r R,
     is_terminal: bool,
     /// The images that the run writes, if it does. A report is written at once, so its bytes are not shown.
@@ -137,8 +150,8 @@ struct State {
 }
 
 impl<'r, R: Clock + Eprint + Wait> Progress<'r, R> {
-    /// The progress of a task that has not begun.
-    pub(crate) fn new(rt: &'r R, task: &Task, is_terminal: bool) -> Progress<'r, R> {
+    /// The progress of a task that has not begun. `is_terminal` says whether standard error, where it is shown, is a terminal.
+    pub fn new(rt: &'r R, task: &Task, is_terminal: bool) -> Progress<'r, R> {
         let bar = Bar {
             phase: Phase::Slicing,
             done: 0,
@@ -161,8 +174,9 @@ impl<'r, R: Clock + Eprint + Wait> Progress<'r, R> {
         }
     }
 
-    /// Ends the line that is drawn on a terminal, so that what follows is on a line of its own.
-    pub(crate) fn end(&self) {
+    /// Ends the line that is drawn on a terminal, so that what follows is on a line of its own. Elsewhere, and if no bar was
+    /// shown, it does nothing.
+    pub fn end(&self) {
         let is_shown = self.state.lock(self.rt).is_shown;
         if self.is_terminal && is_shown {
             let _ = self.rt.eprint("\n");
@@ -240,12 +254,23 @@ impl<'r, A: Allocator, R: Clock + Eprint + Wait> Gate<A> for Progress<'r, R> {
     }
 }
 
-/// A writer that reports to a progress how much it writes.
+/// A writer that reports to a progress how much it writes. What it returns is what the writer below returns.
 #[derive(Drop)]
-pub(crate) struct ProgressWriter<'p, 'r, W, R> {
-    pub(crate) to: W,
-    pub(crate) progress: &'p Progress<'r, R>,
-    pub(crate) pngs: PngCount,
+pub struct ProgressWriter<'p, 'r, W, R> {
+    to: W,
+    progress: &'p Progress<'r, R>,
+    pngs: PngCount,
+}
+
+impl<'p, 'r, W, R> ProgressWriter<'p, 'r, W, R> {
+    /// A writer to `to`, of which nothing was written yet.
+    pub fn new(to: W, progress: &'p Progress<'r, R>) -> ProgressWriter<'p, 'r, W, R> {
+        ProgressWriter {
+            to,
+            progress,
+            pngs: PngCount::new(),
+        }
+    }
 }
 
 impl<'p, 'r, W: Write, R: Clock + Eprint + Wait> Write for ProgressWriter<'p, 'r, W, R> {

@@ -1,5 +1,5 @@
 //! Tests the texts that show progress, on a terminal and elsewhere. No clause speaks of a `Display`.
-use crate::progress::{Bar, BarText, Images, Phase};
+use progress_line::{Bar, BarText, Images, Phase};
 use std::alloc::Global;
 
 /// What is shown, and its text.

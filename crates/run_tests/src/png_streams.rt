@@ -1,5 +1,5 @@
 //! Tests the counting of PNGs in a stream. No clause speaks of it.
-use crate::png_count::PngCount;
+use progress_line::PngCount;
 
 /// A PNG of one pixel.
 const SHORT: &[u8] =
