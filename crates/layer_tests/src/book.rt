@@ -226,20 +226,39 @@ fn stripe_of_another_job(rt: HostRuntime) -> Result<(), Fail> {
     Ok(())
 }
 
-/// Files the stripes of a job that one slicer makes in this order.
-fn file_in_order<'m>(
+/// Whether a book takes the stripe of a job that a slicer makes.
+fn takes_slice<'m>(
+    book: &mut Book<'m, Global>,
+    slicer: &mut Slicer<'m, Global>,
+    job: &'m Job<Global>,
+    stripe: u64,
+) -> bool
+    requires { slicer.old ≡ job.now }
+    ensures { slicer.new ≡ slicer.old }
+{
+    if stripe >= job.stripes() {
+        return false;
+    }
+    match slicer.slice(stripe) {
+        Ok(piece) => refusal(book, piece).is_none(),
+        Err(AllocError) => false,
+    }
+}
+
+/// Whether a book takes the stripes of a job that one slicer makes in this order.
+fn takes_in_order<'m>(
     alloc: Global,
     book: &mut Book<'m, Global>,
     job: &'m Job<Global>,
     order: &[u64],
-) -> Result<(), AllocError> {
+) -> Result<bool, AllocError> {
     let mut slicer = Slicer::new(alloc, job)?;
     for stripe in order {
-        if *stripe >= job.stripes() || refusal(book, slicer.slice(*stripe)?).is_some() {
-            return Err(AllocError);
+        if !takes_slice(book, &mut slicer, job, *stripe) {
+            return Ok(false);
         }
     }
-    Ok(())
+    Ok(true)
 }
 
 /// Stripes, how many layers a book of them has, and how many are late at its end.
@@ -252,8 +271,9 @@ fn is_finished(
     (order, filed, late): Order<'_>,
 ) -> Result<bool, AllocError> {
     let mut book = Book::open(alloc, job)?;
-    file_in_order(alloc, &mut book, job, order)?;
-    let is_filed = book.filed() == filed && book.total_area() == u64::from(filed);
+    let is_filed = takes_in_order(alloc, &mut book, job, order) == Ok(true)
+        && book.filed() == filed
+        && book.total_area() == u64::from(filed);
     let build = book.finish(job)?;
     Ok(is_filed && build.late() == late && build.total_area() == 17)
 }

@@ -7,7 +7,7 @@ use contour::{Linker, Loops, Segment, Sweep, loop_ray, loops, segments};
 use exact_cut::Centre;
 use mesh_weld::Solid;
 use short_memory::{Count, ShortMemory, first_free_turn};
-use std::alloc::{Allocator, Global};
+use std::alloc::{AllocError, Allocator, Global};
 use std::test::Fail;
 use test_meshes::{CUBE, CUBE_AND_PAIR, OCTAHEDRON, Part, TWO_CUBES};
 use test_solids::solid_of;
@@ -40,12 +40,22 @@ fn are_loops(s: &Solid<Global>, centre: &Centre, found: &Loops<Global>, told: &[
 /// A mesh, a centre in half-micrometres, and the loops of the centre's plane.
 type Plane<'a> = (&'a [Part<'a>], [i64; 3], &'a [Told<'a>]);
 
+/// Whether a solid has just these loops in the plane of a centre.
+fn has_loops(
+    alloc: Global,
+    solid: &Solid<Global>,
+    centre: &Centre,
+    told: &[Told<'_>],
+) -> Result<bool, AllocError> {
+    let list = segments(alloc, solid, centre.z2())?;
+    let found = loops(alloc, solid, centre.z2(), list)?;
+    Ok(are_loops(solid, centre, &found, told))
+}
+
 fn is_plane(alloc: Global, (parts, [x2, y2, z2], told): Plane<'_>) -> Option<bool> {
     let centre = Centre::new(x2, y2, z2)?;
     let solid = solid_of(alloc, parts).ok()?;
-    let list = segments(alloc, &solid, centre.z2()).ok()?;
-    let found = loops(alloc, &solid, centre.z2(), list).ok()?;
-    Some(are_loops(&solid, &centre, &found, told))
+    has_loops(alloc, &solid, &centre, told).ok()
 }
 
 const NEAR_LOOP: &[u32] = &[4, 11, 10, 7, 6, 9, 8, 5];

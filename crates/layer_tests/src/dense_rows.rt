@@ -195,18 +195,23 @@ fn walls_by_positive(rt: HostRuntime) -> Result<(), Fail> {
 /// A wall with dense rows.
 const DENSE: (u8, u16, u16, u16) = (30, 7, 19, 11);
 
+/// How many spans the lowest layer of a solid has.
+fn span_count<A: Allocator + Copy + Send + Sync>(alloc: A, solid: &Solid<A>) -> Option<usize> {
+    let g = Grid::fit(solid, 2, 2).ok()?;
+    if g.layers() == 0 {
+        return None;
+    }
+    let spans = layer(alloc, solid, &g, Rule::EvenOdd, 0).ok()?;
+    Some(spans.len())
+}
+
 /// The spans of a layer of it.
 struct Spans;
 
 impl Count for Spans {
     fn count(memory: &ShortMemory<Global>) -> Option<usize> {
         let solid = wall_of(DENSE).solid(memory)?;
-        let g = Grid::fit(&solid, 2, 2).ok()?;
-        if g.layers() == 0 {
-            return None;
-        }
-        let spans = layer(memory, &solid, &g, Rule::EvenOdd, 0).ok()?;
-        Some(spans.len())
+        span_count(memory, &solid)
     }
 }
 

@@ -167,17 +167,31 @@ fn images_of_all_layers(rt: HostRuntime) -> Result<(), Fail> {
     Ok(())
 }
 
+/// Whether a layer of a solid has these spans, by a filler that may have filled others.
+fn is_filled(
+    filler: &mut Filler<Global>,
+    alloc: Global,
+    solid: &Solid<Global>,
+    g: &Grid,
+    k: u32,
+    told: &[Span],
+) -> bool {
+    if k >= g.layers() {
+        return false;
+    }
+    match layer_by(filler, alloc, solid, g, Rule::EvenOdd, k) {
+        Ok(spans) => spans.as_slice() == told,
+        Err(_) => false,
+    }
+}
+
 /// Whether layers of two cubes have these spans, by one filler for all.
 fn are_filled(alloc: Global, layers: &[(u32, &[Span])]) -> Option<bool> {
     let solid = solid_of(alloc, TWO_CUBES).ok()?;
     let g = Grid::fit(&solid, 2, 2).ok()?;
     let mut filler = Filler::new(alloc);
     for (k, told) in layers {
-        if *k >= g.layers() {
-            return Some(false);
-        }
-        let spans = layer_by(&mut filler, alloc, &solid, &g, Rule::EvenOdd, *k).ok()?;
-        if spans.as_slice() != *told {
+        if !is_filled(&mut filler, alloc, &solid, &g, *k, told) {
             return Some(false);
         }
     }

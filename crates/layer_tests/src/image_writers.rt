@@ -108,8 +108,32 @@ fn begins_at(
     found == told && text.get(..byte) == Some(w.inner().inner.taken.as_slice())
 }
 
+/// Whether the text of three images goes out in calls of the sink that end at these bytes. Also whether a writer is filled that
+/// has room up to the byte before each of them.
+fn are_ends(
+    alloc: Global,
+    outer: &Grid,
+    spans: &[Span],
+    inner: &Grid,
+    text: &[u8],
+    ends: &[usize],
+) -> bool
+    requires { AreSpans outer.now.columns outer.now.rows spans.now }
+{
+    let way = (1000, Some(ErrorKind::Other));
+    for (calls, end) in ends.iter().enumerate() {
+        let room = end.saturating_sub(1);
+        if !begins_at(alloc, outer, spans, inner, text, calls + 1, *end)
+            || !is_filled(alloc, outer, spans, inner, text, way, room)
+        {
+            return false;
+        }
+    }
+    begins_at(alloc, outer, spans, inner, text, 0, 0) && ends.last() == Some(&text.len())
+}
+
 /// Whether three images go out in calls of the sink that end at these bytes. The first and the third are 8 pixels wide, the
-/// second as wide as a grid may be. Also whether a writer is filled that has room up to the byte before each of them.
+/// second as wide as a grid may be.
 fn ends_at(
     alloc: Global,
     outer_rows: u32,
@@ -123,17 +147,7 @@ fn ends_at(
     let outer = Grid::given(place, 1, 1, 8, outer_rows, 1).ok()?;
     let inner = Grid::given(place, 1, 1, COLUMN_LIMIT, inner_rows, 1).ok()?;
     let text = text_of(alloc, &outer, spans, &inner)?;
-    let bytes = text.as_slice();
-    let way = (1000, Some(ErrorKind::Other));
-    for (calls, end) in ends.iter().enumerate() {
-        let room = end.saturating_sub(1);
-        if !begins_at(alloc, &outer, spans, &inner, bytes, calls + 1, *end)
-            || !is_filled(alloc, &outer, spans, &inner, bytes, way, room)
-        {
-            return Some(false);
-        }
-    }
-    Some(begins_at(alloc, &outer, spans, &inner, bytes, 0, 0) && ends.last() == Some(&bytes.len()))
+    Some(are_ends(alloc, &outer, spans, &inner, text.as_slice(), ends))
 }
 
 /// A call of the sink takes a chunk if the next row, or 15 bytes for the next header, would go beyond it.

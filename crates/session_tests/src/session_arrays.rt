@@ -1,43 +1,58 @@
 //! Sessions of arrays: the answer is that of the text of the same facets, each fault names the first triangle that has one, and
 //! memory that fails is told.
 use crate::session_chunks::are_answers_same;
-use crate::sessions::fitted;
+use crate::sessions::{fitted, reads};
 use layer_session::{ArrayFault, Session, SessionFault, Setup};
 use micro_num::Unit;
 use raster::Rule;
 use short_memory::ShortMemory;
-use std::alloc::{AllocError, Allocator, Global};
+use std::alloc::{AllocError, Global};
 use std::test::Fail;
 use test_meshes::{
     BOX, CORNERS, CUBE, CUBE_AND_FLAT, HOLLOW_CUBE, OCTAHEDRON, ONE_INWARD, Part, SHEET, TWO_CUBES,
     text_of,
 };
 
-/// Points and triangles of a mesh by tables: the points of all parts, one part after the other.
-fn arrays_of<A: Allocator + Copy>(
-    alloc: A,
-    parts: &[Part<'_>],
-) -> Result<(Vec<[i32; 3], A>, Vec<[u32; 3], A>), AllocError> {
+/// The points of all parts of a mesh by tables, one part after the other.
+fn points_of(alloc: Global, parts: &[Part<'_>]) -> Result<Vec<[i32; 3]>, AllocError> {
     let mut points = Vec::new(alloc);
-    let mut triangles = Vec::new(alloc);
-    for (corners, facets) in parts {
-        let first = u32::try_from(points.len()).unwrap_or(u32::MAX);
+    for (corners, _) in parts {
         points.extend_from_slice(corners)?;
-        for facet in *facets {
-            let [a, b, c] = *facet;
-            triangles.push([
-                first.saturating_add(u32::from(a)),
-                first.saturating_add(u32::from(b)),
-                first.saturating_add(u32::from(c)),
-            ])?;
-        }
     }
-    Ok((points, triangles))
+    Ok(points)
+}
+
+/// Appends the triangles of a part, whose first point has this number.
+fn push_triangles(
+    triangles: &mut Vec<[u32; 3]>,
+    first: u32,
+    facets: &[[u8; 3]],
+) -> Result<(), AllocError> {
+    for [a, b, c] in facets {
+        triangles.push([
+            first.saturating_add(u32::from(*a)),
+            first.saturating_add(u32::from(*b)),
+            first.saturating_add(u32::from(*c)),
+        ])?;
+    }
+    Ok(())
+}
+
+/// The triangles of all parts of a mesh by tables.
+fn triangles_of(alloc: Global, parts: &[Part<'_>]) -> Result<Vec<[u32; 3]>, AllocError> {
+    let mut triangles = Vec::new(alloc);
+    let mut first = 0u32;
+    for (corners, facets) in parts {
+        push_triangles(&mut triangles, first, facets)?;
+        first = first.saturating_add(u32::try_from(corners.len()).unwrap_or(u32::MAX));
+    }
+    Ok(triangles)
 }
 
 /// Whether arrays and the text of the same facets have the same answer.
 fn is_as_text(alloc: Global, parts: &[Part<'_>], setup: &Setup) -> Result<bool, AllocError> {
-    let (points, triangles) = arrays_of(alloc, parts)?;
+    let points = points_of(alloc, parts)?;
+    let triangles = triangles_of(alloc, parts)?;
     let text = text_of(alloc, parts)?;
     let found = Session::open_mesh(alloc, points.as_slice(), triangles.as_slice(), setup);
     let told = Session::open(alloc, text.as_bytes(), setup);
@@ -111,8 +126,7 @@ fn the_first_fault_is_named(rt: HostRuntime) -> Result<(), Fail> {
 }
 
 #[test]
-fn the_lines_name_the_triangle(rt: HostRuntime) -> Result<(), Fail> {
-    let alloc = rt.alloc();
+fn the_lines_name_the_triangle(rt: HostRuntime) {
     let missing = SessionFault::Arrays(ArrayFault::Missing {
         triangle: 3,
         point: 7,
@@ -124,34 +138,29 @@ fn the_lines_name_the_triangle(rt: HostRuntime) -> Result<(), Fail> {
     let many = SessionFault::Arrays(ArrayFault::TooMany {
         triangle: 1_048_576,
     });
-    assert_eq!(rt;
-        format!(in alloc; "{missing}")?.as_str(),
-        "point 7 of triangle 3 is missing"
-    );
-    assert_eq!(rt;
-        format!(in alloc; "{out}")?.as_str(),
-        "point 7 of triangle 3 is out of range"
-    );
-    assert_eq!(rt;
-        format!(in alloc; "{many}")?.as_str(),
-        "too many facets at triangle 1048576"
-    );
-    Ok(())
+    assert!(rt; reads(rt.alloc(), &missing, "point 7 of triangle 3 is missing"));
+    assert!(rt; reads(rt.alloc(), &out, "point 7 of triangle 3 is out of range"));
+    assert!(rt; reads(rt.alloc(), &many, "too many facets at triangle 1048576"));
 }
 
-/// The unit is of a text's numbers alone.
-#[test]
-fn the_unit_is_not_used(rt: HostRuntime) -> Result<(), Fail> {
-    let alloc = rt.alloc();
-    let (points, triangles) = arrays_of(alloc, CUBE)?;
+/// Whether arrays have a session in inches, and it is that in millimetres.
+fn is_same_in_inches(alloc: Global, points: &[[i32; 3]], triangles: &[[u32; 3]]) -> bool {
     let setup = fitted(1, Rule::EvenOdd);
     let inches = Setup {
         unit: Unit::Inch,
         ..setup
     };
-    let found = Session::open_mesh(alloc, points.as_slice(), triangles.as_slice(), &inches);
-    let told = Session::open_mesh(alloc, points.as_slice(), triangles.as_slice(), &setup);
-    assert!(rt; found.is_ok() && are_answers_same(&found, &told));
+    let found = Session::open_mesh(alloc, points, triangles, &inches);
+    let told = Session::open_mesh(alloc, points, triangles, &setup);
+    found.is_ok() && are_answers_same(&found, &told)
+}
+
+/// The unit is of a text's numbers alone.
+#[test]
+fn the_unit_is_not_used(rt: HostRuntime) -> Result<(), Fail> {
+    let points = points_of(rt.alloc(), CUBE)?;
+    let triangles = triangles_of(rt.alloc(), CUBE)?;
+    assert!(rt; is_same_in_inches(rt.alloc(), points.as_slice(), triangles.as_slice()));
     Ok(())
 }
 
@@ -176,7 +185,8 @@ fn failures(alloc: Global, points: &[[i32; 3]], triangles: &[[u32; 3]]) -> Optio
 
 #[test]
 fn memory_that_fails_is_told(rt: HostRuntime) -> Result<(), Fail> {
-    let (points, triangles) = arrays_of(rt.alloc(), TWO_CUBES)?;
+    let points = points_of(rt.alloc(), TWO_CUBES)?;
+    let triangles = triangles_of(rt.alloc(), TWO_CUBES)?;
     let told = failures(rt.alloc(), points.as_slice(), triangles.as_slice());
     assert!(rt; told > Some(5));
     Ok(())

@@ -77,11 +77,18 @@ fn pngs_are_those_of_the_spans(rt: HostRuntime) -> Result<(), Fail> {
 const HEAD: &[u8] =
     b"\x89PNG\r\n\x1a\n\0\0\0\rIHDR\0\0\0\x01\0\0\0\x01\x08\0\0\0\0\x3a\x7e\x9b\x55";
 
+/// Whether the PNG of a layer of a session, without mirrors, has this head.
+fn has_head(session: &Session<Global>, k: u32, head: &[u8]) -> bool {
+    match session.png(k, Depth::Eight, EACH_MIRRORS[0]) {
+        Ok(png) => png.as_slice().starts_with(head),
+        Err(_) => false,
+    }
+}
+
 #[test]
 fn a_png_of_one_pixel(rt: HostRuntime) -> Result<(), Fail> {
     let session = open(rt.alloc(), COLUMN, &fitted(1, Rule::EvenOdd))?;
-    let png = session.png(16, Depth::Eight, EACH_MIRRORS[0])?;
-    assert!(rt; png.as_slice().starts_with(HEAD));
+    assert!(rt; has_head(&session, 16, HEAD));
     Ok(())
 }
 

@@ -68,19 +68,55 @@ fn is_stripe(session: &Session<Global>, s: u64, images: &[u8]) -> bool {
     }
 }
 
+/// How many bytes the image of a layer of a session has.
+fn image_len<A: Allocator + Copy + Send + Sync>(
+    session: &Session<A>,
+    k: u32,
+) -> Result<usize, SessionFault> {
+    match session.image(k) {
+        Ok(found) => Ok(found.len()),
+        Err(fault) => Err(fault),
+    }
+}
+
+/// How many bytes the PNG of a layer of a session has, in eight bits and mirrored along x.
+fn png_len<A: Allocator + Copy + Send + Sync>(
+    session: &Session<A>,
+    k: u32,
+) -> Result<usize, SessionFault> {
+    match session.png(k, Depth::Eight, Mirrors { x: true, y: false }) {
+        Ok(found) => Ok(found.len()),
+        Err(fault) => Err(fault),
+    }
+}
+
 /// How many bytes the images of a stripe of a session have.
-fn stripe_len(session: &Session<Global>, s: u64) -> Option<usize> {
+fn stripe_len<A: Allocator + Copy + Send + Sync>(
+    session: &Session<A>,
+    s: u64,
+) -> Result<usize, SessionFault> {
     match session.stripe(s) {
-        Ok(found) => Some(found.len()),
-        Err(_) => None,
+        Ok(found) => Ok(found.len()),
+        Err(fault) => Err(fault),
     }
 }
 
 /// How many loops a layer of a session has.
-fn loop_count(session: &Session<Global>, k: u32) -> Option<usize> {
+fn loop_count<A: Allocator + Copy + Send + Sync>(
+    session: &Session<A>,
+    k: u32,
+) -> Result<usize, SessionFault> {
     match session.loops(k) {
-        Ok(found) => Some(found.count()),
-        Err(_) => None,
+        Ok(found) => Ok(found.count()),
+        Err(fault) => Err(fault),
+    }
+}
+
+/// Whether a fault reads so.
+pub(crate) fn reads(alloc: Global, fault: &SessionFault, line: &str) -> bool {
+    match format!(in alloc; "{fault}") {
+        Ok(shown) => shown.as_str() == line,
+        Err(_) => false,
     }
 }
 
@@ -198,8 +234,8 @@ fn a_column_of_seventeen_layers(rt: HostRuntime) -> Result<(), Fail> {
     assert!(rt; session.layers() == 17);
     assert!(rt; is_image(&session, 16, b"P4\n1 1\n\x80"));
     assert!(rt; is_stripe(&session, 2, b"P4\n1 1\n\x80"));
-    assert!(rt; stripe_len(&session, 1) == Some(64));
-    assert!(rt; session.area(16) == Ok(1) && loop_count(&session, 16) == Some(1));
+    assert!(rt; stripe_len(&session, 1) == Ok(64));
+    assert!(rt; session.area(16) == Ok(1) && loop_count(&session, 16) == Ok(1));
     assert!(rt; session.probe(0, 0, 16) == Ok((1, 1)));
     Ok(())
 }
@@ -215,8 +251,13 @@ fn the_box_is_that_of_all_facets(rt: HostRuntime) -> Result<(), Fail> {
     let bounds = Point::new(0, 0, 0).zip(Point::new(9, 9, 9));
     assert!(rt; bounds.is_some() && session.bounds() == bounds);
     assert!(rt; told(&session) == (14, [2, 2, 2], 1, Rule::NonZero));
-    let flat = open(rt.alloc(), CUBE_AND_FLAT, &fitted(1, Rule::NonZero))?;
-    assert!(rt; told(&flat) == (13, [2, 2, 2], 1, Rule::NonZero));
+    Ok(())
+}
+
+#[test]
+fn a_degenerate_facet_is_counted(rt: HostRuntime) -> Result<(), Fail> {
+    let session = open(rt.alloc(), CUBE_AND_FLAT, &fitted(1, Rule::NonZero))?;
+    assert!(rt; told(&session) == (13, [2, 2, 2], 1, Rule::NonZero));
     Ok(())
 }
 
@@ -242,46 +283,46 @@ fn a_given_grid(rt: HostRuntime) -> Result<(), Fail> {
     assert!(rt; is_image(&session, 0, b"P4\n3 2\n\x60\x60"));
     assert!(rt; is_image(&session, 2, b"P4\n3 2\n\x00\x00"));
     assert!(rt; session.area(1) == Ok(4) && session.area(3) == Ok(0));
-    assert!(rt; loop_count(&session, 1) == Some(1) && loop_count(&session, 3) == Some(0));
+    assert!(rt; loop_count(&session, 1) == Ok(1) && loop_count(&session, 3) == Ok(0));
     assert!(rt; session.probe(0, 0, 0) == Ok((0, 0)) && session.probe(1, 0, 0) == Ok((1, 1)));
     Ok(())
 }
 
 /// Whether opening a mesh's text fails, and the fault reads so.
-fn fails_with(alloc: Global, parts: &[Part<'_>], setup: &Setup, line: &str) -> Option<bool> {
-    let fault = open(alloc, parts, setup).err()?;
-    Some(format!(in alloc; "{fault}").ok()?.as_str() == line)
+fn fails_with(alloc: Global, parts: &[Part<'_>], setup: &Setup, line: &str) -> bool {
+    match open(alloc, parts, setup).err() {
+        Some(fault) => reads(alloc, &fault, line),
+        None => false,
+    }
 }
 
 const STEP: &str = "pitch and layer height take 1 to 100000 micrometres";
 
-/// The step goes before the mesh, and the mesh before the grid.
+const OPEN_EDGE: &str = "open edge 0 0 0 to 0 2 0 there 0 back 1";
+
+/// The step goes before the mesh.
 #[test]
-fn faults_read_as_the_program_s(rt: HostRuntime) -> Result<(), Fail> {
-    let alloc = rt.alloc();
+fn faults_of_steps_read_as_the_program_s(rt: HostRuntime) {
+    let open_box: &[Part] = &[(CORNERS, &BOX[1..])];
     let setup = fitted(1, Rule::NonZero);
     let none = Setup { pitch: 0, ..setup };
+    assert!(rt; fails_with(rt.alloc(), CUBE, &none, STEP));
     let coarse = Setup {
         layer: GREATEST_STEP + 1,
         ..setup
     };
-    let no_cells = given([1, 0, 1], [0, 0, 0]).ok_or("no point")?;
+    assert!(rt; fails_with(rt.alloc(), open_box, &coarse, STEP));
+}
+
+/// The mesh goes before the grid.
+#[test]
+fn faults_read_as_the_program_s(rt: HostRuntime) -> Result<(), Fail> {
     let open_box: &[Part] = &[(CORNERS, &BOX[1..])];
-    let open_edge = "open edge 0 0 0 to 0 2 0 there 0 back 1";
-    assert_eq!(rt; fails_with(alloc, CUBE, &none, STEP), Some(true));
-    assert_eq!(rt; fails_with(alloc, open_box, &coarse, STEP), Some(true));
-    assert_eq!(rt;
-        fails_with(alloc, open_box, &no_cells, open_edge),
-        Some(true)
-    );
-    assert_eq!(rt;
-        fails_with(alloc, CUBE, &no_cells, "grid has no cells"),
-        Some(true)
-    );
-    assert_eq!(rt;
-        fails_with(alloc, &[], &setup, "no facet is left"),
-        Some(true)
-    );
+    let no_cells = given([1, 0, 1], [0, 0, 0]).ok_or("no point")?;
+    assert!(rt; fails_with(rt.alloc(), open_box, &no_cells, OPEN_EDGE));
+    assert!(rt; fails_with(rt.alloc(), CUBE, &no_cells, "grid has no cells"));
+    let setup = fitted(1, Rule::NonZero);
+    assert!(rt; fails_with(rt.alloc(), &[], &setup, "no facet is left"));
     Ok(())
 }
 
@@ -315,20 +356,24 @@ fn is_outside(session: &Session<Global>, k: u32) -> bool {
         && session.probe(0, 0, k) == Err(OUTSIDE)
 }
 
+/// Whether a stripe of the column's session is outside.
+fn is_stripe_outside(session: &Session<Global>, s: u64) -> bool {
+    session.stripe(s).err() == Some(OUTSIDE)
+}
+
 #[test]
 fn nothing_lies_outside_the_grid(rt: HostRuntime) -> Result<(), Fail> {
-    let alloc = rt.alloc();
-    let session = open(alloc, COLUMN, &fitted(1, Rule::NonZero))?;
-    let line = "voxel outside the grid: 1 columns, 1 rows, 17 layers";
-    assert_eq!(rt; format!(in alloc; "{OUTSIDE}")?.as_str(), line);
-    for k in [17, u32::MAX] {
-        assert!(rt; is_outside(&session, k));
-    }
-    for s in [3, u64::MAX] {
-        assert!(rt; session.stripe(s).err() == Some(OUTSIDE));
-    }
+    let session = open(rt.alloc(), COLUMN, &fitted(1, Rule::NonZero))?;
+    assert!(rt; is_outside(&session, 17) && is_outside(&session, u32::MAX));
+    assert!(rt; is_stripe_outside(&session, 3) && is_stripe_outside(&session, u64::MAX));
     assert!(rt; session.probe(1, 0, 0) == Err(OUTSIDE) && session.probe(0, 1, 0) == Err(OUTSIDE));
     Ok(())
+}
+
+#[test]
+fn what_lies_outside_is_told_with_the_grid(rt: HostRuntime) {
+    let line = "voxel outside the grid: 1 columns, 1 rows, 17 layers";
+    assert!(rt; reads(rt.alloc(), &OUTSIDE, line));
 }
 
 /// What a session returns, one call after the other; every call is made again if one of them has no memory.
@@ -349,13 +394,11 @@ fn answers_of<A: Allocator + Copy + Send + Sync>(
     session: &Session<A>,
 ) -> Result<(usize, usize, usize, u64, usize), SessionFault> {
     Ok((
-        session.image(3)?.len(),
-        session
-            .png(3, Depth::Eight, Mirrors { x: true, y: false })?
-            .len(),
-        session.stripe(0)?.len(),
+        image_len(session, 3)?,
+        png_len(session, 3)?,
+        stripe_len(session, 0)?,
         session.area(3)?,
-        session.loops(3)?.count(),
+        loop_count(session, 3)?,
     ))
 }
 

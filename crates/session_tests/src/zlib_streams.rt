@@ -1,4 +1,7 @@
 //! Streams of runs. Each table has the bytes of streams, and Python's zlib expands them to the bytes of the runs.
+ghost use Rattle.std.specs.Prelude.{◌≤◌, All};
+ghost use Rattle.deflate.specs.declared.run.TheConstants.{RUN_LIMIT};
+
 use deflate::{RUN_LIMIT, Run, ZlibWriter, write_zlib};
 use short_memory::{Count, Retry, ShortMemory, failures, first_free_turn};
 use std::alloc::{AllocError, Allocator, Global};
@@ -122,6 +125,14 @@ fn front<A: Allocator>(alloc: A) -> Result<Vec<u8, A>, AllocError> {
     Ok(bytes)
 }
 
+/// Whether the stream of runs, behind a front, has this rest.
+fn is_stream_of<A: Allocator>(alloc: A, runs: &[Run], rest: &[u8]) -> Result<bool, AllocError>
+    requires { All (λ run. run.count ≤ RUN_LIMIT) runs.now }
+{
+    let bytes = write_zlib(front(alloc)?, runs)?;
+    Ok(is_stream(bytes.as_slice(), FRONT, rest))
+}
+
 #[test]
 fn each_run_is_one_stream(rt: HostRuntime) -> Result<(), Fail> {
     for (byte, count, rest) in ONE_RUN {
@@ -129,8 +140,7 @@ fn each_run_is_one_stream(rt: HostRuntime) -> Result<(), Fail> {
             byte: *byte,
             count: (*count).min(RUN_LIMIT),
         };
-        let bytes = write_zlib(front(rt.alloc())?, &[run])?;
-        assert!(rt; is_stream(bytes.as_slice(), FRONT, rest));
+        assert!(rt; is_stream_of(rt.alloc(), &[run], rest)?);
     }
     Ok(())
 }
@@ -156,14 +166,26 @@ fn put_at_last<A: Allocator>(
     Ok(true)
 }
 
+/// Whether a writer takes these runs, each at the first try.
+fn takes<A: Allocator>(writer: &mut ZlibWriter<A>, runs: &[(u8, u64)]) -> bool {
+    for (byte, count) in runs {
+        if put_at_last(writer, *byte, *count) != Ok(false) {
+            return false;
+        }
+    }
+    true
+}
+
+/// Whether a writer takes these runs behind a front, and its stream has this rest.
+fn is_written(alloc: Global, runs: &[(u8, u64)], rest: &[u8]) -> Result<bool, AllocError> {
+    let mut writer = ZlibWriter::new(front(alloc)?)?;
+    Ok(takes(&mut writer, runs) && is_stream(writer.finish().as_slice(), FRONT, rest))
+}
+
 #[test]
 fn runs_follow_one_another(rt: HostRuntime) -> Result<(), Fail> {
     for (runs, rest) in SEVERAL {
-        let mut writer = ZlibWriter::new(front(rt.alloc())?)?;
-        for (byte, count) in *runs {
-            assert!(rt; !put_at_last(&mut writer, *byte, *count)?);
-        }
-        assert!(rt; is_stream(writer.finish().as_slice(), FRONT, rest));
+        assert!(rt; is_written(rt.alloc(), runs, rest)?);
     }
     Ok(())
 }
@@ -215,9 +237,9 @@ impl Count for WholeStream {
                 count: 520,
             },
         ];
-        let bytes = write_zlib(front(memory).ok()?, &runs).ok()?;
         let (_, rest) = SEVERAL.last()?;
-        is_stream(bytes.as_slice(), FRONT, rest).then_some(1)
+        let found = is_stream_of(memory, &runs, rest).ok()?;
+        found.then_some(1)
     }
 }
 
