@@ -477,6 +477,10 @@ def copies(room):
     moved = {it.name: it for it in batch.edits}
     same("lines of an edit in a copy", sorted((rows[at], new) for (_, at), new in moved["thing/of.b"].rows.items()),
          [("        Part { n: part }", "        Part { n: part + SEARCHED }"), ("        let part = 2;", "        let part = 3;")])
+    line = written(room, "n.type", "src/parts.rt", ("pub fn n(&self) -> u32", "pub fn n(&self) -> u64"))
+    again, = edits.batches_of_crate(crate, [line, written(room, "n.twice", "src/parts.rt", ("        self.n", "        self.n + self.n"))])
+    same("the line that has a copy's name has it in the edit too", [list(it.rows.values()) for it in again.edits if it.name == "thing/n.type"],
+         [["    pub fn n_copy_1(&self) -> u64"]])
     same("the edit as it was read", (moved["thing/of.b"].filed.functions[0].name, moved["thing/of.a"].functions[0].name), ("of", "of"))
     with tempfile.TemporaryDirectory() as folder:
         edits.plant(batch, folder, edits.harmless(batch))

@@ -454,7 +454,6 @@ class Edit:
         both += [it for it in other.reach if it in self.functions or it in self.judged]
         return both[0] if both else None
 
-
     def may_stand_beside(self, other):
         """Whether one check can have both, in copies of one function if need be."""
         return self.may_move and other.may_move or not (self.clash(other) or self.differs(other))
@@ -546,7 +545,12 @@ def with_copies(source, edits):
     if not again:
         return source, edits
     wide = Source(source.folder, texts, source)
-    return wide, [it.moved(wide, own.get(it, places), names.get(it, {})) for it in edits]
+    moved = [it.moved(wide, own.get(it, places), names.get(it, {})) for it in edits]
+    for it in (it for it in moved if it.filed in own):
+        # the line that has the name
+        was, now = it.filed.functions[0], it.functions[0]
+        it.rows.update({place: renamed(new, was, now.name) for place, new in it.rows.items() if place == (now.file, now.first)})
+    return wide, moved
 
 
 def copied(source, function, name, texts):
