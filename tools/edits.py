@@ -12,11 +12,11 @@ toolchain has changed. So a second gate on the same machine takes them from ther
 An edit is a file crates/NAME/edits/FUNCTION.FAULT.edit, in the form that `rt must-fail` reads (CONTRIBUTING.md). It is planted
 in a copy of the crate, together with others. The functions that none of them edits keep their statements, and their proofs
 are left out. If several are of one function, each but the first is planted in a copy of it, which has another name and the
-same contract and proof. So each edited function is judged by itself: it has to be refused by a goal of its own, or of a closure
-in it.
-That goal is a clause (`returns..`), or the invariant of a loop or of a type (`loop-..`, `invariant_of-..`; a loop that has a
-label goes by it, as in `rows-preserved`). A lemma of its answers stands for the goals that depend on it, if all of them are
-such.
+same contract and proof.
+
+So each edited function is judged by itself: it has to be refused by a goal of its own, or of a closure in it. That goal is a
+clause (`returns..`), or the invariant of a loop or of a type (`loop-..`, `invariant_of-..`; a loop that has a label goes by it,
+as in `rows-preserved`). A lemma of its answers stands for the goals that depend on it, if all of them are such.
 
 An edit of a definition, in specs/, has to be refused in a function whose contract cites it, a law if there is one. Edits of
 laws are tried together if no clause depends on two of them. Each is then refused by a clause that depends on it. If the answers
@@ -127,11 +127,12 @@ class Function:
         return bool(OF_CONTRACT.match(goal)) or label in labels and bool(re.match(r"(?:init|preserved)\b", rest))
 
     def calls_itself(self):
+        """Whether a call in its body is one of itself. A call of another type's function of that name isn't."""
         within, text = self.symbol.rpartition("::")[0].rpartition("::")[2] or "crate", "\n".join(self.body).partition("{")[2]
         return bool(re.search(rf"(?:(?<![\w.:])|\bself\.|\b(?:Self|self|{within})::){self.name}(?:::<|\()", text))
 
     def may_be_left_out(self):
-        """Whether a proof can be written for it alone: it has a body, doesn't call itself, and is no `drop`."""
+        """Whether a proof can be written for it alone: it has a body, in which its name does not stand, and is no `drop`."""
         return bool(self.body) and self.name not in self.words() and not self.symbol.endswith("Drop::drop")
 
 
