@@ -494,6 +494,18 @@ def stopped_script_leaves_nothing(program, folder):
             leaves_nothing(folder, ["slicer"])
 
 
+def signal_within_a_library_is_no_fault(program, folder):
+    """A signal that comes while `zipfile` ends an entry."""
+    with open(os.path.join(folder, "sitecustomize.py"), "w") as file:
+        file.write("import os, signal, zipfile\nzipfile._ZipWriteFile.close = lambda _: os.kill(os.getpid(), signal.SIGTERM)\n")
+    path = slicer(folder, printed(image_for(SL1)))
+    words = ["--canvas", "8x1", "--pitch", "100", "--layer", "500", "--program", path, example("bracket.stl"), "out"]
+    found = run(script(SL1, words), cwd=folder, env=dict(os.environ, PYTHONPATH=folder))
+    same(found, (143, b"", b""), "status and lines")
+    os.remove(os.path.join(folder, "sitecustomize.py"))
+    leaves_nothing(folder, ["slicer"])
+
+
 def waited(is_so):
     for _ in range(1200):
         if is_so():
@@ -622,5 +634,6 @@ if __name__ == "__main__":
           fault_keeps_what_was_there, output_that_is_no_plain_file_is_refused, part_is_not_overwritten, wrong_words_are_refused,
           empty_names_are_refused, missing_program_is_told, other_exposure_is_asked_for, pngs_are_taken_as_they_are,
           pitch_of_quarters_is_exact, broken_slicers_leave_nothing, full_disk_is_told, stopped_script_leaves_nothing,
-          early_signal_is_no_fault, standard_error_may_be_closed_or_full, little_memory_is_told, names_of_any_bytes_are_told,
-          workers_are_the_processors_at_hand, pipes_and_units, options_are_those_of_the_page])
+          signal_within_a_library_is_no_fault, early_signal_is_no_fault, standard_error_may_be_closed_or_full,
+          little_memory_is_told, names_of_any_bytes_are_told, workers_are_the_processors_at_hand, pipes_and_units,
+          options_are_those_of_the_page])

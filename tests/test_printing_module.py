@@ -387,10 +387,12 @@ def fail_within(out):
 
 
 def faults_have_lines(program, folder):
+    with faults.aside("a") as path:
+        pass
     for fault, wanted in ((Refused("no", 3), ("no", 3)), (MemoryError(), ("out of memory", 6)),
                           (OSError(errno.ENOMEM, "Cannot allocate memory"), ("out of memory", 6)),
                           (OSError(errno.ENOSPC, "Full"), ("Full", 1)), (OSError(errno.ENOSPC, "Full", "a"), ("Full: a", 1)),
-                          (OSError(errno.EACCES, "No", f"{faults.aside('a')}/00000.png"), ("No: a/00000.png", 1))):
+                          (OSError(errno.EACCES, "No", f"{path}/00000.png"), ("No: a/00000.png", 1))):
         same(faults.end_of(fault), wanted, repr(fault))
 
 

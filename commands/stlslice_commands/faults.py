@@ -4,6 +4,7 @@ import contextlib
 import errno
 import os
 import re
+import shutil
 import signal
 import sys
 import time
@@ -11,6 +12,9 @@ import time
 SIGNALS = (signal.SIGHUP, signal.SIGINT, signal.SIGTERM)
 # Control characters, and what Python has for bytes of a name that are no UTF-8.
 UNSHOWN = re.compile("[\0-\x1f\x7f-\x9f\udc80-\udcff]")
+# What a signal removes, and what it ends: paths of outputs that aren't whole, and the program while it runs.
+ASIDE = []
+RUNNING = []
 
 
 class Refused(Exception):
@@ -58,22 +62,34 @@ def look_at_output(output, part):
         raise Refused(f"{output} is the part itself")
 
 
+@contextlib.contextmanager
 def aside(output):
-    """A name that an output has until it is whole, and no other run takes."""
-    return f"{output}.{os.urandom(4).hex()}.part"
+    """A path that an output has until it is whole, and no other run takes. What is there when the block ends is removed."""
+    path = f"{output}.{os.urandom(4).hex()}.part"
+    ASIDE.append(path)
+    try:
+        yield path
+    finally:
+        remove(path)
+        ASIDE.remove(path)
+
+
+def remove(path):
+    """Removes a file or a folder, if it is there."""
+    if os.path.isdir(path):
+        shutil.rmtree(path, ignore_errors=True)
+    else:
+        with contextlib.suppress(FileNotFoundError):
+            os.remove(path)
 
 
 @contextlib.contextmanager
 def whole_file(output):
     """A file for bytes, made aside. It has the output's name once the block has ended well; otherwise it is removed."""
-    path = aside(output)
-    try:
+    with aside(output) as path:
         with named(output), open(path, "xb") as file:
             yield file
         os.replace(path, output)
-    finally:
-        with contextlib.suppress(FileNotFoundError):
-            os.remove(path)
 
 
 @contextlib.contextmanager
@@ -89,6 +105,7 @@ def named(place):
 class Progress:
     """One line on standard error that is drawn anew. It is shown on a terminal alone."""
 
+    CLEAR = "\r\x1b[K"
     drawn = False
     moment = 0.0
 
@@ -98,7 +115,7 @@ class Progress:
         now = time.monotonic()
         if now - cls.moment < 0.1 and not is_new or not sys.stderr.isatty():
             return
-        tell(f"\r\x1b[K{text}")
+        tell(f"{cls.CLEAR}{text}")
         cls.drawn, cls.moment = True, now
 
     @classmethod
@@ -113,14 +130,23 @@ class Progress:
 
     @classmethod
     def clear(cls):
-        tell("\r\x1b[K" if cls.drawn else "")
+        tell(cls.CLEAR if cls.drawn else "")
         cls.drawn, cls.moment = False, 0.0
 
 
 def stop(number, _):
-    """Ends the command by a signal. Further ones are ignored, so that they don't cut short what is removed then."""
+    """Ends the command by a signal, and removes what isn't whole. Further signals are ignored meanwhile. No exception is raised:
+    it would end whatever the signal came upon, such as `zipfile` in the middle of an entry, which then raises its own."""
     listen(signal.SIG_IGN)
-    sys.exit(128 + number)
+    for child in RUNNING:
+        child.kill()
+    for path in ASIDE:
+        with contextlib.suppress(OSError):
+            remove(path)
+    if Progress.drawn:
+        with contextlib.suppress(OSError):
+            os.write(sys.stderr.fileno(), Progress.CLEAR.encode())
+    os._exit(128 + number)
 
 
 def listen(how):

@@ -1,7 +1,6 @@
 """`stlslice-pngs`: a part as a folder of PNGs, one a layer. NAME/00000.png is the lowest."""
 
 import os
-import shutil
 
 from . import words
 from .faults import Refused, aside, named
@@ -22,8 +21,7 @@ def main():
         raise Refused(f"{folder} is there already")
     if os.path.islink(folder) or os.path.ismount(folder):
         raise Refused(f"{folder} is a link or a mount point, in whose place no folder can be moved")
-    path = aside(folder)
-    try:
+    with aside(folder) as path:
         os.mkdir(path)
         with opened(given.part) as source:
             sliced = Sliced(given, source)
@@ -31,6 +29,4 @@ def main():
                 with named(folder), open(os.path.join(path, f"{number:05}.png"), "xb") as file:
                     file.write(png)
         os.rename(path, folder)
-    finally:
-        shutil.rmtree(path, ignore_errors=True)
     print(sliced.told(folder))
