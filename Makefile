@@ -6,6 +6,8 @@ DESTDIR ?=
 PREFIX ?= /usr/local
 FACETS ?= 200000
 BASE ?= HEAD
+# how many processes share the proof of the library's calls; the toolchain chooses if it is empty
+LIBRARY_JOBS ?=
 CRATE := crates/stlslice_program
 PROGRAM := build/stlslice
 SOURCES := crates.txt $(shell find crates -path '*/out' -prune -o -type f \( -name '*.rt' -o -name '*.antt' \) -print)
@@ -63,7 +65,7 @@ library: $(LIBRARY)  ## proves and builds the library for C, and leaves it in bu
 $(LIBRARY): $(SOURCES) include/stlslice.h library/build library/edge.c library/exports.map
 	$(NEEDS_RT)
 	python3 tools/prove.py $(LIBRARY_CRATE)
-	cd $(LIBRARY_CRATE) && rt lib
+	cd $(LIBRARY_CRATE) && rt lib $(if $(LIBRARY_JOBS),--jobs $(LIBRARY_JOBS))
 	CC="$(CC)" library/build $(LIBRARY_CRATE)/out/libstlslice_c.a $(VERSION) $(PREFIX) build/library
 
 wheel: $(LIBRARY)  ## a wheel of the Python module and the library, in build/

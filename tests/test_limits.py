@@ -51,6 +51,7 @@ SPELLED = {
         ("commands/stlslice_commands/page.py", "LARGEST = {} # micrometres"),
         ("library/web/preview.html", 'id="pitch" value="50" min="1" max="{}"'),
         ("library/web/preview.html", 'id="height" value="50" min="1" max="{}"'),
+        ("library/tests/calls.c", "pitch and layer height take 1 to {} micrometres"),
         ("library/tests/hostile.c", "pitch and layer height take 1 to {} micrometres"),
         ("library/tests/meshes.py", "pitch and layer height take 1 to {} micrometres"),
         ("crates/test_meshes/src/published.rt", "GREATEST_STEP: u32 = {};"),

@@ -1,41 +1,16 @@
 /* What no caller should do, and running out of memory: null pointers, sizes of 0 and sizes that no object has, short
  * lines, numbers out of range, meshes that are closed, closed twice or opened twice, and each allocation failing in turn.
- * It is linked with --wrap=malloc,--wrap=realloc. The status is 0, or 100 if an answer is not what the header says.
+ * The status is 0, or 100 if an answer is not what the header says.
  *
  *     hostile FILE LINE
  *
  * LINE is what the program writes after "stlslice: " if it is out of memory. */
 #include "stlslice.h"
 
-#include <stdio.h>
-#include <stdlib.h>
+#include "checks.h"
+#include "failing.h"
+
 #include <string.h>
-
-#define CHECK(holds)                                                                                                   \
-    do {                                                                                                               \
-        if (!(holds)) {                                                                                                \
-            fprintf(stderr, "%s:%d: not so: %s\n", __FILE__, __LINE__, #holds);                                        \
-            exit(100);                                                                                                 \
-        }                                                                                                              \
-    } while (0)
-
-#ifdef __cplusplus
-extern "C" {
-#endif
-void *__real_malloc(size_t size);
-void *__real_realloc(void *at, size_t size);
-void *__wrap_malloc(size_t size);
-void *__wrap_realloc(void *at, size_t size);
-#ifdef __cplusplus
-}
-#endif
-
-/* the allocation that fails, and how many there were */
-static unsigned long failing, asked;
-static bool counts;
-
-void *__wrap_malloc(size_t size) { return counts && ++asked == failing ? NULL : __real_malloc(size); }
-void *__wrap_realloc(void *at, size_t size) { return counts && ++asked == failing ? NULL : __real_realloc(at, size); }
 
 /* the text of each status; the last is that of every number which is none */
 static const char *const texts[] = {
@@ -430,16 +405,14 @@ static unsigned long short_memory(const char *said) {
     CHECK(image != NULL && images != NULL);
     for (int turn = 0; turn < 8; turn++) {
         CHECK(stlslice_mask(&mesh, 3, image, one, &size) == STLSLICE_DONE);
-        for (failing = 1;; failing++) {
+        for (unsigned long number = 1;; number++) {
             char line[STLSLICE_LINE] = "as before";
             memset(images, 0x3c, eight);
             memset(&told, 0x3c, sizeof told);
             before = told;
-            asked = 0;
-            counts = true;
+            fail_at(number);
             stlslice_status status = attempt(turn, &mesh, images, eight, line);
-            counts = false;
-            if (asked < failing) {
+            if (!has_failed()) {
                 CHECK(status == STLSLICE_DONE);
                 break;
             }

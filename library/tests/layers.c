@@ -8,19 +8,12 @@
  * is no facets. The status is that of stlslice_open, and 100 if an answer is another than the header says. */
 #include "stlslice.h"
 
+#include "checks.h"
+
 #include <pthread.h>
-#include <stdio.h>
-#include <stdlib.h>
 #include <string.h>
 
 #define THREADS 4
-#define CHECK(holds)                                                                                                   \
-    do {                                                                                                               \
-        if (!(holds)) {                                                                                                \
-            fprintf(stderr, "%s:%d: not so: %s\n", __FILE__, __LINE__, #holds);                                        \
-            exit(100);                                                                                                 \
-        }                                                                                                              \
-    } while (0)
 
 static uint8_t *text;
 static size_t text_size;

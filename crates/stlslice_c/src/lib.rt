@@ -43,8 +43,6 @@ mod opening;
 mod options;
 mod shape;
 mod status;
-#[cfg(test)]
-mod tests;
 
 ghost use Rattle.std.specs.Prelude.{◌≡◌, None, Some};
 ghost use Rattle.layer_session.specs.Session.{Session, of_arrays, of_text};
