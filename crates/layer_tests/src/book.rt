@@ -8,7 +8,6 @@ use build_book::{Book, Build, FileFault, Job, Piece, Slicer, slice_stripe};
 use raster::{Rule, Span};
 use short_memory::{Count, ShortMemory, first_free_turn};
 use std::alloc::{AllocError, Allocator, Global};
-use std::test::Fail;
 use test_meshes::{COLUMN, CUBE, Part, TWO_CUBES};
 
 /// Whether a layer has this number of loops and this area.
@@ -46,12 +45,11 @@ fn are_two_cubes(alloc: Global, rule: Rule, told: Layers) -> Result<bool, AllocE
 }
 
 #[test]
-fn two_cubes_by_each_rule(rt: HostRuntime) -> Result<(), Fail> {
+fn two_cubes_by_each_rule(rt: HostRuntime) {
     let odd = are_two_cubes(rt.alloc(), Rule::EvenOdd, ([(1, 4), (2, 6), (1, 4)], 14));
     assert!(rt; odd == Ok(true));
     let some = are_two_cubes(rt.alloc(), Rule::NonZero, ([(1, 4), (2, 7), (1, 4)], 15));
     assert!(rt; some == Ok(true));
-    Ok(())
 }
 
 /// Whether a layer has these spans.
@@ -93,7 +91,7 @@ const WITHOUT_THE_MIDDLE: &[Span] = &spans![0: 0, 2; 1: 0, 1; 1: 2, 3; 2: 1, 3];
 const WITH_THE_MIDDLE: &[Span] = &spans![0: 0, 2; 1: 0, 3; 2: 1, 3];
 
 #[test]
-fn spans_of_two_cubes_by_each_rule(rt: HostRuntime) -> Result<(), Fail> {
+fn spans_of_two_cubes_by_each_rule(rt: HostRuntime) {
     let alloc = rt.alloc();
     let odd = have_two_cubes_spans(alloc, Rule::EvenOdd, [FIRST, WITHOUT_THE_MIDDLE, SECOND]);
     assert!(rt; odd == Ok(true));
@@ -101,7 +99,6 @@ fn spans_of_two_cubes_by_each_rule(rt: HostRuntime) -> Result<(), Fail> {
     assert!(rt; some == Ok(true));
     let more = have_two_cubes_spans(alloc, Rule::Positive, [FIRST, WITH_THE_MIDDLE, SECOND]);
     assert!(rt; more == Ok(true));
-    Ok(())
 }
 
 /// A stripe of a job, which has it.
@@ -165,6 +162,22 @@ fn is_filed<'m>(
 }
 
 /// The number of the first stripe, filed in turn, with another outcome.
+fn first_other_in<'m>(
+    alloc: Global,
+    book: &mut Book<'m, Global>,
+    job: &'m Job<Global>,
+    other: &'m Job<Global>,
+    rows: &[Filing],
+) -> Option<usize> {
+    for (n, row) in rows.iter().enumerate() {
+        if is_filed(alloc, book, job, other, *row) != Ok(true) {
+            return Some(n);
+        }
+    }
+    None
+}
+
+/// The same for a new book of a job.
 fn first_other_filing<'m>(
     alloc: Global,
     job: &'m Job<Global>,
@@ -172,12 +185,7 @@ fn first_other_filing<'m>(
     rows: &[Filing],
 ) -> Result<Option<usize>, AllocError> {
     let mut book = Book::open(alloc, job)?;
-    for (n, row) in rows.iter().enumerate() {
-        if !is_filed(alloc, &mut book, job, other, *row)? {
-            return Ok(Some(n));
-        }
-    }
-    Ok(None)
+    Ok(first_other_in(alloc, &mut book, job, other, rows))
 }
 
 /// The same for the column and another mesh.
@@ -210,9 +218,8 @@ pub(crate) static FILINGS: [Filing; 4] = [
 ];
 
 #[test]
-fn stripes_of_a_column(rt: HostRuntime) -> Result<(), Fail> {
+fn stripes_of_a_column(rt: HostRuntime) {
     assert!(rt; first_other_beside(rt.alloc(), CUBE, &FILINGS) == Ok(None));
-    Ok(())
 }
 
 static STRANGER: [Filing; 1] = [(true, 0, Some((FileFault::Stranger, 0)), (0, 0, None, None))];
@@ -220,10 +227,9 @@ static STRANGER: [Filing; 1] = [(true, 0, Some((FileFault::Stranger, 0)), (0, 0,
 static SAME: [Filing; 1] = [(true, 0, None, (8, 8, None, Some(1)))];
 
 #[test]
-fn stripe_of_another_job(rt: HostRuntime) -> Result<(), Fail> {
+fn stripe_of_another_job(rt: HostRuntime) {
     assert!(rt; first_other_beside(rt.alloc(), CUBE, &STRANGER) == Ok(None));
     assert!(rt; first_other_beside(rt.alloc(), COLUMN, &SAME) == Ok(None));
-    Ok(())
 }
 
 /// Whether a book takes the stripe of a job that a slicer makes.
@@ -299,9 +305,8 @@ static ORDERS: [Order; 4] = [
 ];
 
 #[test]
-fn one_slicer_in_any_order(rt: HostRuntime) -> Result<(), Fail> {
+fn one_slicer_in_any_order(rt: HostRuntime) {
     assert!(rt; first_other_order(rt.alloc(), &ORDERS) == Ok(None));
-    Ok(())
 }
 
 /// Why a book of this job does not take a piece of it if it compares no jobs.
@@ -318,8 +323,11 @@ fn own_refusal<'m, A: Allocator + Copy + Send + Sync>(
     }
 }
 
-/// Stripes of the column, filed in turn without a comparison of jobs: the result of each, and how many layers the book has then.
-static OWN_FILINGS: [(u64, Refusal, u32); 5] = [
+/// A stripe that is filed without a comparison of jobs, the result, and how many layers the book has then.
+type OwnFiling = (u64, Refusal, u32);
+
+/// Stripes of the column, filed in turn.
+static OWN_FILINGS: [OwnFiling; 5] = [
     (2, None, 1),
     (0, None, 9),
     (0, Some((FileFault::Double { layer: 0 }, 0)), 9),
@@ -327,31 +335,63 @@ static OWN_FILINGS: [(u64, Refusal, u32); 5] = [
     (2, Some((FileFault::Double { layer: 16 }, 2)), 17),
 ];
 
-/// The number of the first stripe of a job with another outcome.
-fn first_other_own(alloc: Global, job: &Job<Global>) -> Result<Option<usize>, AllocError> {
-    let mut book = Book::open(alloc, job)?;
-    for (n, (stripe, refused, filed)) in OWN_FILINGS.iter().enumerate() {
-        let piece = piece_of(alloc, job, *stripe)?;
-        if own_refusal(&mut book, piece) != *refused
-            || book.filed() != *filed
-            || book.total_area() != u64::from(*filed)
-        {
-            return Ok(Some(n));
+/// Whether filing a stripe has this outcome.
+fn is_filed_own<'m>(
+    alloc: Global,
+    book: &mut Book<'m, Global>,
+    job: &'m Job<Global>,
+    filing: OwnFiling,
+) -> bool
+    requires { book.old.job ≡ job.now }
+    ensures { book.new.job ≡ job.now }
+{
+    let (stripe, refused, filed) = filing;
+    match piece_of(alloc, job, stripe) {
+        Ok(piece) => {
+            own_refusal(book, piece) == refused
+                && book.filed() == filed
+                && book.total_area() == u64::from(filed)
+        }
+        Err(AllocError) => false,
+    }
+}
+
+/// Whether filing these stripes in turn has their outcomes.
+fn are_filed_own<'m>(
+    alloc: Global,
+    book: &mut Book<'m, Global>,
+    job: &'m Job<Global>,
+    rows: &[OwnFiling],
+) -> bool
+    requires { book.old.job ≡ job.now }
+{
+    for row in rows {
+        if !is_filed_own(alloc, book, job, *row) {
+            return false;
         }
     }
-    Ok(None)
+    true
+}
+
+/// The same for a new book of a job.
+fn are_filed_first(alloc: Global, job: &Job<Global>, rows: &[OwnFiling]) -> bool {
+    match Book::open(alloc, job) {
+        Ok(mut book) => are_filed_own(alloc, &mut book, job, rows),
+        Err(AllocError) => false,
+    }
 }
 
 /// The same for the column.
-fn first_other_own_of_column(alloc: Global) -> Result<Option<usize>, AllocError> {
-    let job = job_of(alloc, COLUMN, 1, Rule::EvenOdd)?;
-    first_other_own(alloc, &job)
+fn are_filed_of_column(alloc: Global, rows: &[OwnFiling]) -> bool {
+    match job_of(alloc, COLUMN, 1, Rule::EvenOdd) {
+        Ok(job) => are_filed_first(alloc, &job, rows),
+        Err(AllocError) => false,
+    }
 }
 
 #[test]
-fn own_stripes_of_a_column(rt: HostRuntime) -> Result<(), Fail> {
-    assert!(rt; first_other_own_of_column(rt.alloc()) == Ok(None));
-    Ok(())
+fn own_stripes_of_a_column(rt: HostRuntime) {
+    assert!(rt; are_filed_of_column(rt.alloc(), &OWN_FILINGS));
 }
 
 /// How many layers of a job are late if a book of it has the piece of stripe 1. It is 0 if the book refused it, or the area of
@@ -359,7 +399,7 @@ fn own_stripes_of_a_column(rt: HostRuntime) -> Result<(), Fail> {
 fn late_after_a_piece<A: Allocator + Copy + Send + Sync>(
     alloc: A,
     job: &Job<A>,
-) -> Result<u32, AllocError> {
+) -> Result<usize, AllocError> {
     let mut book = Book::open(alloc, job)?;
     let piece = piece_of(alloc, job, 1)?;
     if own_refusal(&mut book, piece).is_some() {
@@ -367,7 +407,7 @@ fn late_after_a_piece<A: Allocator + Copy + Send + Sync>(
     }
     let build = book.finish(job)?;
     Ok(if build.total_area() == 17 {
-        build.late()
+        build.late() as usize
     } else {
         0
     })
@@ -378,9 +418,10 @@ struct Late;
 
 impl Count for Late {
     fn count(memory: &ShortMemory<Global>) -> Option<usize> {
-        let job = job_of(memory, COLUMN, 1, Rule::EvenOdd).ok()?;
-        let late = late_after_a_piece(memory, &job).ok()?;
-        Some(late as usize)
+        match job_of(memory, COLUMN, 1, Rule::EvenOdd) {
+            Ok(job) => late_after_a_piece(memory, &job).ok(),
+            Err(_) => None,
+        }
     }
 }
 
@@ -389,7 +430,7 @@ impl Count for Late {
 fn filed_of_one_stripe<A: Allocator + Copy + Send + Sync>(
     alloc: A,
     job: &Job<A>,
-) -> Result<u32, AllocError> {
+) -> Result<usize, AllocError> {
     let mut book = Book::open(alloc, job)?;
     if book.file(piece_of(alloc, job, 0)?).is_err() {
         return Ok(0);
@@ -397,7 +438,7 @@ fn filed_of_one_stripe<A: Allocator + Copy + Send + Sync>(
     let filed = book.filed();
     let build = book.finish(job)?;
     Ok(if build.late() == 0 && build.total_area() == 14 {
-        filed
+        filed as usize
     } else {
         0
     })
@@ -408,9 +449,10 @@ struct Filed;
 
 impl Count for Filed {
     fn count(memory: &ShortMemory<Global>) -> Option<usize> {
-        let job = job_of(memory, TWO_CUBES, 2, Rule::EvenOdd).ok()?;
-        let filed = filed_of_one_stripe(memory, &job).ok()?;
-        Some(filed as usize)
+        match job_of(memory, TWO_CUBES, 2, Rule::EvenOdd) {
+            Ok(job) => filed_of_one_stripe(memory, &job).ok(),
+            Err(_) => None,
+        }
     }
 }
 
@@ -418,10 +460,10 @@ impl Count for Filed {
 fn late_of_none<A: Allocator + Copy + Send + Sync>(
     alloc: A,
     job: &Job<A>,
-) -> Result<u32, AllocError> {
+) -> Result<usize, AllocError> {
     let build = Book::open(alloc, job)?.finish(job)?;
     Ok(if build.total_area() == 14 {
-        build.late()
+        build.late() as usize
     } else {
         0
     })
@@ -432,9 +474,10 @@ struct AllLate;
 
 impl Count for AllLate {
     fn count(memory: &ShortMemory<Global>) -> Option<usize> {
-        let job = job_of(memory, TWO_CUBES, 2, Rule::EvenOdd).ok()?;
-        let late = late_of_none(memory, &job).ok()?;
-        Some(late as usize)
+        match job_of(memory, TWO_CUBES, 2, Rule::EvenOdd) {
+            Ok(job) => late_of_none(memory, &job).ok(),
+            Err(_) => None,
+        }
     }
 }
 
@@ -442,9 +485,8 @@ impl Count for AllLate {
 const TURNS: u64 = 10_000;
 
 #[test]
-fn each_allocation_fails_in_turn(rt: HostRuntime) -> Result<(), Fail> {
+fn each_allocation_fails_in_turn(rt: HostRuntime) {
     assert!(rt; first_free_turn::<Late>(rt.alloc(), TURNS, 9) > Some(17));
     assert!(rt; first_free_turn::<Filed>(rt.alloc(), TURNS, 3) > Some(17));
     assert!(rt; first_free_turn::<AllLate>(rt.alloc(), TURNS, 3) > Some(17));
-    Ok(())
 }

@@ -6,7 +6,6 @@ use raster::{Counted, Failures, Grid, Rule, Sink, Source, Span, WriteFault, put_
 use short_memory::{InterruptedOnce, OneByteReader, SmallWriter};
 use std::alloc::{AllocError, Global};
 use std::io::ErrorKind;
-use std::test::Fail;
 use test_layers::layer;
 use test_meshes::{CUBE, Part, WIDE_ROWS};
 use test_solids::solid_of;
@@ -57,34 +56,33 @@ fn is_layer_taken(
     image: &[u8],
     way: Way,
     room: usize,
-) -> Option<bool> {
-    let g = Grid::fit(solid, 1, 1).ok()?;
-    let spans = layer(alloc, solid, &g, Rule::EvenOdd, 0).ok()?;
-    Some(is_taken(alloc, &g, spans.as_slice(), image, way, room))
+) -> bool {
+    let Ok(g) = Grid::fit(solid, 1, 1) else {
+        return false;
+    };
+    match layer(alloc, solid, &g, Rule::EvenOdd, 0) {
+        Ok(spans) => is_taken(alloc, &g, spans.as_slice(), image, way, room),
+        Err(_) => false,
+    }
 }
 
 /// The same for the solid of a mesh.
-fn is_filled(
-    alloc: Global,
-    parts: &[Part<'_>],
-    image: &[u8],
-    way: Way,
-    room: usize,
-) -> Option<bool> {
-    let solid = solid_of(alloc, parts).ok()?;
-    is_layer_taken(alloc, &solid, image, way, room)
+fn is_filled(alloc: Global, parts: &[Part<'_>], image: &[u8], way: Way, room: usize) -> bool {
+    match solid_of(alloc, parts) {
+        Ok(solid) => is_layer_taken(alloc, &solid, image, way, room),
+        Err(_) => false,
+    }
 }
 
 const SMALL: &[u8] = b"P4\n2 2\n\xc0\xc0";
 
 #[test]
-fn each_beginning_of_an_image(rt: HostRuntime) -> Result<(), Fail> {
+fn each_beginning_of_an_image(rt: HostRuntime) {
     for way in WAYS {
         for room in 0..=9 {
-            assert_eq!(rt; is_filled(rt.alloc(), CUBE, SMALL, way, room), Some(true));
+            assert!(rt; is_filled(rt.alloc(), CUBE, SMALL, way, room));
         }
     }
-    Ok(())
 }
 
 /// A row of the image of wide rows: all black, two pixels from column 8 on, the last eight pixels, or white.
@@ -133,36 +131,48 @@ const WIDE_WAYS: [Way; 3] = [(1, None), (1000, Some(ErrorKind::Other)), (WIDE_LE
 /// Whether the image of wide rows goes out to a writer with this room, in each of these ways.
 fn is_wide_filled(alloc: Global, image: &[u8], room: usize) -> bool {
     for way in WIDE_WAYS {
-        if is_filled(alloc, WIDE_ROWS, image, way, room) != Some(true) {
+        if !is_filled(alloc, WIDE_ROWS, image, way, room) {
             return false;
         }
     }
     true
 }
 
-#[test]
-fn an_image_beyond_one_chunk(rt: HostRuntime) -> Result<(), Fail> {
-    let image = wide_image(rt.alloc())?;
-    assert_eq!(rt; image.len(), WIDE_LEN);
-    for room in [
-        0,
-        FIRST_END - 1,
-        FIRST_END,
-        FIRST_END + 1,
-        CHUNK_LEN,
-        SECOND_END - 1,
-        SECOND_END,
-        SECOND_END + 1,
-        WIDE_LEN - 1,
-        WIDE_LEN,
-        WIDE_LEN + 1,
-    ] {
-        assert!(rt;
-            is_wide_filled(rt.alloc(), image.as_slice(), room),
-            "room {room}"
-        );
+/// Rooms about the ends of the chunks and of the image.
+const WIDE_ROOMS: [usize; 11] = [
+    0,
+    FIRST_END - 1,
+    FIRST_END,
+    FIRST_END + 1,
+    CHUNK_LEN,
+    SECOND_END - 1,
+    SECOND_END,
+    SECOND_END + 1,
+    WIDE_LEN - 1,
+    WIDE_LEN,
+    WIDE_LEN + 1,
+];
+
+/// `Ok`, or the first room with which the image of wide rows goes out otherwise. It is 0 too if the image is not as long as it
+/// should be.
+fn all_wide_filled(alloc: Global, image: &[u8]) -> Result<(), usize> {
+    if image.len() != WIDE_LEN {
+        return Err(0);
+    }
+    for room in WIDE_ROOMS {
+        if !is_wide_filled(alloc, image, room) {
+            return Err(room);
+        }
     }
     Ok(())
+}
+
+#[test]
+fn an_image_beyond_one_chunk(rt: HostRuntime) -> Result<(), usize> {
+    match wide_image(rt.alloc()) {
+        Ok(image) => all_wide_filled(rt.alloc(), image.as_slice()),
+        Err(_) => Err(0),
+    }
 }
 
 /// Passes on what one call of a source gives: how many bytes, or `None` if either device failed.
@@ -200,7 +210,7 @@ fn passed(alloc: Global, calls: u64, room: usize) -> (bool, Vec<u8>, [u64; 2]) {
 }
 
 #[test]
-fn a_byte_at_a_time_from_reader_to_writer(rt: HostRuntime) -> Result<(), Fail> {
+fn a_byte_at_a_time_from_reader_to_writer(rt: HostRuntime) {
     // the call after the nine bytes gives the end
     for (calls, room, told) in [
         (10, 9, (true, 9, [0, 0])),
@@ -210,10 +220,9 @@ fn a_byte_at_a_time_from_reader_to_writer(rt: HostRuntime) -> Result<(), Fail> {
         (0, 0, (false, 0, [1, 0])),
     ] {
         let (ended, taken, failures) = passed(rt.alloc(), calls, room);
-        assert_eq!(rt; (ended, taken.len(), failures), told);
+        assert!(rt; (ended, taken.len(), failures) == told);
         assert!(rt; SMALL.starts_with(taken.as_slice()));
     }
-    Ok(())
 }
 
 fn interrupted<T>(inner: T, calls: u64) -> Counted<InterruptedOnce<T>> {
@@ -240,7 +249,7 @@ fn passed_until(alloc: Global, reads: u64, writes: u64) -> (bool, Vec<u8>, usize
 }
 
 #[test]
-fn an_interrupted_call_is_not_tried_again(rt: HostRuntime) -> Result<(), Fail> {
+fn an_interrupted_call_is_not_tried_again(rt: HostRuntime) {
     for (reads, writes, told) in [
         (0, 100, (false, 0, 9, [1, 0])),
         (4, 100, (false, 4, 5, [1, 0])),
@@ -251,17 +260,16 @@ fn an_interrupted_call_is_not_tried_again(rt: HostRuntime) -> Result<(), Fail> {
         (100, 100, (true, 9, 0, [0, 0])),
     ] {
         let (ended, taken, left, failures) = passed_until(rt.alloc(), reads, writes);
-        assert_eq!(rt; (ended, taken.len(), left, failures), told);
+        assert!(rt; (ended, taken.len(), left, failures) == told);
         assert!(rt; SMALL.starts_with(taken.as_slice()));
     }
-    Ok(())
 }
 
 #[test]
 fn an_interrupted_flush_is_not_tried_again(rt: HostRuntime) {
     let mut w = interrupted(SmallWriter::new(rt.alloc(), 9, 1, None, true), 0);
     let first = w.settle().is_ok();
-    assert_eq!(rt; (first, w.failures()), (false, 1));
+    assert!(rt; !first && w.failures() == 1);
     let second = w.settle().is_ok();
-    assert_eq!(rt; (second, w.failures()), (true, 1));
+    assert!(rt; second && w.failures() == 1);
 }

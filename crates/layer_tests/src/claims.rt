@@ -5,7 +5,6 @@ ghost use Rattle.stripe_claims.specs.Claims.{IsOwned};
 
 use short_memory::{Count, ShortMemory, first_free_turn};
 use std::alloc::{AllocError, Global};
-use std::test::Fail;
 use std::thread;
 use std::thread::Threads;
 use stripe_claims::{Claims, PASS_LIMIT, Pass};
@@ -61,17 +60,15 @@ static THREE: [(usize, Option<u64>); 6] = [
 ];
 
 #[test]
-fn two_passes_draw_three(rt: HostRuntime) -> Result<(), Fail> {
-    assert_eq!(rt; drawn_by_two(rt.alloc(), 3, &THREE)?, (None, 5));
-    Ok(())
+fn two_passes_draw_three(rt: HostRuntime) {
+    assert!(rt; drawn_by_two(rt.alloc(), 3, &THREE) == Ok((None, 5)));
 }
 
 static NONE: [(usize, Option<u64>); 3] = [(1, None), (0, None), (1, None)];
 
 #[test]
-fn no_stripes(rt: HostRuntime) -> Result<(), Fail> {
-    assert_eq!(rt; drawn_by_two(rt.alloc(), 0, &NONE)?, (None, 2));
-    Ok(())
+fn no_stripes(rt: HostRuntime) {
+    assert!(rt; drawn_by_two(rt.alloc(), 0, &NONE) == Ok((None, 2)));
 }
 
 /// What one of two passes draws, and the word of the claims if neither pass comes back.
@@ -82,9 +79,8 @@ fn drawn_by_one(alloc: Global) -> Result<(Option<u64>, u64), AllocError> {
 }
 
 #[test]
-fn no_passes_handed_in(rt: HostRuntime) -> Result<(), Fail> {
-    assert_eq!(rt; drawn_by_one(rt.alloc())?, (Some(0), 1));
-    Ok(())
+fn no_passes_handed_in(rt: HostRuntime) {
+    assert!(rt; drawn_by_one(rt.alloc()) == Ok((Some(0), 1)));
 }
 
 /// All that one pass draws until it ends, or until memory runs out.
@@ -147,9 +143,8 @@ fn drawn_by_four<R: Threads + Sync>(
 }
 
 #[test]
-fn four_threads_draw_a_thousand(rt: HostRuntime) -> Result<(), Fail> {
-    assert_eq!(rt; drawn_by_four(&rt, rt.alloc())?, (true, 4, 1004));
-    Ok(())
+fn four_threads_draw_a_thousand(rt: HostRuntime) {
+    assert!(rt; drawn_by_four(&rt, rt.alloc()) == Ok((true, 4, 1004)));
 }
 
 /// The passes that are opened.
@@ -163,7 +158,6 @@ impl Count for Opened {
 }
 
 #[test]
-fn each_allocation_fails_in_turn(rt: HostRuntime) -> Result<(), Fail> {
+fn each_allocation_fails_in_turn(rt: HostRuntime) {
     assert!(rt; first_free_turn::<Opened>(rt.alloc(), 100, PASS_LIMIT as usize) > Some(1));
-    Ok(())
 }

@@ -8,7 +8,6 @@ use exact_cut::Centre;
 use mesh_weld::Solid;
 use short_memory::{Count, ShortMemory, first_free_turn};
 use std::alloc::{AllocError, Allocator, Global};
-use std::test::Fail;
 use test_meshes::{CUBE, CUBE_AND_PAIR, OCTAHEDRON, Part, TWO_CUBES};
 use test_solids::solid_of;
 
@@ -52,10 +51,11 @@ fn has_loops(
     Ok(are_loops(solid, centre, &found, told))
 }
 
-fn is_plane(alloc: Global, (parts, [x2, y2, z2], told): Plane<'_>) -> Option<bool> {
-    let centre = Centre::new(x2, y2, z2)?;
-    let solid = solid_of(alloc, parts).ok()?;
-    has_loops(alloc, &solid, &centre, told).ok()
+fn is_plane(alloc: Global, (parts, [x2, y2, z2], told): Plane<'_>) -> bool {
+    match (Centre::new(x2, y2, z2), solid_of(alloc, parts)) {
+        (Some(centre), Ok(solid)) => has_loops(alloc, &solid, &centre, told) == Ok(true),
+        _ => false,
+    }
 }
 
 const NEAR_LOOP: &[u32] = &[4, 11, 10, 7, 6, 9, 8, 5];
@@ -73,76 +73,101 @@ static PLANES: [Plane; 8] = [
     (TWO_CUBES, [2, 2, 6], &[(NEAR_LOOP, 1), (FAR_LOOP, 0)]),
 ];
 
-/// The number of the first plane with other loops.
-fn first_other_plane(alloc: Global, planes: &[Plane<'_>]) -> Option<usize> {
+/// `Ok`, or the number of the first plane with other loops.
+fn all_planes(alloc: Global, planes: &[Plane<'_>]) -> Result<(), usize> {
     for (n, plane) in planes.iter().enumerate() {
-        if is_plane(alloc, *plane) != Some(true) {
-            return Some(n);
+        if !is_plane(alloc, *plane) {
+            return Err(n);
         }
     }
-    None
-}
-
-#[test]
-fn loops_of_planes_and_rays_through_them(rt: HostRuntime) -> Result<(), Fail> {
-    assert_eq!(rt; first_other_plane(rt.alloc(), &PLANES), None);
     Ok(())
 }
 
-/// How many loops a plane has, by a linker that may have linked others.
-fn count_by_linker(
+#[test]
+fn loops_of_planes_and_rays_through_them(rt: HostRuntime) -> Result<(), usize> {
+    all_planes(rt.alloc(), &PLANES)
+}
+
+/// Whether a plane has this count of loops, by a linker that may have linked others.
+fn is_count(
     alloc: Global,
     linker: &mut Linker<Global>,
     solid: &Solid<Global>,
-    z2: u8,
-) -> Option<usize> {
-    let list = segments(alloc, solid, i64::from(z2)).ok()?;
-    let found = linker.loops(solid, list.as_slice()).ok()?;
-    Some(found.count())
+    (z2, count): (u8, usize),
+) -> bool {
+    let Ok(list) = segments(alloc, solid, i64::from(z2)) else {
+        return false;
+    };
+    match linker.loops(solid, list.as_slice()) {
+        Ok(found) => found.count() == count,
+        Err(_) => false,
+    }
 }
 
-/// Whether planes of two cubes have these counts of loops, by one linker for all.
-fn are_counts(alloc: Global, planes: &[(u8, usize)]) -> Option<bool> {
-    let solid = solid_of(alloc, TWO_CUBES).ok()?;
-    let mut linker = Linker::new(alloc, &solid).ok()?;
-    for (z2, count) in planes {
-        if count_by_linker(alloc, &mut linker, &solid, *z2) != Some(*count) {
-            return Some(false);
+/// Whether planes of a solid have these counts of loops, by one linker for all.
+fn are_counts(
+    alloc: Global,
+    linker: &mut Linker<Global>,
+    solid: &Solid<Global>,
+    planes: &[(u8, usize)],
+) -> bool {
+    for plane in planes {
+        if !is_count(alloc, linker, solid, *plane) {
+            return false;
         }
     }
-    Some(true)
+    true
+}
+
+/// The same of two cubes.
+fn are_counts_of_cubes(alloc: Global, planes: &[(u8, usize)]) -> bool {
+    let Ok(solid) = solid_of(alloc, TWO_CUBES) else {
+        return false;
+    };
+    match Linker::new(alloc, &solid) {
+        Ok(mut linker) => are_counts(alloc, &mut linker, &solid, planes),
+        Err(_) => false,
+    }
 }
 
 static COUNTS: [(u8, usize); 4] = [(2, 1), (6, 2), (12, 0), (10, 1)];
 
 #[test]
-fn planes_of_one_linker(rt: HostRuntime) -> Result<(), Fail> {
-    assert_eq!(rt; are_counts(rt.alloc(), &COUNTS), Some(true));
-    Ok(())
+fn planes_of_one_linker(rt: HostRuntime) {
+    assert!(rt; are_counts_of_cubes(rt.alloc(), &COUNTS));
 }
 
 /// A height of a sweep, how many facets it has passed there, and those that it cuts.
 type Stand<'a> = (u8, u32, &'a [u32]);
 
 /// Raises a sweep to a height, unless it is there, and returns whether it is there with these facets then.
-fn stands_at(sweep: &mut Sweep<'_, Global>, (height, passed, active): Stand<'_>) -> Option<bool> {
+fn stands_at(sweep: &mut Sweep<'_, Global>, (height, passed, active): Stand<'_>) -> bool {
     let height = i64::from(height);
-    if sweep.height() < height {
-        sweep.advance(height).ok()?;
+    if sweep.height() < height && sweep.advance(height).is_err() {
+        return false;
     }
-    Some(sweep.height() == height && sweep.passed() == passed && sweep.active() == active)
+    sweep.height() == height && sweep.passed() == passed && sweep.active() == active
 }
 
-/// Whether a sweep through two cubes has these facets at each of these heights, in turn.
-fn are_stands(alloc: Global, stands: &[Stand<'_>]) -> Option<bool> {
-    let solid = solid_of(alloc, TWO_CUBES).ok()?;
-    let mut sweep = Sweep::start(alloc, &solid, 2).ok()?;
+/// Whether a sweep has these facets at each of these heights, in turn.
+fn are_stands(sweep: &mut Sweep<'_, Global>, stands: &[Stand<'_>]) -> bool {
     for stand in stands {
-        if stands_at(&mut sweep, *stand) != Some(true) {
-            return Some(false);
+        if !stands_at(sweep, *stand) {
+            return false;
         }
     }
-    Some(true)
+    true
+}
+
+/// The same of a sweep through two cubes.
+fn are_stands_in_cubes(alloc: Global, stands: &[Stand<'_>]) -> bool {
+    let Ok(solid) = solid_of(alloc, TWO_CUBES) else {
+        return false;
+    };
+    match Sweep::start(alloc, &solid, 2) {
+        Ok(mut sweep) => are_stands(&mut sweep, stands),
+        Err(_) => false,
+    }
 }
 
 static STANDS: [Stand; 4] = [
@@ -157,9 +182,8 @@ static STANDS: [Stand; 4] = [
 ];
 
 #[test]
-fn plane_through_two_cubes(rt: HostRuntime) -> Result<(), Fail> {
-    assert_eq!(rt; are_stands(rt.alloc(), &STANDS), Some(true));
-    Ok(())
+fn plane_through_two_cubes(rt: HostRuntime) {
+    assert!(rt; are_stands_in_cubes(rt.alloc(), &STANDS));
 }
 
 /// How many loops a mesh has at a height.
@@ -168,10 +192,16 @@ fn count_loops<A: Allocator + Copy + Send + Sync>(
     parts: &[Part<'_>],
     z2: u8,
 ) -> Option<usize> {
-    let solid = solid_of(alloc, parts).ok()?;
-    let list = segments(alloc, &solid, i64::from(z2)).ok()?;
-    let found = loops(alloc, &solid, i64::from(z2), list).ok()?;
-    Some(found.count())
+    let Ok(solid) = solid_of(alloc, parts) else {
+        return None;
+    };
+    let Ok(list) = segments(alloc, &solid, i64::from(z2)) else {
+        return None;
+    };
+    match loops(alloc, &solid, i64::from(z2), list) {
+        Ok(found) => Some(found.count()),
+        Err(_) => None,
+    }
 }
 
 /// The loops of a box and a pair of facets.
@@ -193,10 +223,9 @@ impl Count for TwoCubesLoops {
 }
 
 #[test]
-fn each_allocation_of_loops_fails(rt: HostRuntime) -> Result<(), Fail> {
+fn each_allocation_of_loops_fails(rt: HostRuntime) {
     assert!(rt; first_free_turn::<BoxLoops>(rt.alloc(), 200, 2) > Some(8));
     assert!(rt; first_free_turn::<TwoCubesLoops>(rt.alloc(), 200, 2) > Some(8));
-    Ok(())
 }
 
 /// How many loops a plane of a mesh has, by a linker that links them once before if `is_again`.
@@ -207,12 +236,16 @@ fn count_again<A: Allocator + Copy + Send + Sync>(
     z2: u8,
     is_again: bool,
 ) -> Option<usize> {
-    let list = segments(alloc, solid, i64::from(z2)).ok()?;
-    if is_again {
-        linker.loops(solid, list.as_slice()).ok()?;
+    let Ok(list) = segments(alloc, solid, i64::from(z2)) else {
+        return None;
+    };
+    if is_again && linker.loops(solid, list.as_slice()).is_err() {
+        return None;
     }
-    let found = linker.loops(solid, list.as_slice()).ok()?;
-    Some(found.count())
+    match linker.loops(solid, list.as_slice()) {
+        Ok(found) => Some(found.count()),
+        Err(_) => None,
+    }
 }
 
 /// The same by a new linker.
@@ -222,9 +255,13 @@ fn count_linked<A: Allocator + Copy + Send + Sync>(
     z2: u8,
     is_again: bool,
 ) -> Option<usize> {
-    let solid = solid_of(alloc, parts).ok()?;
-    let mut linker = Linker::new(alloc, &solid).ok()?;
-    count_again(alloc, &mut linker, &solid, z2, is_again)
+    let Ok(solid) = solid_of(alloc, parts) else {
+        return None;
+    };
+    match Linker::new(alloc, &solid) {
+        Ok(mut linker) => count_again(alloc, &mut linker, &solid, z2, is_again),
+        Err(_) => None,
+    }
 }
 
 struct OneLoop;
@@ -268,14 +305,7 @@ fn more_allocations<F: Count, S: Count>(alloc: Global, usual: usize) -> Option<u
 /// A linker that has the memory for a plane takes some for the list of its segments, and for the ends of its loops only
 /// if there are several.
 #[test]
-fn one_loop_takes_one_allocation(rt: HostRuntime) -> Result<(), Fail> {
-    assert_eq!(rt;
-        more_allocations::<OneLoop, OneLoopAgain>(rt.alloc(), 1),
-        Some(1)
-    );
-    assert_eq!(rt;
-        more_allocations::<TwoLoops, TwoLoopsAgain>(rt.alloc(), 2),
-        Some(2)
-    );
-    Ok(())
+fn one_loop_takes_one_allocation(rt: HostRuntime) {
+    assert!(rt; more_allocations::<OneLoop, OneLoopAgain>(rt.alloc(), 1) == Some(1));
+    assert!(rt; more_allocations::<TwoLoops, TwoLoopsAgain>(rt.alloc(), 2) == Some(2));
 }

@@ -1,11 +1,10 @@
 //! Rows that few and many crossings share, of bricks that overlap, beside a count of the bricks round each centre.
 ghost use Rattle.std.specs.Prelude.{◌<◌};
 
-use mesh_weld::Solid;
+use mesh_weld::{Solid, WeldFault};
 use raster::{Filler, Grid, Rule, Span};
 use short_memory::{Count, Retry, ShortMemory, failures, first_free_turn};
 use std::alloc::{AllocError, Allocator, Global};
-use std::test::Fail;
 use test_layers::{layer, layer_by};
 use test_meshes::{BOX, INWARD, push_facets};
 use test_solids::welded;
@@ -61,69 +60,72 @@ struct Wall {
 }
 
 impl Wall {
-    fn brick(&self, n: u8) -> Option<Brick> {
-        let west = u16::from(n)
-            .checked_mul(self.step)?
-            .checked_rem(self.columns)?;
-        let width = u16::from(n)
-            .checked_mul(5)?
-            .checked_rem(self.widest)?
-            .checked_add(1)?;
+    fn brick(&self, n: u8) -> Brick {
+        let west = u16::from(n).saturating_mul(self.step) % self.columns.max(1);
+        let width = u16::from(n).saturating_mul(5) % self.widest.max(1);
         let north = if n % 3 == 2 { 1 } else { 2 };
         let top = if n % 2 == 1 { 1 } else { 2 };
-        Some(Brick {
+        Brick {
             low: [west, 0, 0],
-            high: [west.checked_add(width)?, north, top],
+            high: [west.saturating_add(width).saturating_add(1), north, top],
             is_inward: n % 4 == 3,
-        })
+        }
     }
 
-    fn solid<A: Allocator + Copy + Send + Sync>(&self, alloc: A) -> Option<Solid<A>> {
+    fn solid<A: Allocator + Copy + Send + Sync>(&self, alloc: A) -> Result<Solid<A>, WeldFault> {
         let mut list = Vec::new(alloc);
         for n in 0..self.bricks {
-            let brick = self.brick(n)?;
+            let brick = self.brick(n);
             let facets = if brick.is_inward { INWARD } else { BOX };
-            push_facets(&mut list, (&brick.corners(), facets)).ok()?;
+            push_facets(&mut list, (&brick.corners(), facets))?;
         }
-        welded(alloc, list).ok()
+        welded(alloc, list)
     }
 
     /// How many more bricks hold a voxel outward than inward.
-    fn count_at(&self, column: u32, row: u32, k: u32) -> Option<i16> {
+    fn count_at(&self, column: u32, row: u32, k: u32) -> i16 {
         let mut count = 0i16;
         for n in 0..self.bricks {
-            let brick = self.brick(n)?;
+            let brick = self.brick(n);
             if brick.holds(column, row, k) {
-                count = count.checked_add(if brick.is_inward { -1 } else { 1 })?;
+                count = count.saturating_add(if brick.is_inward { -1 } else { 1 });
             }
         }
-        Some(count)
+        count
     }
 
     /// Whether the spans of layer `k` have exactly the voxels for whose count the rule holds.
-    fn is_layer(&self, g: &Grid, rule: Rule, k: u32, spans: &[Span]) -> Option<bool> {
+    fn is_layer(&self, g: &Grid, rule: Rule, k: u32, spans: &[Span]) -> bool {
         for row in 0..g.rows() {
             for column in 0..g.columns() {
-                let told = holds(rule, self.count_at(column, row, k)?);
+                let told = holds(rule, self.count_at(column, row, k));
                 if is_covered(spans, column, row) != told {
-                    return Some(false);
+                    return false;
                 }
             }
         }
-        Some(true)
+        true
     }
 
-    fn are_layers(&self, alloc: Global, rule: Rule) -> Option<bool> {
-        let solid = self.solid(alloc)?;
-        let g = Grid::fit(&solid, 2, 2).ok()?;
+    fn are_layers_of(&self, alloc: Global, rule: Rule, solid: &Solid<Global>, g: &Grid) -> bool {
         let mut filler = Filler::new(alloc);
         for k in 0..g.layers() {
-            let spans = layer_by(&mut filler, alloc, &solid, &g, rule, k).ok()?;
-            if self.is_layer(&g, rule, k, spans.as_slice()) != Some(true) {
-                return Some(false);
+            match layer_by(&mut filler, alloc, solid, g, rule, k) {
+                Ok(spans) if self.is_layer(g, rule, k, spans.as_slice()) => {}
+                _ => return false,
             }
         }
-        Some(true)
+        true
+    }
+
+    fn are_layers(&self, alloc: Global, rule: Rule) -> bool {
+        let Ok(solid) = self.solid(alloc) else {
+            return false;
+        };
+        match Grid::fit(&solid, 2, 2) {
+            Ok(g) => self.are_layers_of(alloc, rule, &solid, &g),
+            Err(_) => false,
+        }
     }
 }
 
@@ -169,27 +171,29 @@ fn wall_of((bricks, step, columns, widest): (u8, u16, u16, u16)) -> Wall {
     }
 }
 
-/// The number of the first wall whose layers have other spans by a rule.
-fn first_other(alloc: Global, rule: Rule) -> Option<usize> {
-    WALLS.iter().position(|wall| wall_of(*wall).are_layers(alloc, rule) != Some(true))
-}
-
-#[test]
-fn walls_by_even_odd(rt: HostRuntime) -> Result<(), Fail> {
-    assert_eq!(rt; first_other(rt.alloc(), Rule::EvenOdd), None);
+/// `Ok`, or the number of the first wall whose layers have other spans by a rule.
+fn all_walls(alloc: Global, rule: Rule) -> Result<(), usize> {
+    for (n, wall) in WALLS.iter().enumerate() {
+        if !wall_of(*wall).are_layers(alloc, rule) {
+            return Err(n);
+        }
+    }
     Ok(())
 }
 
 #[test]
-fn walls_by_non_zero(rt: HostRuntime) -> Result<(), Fail> {
-    assert_eq!(rt; first_other(rt.alloc(), Rule::NonZero), None);
-    Ok(())
+fn walls_by_even_odd(rt: HostRuntime) -> Result<(), usize> {
+    all_walls(rt.alloc(), Rule::EvenOdd)
 }
 
 #[test]
-fn walls_by_positive(rt: HostRuntime) -> Result<(), Fail> {
-    assert_eq!(rt; first_other(rt.alloc(), Rule::Positive), None);
-    Ok(())
+fn walls_by_non_zero(rt: HostRuntime) -> Result<(), usize> {
+    all_walls(rt.alloc(), Rule::NonZero)
+}
+
+#[test]
+fn walls_by_positive(rt: HostRuntime) -> Result<(), usize> {
+    all_walls(rt.alloc(), Rule::Positive)
 }
 
 /// A wall with dense rows.
@@ -197,12 +201,13 @@ const DENSE: (u8, u16, u16, u16) = (30, 7, 19, 11);
 
 /// How many spans the lowest layer of a solid has.
 fn span_count<A: Allocator + Copy + Send + Sync>(alloc: A, solid: &Solid<A>) -> Option<usize> {
-    let g = Grid::fit(solid, 2, 2).ok()?;
-    if g.layers() == 0 {
-        return None;
+    match Grid::fit(solid, 2, 2) {
+        Ok(g) if g.layers() > 0 => match layer(alloc, solid, &g, Rule::EvenOdd, 0) {
+            Ok(spans) => Some(spans.len()),
+            Err(_) => None,
+        },
+        _ => None,
     }
-    let spans = layer(alloc, solid, &g, Rule::EvenOdd, 0).ok()?;
-    Some(spans.len())
 }
 
 /// The spans of a layer of it.
@@ -210,15 +215,16 @@ struct Spans;
 
 impl Count for Spans {
     fn count(memory: &ShortMemory<Global>) -> Option<usize> {
-        let solid = wall_of(DENSE).solid(memory)?;
-        span_count(memory, &solid)
+        match wall_of(DENSE).solid(memory) {
+            Ok(solid) => span_count(memory, &solid),
+            Err(_) => None,
+        }
     }
 }
 
 #[test]
-fn each_allocation_fails_in_turn(rt: HostRuntime) -> Result<(), Fail> {
+fn each_allocation_fails_in_turn(rt: HostRuntime) {
     assert!(rt; first_free_turn::<Spans>(rt.alloc(), 500, 15) > Some(8));
-    Ok(())
 }
 
 /// Whether the lowest layer of a wall fills as it should, by a filler that may have filled others; `Err` if an allocation
@@ -233,7 +239,7 @@ fn is_filled<A: Allocator + Copy + Send + Sync>(
     requires { 0 < g.now.layers }
 {
     let spans = layer_by(filler, alloc, solid, g, Rule::NonZero, 0)?;
-    Ok(wall.is_layer(g, Rule::NonZero, 0, spans.as_slice()) == Some(true))
+    Ok(wall.is_layer(g, Rule::NonZero, 0, spans.as_slice()))
 }
 
 /// Whether the first fill of the lowest layer failed, and whether the first one that succeeded was right.
@@ -261,17 +267,17 @@ struct Fill;
 impl Retry for Fill {
     fn tried(memory: &ShortMemory<Global>) -> Option<(bool, bool)> {
         let wall = wall_of(DENSE);
-        let solid = wall.solid(memory)?;
-        let g = Grid::fit(&solid, 2, 2).ok()?;
-        if g.layers() == 0 {
+        let Ok(solid) = wall.solid(memory) else {
             return None;
+        };
+        match Grid::fit(&solid, 2, 2) {
+            Ok(g) if g.layers() > 0 => filled_at_last(memory, &wall, &solid, &g),
+            _ => None,
         }
-        filled_at_last(memory, &wall, &solid, &g)
     }
 }
 
 #[test]
-fn a_filler_fills_after_a_failed_allocation(rt: HostRuntime) -> Result<(), Fail> {
+fn a_filler_fills_after_a_failed_allocation(rt: HostRuntime) {
     assert!(rt; failures::<Fill>(rt.alloc(), 500) > Some(4));
-    Ok(())
 }

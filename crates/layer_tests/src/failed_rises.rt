@@ -3,7 +3,6 @@ use contour::Sweep;
 use mesh_weld::Solid;
 use short_memory::{Retry, ShortMemory, failures};
 use std::alloc::{AllocError, Allocator, Global};
-use std::test::Fail;
 use test_meshes::TWO_CUBES;
 use test_solids::solid_of;
 
@@ -53,13 +52,14 @@ struct Rise;
 
 impl Retry for Rise {
     fn tried(memory: &ShortMemory<Global>) -> Option<(bool, bool)> {
-        let solid = solid_of(memory, TWO_CUBES).ok()?;
-        risen(memory, &solid).ok()
+        match solid_of(memory, TWO_CUBES) {
+            Ok(solid) => risen(memory, &solid).ok(),
+            Err(_) => None,
+        }
     }
 }
 
 #[test]
-fn active_facets_stay_where_a_rise_fails(rt: HostRuntime) -> Result<(), Fail> {
+fn active_facets_stay_where_a_rise_fails(rt: HostRuntime) {
     assert!(rt; failures::<Rise>(rt.alloc(), 200) > Some(0));
-    Ok(())
 }

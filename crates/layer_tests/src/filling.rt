@@ -6,7 +6,6 @@ use mesh_weld::Solid;
 use raster::{Counted, Filler, Grid, Rule, Span, write_layer};
 use short_memory::{Count, ShortMemory, first_free_turn};
 use std::alloc::{Allocator, Global};
-use std::test::Fail;
 use test_layers::{layer, layer_by};
 use test_meshes::{CUBE, INWARD_CUBE, OCTAHEDRON, ONE_INWARD, Part, TOUCHING, TWO_CUBES};
 use test_solids::solid_of;
@@ -18,12 +17,13 @@ fn layer_of<A: Allocator + Copy + Send + Sync>(
     rule: Rule,
     k: u32,
 ) -> Option<Vec<Span, A>> {
-    let solid = solid_of(alloc, parts).ok()?;
-    let g = Grid::fit(&solid, 2, 2).ok()?;
-    if k >= g.layers() {
+    let Ok(solid) = solid_of(alloc, parts) else {
         return None;
+    };
+    match Grid::fit(&solid, 2, 2) {
+        Ok(g) if k < g.layers() => layer(alloc, &solid, &g, rule, k).ok(),
+        _ => None,
     }
-    layer(alloc, &solid, &g, rule, k).ok()
 }
 
 /// What is in one of two cubes that overlap, in layer 1.
@@ -35,15 +35,15 @@ const LOW: &[Span] = &spans![0: 0, 2; 1: 0, 2];
 /// Boxes, a rule, and the spans of a layer by it.
 type Row<'a> = (&'a [Part<'a>], Rule, u32, &'a [Span]);
 
-/// The number of the first row with other spans.
-fn first_other(alloc: Global, rows: &[Row<'_>]) -> Option<usize> {
+/// `Ok`, or the number of the first row with other spans.
+fn all_layers(alloc: Global, rows: &[Row<'_>]) -> Result<(), usize> {
     for (n, (parts, rule, k, told)) in rows.iter().enumerate() {
         match layer_of(alloc, parts, *rule, *k) {
             Some(spans) if spans.as_slice() == *told => {}
-            _ => return Some(n),
+            _ => return Err(n),
         }
     }
-    None
+    Ok(())
 }
 
 static LAYERS: [Row; 5] = [
@@ -60,12 +60,11 @@ static LAYERS: [Row; 5] = [
 ];
 
 #[test]
-fn layers_of_two_cubes(rt: HostRuntime) -> Result<(), Fail> {
-    assert_eq!(rt; first_other(rt.alloc(), &LAYERS), None);
-    Ok(())
+fn layers_of_two_cubes(rt: HostRuntime) -> Result<(), usize> {
+    all_layers(rt.alloc(), &LAYERS)
 }
 
-/// Writes the image of a layer after others.
+/// Writes the image of a layer after others: whether memory sufficed.
 fn push_image(
     w: &mut Counted<Vec<u8>>,
     alloc: Global,
@@ -73,38 +72,51 @@ fn push_image(
     g: &Grid,
     rule: Rule,
     k: u32,
-) -> Option<()>
+) -> bool
     requires { k < g.now.layers }
 {
-    let spans = layer(alloc, s, g, rule, k).ok()?;
-    write_layer(g, spans.as_slice(), w).ok()
+    match layer(alloc, s, g, rule, k) {
+        Ok(spans) => write_layer(g, spans.as_slice(), w).is_ok(),
+        Err(_) => false,
+    }
 }
 
 /// A mesh, a rule, the size of voxels, and the images of all layers, one after the other, each from its last row down.
 type Images<'a> = (&'a [Part<'a>], Rule, u8, &'a [u8]);
 
-/// Whether the layers of a mesh have these images.
-fn are_images(alloc: Global, (parts, rule, size, told): Images<'_>) -> Option<bool> {
-    if size == 0 {
-        return None;
-    }
-    let solid = solid_of(alloc, parts).ok()?;
-    let g = Grid::fit(&solid, u32::from(size), u32::from(size)).ok()?;
+/// Whether the layers of a solid in a grid have these images.
+fn are_images_in(alloc: Global, s: &Solid<Global>, g: &Grid, rule: Rule, told: &[u8]) -> bool {
     let mut w = Counted::new(Vec::new(alloc));
     for k in 0..g.layers() {
-        push_image(&mut w, alloc, &solid, &g, rule, k)?;
-    }
-    Some(w.inner().as_slice() == told)
-}
-
-/// The number of the first mesh with other images.
-fn first_other_images(alloc: Global, rows: &[Images<'_>]) -> Option<usize> {
-    for (n, row) in rows.iter().enumerate() {
-        if are_images(alloc, *row) != Some(true) {
-            return Some(n);
+        if !push_image(&mut w, alloc, s, g, rule, k) {
+            return false;
         }
     }
-    None
+    w.inner().as_slice() == told
+}
+
+/// Whether the layers of a mesh have these images.
+fn are_images(alloc: Global, (parts, rule, size, told): Images<'_>) -> bool {
+    if size == 0 {
+        return false;
+    }
+    let Ok(solid) = solid_of(alloc, parts) else {
+        return false;
+    };
+    match Grid::fit(&solid, u32::from(size), u32::from(size)) {
+        Ok(g) => are_images_in(alloc, &solid, &g, rule, told),
+        Err(_) => false,
+    }
+}
+
+/// `Ok`, or the number of the first mesh with other images.
+fn all_images(alloc: Global, rows: &[Images<'_>]) -> Result<(), usize> {
+    for (n, row) in rows.iter().enumerate() {
+        if !are_images(alloc, *row) {
+            return Err(n);
+        }
+    }
+    Ok(())
 }
 
 static IMAGES: [Images; 10] = [
@@ -162,9 +174,8 @@ static IMAGES: [Images; 10] = [
 ];
 
 #[test]
-fn images_of_all_layers(rt: HostRuntime) -> Result<(), Fail> {
-    assert_eq!(rt; first_other_images(rt.alloc(), &IMAGES), None);
-    Ok(())
+fn images_of_all_layers(rt: HostRuntime) -> Result<(), usize> {
+    all_images(rt.alloc(), &IMAGES)
 }
 
 /// Whether a layer of a solid has these spans, by a filler that may have filled others.
@@ -185,25 +196,33 @@ fn is_filled(
     }
 }
 
-/// Whether layers of two cubes have these spans, by one filler for all.
-fn are_filled(alloc: Global, layers: &[(u32, &[Span])]) -> Option<bool> {
-    let solid = solid_of(alloc, TWO_CUBES).ok()?;
-    let g = Grid::fit(&solid, 2, 2).ok()?;
+/// Whether layers of a solid in a grid have these spans, by one filler for all.
+fn are_filled(alloc: Global, solid: &Solid<Global>, g: &Grid, layers: &[(u32, &[Span])]) -> bool {
     let mut filler = Filler::new(alloc);
     for (k, told) in layers {
-        if !is_filled(&mut filler, alloc, &solid, &g, *k, told) {
-            return Some(false);
+        if !is_filled(&mut filler, alloc, solid, g, *k, told) {
+            return false;
         }
     }
-    Some(true)
+    true
+}
+
+/// The same of two cubes.
+fn are_cubes_filled(alloc: Global, layers: &[(u32, &[Span])]) -> bool {
+    let Ok(solid) = solid_of(alloc, TWO_CUBES) else {
+        return false;
+    };
+    match Grid::fit(&solid, 2, 2) {
+        Ok(g) => are_filled(alloc, &solid, &g, layers),
+        Err(_) => false,
+    }
 }
 
 static TURNS: [(u32, &[Span]); 2] = [(1, ODD), (0, LOW)];
 
 #[test]
-fn layers_of_one_filler(rt: HostRuntime) -> Result<(), Fail> {
-    assert_eq!(rt; are_filled(rt.alloc(), &TURNS), Some(true));
-    Ok(())
+fn layers_of_one_filler(rt: HostRuntime) {
+    assert!(rt; are_cubes_filled(rt.alloc(), &TURNS));
 }
 
 /// The spans of a layer of two cubes.
@@ -211,13 +230,14 @@ struct Spans;
 
 impl Count for Spans {
     fn count(memory: &ShortMemory<Global>) -> Option<usize> {
-        let spans = layer_of(memory, TWO_CUBES, Rule::EvenOdd, 1)?;
-        Some(spans.len())
+        match layer_of(memory, TWO_CUBES, Rule::EvenOdd, 1) {
+            Some(spans) => Some(spans.len()),
+            None => None,
+        }
     }
 }
 
 #[test]
-fn each_allocation_fails_in_turn(rt: HostRuntime) -> Result<(), Fail> {
+fn each_allocation_fails_in_turn(rt: HostRuntime) {
     assert!(rt; first_free_turn::<Spans>(rt.alloc(), 100, 4) > Some(8));
-    Ok(())
 }

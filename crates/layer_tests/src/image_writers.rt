@@ -1,4 +1,5 @@
 //! Several images through one writer: which bytes go out, in how many calls of the sink, and how many before it fails.
+ghost use Rattle.std.specs.Prelude.{◌≡◌, IfSome};
 ghost use Rattle.raster.specs.Span.{AreSpans};
 
 use crate::byte_writers::{CHUNK_LEN, WAYS, Way, writer};
@@ -8,7 +9,6 @@ use raster::{Counted, Failures, Grid, ImageWriter, Sink, Span, WriteFault, write
 use short_memory::{InterruptedOnce, SmallWriter};
 use std::alloc::Global;
 use std::io::ErrorKind;
-use std::test::Fail;
 
 /// Writes three images through one writer, and returns how many bytes went out. The second one is white; the spans are those
 /// of the first and the third.
@@ -32,10 +32,13 @@ fn text_of(alloc: Global, outer: &Grid, spans: &[Span], inner: &Grid) -> Option<
     requires { AreSpans outer.now.columns outer.now.rows spans.now }
 {
     let mut w = Counted::new(Vec::new(alloc));
-    write_layer(outer, spans, &mut w).ok()?;
-    write_layer(inner, &[], &mut w).ok()?;
-    write_layer(outer, spans, &mut w).ok()?;
-    Some(w.into_inner())
+    if write_layer(outer, spans, &mut w).is_ok()
+        && write_layer(inner, &[], &mut w).is_ok()
+        && write_layer(outer, spans, &mut w).is_ok()
+    {
+        return Some(w.into_inner());
+    }
+    None
 }
 
 /// Whether exactly the first bytes of the images' text go out to a writer of this way up to its room, with one failure if these
@@ -66,19 +69,41 @@ fn is_filled(
     found == told && w.failures() == failures && is_front
 }
 
+/// A grid of a layer of voxels of a micrometre, from the origin on.
+fn grid_of(columns: u32, rows: u32) -> Option<Grid>
+    ensures columns { IfSome result (λ g. g.columns ≡ columns) }
+    ensures rows { IfSome result (λ g. g.rows ≡ rows) }
+{
+    Grid::given(Point::new(0, 0, 0)?, 1, 1, columns, rows, 1).ok()
+}
+
+/// Whether exactly the first bytes of three small images go out to a writer of this way up to its room.
+fn is_text_filled(alloc: Global, way: Way, room: usize) -> bool {
+    match (grid_of(2, 2), grid_of(9, 1)) {
+        (Some(outer), Some(inner)) => {
+            is_filled(
+                alloc,
+                &outer,
+                &spans![0: 0, 1; 1: 0, 2],
+                &inner,
+                TEXT,
+                way,
+                room,
+            )
+        }
+        _ => false,
+    }
+}
+
+const TEXT: &[u8] = b"P4\n2 2\n\xc0\x80P4\n9 1\n\x00\x00P4\n2 2\n\xc0\x80";
+
 #[test]
-fn each_beginning_of_three_images(rt: HostRuntime) -> Result<(), Fail> {
-    let text = b"P4\n2 2\n\xc0\x80P4\n9 1\n\x00\x00P4\n2 2\n\xc0\x80";
-    let spans = spans![0: 0, 1; 1: 0, 2];
-    let place = Point::new(0, 0, 0).ok_or("no point")?;
-    let outer = Grid::given(place, 1, 1, 2, 2, 1).ok().ok_or("no grid")?;
-    let inner = Grid::given(place, 1, 1, 9, 1, 1).ok().ok_or("no grid")?;
+fn each_beginning_of_three_images(rt: HostRuntime) {
     for way in WAYS {
-        for room in 0..=text.len() + 1 {
-            assert!(rt; is_filled(rt.alloc(), &outer, &spans, &inner, text, way, room));
+        for room in 0..=TEXT.len() + 1 {
+            assert!(rt; is_text_filled(rt.alloc(), way, room));
         }
     }
-    Ok(())
 }
 
 /// Whether the call of the sink after this many calls begins at this byte of the images' text. That call is interrupted.
@@ -143,11 +168,11 @@ fn ends_at(
 ) -> Option<bool>
     requires { AreSpans 8 outer_rows spans.now }
 {
-    let place = Point::new(0, 0, 0)?;
-    let outer = Grid::given(place, 1, 1, 8, outer_rows, 1).ok()?;
-    let inner = Grid::given(place, 1, 1, COLUMN_LIMIT, inner_rows, 1).ok()?;
-    let text = text_of(alloc, &outer, spans, &inner)?;
-    Some(are_ends(alloc, &outer, spans, &inner, text.as_slice(), ends))
+    let (outer, inner) = grid_of(8, outer_rows).zip(grid_of(COLUMN_LIMIT, inner_rows))?;
+    match text_of(alloc, &outer, spans, &inner) {
+        Some(text) => Some(are_ends(alloc, &outer, spans, &inner, text.as_slice(), ends)),
+        None => None,
+    }
 }
 
 /// A call of the sink takes a chunk if the next row, or 15 bytes for the next header, would go beyond it.
@@ -186,5 +211,5 @@ fn images_at_the_ends_of_chunks(rt: HostRuntime) {
             &[CHUNK_LEN - 2028, 2 * CHUNK_LEN - 2028, 2 * CHUNK_LEN + 28],
         ),
     ];
-    assert_eq!(rt; found, [Some(true); 4]);
+    assert!(rt; found == [Some(true); 4]);
 }

@@ -5,7 +5,6 @@ use crate::spans::spans;
 use geometry::Point;
 use raster::{Counted, Grid, GridFault, Span, write_layer};
 use std::alloc::Global;
-use std::test::Fail;
 use test_meshes::published::{FARTHEST, MOST_COLUMNS, MOST_LAYERS};
 use test_meshes::{BEAM, CUBE_OF_THREE, LONG_BEAM, Part};
 use test_solids::solid_of;
@@ -111,20 +110,19 @@ fn given([x, y, z]: [i32; 3], [pitch, height]: [u8; 2], asked: [u32; 3]) -> Opti
     )))
 }
 
-/// The number of the first row with another grid.
-fn first_other_given(rows: &[Given]) -> Option<usize> {
+/// `Ok`, or the number of the first row with another grid.
+fn all_given(rows: &[Given]) -> Result<(), usize> {
     for (n, (corner, sizes, asked, told)) in rows.iter().enumerate() {
         if given(*corner, *sizes, *asked) != Some(*told) {
-            return Some(n);
+            return Err(n);
         }
     }
-    None
+    Ok(())
 }
 
 #[test]
-fn given_grids(rt: HostRuntime) -> Result<(), Fail> {
-    assert_eq!(rt; first_other_given(&GIVEN), None);
-    Ok(())
+fn given_grids() -> Result<(), usize> {
+    all_given(&GIVEN)
 }
 
 /// A mesh, the size of voxels, and how many columns, rows and layers of them it fits in.
@@ -138,27 +136,27 @@ static FITTED: [Fitted; 4] = [
 ];
 
 fn fitted(alloc: Global, parts: &[Part<'_>], size: u8) -> Option<Counts> {
-    if size == 0 {
-        return None;
+    match solid_of(alloc, parts) {
+        Ok(solid) if size > 0 => {
+            Some(counts(Grid::fit(&solid, u32::from(size), u32::from(size))))
+        }
+        _ => None,
     }
-    let solid = solid_of(alloc, parts).ok()?;
-    Some(counts(Grid::fit(&solid, u32::from(size), u32::from(size))))
 }
 
-/// The number of the first row with another grid.
-fn first_other_fitted(alloc: Global, rows: &[Fitted<'_>]) -> Option<usize> {
+/// `Ok`, or the number of the first row with another grid.
+fn all_fitted(alloc: Global, rows: &[Fitted<'_>]) -> Result<(), usize> {
     for (n, (parts, size, told)) in rows.iter().enumerate() {
         if fitted(alloc, parts, *size) != Some(*told) {
-            return Some(n);
+            return Err(n);
         }
     }
-    None
+    Ok(())
 }
 
 #[test]
-fn fitted_grids(rt: HostRuntime) -> Result<(), Fail> {
-    assert_eq!(rt; first_other_fitted(rt.alloc(), &FITTED), None);
-    Ok(())
+fn fitted_grids(rt: HostRuntime) -> Result<(), usize> {
+    all_fitted(rt.alloc(), &FITTED)
 }
 
 /// The voxels of a cube of 3 micrometres at a pitch and a layer height of 2, by column, row and layer, and their centres in
@@ -179,36 +177,47 @@ fn centre(g: &Grid, [column, row, layer]: [u32; 3]) -> Option<[i64; 3]> {
     Some([centre.x2(), centre.y2(), centre.z2()])
 }
 
-/// The number of the first voxel with another centre.
-fn first_other_centre(g: &Grid, rows: &[([u32; 3], [i64; 3])]) -> Option<usize> {
-    for (n, (voxel, told)) in rows.iter().enumerate() {
+/// Whether voxels of a grid have these centres.
+fn are_centres(g: &Grid, rows: &[([u32; 3], [i64; 3])]) -> bool {
+    for (voxel, told) in rows {
         if centre(g, *voxel) != Some(*told) {
-            return Some(n);
+            return false;
         }
     }
-    None
+    true
+}
+
+/// The same of the grid that a mesh fits in, at a pitch and a layer height of 2.
+fn are_centres_of(alloc: Global, parts: &[Part<'_>], rows: &[([u32; 3], [i64; 3])]) -> bool {
+    let Ok(solid) = solid_of(alloc, parts) else {
+        return false;
+    };
+    match Grid::fit(&solid, 2, 2) {
+        Ok(g) => are_centres(&g, rows),
+        Err(_) => false,
+    }
 }
 
 #[test]
-fn centres_of_voxels(rt: HostRuntime) -> Result<(), Fail> {
-    let solid = solid_of(rt.alloc(), CUBE_OF_THREE).ok().ok_or("open")?;
-    let g = Grid::fit(&solid, 2, 2).ok().ok_or("no grid")?;
-    assert_eq!(rt; first_other_centre(&g, &CENTRES), None);
-    Ok(())
+fn centres_of_voxels(rt: HostRuntime) {
+    assert!(rt; are_centres_of(rt.alloc(), CUBE_OF_THREE, &CENTRES));
 }
 
 /// Whether the image of these spans, in a grid of these counts of columns and rows, has these bytes.
 fn is_image(alloc: Global, columns: u32, rows: u32, spans: &[Span], bytes: &[u8]) -> Option<bool>
     requires { AreSpans columns rows spans.now }
 {
-    let g = Grid::given(Point::new(0, 0, 0)?, 1, 1, columns, rows, 1).ok()?;
-    let mut w = Counted::new(Vec::new(alloc));
-    write_layer(&g, spans, &mut w).ok()?;
-    Some(w.inner().as_slice() == bytes)
+    match Grid::given(Point::new(0, 0, 0)?, 1, 1, columns, rows, 1) {
+        Ok(g) => {
+            let mut w = Counted::new(Vec::new(alloc));
+            Some(write_layer(&g, spans, &mut w).is_ok() && w.inner().as_slice() == bytes)
+        }
+        Err(_) => None,
+    }
 }
 
 #[test]
-fn images(rt: HostRuntime) -> Result<(), Fail> {
+fn images(rt: HostRuntime) {
     let alloc = rt.alloc();
     let found = [
         is_image(alloc, 2, 2, &spans![0: 0, 2; 1: 0, 2], b"P4\n2 2\n\xc0\xc0"),
@@ -226,6 +235,5 @@ fn images(rt: HostRuntime) -> Result<(), Fail> {
         is_image(alloc, 9, 1, &spans![0: 0, 9], b"P4\n9 1\n\xff\x80"),
         is_image(alloc, 2, 2, &[], b"P4\n2 2\n\x00\x00"),
     ];
-    assert_eq!(rt; found, [Some(true); 6]);
-    Ok(())
+    assert!(rt; found == [Some(true); 6]);
 }

@@ -17,7 +17,11 @@ pub(crate) fn job_of<A: Allocator + Copy + Send + Sync>(
     requires size { 1 ≤ size }
     requires size_high { size ≤ 2 }
 {
-    let solid = solid_of(alloc, parts).ok().ok_or(AllocError)?;
-    let grid = Grid::fit(&solid, size, size).ok().ok_or(AllocError)?;
-    Ok(Job::new(solid, grid, rule))
+    let Ok(solid) = solid_of(alloc, parts) else {
+        return Err(AllocError);
+    };
+    match Grid::fit(&solid, size, size) {
+        Ok(grid) => Ok(Job::new(solid, grid, rule)),
+        Err(_) => Err(AllocError),
+    }
 }

@@ -19,7 +19,6 @@ use std::alloc::{AllocError, Allocator, Global};
 use std::sync::atomic::AtomicU64;
 use std::sync::atomic::Ordering::SeqCst;
 use std::sync::{Mutex, Wait};
-use std::test::Fail;
 use std::thread;
 use std::thread::Threads;
 use test_meshes::{COLUMN, CUBE, CUBE_AND_PAIR, OCTAHEDRON, Part, TWO_CUBES};
@@ -55,14 +54,22 @@ fn built<A: Allocator + Copy + Send + Sync, R: Threads + Wait + Sync, G: Gate<A>
     Ok((is_column(&build), build.late()))
 }
 
-#[test]
-fn any_number_of_workers(rt: HostRuntime) -> Result<(), Fail> {
-    let job = job_of(rt.alloc(), COLUMN, 1, Rule::EvenOdd)?;
-    assert_eq!(rt; job.stripes(), 3);
-    for workers in [1, 2, PASS_LIMIT] {
-        assert!(rt; built(&rt, rt.alloc(), &job, workers, &OpenGate) == Ok((true, 0)));
+/// Whether one, two and the most workers build the column, which has three stripes, with no late layer.
+fn is_column_by_each<R: Threads + Wait + Sync>(rt: &R, alloc: Global) -> bool {
+    match job_of(alloc, COLUMN, 1, Rule::EvenOdd) {
+        Ok(job) => {
+            job.stripes() == 3
+                && built(rt, alloc, &job, 1, &OpenGate) == Ok((true, 0))
+                && built(rt, alloc, &job, 2, &OpenGate) == Ok((true, 0))
+                && built(rt, alloc, &job, PASS_LIMIT, &OpenGate) == Ok((true, 0))
+        }
+        Err(AllocError) => false,
     }
-    Ok(())
+}
+
+#[test]
+fn any_number_of_workers(rt: HostRuntime) {
+    assert!(rt; is_column_by_each(&rt, rt.alloc()));
 }
 
 /// Whether these are the same loops, each the same list of segments.
@@ -106,17 +113,15 @@ fn is_built_again<R: Threads + Wait + Sync>(
 }
 
 /// Whether one, two and the most workers build a job alike, with no late layer.
-fn is_built_alike<R: Threads + Wait + Sync>(
-    rt: &R,
-    alloc: Global,
-    job: &Job<Global>,
-) -> Result<bool, AllocError> {
-    let one = build(rt, alloc, job, 1, &OpenGate)?;
-    Ok(
-        one.late() == 0
-            && is_built_again(rt, alloc, job, 2, &one)
-            && is_built_again(rt, alloc, job, PASS_LIMIT, &one),
-    )
+fn is_built_alike<R: Threads + Wait + Sync>(rt: &R, alloc: Global, job: &Job<Global>) -> bool {
+    match build(rt, alloc, job, 1, &OpenGate) {
+        Ok(one) => {
+            one.late() == 0
+                && is_built_again(rt, alloc, job, 2, &one)
+                && is_built_again(rt, alloc, job, PASS_LIMIT, &one)
+        }
+        Err(AllocError) => false,
+    }
 }
 
 /// The same for a mesh in voxels of a micrometre, by a rule.
@@ -125,9 +130,11 @@ fn is_mesh_built_alike<R: Threads + Wait + Sync>(
     alloc: Global,
     parts: &[Part<'_>],
     rule: Rule,
-) -> Result<bool, AllocError> {
-    let job = job_of(alloc, parts, 1, rule)?;
-    is_built_alike(rt, alloc, &job)
+) -> bool {
+    match job_of(alloc, parts, 1, rule) {
+        Ok(job) => is_built_alike(rt, alloc, &job),
+        Err(AllocError) => false,
+    }
 }
 
 /// A tetrahedron of 26 layers in four stripes, each layer smaller than the one below it.
@@ -137,14 +144,11 @@ const SPIRE: &[Part] = &[(
 )];
 
 #[test]
-fn builds_are_the_same_by_any_number_of_workers(rt: HostRuntime) -> Result<(), Fail> {
+fn builds_are_the_same_by_any_number_of_workers(rt: HostRuntime) {
     for parts in [COLUMN, CUBE_AND_PAIR, OCTAHEDRON, SPIRE, TWO_CUBES] {
-        for rule in [Rule::EvenOdd, Rule::NonZero] {
-            let alike = is_mesh_built_alike(&rt, rt.alloc(), parts, rule);
-            assert_eq!(rt; alike, Ok(true));
-        }
+        assert!(rt; is_mesh_built_alike(&rt, rt.alloc(), parts, Rule::EvenOdd));
+        assert!(rt; is_mesh_built_alike(&rt, rt.alloc(), parts, Rule::NonZero));
     }
-    Ok(())
 }
 
 /// Holds the worker that arrives first, or the one that is the first to have made a piece, until the other has made two
@@ -265,28 +269,25 @@ impl Gate<Global> for HoldsTheFirst {
 }
 
 /// Whether two workers build the column with no late layer, served by a gate that holds the first of them.
-fn is_built_while_held<R: Threads + Wait + Sync>(
-    rt: &R,
-    alloc: Global,
-    at_made: bool,
-) -> Result<bool, AllocError> {
-    let job = job_of(alloc, COLUMN, 1, Rule::EvenOdd)?;
-    let gate = HoldsTheFirst::new(at_made);
-    let found = built(rt, alloc, &job, 2, &gate);
-    Ok(found == Ok((true, 0)) && gate.is_served())
+fn is_built_while_held<R: Threads + Wait + Sync>(rt: &R, alloc: Global, at_made: bool) -> bool {
+    match job_of(alloc, COLUMN, 1, Rule::EvenOdd) {
+        Ok(job) => {
+            let gate = HoldsTheFirst::new(at_made);
+            built(rt, alloc, &job, 2, &gate) == Ok((true, 0)) && gate.is_served()
+        }
+        Err(AllocError) => false,
+    }
 }
 
 #[test]
-fn one_worker_is_held_while_the_other_works(rt: HostRuntime) -> Result<(), Fail> {
-    assert_eq!(rt; is_built_while_held(&rt, rt.alloc(), false), Ok(true));
-    Ok(())
+fn one_worker_is_held_while_the_other_works(rt: HostRuntime) {
+    assert!(rt; is_built_while_held(&rt, rt.alloc(), false));
 }
 
 /// So nobody holds the book's lock from the slicing of a piece on.
 #[test]
-fn one_worker_is_held_with_its_piece_while_the_other_works(rt: HostRuntime) -> Result<(), Fail> {
-    assert_eq!(rt; is_built_while_held(&rt, rt.alloc(), true), Ok(true));
-    Ok(())
+fn one_worker_is_held_with_its_piece_while_the_other_works(rt: HostRuntime) {
+    assert!(rt; is_built_while_held(&rt, rt.alloc(), true));
 }
 
 /// Holds the worker that arrives first in an allocation, with which it slices, until the other has made two pieces.
@@ -350,22 +351,21 @@ impl<'a> Gate<&'a ShortMemory<Global>> for HoldsASlice<'a> {
 }
 
 /// Whether two workers build the column with no late layer while the first of them is held in the middle of a slice.
-fn is_built_beside_a_slice<R: Threads + Wait + Sync>(
-    rt: &R,
-    alloc: Global,
-) -> Result<bool, AllocError> {
-    let memory = ShortMemory::new(alloc, 0);
-    let job = job_of(&memory, COLUMN, 1, Rule::EvenOdd)?;
-    let gate = HoldsASlice::new(&memory);
-    let found = built(rt, &memory, &job, 2, &gate);
-    Ok(found == Ok((true, 0)) && gate.went_on.load(SeqCst) == 1)
+fn is_built_beside_a_slice<R: Threads + Wait + Sync>(rt: &R, memory: &ShortMemory<Global>) -> bool {
+    match job_of(memory, COLUMN, 1, Rule::EvenOdd) {
+        Ok(job) => {
+            let gate = HoldsASlice::new(memory);
+            built(rt, memory, &job, 2, &gate) == Ok((true, 0)) && gate.went_on.load(SeqCst) == 1
+        }
+        Err(AllocError) => false,
+    }
 }
 
 /// So nobody holds the book's lock while it slices.
 #[test]
-fn one_worker_is_held_in_a_slice_while_the_other_works(rt: HostRuntime) -> Result<(), Fail> {
-    assert_eq!(rt; is_built_beside_a_slice(&rt, rt.alloc()), Ok(true));
-    Ok(())
+fn one_worker_is_held_in_a_slice_while_the_other_works(rt: HostRuntime) {
+    let memory = ShortMemory::new(rt.alloc(), 0);
+    assert!(rt; is_built_beside_a_slice(&rt, &memory));
 }
 
 /// The same for the column in memory of which one allocation fails.
@@ -408,10 +408,9 @@ fn fail_each<R: Threads + Wait + Sync>(rt: &R, alloc: Global, workers: u32) -> O
 }
 
 #[test]
-fn each_allocation_of_a_build_fails_in_turn(rt: HostRuntime) -> Result<(), Fail> {
+fn each_allocation_of_a_build_fails_in_turn(rt: HostRuntime) {
     assert!(rt; fail_each(&rt, rt.alloc(), 1) > Some(0));
     assert!(rt; fail_each(&rt, rt.alloc(), 2).is_some());
-    Ok(())
 }
 
 /// Whether filing a stripe under the lock has this outcome. The book is looked at under a later lock.
@@ -435,13 +434,13 @@ fn first_other_filing<'m, R: Wait>(
     book: &Mutex<Book<'m, Global>>,
     job: &'m Job<Global>,
     other: &'m Job<Global>,
-) -> Result<Option<usize>, AllocError> {
+) -> Option<usize> {
     for (n, row) in FILINGS.iter().enumerate() {
-        if !is_filed_between(rt, alloc, book, job, other, *row)? {
-            return Ok(Some(n));
+        if is_filed_between(rt, alloc, book, job, other, *row) != Ok(true) {
+            return Some(n);
         }
     }
-    Ok(None)
+    None
 }
 
 /// The same for a book of a job; and whether it is finished as the column, and how many layers are late.
@@ -452,7 +451,7 @@ fn finished_between_locks<R: Wait>(
     other: &Job<Global>,
 ) -> Result<(Option<usize>, (bool, u32)), AllocError> {
     let book = Mutex::new(Book::open(alloc, job)?);
-    let first = first_other_filing(rt, alloc, &book, job, other)?;
+    let first = first_other_filing(rt, alloc, &book, job, other);
     let build = book.into_inner().finish(job)?;
     Ok((first, (is_column(&build), build.late())))
 }
@@ -468,9 +467,6 @@ fn column_between_locks<R: Wait>(
 }
 
 #[test]
-fn a_book_between_locks(rt: HostRuntime) -> Result<(), Fail> {
-    let (other, finished) = column_between_locks(&rt, rt.alloc())?;
-    assert_eq!(rt; other, None);
-    assert_eq!(rt; finished, (true, 8));
-    Ok(())
+fn a_book_between_locks(rt: HostRuntime) {
+    assert!(rt; column_between_locks(&rt, rt.alloc()) == Ok((None, (true, 8))));
 }

@@ -1,12 +1,12 @@
 //! Worked meshes, layer by layer: the filled pixels, and the bytes of the image. Rows count from the least y, and an
 //! image shows the row of the greatest y first.
 ghost use Rattle.std.specs.Prelude.{◌<◌};
+ghost use Rattle.raster.specs.Span.{AreSpans};
 
 use crate::spans::spans;
 use mesh_weld::Solid;
 use raster::{Counted, Grid, Rule, Span, write_layer};
 use std::alloc::{AllocError, Global};
-use std::test::Fail;
 use test_layers::layer;
 use test_meshes::published::MOST_COLUMNS;
 use test_meshes::{
@@ -20,38 +20,61 @@ type Layer<'a> = (&'a [Span], &'a [u8]);
 /// A mesh, the size of voxels in micrometres, and the layers, from the lowest up.
 type Worked<'a> = (&'a [Part<'a>], u8, &'a [Layer<'a>]);
 
+/// Whether these spans have this image in a grid.
+fn is_image(alloc: Global, g: &Grid, spans: &[Span], image: &[u8]) -> bool
+    requires { AreSpans g.now.columns g.now.rows spans.now }
+{
+    let mut w = Counted::new(Vec::new(alloc));
+    write_layer(g, spans, &mut w).is_ok() && w.inner().as_slice() == image
+}
+
 /// Whether a layer has these spans and this image.
-fn is_layer(
+fn is_layer(alloc: Global, s: &Solid<Global>, g: &Grid, rule: Rule, k: u32, told: Layer<'_>) -> bool
+    requires { k < g.now.layers }
+{
+    let (spans, image) = told;
+    match layer(alloc, s, g, rule, k) {
+        Ok(found) => { found.as_slice() == spans && is_image(alloc, g, found.as_slice(), image) }
+        Err(_) => false,
+    }
+}
+
+/// Whether the layers of a solid in a grid are just these by a rule.
+fn are_layers_in(
     alloc: Global,
     s: &Solid<Global>,
     g: &Grid,
     rule: Rule,
-    k: u32,
-    told: Layer<'_>,
-) -> Option<bool>
-    requires { k < g.now.layers }
-{
-    let (spans, image) = told;
-    let found = layer(alloc, s, g, rule, k).ok()?;
-    let mut w = Counted::new(Vec::new(alloc));
-    write_layer(g, found.as_slice(), &mut w).ok()?;
-    Some(found.as_slice() == spans && w.inner().as_slice() == image)
+    told: &[Layer<'_>],
+) -> bool {
+    for k in 0..g.layers() {
+        match told.get(k as usize) {
+            Some(layer) if is_layer(alloc, s, g, rule, k, *layer) => {}
+            _ => return false,
+        }
+    }
+    g.layers() as usize == told.len()
 }
 
 /// Whether the layers of a mesh are just these by a rule.
-fn are_layers(alloc: Global, (parts, size, told): Worked<'_>, rule: Rule) -> Option<bool> {
+fn are_layers(alloc: Global, (parts, size, told): Worked<'_>, rule: Rule) -> bool {
     if size == 0 {
-        return None;
+        return false;
     }
-    let solid = solid_of(alloc, parts).ok()?;
-    let g = Grid::fit(&solid, u32::from(size), u32::from(size)).ok()?;
-    for k in 0..g.layers() {
-        let layer = told.get(k as usize)?;
-        if is_layer(alloc, &solid, &g, rule, k, *layer) != Some(true) {
-            return Some(false);
-        }
+    let Ok(solid) = solid_of(alloc, parts) else {
+        return false;
+    };
+    match Grid::fit(&solid, u32::from(size), u32::from(size)) {
+        Ok(g) => are_layers_in(alloc, &solid, &g, rule, told),
+        Err(_) => false,
     }
-    Some(g.layers() as usize == told.len())
+}
+
+/// The same by each rule.
+fn are_layers_by_each(alloc: Global, worked: Worked<'_>) -> bool {
+    are_layers(alloc, worked, Rule::EvenOdd)
+        && are_layers(alloc, worked, Rule::NonZero)
+        && are_layers(alloc, worked, Rule::Positive)
 }
 
 /// The layers of a grid of 2 x 2 x 2 voxels in which only the one of least x, y and z is filled.
@@ -64,33 +87,24 @@ const LEAST_OF_EIGHT: &[Layer] = &[
 static THREE_BY_TWOS: Worked = (CUBE_OF_THREE, 2, LEAST_OF_EIGHT);
 
 #[test]
-fn far_faces_hold_no_centre(rt: HostRuntime) -> Result<(), Fail> {
-    for rule in [Rule::EvenOdd, Rule::NonZero, Rule::Positive] {
-        assert_eq!(rt; are_layers(rt.alloc(), THREE_BY_TWOS, rule), Some(true));
-    }
-    Ok(())
+fn far_faces_hold_no_centre(rt: HostRuntime) {
+    assert!(rt; are_layers_by_each(rt.alloc(), THREE_BY_TWOS));
 }
 
 /// The first centre is the far corner of one cube and the near corner of the other.
 static SHARED_CORNER: Worked = (TOUCHING, 2, LEAST_OF_EIGHT);
 
 #[test]
-fn a_shared_corner_lies_in_one_cube(rt: HostRuntime) -> Result<(), Fail> {
-    for rule in [Rule::EvenOdd, Rule::NonZero, Rule::Positive] {
-        assert_eq!(rt; are_layers(rt.alloc(), SHARED_CORNER, rule), Some(true));
-    }
-    Ok(())
+fn a_shared_corner_lies_in_one_cube(rt: HostRuntime) {
+    assert!(rt; are_layers_by_each(rt.alloc(), SHARED_CORNER));
 }
 
 static ONE_CENTRE: Worked = (OCTAHEDRON, 4, &[(&spans![0: 0, 1], b"P4\n1 1\n\x80")]);
 
 /// The plane and the scanline of the only centre pass through four corners.
 #[test]
-fn an_octahedron_round_one_centre(rt: HostRuntime) -> Result<(), Fail> {
-    for rule in [Rule::EvenOdd, Rule::NonZero, Rule::Positive] {
-        assert_eq!(rt; are_layers(rt.alloc(), ONE_CENTRE, rule), Some(true));
-    }
-    Ok(())
+fn an_octahedron_round_one_centre(rt: HostRuntime) {
+    assert!(rt; are_layers_by_each(rt.alloc(), ONE_CENTRE));
 }
 
 static INWARD: Worked = (
@@ -109,12 +123,10 @@ static NOTHING: Worked = (
 );
 
 #[test]
-fn an_inward_cube_by_each_rule(rt: HostRuntime) -> Result<(), Fail> {
-    for rule in [Rule::EvenOdd, Rule::NonZero] {
-        assert_eq!(rt; are_layers(rt.alloc(), INWARD, rule), Some(true));
-    }
-    assert_eq!(rt; are_layers(rt.alloc(), NOTHING, Rule::Positive), Some(true));
-    Ok(())
+fn an_inward_cube_by_each_rule(rt: HostRuntime) {
+    assert!(rt; are_layers(rt.alloc(), INWARD, Rule::EvenOdd));
+    assert!(rt; are_layers(rt.alloc(), INWARD, Rule::NonZero));
+    assert!(rt; are_layers(rt.alloc(), NOTHING, Rule::Positive));
 }
 
 static NINE: Worked = (
@@ -124,19 +136,15 @@ static NINE: Worked = (
 );
 
 #[test]
-fn nine_pixels_take_two_bytes(rt: HostRuntime) -> Result<(), Fail> {
-    assert_eq!(rt; are_layers(rt.alloc(), NINE, Rule::EvenOdd), Some(true));
-    Ok(())
+fn nine_pixels_take_two_bytes(rt: HostRuntime) {
+    assert!(rt; are_layers(rt.alloc(), NINE, Rule::EvenOdd));
 }
 
 static EMPTY: Worked = (SHEET, 1, &[(&[], b"P4\n2 2\n\x00\x00")]);
 
 #[test]
-fn a_sheet_holds_no_centre(rt: HostRuntime) -> Result<(), Fail> {
-    for rule in [Rule::EvenOdd, Rule::NonZero, Rule::Positive] {
-        assert_eq!(rt; are_layers(rt.alloc(), EMPTY, rule), Some(true));
-    }
-    Ok(())
+fn a_sheet_holds_no_centre(rt: HostRuntime) {
+    assert!(rt; are_layers_by_each(rt.alloc(), EMPTY));
 }
 
 /// The image of one row of as many black pixels as there may be.
@@ -155,11 +163,19 @@ const WIDEST: &[Span] = &[Span {
     to: MOST_COLUMNS,
 }];
 
+/// Whether the beam has that row and that image.
+fn is_widest(alloc: Global) -> bool {
+    match widest_image(alloc) {
+        Ok(image) => are_layers(
+            alloc,
+            (BEAM, 1, &[(WIDEST, image.as_slice())]),
+            Rule::EvenOdd,
+        ),
+        Err(_) => false,
+    }
+}
+
 #[test]
-fn the_widest_row(rt: HostRuntime) -> Result<(), Fail> {
-    let image = widest_image(rt.alloc())?;
-    let layers: [Layer; 1] = [(WIDEST, image.as_slice())];
-    let told = (BEAM, 1, layers.as_slice());
-    assert_eq!(rt; are_layers(rt.alloc(), told, Rule::EvenOdd), Some(true));
-    Ok(())
+fn the_widest_row(rt: HostRuntime) {
+    assert!(rt; is_widest(rt.alloc()));
 }

@@ -1,7 +1,6 @@
 //! Meshes as text: a keyword or a vertex a line, and coordinates in millimetres with three decimals.
 use micro_num::Unit;
 use std::alloc::Global;
-use std::test::Fail;
 use stl_text::{Facet, Point, read_stl};
 use test_meshes::published::FARTHEST;
 use test_meshes::{
@@ -15,16 +14,32 @@ fn read(alloc: Global, text: &str) -> Option<Vec<Facet>> {
     read_stl(alloc, text.as_bytes(), Unit::Millimetre).ok()
 }
 
+/// Whether a text is read as just these facets.
+fn is_read_as(alloc: Global, text: &str, facets: &[Facet]) -> bool {
+    match read(alloc, text) {
+        Some(found) => found.as_slice() == facets,
+        None => false,
+    }
+}
+
+/// Whether the text of facets is this long, and is read as just these.
+fn is_told(alloc: Global, facets: &[Facet], len: usize) -> bool {
+    match text_of_facets(alloc, facets) {
+        Ok(text) => text.len() == len && is_read_as(alloc, text.as_str(), facets),
+        Err(_) => false,
+    }
+}
+
 /// Whether the text of a mesh is this long, and is read as just its facets.
-fn is_read(alloc: Global, parts: &[Part<'_>], len: usize) -> Option<bool> {
-    let facets = facets_of(alloc, parts).ok()?;
-    let text = text_of_facets(alloc, facets.as_slice()).ok()?;
-    let found = read(alloc, text.as_str())?;
-    Some(text.len() == len && found.as_slice() == facets.as_slice())
+fn is_read(alloc: Global, parts: &[Part<'_>], len: usize) -> bool {
+    match facets_of(alloc, parts) {
+        Ok(facets) => is_told(alloc, facets.as_slice(), len),
+        Err(_) => false,
+    }
 }
 
 #[test]
-fn meshes_are_read_from_their_texts(rt: HostRuntime) -> Result<(), Fail> {
+fn meshes_are_read_from_their_texts(rt: HostRuntime) {
     for (parts, len) in [
         (CUBE, 1483),
         (CUBE_AND_PAIR, 1727),
@@ -41,17 +56,15 @@ fn meshes_are_read_from_their_texts(rt: HostRuntime) -> Result<(), Fail> {
         (LONG_BEAM, 1501),
         (OCTAHEDRON, 1007),
     ] {
-        assert_eq!(rt; is_read(rt.alloc(), parts, len), Some(true));
+        assert!(rt; is_read(rt.alloc(), parts, len));
     }
-    Ok(())
 }
 
 /// The cube without its first facet. It is open, which the weld refuses and reading does not.
 #[test]
-fn an_open_mesh_is_read_from_its_text(rt: HostRuntime) -> Result<(), Fail> {
+fn an_open_mesh_is_read_from_its_text(rt: HostRuntime) {
     let open_cube: &[Part] = &[(CUBE_CORNERS, &BOX[1..])];
-    assert_eq!(rt; is_read(rt.alloc(), open_cube, 1361), Some(true));
-    Ok(())
+    assert!(rt; is_read(rt.alloc(), open_cube, 1361));
 }
 
 /// A facet below 0, and one at the ends of the range.
@@ -90,13 +103,29 @@ const TWELVE: i32 = 12_345;
 
 const SIXTEEN: i32 = 16_385;
 
-#[test]
-fn numbers_below_zero(rt: HostRuntime) -> Result<(), Fail> {
-    let facets = read(rt.alloc(), FAR_AND_NEAR).ok_or("refused")?;
-    assert_eq!(rt; facets.len(), 2);
-    let points = facets.iter().flat_map(|facet| facet.0.iter());
-    for (point, corner) in points.zip(CORNERS.as_slice()) {
-        assert_eq!(rt; [point.x(), point.y(), point.z()], *corner);
+/// Whether a facet has these corners.
+fn has_corners(facet: &Facet, corners: &[[i32; 3]]) -> bool {
+    for (point, corner) in facet.0.iter().zip(corners) {
+        let [x, y, z] = *corner;
+        if point.x() != x || point.y() != y || point.z() != z {
+            return false;
+        }
     }
-    Ok(())
+    corners.len() == 3
+}
+
+/// Whether these are the two facets with those corners.
+fn are_far_and_near(facets: &[Facet]) -> bool {
+    match facets {
+        [first, second] => has_corners(first, &CORNERS[..3]) && has_corners(second, &CORNERS[3..]),
+        _ => false,
+    }
+}
+
+#[test]
+fn numbers_below_zero(rt: HostRuntime) {
+    match read(rt.alloc(), FAR_AND_NEAR) {
+        Some(facets) => assert!(rt; are_far_and_near(facets.as_slice())),
+        None => assert!(rt; false),
+    }
 }

@@ -1,7 +1,6 @@
 //! Decimal texts with known values.
 use micro_num::{NumFault, Unit, ceil_div, one_spelling, read_front, read_micro};
 use std::alloc::{AllocError, Global};
-use std::test::Fail;
 use test_meshes::published::{FARTHEST, INCH, MILLIMETRE};
 
 #[test]
@@ -99,8 +98,23 @@ pub(crate) fn long_word(
     Ok(word)
 }
 
+/// Whether such a word is read so.
+fn is_long_read(
+    alloc: Global,
+    front: &[u8],
+    byte: u8,
+    (count, back): (usize, &[u8]),
+    unit: Unit,
+    wanted: Result<i32, NumFault>,
+) -> bool {
+    match long_word(alloc, front, byte, count, back) {
+        Ok(word) => read_micro(&word, unit) == wanted,
+        Err(AllocError) => false,
+    }
+}
+
 #[test]
-fn long_words(rt: HostRuntime) -> Result<(), Fail> {
+fn long_words(rt: HostRuntime) {
     let millimetres: [(&[u8], u8, usize, &[u8], Result<i32, NumFault>); 11] = [
         (b"", b'0', 255, b"", Ok(0)),
         (b"", b'0', 256, b"", Err(NumFault::TooLong)),
@@ -116,75 +130,117 @@ fn long_words(rt: HostRuntime) -> Result<(), Fail> {
         (b"", b'a', 256, b"", Err(NumFault::TooLong)),
     ];
     for (front, byte, count, back, wanted) in millimetres {
-        let word = long_word(rt.alloc(), front, byte, count, back)?;
-        assert!(rt; read_micro(&word, Unit::Millimetre) == wanted);
+        assert!(rt;
+            is_long_read(
+                rt.alloc(),
+                front,
+                byte,
+                (count, back),
+                Unit::Millimetre,
+                wanted
+            )
+        );
     }
     let inches: [(&[u8], u8, i32); 2] = [(b"0.0025", b'0', 64), (b"0.00249", b'9', 63)];
     for (front, digit, wanted) in inches {
-        let word = long_word(rt.alloc(), front, digit, 240, b"")?;
-        assert!(rt; read_micro(&word, Unit::Inch) == Ok(wanted));
+        assert!(rt; is_long_read(rt.alloc(), front, digit, (240, b""), Unit::Inch, Ok(wanted)));
     }
-    Ok(())
+}
+
+/// What is read at the front of a word and this many blanks.
+fn front_of(
+    alloc: Global,
+    word: &[u8],
+    blanks: usize,
+    unit: Unit,
+) -> Result<Option<(i32, usize)>, AllocError> {
+    let text = long_word(alloc, word, b' ', blanks, b"")?;
+    Ok(read_front(&text, unit))
 }
 
 /// Whether `word` is read in the same way if a long text follows it, if a short one does, and by itself.
-fn is_read_alike(alloc: Global, word: &[u8], unit: Unit) -> Result<bool, AllocError> {
-    let far = long_word(alloc, word, b' ', 40, b"")?;
-    let near = long_word(alloc, word, b' ', 1, b"")?;
-    let found = read_front(&far, unit);
+fn is_read_alike(alloc: Global, word: &[u8], unit: Unit) -> bool {
+    let (Ok(far), Ok(near)) = (
+        front_of(alloc, word, 40, unit),
+        front_of(alloc, word, 1, unit),
+    ) else {
+        return false;
+    };
     let whole = match read_micro(word, unit) {
-        Ok(z) => found == Some((z, word.len())),
+        Ok(z) => far == Some((z, word.len())),
         Err(_) => true,
     };
-    Ok(whole && found == read_front(&near, unit))
+    whole && far == near
+}
+
+/// Before the point of a word, and behind it.
+const BEFORE: &[u8; 20] = b"00000000000000012345";
+
+const BEHIND: &[u8; 20] = b"98765432101234567890";
+
+/// The ends of words.
+const TAILS: [&[u8]; 7] = [
+    b"",
+    b"e0",
+    b"E-03",
+    b"e+01",
+    b"e-000000002",
+    b"e-0000000002",
+    b"e",
+];
+
+/// A word with this many digits before and behind its point.
+fn word_of(
+    alloc: Global,
+    whole: usize,
+    fraction: usize,
+    tail: &[u8],
+) -> Result<Vec<u8>, AllocError> {
+    let mut word = Vec::new(alloc);
+    if fraction % 2 == 1 {
+        word.push(b'-')?;
+    }
+    word.extend_from_slice(&BEFORE[20 - whole.min(20)..])?;
+    if whole != fraction {
+        word.push(b'.')?;
+    }
+    word.extend_from_slice(&BEHIND[..fraction.min(20)])?;
+    word.extend_from_slice(tail)?;
+    Ok(word)
+}
+
+/// Whether such a word is read alike in each unit.
+fn is_word_read_alike(alloc: Global, whole: usize, fraction: usize, tail: &[u8]) -> bool {
+    match word_of(alloc, whole, fraction, tail) {
+        Ok(word) => {
+            is_read_alike(alloc, &word, Unit::Millimetre) && is_read_alike(alloc, &word, Unit::Inch)
+        }
+        Err(AllocError) => false,
+    }
 }
 
 #[test]
-fn every_length_of_digits(rt: HostRuntime) -> Result<(), Fail> {
-    let before = *b"00000000000000012345";
-    let behind = *b"98765432101234567890";
-    let tails: [&[u8]; 7] = [
-        b"",
-        b"e0",
-        b"E-03",
-        b"e+01",
-        b"e-000000002",
-        b"e-0000000002",
-        b"e",
-    ];
+fn every_length_of_digits(rt: HostRuntime) {
     for whole in 0..21 {
         for fraction in 0..21 {
-            for tail in tails {
-                let mut word = Vec::new(rt.alloc());
-                if fraction % 2 == 1 {
-                    word.push(b'-')?;
-                }
-                word.extend_from_slice(&before[20 - whole..])?;
-                if whole != fraction {
-                    word.push(b'.')?;
-                }
-                word.extend_from_slice(&behind[..fraction])?;
-                word.extend_from_slice(tail)?;
-                assert!(rt; is_read_alike(rt.alloc(), &word, Unit::Millimetre)?);
-                assert!(rt; is_read_alike(rt.alloc(), &word, Unit::Inch)?);
+            for tail in &TAILS {
+                assert!(rt; is_word_read_alike(rt.alloc(), whole, fraction, tail));
             }
         }
     }
-    Ok(())
 }
 
 #[test]
-fn every_byte_at_every_place(rt: HostRuntime) -> Result<(), Fail> {
+fn every_byte_at_every_place(rt: HostRuntime) {
     let usual = *b"-123.4567891e+01";
     for place in 0..16 {
         for byte in 0..=255 {
             let mut word = usual;
             word[place] = byte;
-            assert!(rt; is_read_alike(rt.alloc(), &word, Unit::Millimetre)?);
-            assert!(rt; is_read_alike(rt.alloc(), &word, Unit::Inch)?);
+            assert!(rt; is_read_alike(rt.alloc(), &word, Unit::Millimetre));
+            assert!(rt; is_read_alike(rt.alloc(), &word, Unit::Inch));
         }
     }
-    Ok(())
 }
 
 #[test]

@@ -8,7 +8,6 @@ use crate::text_parts::{
 };
 use micro_num::Unit;
 use std::alloc::{AllocError, Global};
-use std::test::Fail;
 use std::thread::Threads;
 use stl_text::{FACET_LIMIT, Facet, StlFault, Word, read_stl_by};
 
@@ -77,6 +76,32 @@ struct PassageText {
     second: usize,
 }
 
+/// Begins a text with groups of facets before a passage, and a remark of this length.
+fn put_before(text: &mut Vec<u8>, before: usize) -> Result<(), AllocError> {
+    text.extend_from_slice(b"solid part\n")?;
+    put_facets(text, GROUP)?;
+    put_remark(text, before)?;
+    put_facets(text, GROUP)
+}
+
+/// The length of a solid's first facet.
+fn first_length(alloc: Global) -> Result<usize, AllocError> {
+    let mut first = Vec::new(alloc);
+    put_facets(&mut first, 1)?;
+    Ok(first.len())
+}
+
+/// Ends a text with groups of facets after a passage, and a remark of this length. Returns where the second facet of the last
+/// group begins.
+fn put_after(alloc: Global, text: &mut Vec<u8>, after: usize) -> Result<usize, AllocError> {
+    put_facets(text, GROUP)?;
+    put_remark(text, after)?;
+    let second = text.len().saturating_add(first_length(alloc)?);
+    put_facets(text, GROUP)?;
+    text.extend_from_slice(b"endsolid part\n")?;
+    Ok(second)
+}
+
 /// A passage between groups of facets, with a remark before it and one after it.
 fn text_around(
     alloc: Global,
@@ -85,20 +110,11 @@ fn text_around(
     after: usize,
 ) -> Result<PassageText, AllocError> {
     let mut text = Vec::new(alloc);
-    text.extend_from_slice(b"solid part\n")?;
-    put_facets(&mut text, GROUP)?;
-    put_remark(&mut text, before)?;
-    put_facets(&mut text, GROUP)?;
+    put_before(&mut text, before)?;
     let from = text.len();
     text.extend_from_slice(passage.bytes)?;
     let to = text.len();
-    put_facets(&mut text, GROUP)?;
-    put_remark(&mut text, after)?;
-    let mut first = Vec::new(alloc);
-    put_facets(&mut first, 1)?;
-    let second = text.len().saturating_add(first.len());
-    put_facets(&mut text, GROUP)?;
-    text.extend_from_slice(b"endsolid part\n")?;
+    let second = put_after(alloc, &mut text, after)?;
     Ok(PassageText {
         text,
         from,
@@ -110,18 +126,25 @@ fn text_around(
 /// The result of a reading.
 type Answer = Result<Vec<Facet>, StlFault>;
 
+/// The facets of such a text, of which the passage has this many.
+fn facets_with(alloc: Global, count: u32) -> Result<Vec<Facet>, AllocError> {
+    let mut facets = Vec::new(alloc);
+    for number in &[GROUP, GROUP, count, GROUP, GROUP] {
+        add_facets(&mut facets, *number)?;
+    }
+    Ok(facets)
+}
+
 /// The result for a text with a passage that begins at the byte `from`.
 fn answer(alloc: Global, passage: Passage, from: usize) -> Result<Answer, AllocError> {
-    if let Some(byte) = passage.wants_outer {
-        let at = from.saturating_add(byte);
-        let word = Word::Outer;
-        return Ok(Err(StlFault::Expected { word, at }));
+    match passage.wants_outer {
+        Some(byte) => {
+            let at = from.saturating_add(byte);
+            let word = Word::Outer;
+            Ok(Err(StlFault::Expected { word, at }))
+        }
+        None => Ok(Ok(facets_with(alloc, passage.facets)?)),
     }
-    let mut facets = Vec::new(alloc);
-    for count in [GROUP, GROUP, passage.facets, GROUP, GROUP] {
-        add_facets(&mut facets, count)?;
-    }
-    Ok(Ok(facets))
 }
 
 /// Whether a text has this result if it is cut in two at each byte of its passage. One of the two chunks has two parts.
@@ -208,41 +231,52 @@ fn is_read_well<R: Threads + Sync>(
 }
 
 #[test]
-fn a_rest_of_a_line_and_a_name_that_spell_facets(rt: HostRuntime) -> Result<(), Fail> {
-    assert!(rt; is_read_well(&rt, rt.alloc(), NAMES)?);
-    Ok(())
+fn a_rest_of_a_line_and_a_name_that_spell_facets(rt: HostRuntime) {
+    assert!(rt; is_read_well(&rt, rt.alloc(), NAMES) == Ok(true));
 }
 
 #[test]
-fn a_solid_of_one_facet(rt: HostRuntime) -> Result<(), Fail> {
-    assert!(rt; is_read_well(&rt, rt.alloc(), SOLID)?);
-    Ok(())
+fn a_solid_of_one_facet(rt: HostRuntime) {
+    assert!(rt; is_read_well(&rt, rt.alloc(), SOLID) == Ok(true));
 }
 
 #[test]
-fn a_normal_that_spells_the_end_of_a_facet(rt: HostRuntime) -> Result<(), Fail> {
-    assert!(rt; is_read_well(&rt, rt.alloc(), NORMAL)?);
-    Ok(())
+fn a_normal_that_spells_the_end_of_a_facet(rt: HostRuntime) {
+    assert!(rt; is_read_well(&rt, rt.alloc(), NORMAL) == Ok(true));
 }
 
 /// The fault comes though a run of facets begins in the normal, and goes on into the solid after it.
 #[test]
-fn a_normal_that_spells_the_end_of_a_solid(rt: HostRuntime) -> Result<(), Fail> {
-    assert!(rt; is_read_well(&rt, rt.alloc(), BROKEN)?);
-    Ok(())
+fn a_normal_that_spells_the_end_of_a_solid(rt: HostRuntime) {
+    assert!(rt; is_read_well(&rt, rt.alloc(), BROKEN) == Ok(true));
+}
+
+/// A limit that permits the first facet of the last group.
+const LATE_LIMIT: u32 = 3 * GROUP + 1;
+
+/// Whether a text has a facet too many at each cut.
+fn is_cut_too_many<R: Threads + Sync>(
+    rt: &R,
+    alloc: Global,
+    before: usize,
+    after: usize,
+) -> Result<bool, AllocError> {
+    let cut = text_around(alloc, before, NAMES, after)?;
+    let told = Err(StlFault::TooMany { at: cut.second });
+    Ok(is_passage_cut_well(rt, alloc, &cut, LATE_LIMIT, &told))
+}
+
+/// Whether one has it wherever its parts meet.
+fn is_parted_too_many<R: Threads + Sync>(rt: &R, alloc: Global) -> Result<bool, AllocError> {
+    let parted = text_around(alloc, REMARK_BEFORE, NAMES, REMARK_AFTER)?;
+    let told = Err(StlFault::TooMany { at: parted.second });
+    is_parted_well(rt, alloc, parted, LATE_LIMIT, &told)
 }
 
 /// The limit is passed in the last group, of which only the first facet is permitted: no run that goes on there is jumped over.
 #[test]
-fn a_limit_in_a_later_part(rt: HostRuntime) -> Result<(), Fail> {
-    let limit = 3 * GROUP + 1;
-    for (before, after) in [(NO_REMARK, LONG_REMARK), (LONG_REMARK, NO_REMARK)] {
-        let cut = text_around(rt.alloc(), before, NAMES, after)?;
-        let told = Err(StlFault::TooMany { at: cut.second });
-        assert!(rt; is_passage_cut_well(&rt, rt.alloc(), &cut, limit, &told));
-    }
-    let parted = text_around(rt.alloc(), REMARK_BEFORE, NAMES, REMARK_AFTER)?;
-    let told = Err(StlFault::TooMany { at: parted.second });
-    assert!(rt; is_parted_well(&rt, rt.alloc(), parted, limit, &told)?);
-    Ok(())
+fn a_limit_in_a_later_part(rt: HostRuntime) {
+    assert!(rt; is_cut_too_many(&rt, rt.alloc(), NO_REMARK, LONG_REMARK) == Ok(true));
+    assert!(rt; is_cut_too_many(&rt, rt.alloc(), LONG_REMARK, NO_REMARK) == Ok(true));
+    assert!(rt; is_parted_too_many(&rt, rt.alloc()) == Ok(true));
 }

@@ -2,7 +2,6 @@
 use micro_num::{NumFault, Unit};
 use short_memory::ShortMemory;
 use std::alloc::{AllocError, Allocator, Global};
-use std::test::Fail;
 use stl_text::{Facet, Point, StlFault, TextReader, Word, read_stl, read_stl_at_most};
 use test_meshes::published::{FARTHEST, INCH};
 
@@ -52,20 +51,42 @@ const FACETS: [[u8; 3]; 12] = [
 
 const AXES: [u8; 3] = [0b100, 0b010, 0b001];
 
+/// Adds a vertex of such a cube.
+fn put_vertex(
+    out: &mut Vec<u8>,
+    style: &Style,
+    low: &[u8],
+    high: &[u8],
+    corner: u8,
+) -> Result<(), AllocError> {
+    out.extend_from_slice(style.vertex)?;
+    for axis in &AXES {
+        out.push(b' ')?;
+        out.extend_from_slice(if corner & *axis == 0 { low } else { high })?;
+    }
+    out.extend_from_slice(style.vertex_end)
+}
+
+/// Adds a facet of such a cube.
+fn put_facet(
+    out: &mut Vec<u8>,
+    style: &Style,
+    low: &[u8],
+    high: &[u8],
+    corners: &[u8; 3],
+) -> Result<(), AllocError> {
+    out.extend_from_slice(style.facet)?;
+    for corner in corners {
+        put_vertex(out, style, low, high, *corner)?;
+    }
+    out.extend_from_slice(style.facet_end)
+}
+
 /// Adds a solid, a cube from `low` to `high` in each direction.
 fn put_cube(out: &mut Vec<u8>, style: &Style, low: &[u8], high: &[u8]) -> Result<(), AllocError> {
     out.extend_from_slice(style.opening)?;
-    for corners in FACETS {
-        out.extend_from_slice(style.facet)?;
-        for corner in corners {
-            out.extend_from_slice(style.vertex)?;
-            for axis in AXES {
-                out.push(b' ')?;
-                out.extend_from_slice(if corner & axis == 0 { low } else { high })?;
-            }
-            out.extend_from_slice(style.vertex_end)?;
-        }
-        out.extend_from_slice(style.facet_end)?;
+    for corners in &FACETS {
+        put_facet(out, style, low, high, corners)?;
     }
     out.extend_from_slice(style.closing)
 }
@@ -93,22 +114,34 @@ fn are_cube(facets: &[Facet], low: i32, high: i32) -> bool {
     true
 }
 
-#[test]
-fn each_beginning_of_a_file(rt: HostRuntime) -> Result<(), Fail> {
-    let file = cube_file(rt.alloc())?;
-    assert_eq!(rt; file.len(), 1483);
+/// Whether a beginning of the cube's file is read as the cube from 1480 bytes on, and else is no whole text.
+fn is_begun_well(alloc: Global, text: &[u8]) -> bool {
+    match read_stl(alloc, text, Unit::Millimetre) {
+        Ok(facets) => 1480 <= text.len() && are_cube(&facets, 0, 2),
+        Err(StlFault::Expected { .. } | StlFault::Ended { .. }) => text.len() < 1480,
+        Err(_) => false,
+    }
+}
+
+/// The same for each beginning.
+fn is_each_begun_well(alloc: Global, file: &[u8]) -> bool {
     for len in 0..=file.len() {
-        let text = file.as_slice();
-        match read_stl(rt.alloc(), &text[..len], Unit::Millimetre) {
-            Ok(facets) => {
-                assert!(rt; 1480 <= len);
-                assert!(rt; are_cube(&facets, 0, 2));
-            }
-            Err(StlFault::Expected { .. } | StlFault::Ended { .. }) => assert!(rt; len < 1480),
-            Err(_) => assert!(rt; false),
+        if !is_begun_well(alloc, &file[..len]) {
+            return false;
         }
     }
-    Ok(())
+    true
+}
+
+#[test]
+fn each_beginning_of_a_file(rt: HostRuntime) {
+    match cube_file(rt.alloc()) {
+        Ok(file) => {
+            assert!(rt; file.len() == 1483);
+            assert!(rt; is_each_begun_well(rt.alloc(), file.as_slice()));
+        }
+        Err(AllocError) => assert!(rt; false),
+    }
 }
 
 /// A text and how it is read.
@@ -255,6 +288,14 @@ fn put_empty(alloc: Global, list: &mut Vec<Worked>) -> Result<(), AllocError> {
 /// The cube from 0 to 2 micrometres.
 const CUBE: &[(i32, i32)] = &[(0, 2)];
 
+/// These texts one after another.
+fn joined(alloc: Global, front: &[u8], middle: &[u8], back: &[u8]) -> Result<Vec<u8>, AllocError> {
+    let mut bytes = front.to_vec(alloc)?;
+    bytes.extend_from_slice(middle)?;
+    bytes.extend_from_slice(back)?;
+    Ok(bytes)
+}
+
 /// Adds the file of a cube under several limits, with bytes before and after it. The mark with which some programs begin
 /// a text is part of the first word. Facets are counted over all solids: the word after the second solid's name begins
 /// at byte 1491.
@@ -282,23 +323,33 @@ fn put_limited(alloc: Global, list: &mut Vec<Worked>) -> Result<(), AllocError> 
         (b"", b"solid t\nendsolid", 12, Ok(CUBE)),
     ];
     for (front, back, limit, answer) in rows {
-        let mut bytes = front.to_vec(alloc)?;
-        bytes.extend_from_slice(cube.as_slice())?;
-        bytes.extend_from_slice(back)?;
-        put(list, bytes, limit, answer)?;
+        put(
+            list,
+            joined(alloc, front, cube.as_slice(), back)?,
+            limit,
+            answer,
+        )?;
     }
     Ok(())
 }
 
-/// Adds the file of a cube that ends after a loop, two cubes in capitals, and a cube in inches.
-fn put_cubes(alloc: Global, list: &mut Vec<Worked>) -> Result<(), AllocError> {
+/// Adds the file of a cube that ends after a loop.
+fn put_short_cube(alloc: Global, list: &mut Vec<Worked>) -> Result<(), AllocError> {
     let mut short = cube_file(alloc)?;
     short.truncate(120);
-    put(list, short, ENOUGH, ended(Word::EndFacet))?;
+    put(list, short, ENOUGH, ended(Word::EndFacet))
+}
+
+/// Two cubes in capitals.
+fn loud_cubes(alloc: Global) -> Result<Vec<u8>, AllocError> {
     let mut loud = Vec::new(alloc);
     put_cube(&mut loud, &LOUD, b"+0", b"4E-3")?;
     put_cube(&mut loud, &LOUD, b".002", b"6.e-3")?;
-    put(list, loud, ENOUGH, Ok(&[(0, 4), (2, 6)]))?;
+    Ok(loud)
+}
+
+/// Adds a cube in inches.
+fn put_inches(alloc: Global, list: &mut Vec<Worked>) -> Result<(), AllocError> {
     let mut bytes = Vec::new(alloc);
     put_cube(&mut bytes, &PLAIN, b"-1", b"0.002")?;
     list.push(Worked {
@@ -308,6 +359,13 @@ fn put_cubes(alloc: Global, list: &mut Vec<Worked>) -> Result<(), AllocError> {
         answer: Ok(&[(-INCH, 51)]),
     })?;
     Ok(())
+}
+
+/// Adds the file of a cube that ends after a loop, two cubes in capitals, and a cube in inches.
+fn put_cubes(alloc: Global, list: &mut Vec<Worked>) -> Result<(), AllocError> {
+    put_short_cube(alloc, list)?;
+    put(list, loud_cubes(alloc)?, ENOUGH, Ok(&[(0, 4), (2, 6)]))?;
+    put_inches(alloc, list)
 }
 
 /// Adds a text with a number of 256 digits.
@@ -353,36 +411,74 @@ fn is_answered(worked: &Worked, found: &Result<Vec<Facet>, StlFault>) -> bool {
     }
 }
 
-#[test]
-fn worked_texts_have_their_answers(rt: HostRuntime) -> Result<(), Fail> {
-    let list = worked_texts(rt.alloc())?;
-    assert_eq!(rt; list.len(), 35);
+/// `Ok`, or the number of the first text that is read otherwise.
+fn all_answered(alloc: Global, list: &[Worked]) -> Result<(), usize> {
     for (k, worked) in list.iter().enumerate() {
-        let found = worked.text().whole(rt.alloc());
-        assert!(rt; is_answered(worked, &found), "text {k}");
-    }
-    Ok(())
-}
-
-#[test]
-fn each_allocation_fails_in_turn(rt: HostRuntime) -> Result<(), Fail> {
-    let file = cube_file(rt.alloc())?;
-    for turn in 1..100 {
-        let memory = ShortMemory::new(rt.alloc(), turn);
-        let fault = read_stl(&memory, file.as_slice(), Unit::Millimetre).err();
-        if !memory.has_failed() {
-            assert!(rt; turn > 1);
-            assert_eq!(rt; fault, None);
-            return Ok(());
+        if !is_answered(worked, &worked.text().whole(alloc)) {
+            return Err(k);
         }
-        assert_eq!(rt; fault, Some(StlFault::Memory));
     }
-    assert!(rt; false);
     Ok(())
 }
 
 #[test]
-fn faults_as_text(rt: HostRuntime) -> Result<(), Fail> {
+fn worked_texts_have_their_answers(rt: HostRuntime) {
+    match worked_texts(rt.alloc()) {
+        Ok(list) => {
+            assert!(rt; list.len() == 35);
+            assert!(rt; all_answered(rt.alloc(), list.as_slice()) == Ok(()));
+        }
+        Err(AllocError) => assert!(rt; false),
+    }
+}
+
+/// The fault of a text in this memory.
+fn fault_in(memory: &ShortMemory<Global>, text: &[u8]) -> Option<StlFault> {
+    read_stl(memory, text, Unit::Millimetre).err()
+}
+
+/// Fails each allocation in turn until none is left to fail. Returns which turn that was. It is `None` if a reading with a
+/// failed allocation returned anything but `Memory`, or the last one a fault.
+fn first_free_turn(alloc: Global, text: &[u8]) -> Option<u64> {
+    for turn in 1..100 {
+        let memory = ShortMemory::new(alloc, turn);
+        let fault = fault_in(&memory, text);
+        if !memory.has_failed() {
+            return fault.is_none().then_some(turn);
+        }
+        if fault != Some(StlFault::Memory) {
+            return None;
+        }
+    }
+    None
+}
+
+#[test]
+fn each_allocation_fails_in_turn(rt: HostRuntime) {
+    match cube_file(rt.alloc()) {
+        Ok(file) => assert!(rt; first_free_turn(rt.alloc(), file.as_slice()) > Some(1)),
+        Err(AllocError) => assert!(rt; false),
+    }
+}
+
+/// Whether a fault has this text.
+fn is_told(alloc: Global, fault: &StlFault, text: &str) -> bool {
+    match fault.to_string(alloc) {
+        Ok(printed) => printed.as_str() == text,
+        Err(_) => false,
+    }
+}
+
+/// Whether the fault of a text that ended before a word has the text of this word.
+fn is_ended_told(alloc: Global, word: Word, text: &str) -> bool {
+    match format!(in alloc; "input ended before {text}") {
+        Ok(told) => is_told(alloc, &StlFault::Ended { word }, told.as_str()),
+        Err(_) => false,
+    }
+}
+
+#[test]
+fn faults_as_text(rt: HostRuntime) {
     let words = [
         (Word::Solid, "solid"),
         (Word::FacetOrEnd, "facet or endsolid"),
@@ -395,11 +491,7 @@ fn faults_as_text(rt: HostRuntime) -> Result<(), Fail> {
         (Word::EndFacet, "endfacet"),
     ];
     for (word, text) in words {
-        let ended = StlFault::Ended { word };
-        assert_eq!(rt;
-            format!(in rt.alloc(); "{ended}")?,
-            format!(in rt.alloc(); "input ended before {text}")?
-        );
+        assert!(rt; is_ended_told(rt.alloc(), word, text));
     }
     let rows = [
         (
@@ -420,10 +512,8 @@ fn faults_as_text(rt: HostRuntime) -> Result<(), Fail> {
         (StlFault::Memory, "out of memory"),
     ];
     for (fault, text) in rows {
-        let printed = format!(in rt.alloc(); "{fault}")?;
-        assert_eq!(rt; printed.as_str(), text);
+        assert!(rt; is_told(rt.alloc(), &fault, text));
     }
-    Ok(())
 }
 
 /// The coordinates of the point with these.
@@ -436,12 +526,12 @@ fn placed([x, y, z]: [i32; 3]) -> Option<[i32; 3]> {
 fn farthest_points(rt: HostRuntime) {
     for far in [FARTHEST, -FARTHEST] {
         for place in [[far, 0, 0], [0, far, 0], [0, 0, far]] {
-            assert_eq!(rt; placed(place), Some(place));
+            assert!(rt; placed(place) == Some(place));
         }
     }
     for beyond in [FARTHEST + 1, -FARTHEST - 1] {
         for place in [[beyond, 0, 0], [0, beyond, 0], [0, 0, beyond]] {
-            assert_eq!(rt; placed(place), None);
+            assert!(rt; placed(place).is_none());
         }
     }
 }

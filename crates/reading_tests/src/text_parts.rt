@@ -5,7 +5,6 @@ ghost use Rattle.geometry.specs.declared.limits.TheConstants.{FACET_LIMIT};
 use micro_num::Unit;
 use short_memory::ShortMemory;
 use std::alloc::{AllocError, Allocator, Global};
-use std::test::Fail;
 use std::thread::Threads;
 use stl_text::{FACET_LIMIT, Facet, Point, StlFault, TextReader, read_stl_at_most, read_stl_by};
 
@@ -136,6 +135,36 @@ pub(crate) fn in_two<R: Threads + Sync, A: Allocator + Copy + Send + Sync>(
     reader.finish()
 }
 
+/// Whether this number of workers has this result for a text.
+fn is_same_whole<R: Threads + Sync>(
+    rt: &R,
+    alloc: Global,
+    text: &[u8],
+    limit: u32,
+    workers: u32,
+    one: &Result<Vec<Facet>, StlFault>,
+) -> bool
+    requires { limit ≤ FACET_LIMIT }
+{
+    let many = read_stl_by(rt, alloc, text, limit, Unit::Millimetre, workers);
+    are_same(one, &many)
+}
+
+/// The same if the text is fed in halves.
+fn is_same_halved<R: Threads + Sync>(
+    rt: &R,
+    alloc: Global,
+    text: &[u8],
+    limit: u32,
+    workers: u32,
+    one: &Result<Vec<Facet>, StlFault>,
+) -> bool
+    requires { limit ≤ FACET_LIMIT }
+{
+    let halves = in_two(rt, alloc, text.split_at(text.len() / 2), limit, workers);
+    are_same(one, &halves)
+}
+
 /// Whether each of these numbers of workers returns what one reader does, for the whole text and for its halves.
 fn is_as_by_one<R: Threads + Sync>(
     rt: &R,
@@ -147,10 +176,10 @@ fn is_as_by_one<R: Threads + Sync>(
     requires { limit ≤ FACET_LIMIT }
 {
     let one = read_stl_at_most(alloc, text, limit, Unit::Millimetre);
-    for workers in numbers.iter().copied() {
-        let many = read_stl_by(rt, alloc, text, limit, Unit::Millimetre, workers);
-        let halves = in_two(rt, alloc, text.split_at(text.len() / 2), limit, workers);
-        if !are_same(&one, &many) || !are_same(&one, &halves) {
+    for workers in numbers {
+        if !is_same_whole(rt, alloc, text, limit, *workers, &one)
+            || !is_same_halved(rt, alloc, text, limit, *workers, &one)
+        {
             return false;
         }
     }
@@ -164,49 +193,121 @@ fn any_workers<R: Threads + Sync>(rt: &R, alloc: Global, text: &[u8], limit: u32
     is_as_by_one(rt, alloc, text, limit, &WORKERS)
 }
 
+/// A text of one solid.
+fn solid_text(alloc: Global, name: &[u8], count: u32) -> Result<Vec<u8>, AllocError> {
+    let mut text = Vec::new(alloc);
+    put_solid(&mut text, name, count)?;
+    Ok(text)
+}
+
+/// Whether several workers read this many facets.
+fn has_facets<R: Threads + Sync>(
+    rt: &R,
+    alloc: Global,
+    text: &[u8],
+    workers: u32,
+    count: usize,
+) -> bool {
+    match read_stl_by(rt, alloc, text, FACET_LIMIT, Unit::Millimetre, workers) {
+        Ok(facets) => facets.len() == count,
+        Err(_) => false,
+    }
+}
+
 #[test]
-fn one_long_solid(rt: HostRuntime) -> Result<(), Fail> {
-    let mut text = Vec::new(rt.alloc());
-    put_solid(&mut text, b"part", 1500)?;
-    assert!(rt; LONG < text.len());
-    let facets = read_stl_by(&rt, rt.alloc(), &text, FACET_LIMIT, Unit::Millimetre, 4);
-    assert!(rt; facets.is_ok_and(|facets| facets.len() == 1500));
-    assert!(rt; any_workers(&rt, rt.alloc(), &text, FACET_LIMIT));
-    Ok(())
+fn one_long_solid(rt: HostRuntime) {
+    match solid_text(rt.alloc(), b"part", 1500) {
+        Ok(text) => {
+            assert!(rt; LONG < text.len());
+            assert!(rt; has_facets(&rt, rt.alloc(), &text, 4, 1500));
+            assert!(rt; any_workers(&rt, rt.alloc(), &text, FACET_LIMIT));
+        }
+        Err(AllocError) => assert!(rt; false),
+    }
+}
+
+/// A name that spells whole facets.
+fn spelling_name(alloc: Global) -> Result<Vec<u8>, AllocError> {
+    let mut name = Vec::new(alloc);
+    for _ in 0..400 {
+        name.extend_from_slice(
+            b"endfacet facet normal 0 0 0 outer loop vertex 1 1 1 \
+            vertex 1 1 2 vertex 1 2 1 endloop endfacet endsolid ",
+        )?;
+    }
+    Ok(name)
+}
+
+/// Solids with this name, of 48 facets in all.
+fn named_solids(alloc: Global, name: &[u8]) -> Result<Vec<u8>, AllocError> {
+    let mut text = Vec::new(alloc);
+    for count in [1, 40, 0, 7] {
+        put_solid(&mut text, name, count)?;
+    }
+    Ok(text)
+}
+
+/// Solids with the name that spells facets.
+fn spelling_solids(alloc: Global) -> Result<Vec<u8>, AllocError> {
+    let name = spelling_name(alloc)?;
+    named_solids(alloc, &name)
 }
 
 /// Each part of these texts may begin in a name, or in what follows `endsolid`, that spells whole facets.
 #[test]
-fn names_that_spell_facets(rt: HostRuntime) -> Result<(), Fail> {
-    let mut name = Vec::new(rt.alloc());
-    for _ in 0..400 {
-        name.extend_from_slice(b"endfacet facet normal 0 0 0 outer loop vertex 1 1 1 ")?;
-        name.extend_from_slice(b"vertex 1 1 2 vertex 1 2 1 endloop endfacet endsolid ")?;
+fn names_that_spell_facets(rt: HostRuntime) {
+    match spelling_solids(rt.alloc()) {
+        Ok(text) => {
+            assert!(rt; LONG < text.len());
+            assert!(rt; has_facets(&rt, rt.alloc(), &text, 3, 48));
+            assert!(rt; any_workers(&rt, rt.alloc(), &text, FACET_LIMIT));
+        }
+        Err(AllocError) => assert!(rt; false),
     }
-    let mut text = Vec::new(rt.alloc());
-    for count in [1, 40, 0, 7] {
-        put_solid(&mut text, &name, count)?;
+}
+
+/// A text of solids of one facet.
+fn short_solids(alloc: Global, name: &[u8]) -> Result<Vec<u8>, AllocError> {
+    let mut text = Vec::new(alloc);
+    for _ in 0..1300 {
+        put_solid(&mut text, name, 1)?;
     }
-    assert!(rt; LONG < text.len());
-    let facets = read_stl_by(&rt, rt.alloc(), &text, FACET_LIMIT, Unit::Millimetre, 3);
-    assert!(rt; facets.is_ok_and(|facets| facets.len() == 48));
-    assert!(rt; any_workers(&rt, rt.alloc(), &text, FACET_LIMIT));
-    Ok(())
+    Ok(text)
+}
+
+/// Whether a text is long, and any number of workers returns what one reader does.
+fn is_long_and_same<R: Threads + Sync>(
+    rt: &R,
+    alloc: Global,
+    text: Result<Vec<u8>, AllocError>,
+) -> bool {
+    match text {
+        Ok(text) => LONG < text.len() && any_workers(rt, alloc, &text, FACET_LIMIT),
+        Err(AllocError) => false,
+    }
 }
 
 /// Solids of one facet: a run of facets goes on from one to the next. If a part begins in a name that ends in `endfacet`, the
 /// worker finds a run that begins in the name, and the reader never comes to it.
 #[test]
-fn solids_of_one_facet(rt: HostRuntime) -> Result<(), Fail> {
+fn solids_of_one_facet(rt: HostRuntime) {
     for name in [&b"one"[..], b"endfacet", b"endfacet facet"] {
-        let mut text = Vec::new(rt.alloc());
-        for _ in 0..1300 {
-            put_solid(&mut text, name, 1)?;
-        }
-        assert!(rt; LONG < text.len());
-        assert!(rt; any_workers(&rt, rt.alloc(), &text, FACET_LIMIT));
+        assert!(rt; is_long_and_same(&rt, rt.alloc(), short_solids(rt.alloc(), name)));
     }
-    Ok(())
+}
+
+/// Replaces the byte here and those at each later break. Returns whether the text goes on here.
+fn break_from(text: &mut [u8], at: usize) -> bool {
+    if at >= text.len() {
+        return false;
+    }
+    text[at] = b'#';
+    for later in BREAKS {
+        if at <= later && later < text.len() {
+            text[later] = b'#';
+        }
+    }
+    true
 }
 
 /// Whether each of these numbers of workers returns what one reader does if bytes are replaced here and at each later break,
@@ -217,78 +318,133 @@ fn is_broken_well<R: Threads + Sync>(
     text: &[u8],
     at: usize,
     numbers: &[u32],
-) -> Result<bool, AllocError> {
-    let mut broken = Vec::new(alloc);
-    broken.extend_from_slice(text)?;
-    if at >= broken.len() {
-        return Ok(false);
+) -> bool {
+    match text.to_vec(alloc) {
+        Ok(mut broken) => {
+            break_from(&mut broken, at)
+                && is_as_by_one(rt, alloc, &broken, FACET_LIMIT, numbers)
+                && is_as_by_one(rt, alloc, &text[..at.min(text.len())], FACET_LIMIT, numbers)
+        }
+        Err(AllocError) => false,
     }
-    broken[at] = b'#';
-    for later in BREAKS {
-        if at <= later && later < broken.len() {
-            broken[later] = b'#';
+}
+
+/// Whether that is so in each part, and at each stride.
+fn is_each_broken_well<R: Threads + Sync>(rt: &R, alloc: Global, text: &[u8]) -> bool {
+    for at in BREAKS {
+        if !is_broken_well(rt, alloc, text, at, &WORKERS) {
+            return false;
         }
     }
-    let is_same = is_as_by_one(rt, alloc, &broken, FACET_LIMIT, numbers);
-    Ok(is_same && is_as_by_one(rt, alloc, &text[..at], FACET_LIMIT, numbers))
+    for k in 0..text.len() / STRIDE {
+        if !is_broken_well(rt, alloc, text, k * STRIDE, &TWO_AND_MOST) {
+            return false;
+        }
+    }
+    true
 }
 
 /// Bytes are replaced in this part and in each later one, or the text ends there. The fault is the first one, as for one
 /// reader.
 #[test]
-fn a_fault_in_each_part(rt: HostRuntime) -> Result<(), Fail> {
-    let mut text = Vec::new(rt.alloc());
-    put_solid(&mut text, b"part", 1500)?;
-    assert!(rt; LONG < text.len());
-    for at in BREAKS {
-        assert!(rt; is_broken_well(&rt, rt.alloc(), &text, at, &WORKERS)?);
+fn a_fault_in_each_part(rt: HostRuntime) {
+    match solid_text(rt.alloc(), b"part", 1500) {
+        Ok(text) => {
+            assert!(rt; LONG < text.len());
+            assert!(rt; is_each_broken_well(&rt, rt.alloc(), &text));
+        }
+        Err(AllocError) => assert!(rt; false),
     }
-    for k in 0..text.len() / STRIDE {
-        assert!(rt; is_broken_well(&rt, rt.alloc(), &text, k * STRIDE, &TWO_AND_MOST)?);
+}
+
+/// Whether that is so at each byte of a facet where this part begins.
+fn is_border_broken_well<R: Threads + Sync>(
+    rt: &R,
+    alloc: Global,
+    text: &[u8],
+    part: usize,
+) -> bool {
+    let border = (text.len() / PARTS).saturating_mul(part);
+    let first = border.saturating_sub(CUTS / 2);
+    for at in first..first.saturating_add(CUTS) {
+        if !is_broken_well(rt, alloc, text, at, &TWO_AND_MOST) {
+            return false;
+        }
     }
-    Ok(())
+    true
 }
 
 /// The same at each byte of a facet where parts meet, of the whole text and of its halves.
 #[test]
-fn a_fault_at_each_byte_where_four_parts_meet(rt: HostRuntime) -> Result<(), Fail> {
-    let mut text = Vec::new(rt.alloc());
-    put_solid(&mut text, b"part", 1500)?;
-    assert!(rt; LONG < text.len());
-    for part in LATER_PARTS {
-        let first = (text.len() / PARTS).saturating_mul(part) - CUTS / 2;
-        for at in first..first + CUTS {
-            assert!(rt; is_broken_well(&rt, rt.alloc(), &text, at, &TWO_AND_MOST)?);
+fn a_fault_at_each_byte_where_four_parts_meet(rt: HostRuntime) {
+    match solid_text(rt.alloc(), b"part", 1500) {
+        Ok(text) => {
+            assert!(rt; LONG < text.len());
+            for part in LATER_PARTS {
+                assert!(rt; is_border_broken_well(&rt, rt.alloc(), &text, part));
+            }
+        }
+        Err(AllocError) => assert!(rt; false),
+    }
+}
+
+/// Whether any number of workers returns what one reader does with each of several limits.
+fn is_each_limited_well<R: Threads + Sync>(rt: &R, alloc: Global, text: &[u8]) -> bool {
+    for limit in [0, 1, 100, 375, 376, 750, 1499, 1500, 1501] {
+        if !any_workers(rt, alloc, text, limit) {
+            return false;
         }
     }
-    Ok(())
+    true
+}
+
+/// Whether four workers find a facet too many.
+fn is_too_many<R: Threads + Sync>(rt: &R, alloc: Global, text: &[u8]) -> bool {
+    match read_stl_by(rt, alloc, text, 1499, Unit::Millimetre, 4) {
+        Err(StlFault::TooMany { .. }) => true,
+        _ => false,
+    }
 }
 
 /// The limit is passed at the beginning, in each part, at the last facet and not at all.
 #[test]
-fn a_limit_in_each_part(rt: HostRuntime) -> Result<(), Fail> {
-    let mut text = Vec::new(rt.alloc());
-    put_solid(&mut text, b"part", 1500)?;
-    assert!(rt; LONG < text.len());
-    for limit in [0, 1, 100, 375, 376, 750, 1499, 1500, 1501] {
-        assert!(rt; any_workers(&rt, rt.alloc(), &text, limit));
+fn a_limit_in_each_part(rt: HostRuntime) {
+    match solid_text(rt.alloc(), b"part", 1500) {
+        Ok(text) => {
+            assert!(rt; LONG < text.len());
+            assert!(rt; is_each_limited_well(&rt, rt.alloc(), &text));
+            assert!(rt; is_too_many(&rt, rt.alloc(), &text));
+        }
+        Err(AllocError) => assert!(rt; false),
     }
-    let fault = read_stl_by(&rt, rt.alloc(), &text, 1499, Unit::Millimetre, 4).err();
-    assert!(rt; fault.is_some_and(|fault| matches!(fault, StlFault::TooMany { .. })));
-    Ok(())
+}
+
+/// The text of one solid in capitals.
+fn loud_text(alloc: Global) -> Result<Vec<u8>, AllocError> {
+    let mut text = solid_text(alloc, b"part", 1500)?;
+    for byte in text.iter_mut() {
+        *byte = byte.to_ascii_uppercase();
+    }
+    Ok(text)
 }
 
 /// Keywords in capitals, of facets too.
 #[test]
-fn capitals(rt: HostRuntime) -> Result<(), Fail> {
-    let mut text = Vec::new(rt.alloc());
-    put_solid(&mut text, b"part", 1500)?;
-    for byte in text.iter_mut() {
-        *byte = byte.to_ascii_uppercase();
-    }
-    assert!(rt; LONG < text.len());
-    assert!(rt; any_workers(&rt, rt.alloc(), &text, FACET_LIMIT));
-    Ok(())
+fn capitals(rt: HostRuntime) {
+    assert!(rt; is_long_and_same(&rt, rt.alloc(), loud_text(rt.alloc())));
+}
+
+/// Whether this number of workers has this result for a text that is cut in two here.
+fn is_cut_by<R: Threads + Sync>(
+    rt: &R,
+    alloc: Global,
+    text: &[u8],
+    cut: usize,
+    workers: u32,
+    answer: &Result<Vec<Facet>, StlFault>,
+) -> bool {
+    let chunks = text.split_at(cut.min(text.len()));
+    are_same(answer, &in_two(rt, alloc, chunks, FACET_LIMIT, workers))
 }
 
 /// Whether two workers and the most of them have this result for a text that is cut in two here.
@@ -299,38 +455,58 @@ fn is_cut_well<R: Threads + Sync>(
     cut: usize,
     answer: &Result<Vec<Facet>, StlFault>,
 ) -> bool {
-    for workers in TWO_AND_MOST {
-        let chunks = text.split_at(cut.min(text.len()));
-        if !are_same(answer, &in_two(rt, alloc, chunks, FACET_LIMIT, workers)) {
+    is_cut_by(rt, alloc, text, cut, 2, answer) && is_cut_by(rt, alloc, text, cut, 64, answer)
+}
+
+/// Whether that is so at each byte of some facets, and at each stride.
+fn is_each_cut_well<R: Threads + Sync>(
+    rt: &R,
+    alloc: Global,
+    text: &[u8],
+    answer: &Result<Vec<Facet>, StlFault>,
+) -> bool {
+    for cut in FIRST_CUT..FIRST_CUT + CUTS {
+        if !is_cut_well(rt, alloc, text, cut, answer) {
+            return false;
+        }
+    }
+    for k in 0..text.len() / STRIDE {
+        if !is_cut_well(rt, alloc, text, k * STRIDE, answer) {
             return false;
         }
     }
     true
 }
 
-/// The text is cut in two in each part, at each byte of some facets, and between them.
-#[test]
-fn a_facet_cut_at_each_byte(rt: HostRuntime) -> Result<(), Fail> {
-    let mut text = Vec::new(rt.alloc());
+/// Whether a text has facets, and they are read however it is cut.
+fn is_read_in_each_cut<R: Threads + Sync>(rt: &R, alloc: Global, text: &[u8]) -> bool {
+    let one = read_stl_at_most(alloc, text, FACET_LIMIT, Unit::Millimetre);
+    one.is_ok() && is_each_cut_well(rt, alloc, text, &one)
+}
+
+/// A text of two solids.
+fn two_solids(alloc: Global) -> Result<Vec<u8>, AllocError> {
+    let mut text = Vec::new(alloc);
     put_solid(&mut text, b"part", 500)?;
     put_solid(&mut text, b"endfacet facet", 1000)?;
-    assert!(rt; FIRST_CUT + CUTS < text.len());
-    let one = read_stl_at_most(rt.alloc(), &text, FACET_LIMIT, Unit::Millimetre);
-    assert!(rt; one.is_ok());
-    for cut in FIRST_CUT..FIRST_CUT + CUTS {
-        assert!(rt; is_cut_well(&rt, rt.alloc(), &text, cut, &one));
+    Ok(text)
+}
+
+/// The text is cut in two in each part, at each byte of some facets, and between them.
+#[test]
+fn a_facet_cut_at_each_byte(rt: HostRuntime) {
+    match two_solids(rt.alloc()) {
+        Ok(text) => {
+            assert!(rt; FIRST_CUT + CUTS < text.len());
+            assert!(rt; is_read_in_each_cut(&rt, rt.alloc(), &text));
+        }
+        Err(AllocError) => assert!(rt; false),
     }
-    for k in 0..text.len() / STRIDE {
-        assert!(rt; is_cut_well(&rt, rt.alloc(), &text, k * STRIDE, &one));
-    }
-    Ok(())
 }
 
 /// A text of two parts, however many workers there are.
 fn two_parts(alloc: Global) -> Result<Vec<u8>, AllocError> {
-    let mut text = Vec::new(alloc);
-    put_solid(&mut text, b"endfacet facet", 720)?;
-    Ok(text)
+    solid_text(alloc, b"endfacet facet", 720)
 }
 
 /// Whether two workers and the most of them return what one reader does.
@@ -338,53 +514,92 @@ fn two_and_most<R: Threads + Sync>(rt: &R, alloc: Global, text: &[u8], limit: u3
     requires { limit ≤ FACET_LIMIT }
 {
     let one = read_stl_at_most(alloc, text, limit, Unit::Millimetre);
-    for workers in TWO_AND_MOST {
-        let many = read_stl_by(rt, alloc, text, limit, Unit::Millimetre, workers);
-        if !are_same(&one, &many) {
+    is_same_whole(rt, alloc, text, limit, 2, &one)
+        && is_same_whole(rt, alloc, text, limit, 64, &one)
+}
+
+/// Whether that is so for a text of two parts each time two bytes more are added to it.
+fn is_stretched_well<R: Threads + Sync>(
+    rt: &R,
+    alloc: Global,
+    text: &mut Vec<u8>,
+) -> Result<bool, AllocError> {
+    for _ in 0..CUTS {
+        text.extend_from_slice(b"\n\n")?;
+        if !two_and_most(rt, alloc, text, FACET_LIMIT) {
+            return Ok(false);
+        }
+    }
+    Ok(text.len() < LONG)
+}
+
+/// Two parts meet at each byte of a facet: two bytes more at the end of the text move the middle by one.
+#[test]
+fn parts_that_meet_at_each_byte_of_a_facet(rt: HostRuntime) {
+    match two_parts(rt.alloc()) {
+        Ok(mut text) => {
+            assert!(rt; LEAST_OF_TWO_PARTS <= text.len());
+            assert!(rt; is_stretched_well(&rt, rt.alloc(), &mut text) == Ok(true));
+        }
+        Err(AllocError) => assert!(rt; false),
+    }
+}
+
+/// Whether two workers and the most of them return what one reader does while a byte is replaced.
+fn is_replaced_well<R: Threads + Sync>(rt: &R, alloc: Global, text: &mut [u8], at: usize) -> bool {
+    if at >= text.len() {
+        return false;
+    }
+    let byte = text[at];
+    text[at] = b'#';
+    let is_same = two_and_most(rt, alloc, text, FACET_LIMIT);
+    text[at] = byte;
+    is_same
+}
+
+/// The same for each byte of a facet about the middle.
+fn is_middle_replaced_well<R: Threads + Sync>(rt: &R, alloc: Global, text: &mut [u8]) -> bool {
+    let first = (text.len() / 2).saturating_sub(CUTS / 2);
+    for at in first..first.saturating_add(CUTS) {
+        if !is_replaced_well(rt, alloc, text, at) {
             return false;
         }
     }
     true
 }
 
-/// Two parts meet at each byte of a facet: two bytes more at the end of the text move the middle by one.
-#[test]
-fn parts_that_meet_at_each_byte_of_a_facet(rt: HostRuntime) -> Result<(), Fail> {
-    let mut text = two_parts(rt.alloc())?;
-    assert!(rt; LEAST_OF_TWO_PARTS <= text.len());
-    for _ in 0..CUTS {
-        text.extend_from_slice(b"\n\n")?;
-        assert!(rt; two_and_most(&rt, rt.alloc(), &text, FACET_LIMIT));
-    }
-    assert!(rt; text.len() < LONG);
-    Ok(())
-}
-
 /// Each byte of a facet where two parts meet is replaced.
 #[test]
-fn a_fault_at_each_byte_where_parts_meet(rt: HostRuntime) -> Result<(), Fail> {
-    let mut text = two_parts(rt.alloc())?;
-    assert!(rt; LEAST_OF_TWO_PARTS <= text.len());
-    let first = text.len() / 2 - CUTS / 2;
-    for at in first..first + CUTS {
-        assert!(rt; at < text.len());
-        let byte = text[at];
-        text[at] = b'#';
-        assert!(rt; two_and_most(&rt, rt.alloc(), &text, FACET_LIMIT));
-        text[at] = byte;
+fn a_fault_at_each_byte_where_parts_meet(rt: HostRuntime) {
+    match two_parts(rt.alloc()) {
+        Ok(mut text) => {
+            assert!(rt; LEAST_OF_TWO_PARTS <= text.len());
+            assert!(rt; is_middle_replaced_well(&rt, rt.alloc(), &mut text));
+        }
+        Err(AllocError) => assert!(rt; false),
     }
-    Ok(())
+}
+
+/// Whether two workers and the most of them return what one reader does with limits about the middle.
+fn is_middle_limited_well<R: Threads + Sync>(rt: &R, alloc: Global, text: &[u8]) -> bool {
+    for limit in 350..370 {
+        if !two_and_most(rt, alloc, text, limit) {
+            return false;
+        }
+    }
+    true
 }
 
 /// The limit is passed shortly before the second part, at its first facets and in it.
 #[test]
-fn a_limit_where_parts_meet(rt: HostRuntime) -> Result<(), Fail> {
-    let text = two_parts(rt.alloc())?;
-    assert!(rt; LEAST_OF_TWO_PARTS <= text.len());
-    for limit in 350..370 {
-        assert!(rt; two_and_most(&rt, rt.alloc(), &text, limit));
+fn a_limit_where_parts_meet(rt: HostRuntime) {
+    match two_parts(rt.alloc()) {
+        Ok(text) => {
+            assert!(rt; LEAST_OF_TWO_PARTS <= text.len());
+            assert!(rt; is_middle_limited_well(&rt, rt.alloc(), &text));
+        }
+        Err(AllocError) => assert!(rt; false),
     }
-    Ok(())
 }
 
 /// Facets enough for a text with a part for each of 64 workers.
@@ -393,40 +608,89 @@ const FACETS_OF_ALL_PARTS: u32 = 22_500;
 /// Bytes in a late part of that text, in one in the middle and in an early one.
 const BYTES_OF_PARTS: [usize; 3] = [2_000_000, 1_000_000, 40_000];
 
+/// Whether two workers and the most of them return what one reader does, also while bytes are replaced one after another.
+fn is_each_part_read_well<R: Threads + Sync>(rt: &R, alloc: Global, text: &mut [u8]) -> bool {
+    if !two_and_most(rt, alloc, text, FACET_LIMIT) {
+        return false;
+    }
+    for at in BYTES_OF_PARTS {
+        if at >= text.len() {
+            return false;
+        }
+        text[at] = b'#';
+        if !two_and_most(rt, alloc, text, FACET_LIMIT) {
+            return false;
+        }
+    }
+    true
+}
+
 /// A text that is long enough for a part to each of 64 workers, without a fault and with one in some of the parts.
 #[test]
-fn sixty_four_parts(rt: HostRuntime) -> Result<(), Fail> {
-    let mut text = Vec::new(rt.alloc());
-    put_solid(&mut text, b"part", FACETS_OF_ALL_PARTS)?;
-    assert!(rt; 32 * LEAST_OF_TWO_PARTS <= text.len());
-    assert!(rt; two_and_most(&rt, rt.alloc(), &text, FACET_LIMIT));
-    for at in BYTES_OF_PARTS {
-        assert!(rt; at < text.len());
-        text[at] = b'#';
-        assert!(rt; two_and_most(&rt, rt.alloc(), &text, FACET_LIMIT));
+fn sixty_four_parts(rt: HostRuntime) {
+    match solid_text(rt.alloc(), b"part", FACETS_OF_ALL_PARTS) {
+        Ok(mut text) => {
+            assert!(rt; 32 * LEAST_OF_TWO_PARTS <= text.len());
+            assert!(rt; is_each_part_read_well(&rt, rt.alloc(), &mut text));
+        }
+        Err(AllocError) => assert!(rt; false),
     }
-    Ok(())
+}
+
+/// Whether three workers have this result for the halves of a text, or report that they lack memory if an allocation failed.
+fn is_read_or_lacks<R: Threads + Sync>(
+    rt: &R,
+    memory: &ShortMemory<Global>,
+    text: &[u8],
+    one: &Result<Vec<Facet>, StlFault>,
+) -> bool {
+    let chunks = text.split_at(text.len() / 2);
+    let many = in_two(rt, memory, chunks, FACET_LIMIT, 3);
+    are_same(one, &many) || memory.has_failed() && is_lacking(&many)
+}
+
+/// Whether a result is that memory is lacking.
+fn is_lacking<A: Allocator>(found: &Result<Vec<Facet, A>, StlFault>) -> bool {
+    match found {
+        Ok(_) => false,
+        Err(fault) => *fault == StlFault::Memory,
+    }
+}
+
+/// Fails each allocation in turn until none is left to fail. Returns which turn that was. It is `None` if a result was neither
+/// this one nor out of memory, or the last one is not this one.
+fn first_free_turn<R: Threads + Sync>(
+    rt: &R,
+    alloc: Global,
+    text: &[u8],
+    one: &Result<Vec<Facet>, StlFault>,
+) -> Option<u64> {
+    for turn in 1..400 {
+        let memory = ShortMemory::new(alloc, turn);
+        if !is_read_or_lacks(rt, &memory, text, one) {
+            return None;
+        }
+        if !memory.has_failed() {
+            return Some(turn);
+        }
+    }
+    None
+}
+
+/// The same for what one reader returns.
+fn first_free_reading<R: Threads + Sync>(rt: &R, alloc: Global, text: &[u8]) -> Option<u64> {
+    let one = read_stl_at_most(alloc, text, FACET_LIMIT, Unit::Millimetre);
+    first_free_turn(rt, alloc, text, &one)
 }
 
 /// Each allocation fails in turn: the result is out of memory or the mesh, and never another.
 #[test]
-fn each_allocation_of_a_reading_fails_in_turn(rt: HostRuntime) -> Result<(), Fail> {
-    let mut text = Vec::new(rt.alloc());
-    put_solid(&mut text, b"part", 1500)?;
-    assert!(rt; LONG < text.len());
-    let one = read_stl_at_most(rt.alloc(), &text, FACET_LIMIT, Unit::Millimetre);
-    for turn in 1..400 {
-        let memory = ShortMemory::new(rt.alloc(), turn);
-        let chunks = text.split_at(text.len() / 2);
-        let many = in_two(&rt, &memory, chunks, FACET_LIMIT, 3);
-        let same = are_same(&one, &many);
-        if !memory.has_failed() {
-            assert!(rt; turn > 10);
-            assert!(rt; same);
-            return Ok(());
+fn each_allocation_of_a_reading_fails_in_turn(rt: HostRuntime) {
+    match solid_text(rt.alloc(), b"part", 1500) {
+        Ok(text) => {
+            assert!(rt; LONG < text.len());
+            assert!(rt; first_free_reading(&rt, rt.alloc(), &text) > Some(10));
         }
-        assert!(rt; same || many.err() == Some(StlFault::Memory));
+        Err(AllocError) => assert!(rt; false),
     }
-    assert!(rt; false);
-    Ok(())
 }

@@ -7,7 +7,6 @@ use mesh_weld::{Solid, probe};
 use raster::Rule;
 use short_memory::ShortMemory;
 use std::alloc::{AllocError, Allocator, Global};
-use std::test::Fail;
 use test_meshes::{BOX, CUBE, CUBE_AND_PAIR, HOLLOW_CUBE, OCTAHEDRON, Part, TWO_CUBES};
 use test_solids::solid_of;
 
@@ -59,41 +58,53 @@ fn has_outlines(
 }
 
 #[test]
-fn a_cube_counterclockwise(rt: HostRuntime) -> Result<(), Fail> {
+fn a_cube_counterclockwise(rt: HostRuntime) {
     assert!(rt; has_outlines(rt.alloc(), CUBE, 1, 0, &[&LOW]));
     assert!(rt; has_outlines(rt.alloc(), CUBE, 1, 1, &[&HIGH]));
-    Ok(())
 }
 
 /// Its widest plane passes through four of its corners, and three steps up is the square of a quarter of the width.
 #[test]
-fn an_octahedron(rt: HostRuntime) -> Result<(), Fail> {
+fn an_octahedron(rt: HostRuntime) {
     let widest = points![4 0, 0 4, -4 0, 0 -4];
     assert!(rt; has_outlines(rt.alloc(), OCTAHEDRON, 4, 0, &[&widest]));
     let near_the_top = points![1 0, 0 1, -1 0, 0 -1];
     assert!(rt; has_outlines(rt.alloc(), OCTAHEDRON, 1, 3, &[&near_the_top]));
-    Ok(())
+}
+
+/// Whether a layer of the session of a mesh's text has just these two outlines, which end at these points. The second one
+/// starts at the point after the first.
+fn has_two(
+    alloc: Global,
+    parts: &[Part<'_>],
+    size: u32,
+    k: u32,
+    [first, second]: [&[PlanePoint]; 2],
+) -> bool {
+    let (middle, end) = (first.len(), first.len().saturating_add(second.len()));
+    match outlines_of(alloc, parts, size, k) {
+        Ok(found) => {
+            are_points(&found, &[first, second])
+                && found.ends() == [middle, end].as_slice()
+                && found.points().len() == end
+                && found.points().get(middle) == second.first()
+        }
+        Err(_) => false,
+    }
 }
 
 /// The two facets beside the cube share two of its nodes.
 #[test]
-fn loops_that_touch(rt: HostRuntime) -> Result<(), Fail> {
+fn loops_that_touch(rt: HostRuntime) {
     let pair = points![4 1, 4 4];
-    let found = outlines_of(rt.alloc(), CUBE_AND_PAIR, 1, 0)?;
-    assert!(rt; are_points(&found, &[&LOW, &pair]));
-    assert!(rt; found.ends() == [8usize, 10].as_slice());
-    assert!(rt; found.points().len() == 10 && found.points().get(8) == pair.first());
-    Ok(())
+    assert!(rt; has_two(rt.alloc(), CUBE_AND_PAIR, 1, 0, [&LOW, &pair]));
 }
 
 #[test]
-fn two_cubes_that_overlap(rt: HostRuntime) -> Result<(), Fail> {
-    let found = outlines_of(rt.alloc(), TWO_CUBES, 2, 1)?;
+fn two_cubes_that_overlap(rt: HostRuntime) {
     let near = points![6 0, 8 0, 8 6, 8 8, 6 8, 0 8, 0 6, 0 0];
     let far = points![6 4, 12 4, 12 6, 12 12, 6 12, 4 12, 4 6, 4 4];
-    assert!(rt; are_points(&found, &[&near, &far]));
-    assert!(rt; found.ends() == [8usize, 16].as_slice());
-    Ok(())
+    assert!(rt; has_two(rt.alloc(), TWO_CUBES, 2, 1, [&near, &far]));
 }
 
 /// The ends of a segment of an outline: the last one ends where the first starts.
@@ -184,9 +195,13 @@ fn outlined(
 /// Whether a mesh has just these outlines at a height in half-micrometres, and the solid on the left of their segments.
 fn are_outlines(alloc: Global, parts: &[Part<'_>], z2: i64, told: &[Told<'_>]) -> Option<bool> {
     let at = Centre::new(0, 0, z2)?;
-    let solid = solid_of(alloc, parts).ok()?;
-    let found = outlined(alloc, &solid, &at).ok()?;
-    are_told(&solid, &found, z2, told)
+    let Ok(solid) = solid_of(alloc, parts) else {
+        return None;
+    };
+    match outlined(alloc, &solid, &at) {
+        Ok(found) => are_told(&solid, &found, z2, told),
+        Err(_) => None,
+    }
 }
 
 /// The first has the solid within it and the second, the cavity's, around it. No coordinate is odd, so that each segment
@@ -197,12 +212,8 @@ const AROUND_A_CAVITY: &[Told] = &[
 ];
 
 #[test]
-fn a_cavity_clockwise(rt: HostRuntime) -> Result<(), Fail> {
-    assert_eq!(rt;
-        are_outlines(rt.alloc(), HOLLOW_CUBE, 6, AROUND_A_CAVITY),
-        Some(true)
-    );
-    Ok(())
+fn a_cavity_clockwise(rt: HostRuntime) {
+    assert!(rt; are_outlines(rt.alloc(), HOLLOW_CUBE, 6, AROUND_A_CAVITY) == Some(true));
 }
 
 /// A box one micrometre wide and two high, left of 0: its diagonals are cut at a half of a half-micrometre.
@@ -221,12 +232,11 @@ const NARROW: &[Part] = &[(
 )];
 
 #[test]
-fn halves_are_rounded_upward(rt: HostRuntime) -> Result<(), Fail> {
+fn halves_are_rounded_upward(rt: HostRuntime) {
     let low = points![-1 0, 0 0, 0 1, 0 2, -1 2, -2 2, -2 1, -2 0];
     let high = points![0 0, 0 0, 0 2, 0 2, 0 2, -2 2, -2 2, -2 0];
     assert!(rt; has_outlines(rt.alloc(), NARROW, 1, 0, &[&low]));
     assert!(rt; has_outlines(rt.alloc(), NARROW, 1, 1, &[&high]));
-    Ok(())
 }
 
 const OUTSIDE: SessionFault = SessionFault::Outside {
@@ -235,24 +245,43 @@ const OUTSIDE: SessionFault = SessionFault::Outside {
     layers: 2,
 };
 
-#[test]
-fn no_outlines_outside_the_grid(rt: HostRuntime) -> Result<(), Fail> {
-    let session = open(rt.alloc(), CUBE, &fitted(1, Rule::NonZero))?;
-    for k in [2, u32::MAX] {
-        assert!(rt; session.outlines(k).err() == Some(OUTSIDE));
+/// Whether a layer of the cube's session is outside.
+fn is_outside(session: &Session<Global>, k: u32) -> bool {
+    match session.outlines(k) {
+        Ok(_found) => false,
+        Err(fault) => fault == OUTSIDE,
     }
-    Ok(())
 }
 
-/// The numbers of loops and of points of a layer, asked once more if there was no memory for them.
+#[test]
+fn no_outlines_outside_the_grid(rt: HostRuntime) {
+    match open(rt.alloc(), CUBE, &fitted(1, Rule::NonZero)) {
+        Ok(session) => {
+            assert!(rt; is_outside(&session, 2) && is_outside(&session, u32::MAX));
+        }
+        Err(_) => assert!(rt; false),
+    }
+}
+
+/// The numbers of loops and of points of a layer.
 fn counts<A: Allocator + Copy + Send + Sync>(
     session: &Session<A>,
 ) -> Result<(usize, usize), SessionFault> {
-    let found = match session.outlines(1) {
-        Err(SessionFault::Memory) => session.outlines(1)?,
-        other => other?,
-    };
-    Ok((found.count(), found.points().len()))
+    match session.outlines(1) {
+        Ok(found) => Ok((found.count(), found.points().len())),
+        Err(fault) => Err(fault),
+    }
+}
+
+/// The same of the session of two cubes, asked once more if there was no memory for the outlines.
+fn counts_at_last(memory: &ShortMemory<Global>) -> Result<(usize, usize), SessionFault> {
+    match open(memory, TWO_CUBES, &fitted(2, Rule::NonZero)) {
+        Ok(session) => match counts(&session) {
+            Err(SessionFault::Memory) => counts(&session),
+            other => other,
+        },
+        Err(fault) => Err(fault),
+    }
 }
 
 /// Fails each allocation in turn until none is left to fail. Returns how many of them gave `Memory`, and how many were mended by
@@ -261,9 +290,7 @@ fn failures(alloc: Global) -> Option<(u32, u32)> {
     let (mut told, mut tried) = (0u32, 0u32);
     for turn in 1..2000u64 {
         let memory = ShortMemory::new(alloc, turn);
-        let found = open(&memory, TWO_CUBES, &fitted(2, Rule::NonZero)).and_then(|session| counts(
-            &session,
-        ));
+        let found = counts_at_last(&memory);
         if !memory.has_failed() {
             return (found == Ok((2, 16))).then_some((told, tried));
         }
@@ -279,8 +306,9 @@ fn failures(alloc: Global) -> Option<(u32, u32)> {
 }
 
 #[test]
-fn memory_that_fails_is_told(rt: HostRuntime) -> Result<(), Fail> {
-    let (told, tried) = failures(rt.alloc()).ok_or("another answer")?;
-    assert!(rt; told > 10 && tried > 2);
-    Ok(())
+fn memory_that_fails_is_told(rt: HostRuntime) {
+    match failures(rt.alloc()) {
+        Some((told, tried)) => assert!(rt; told > 10 && tried > 2),
+        None => assert!(rt; false),
+    }
 }

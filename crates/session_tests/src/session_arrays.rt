@@ -7,7 +7,6 @@ use micro_num::Unit;
 use raster::Rule;
 use short_memory::ShortMemory;
 use std::alloc::{AllocError, Global};
-use std::test::Fail;
 use test_meshes::{
     BOX, CORNERS, CUBE, CUBE_AND_FLAT, HOLLOW_CUBE, OCTAHEDRON, ONE_INWARD, Part, SHEET, TWO_CUBES,
     text_of,
@@ -60,7 +59,7 @@ fn is_as_text(alloc: Global, parts: &[Part<'_>], setup: &Setup) -> Result<bool, 
 }
 
 #[test]
-fn arrays_are_as_their_text(rt: HostRuntime) -> Result<(), Fail> {
+fn arrays_are_as_their_text(rt: HostRuntime) {
     let alloc = rt.alloc();
     let open_box: &[Part] = &[(CORNERS, &BOX[1..])];
     for parts in [
@@ -75,16 +74,18 @@ fn arrays_are_as_their_text(rt: HostRuntime) -> Result<(), Fail> {
         &[],
     ] {
         for rule in [Rule::EvenOdd, Rule::NonZero, Rule::Positive] {
-            assert!(rt; is_as_text(alloc, parts, &fitted(1, rule))?);
+            assert!(rt; is_as_text(alloc, parts, &fitted(1, rule)) == Ok(true));
         }
-        assert!(rt; is_as_text(alloc, parts, &fitted(0, Rule::NonZero))?);
+        assert!(rt; is_as_text(alloc, parts, &fitted(0, Rule::NonZero)) == Ok(true));
     }
-    Ok(())
 }
 
 /// The fault of arrays that open no session.
 fn fault_of(alloc: Global, points: &[[i32; 3]], triangles: &[[u32; 3]]) -> Option<SessionFault> {
-    Session::open_mesh(alloc, points, triangles, &fitted(1, Rule::NonZero)).err()
+    match Session::open_mesh(alloc, points, triangles, &fitted(1, Rule::NonZero)) {
+        Ok(_session) => None,
+        Err(fault) => Some(fault),
+    }
 }
 
 const FAR: i32 = 128_000_000;
@@ -98,17 +99,17 @@ const POINTS: &[[i32; 3]] = &[
     [0, 0, i32::MIN],
 ];
 
+fn missing(triangle: usize, point: u32) -> Option<SessionFault> {
+    Some(SessionFault::Arrays(ArrayFault::Missing { triangle, point }))
+}
+
+fn out(triangle: usize, point: u32) -> Option<SessionFault> {
+    Some(SessionFault::Arrays(ArrayFault::OutOfRange { triangle, point }))
+}
+
 #[test]
-fn the_first_fault_is_named(rt: HostRuntime) -> Result<(), Fail> {
+fn the_first_fault_is_named(rt: HostRuntime) {
     let alloc = rt.alloc();
-    let missing = |triangle: usize, point: u32| Some(SessionFault::Arrays(ArrayFault::Missing {
-        triangle,
-        point,
-    }));
-    let out = |triangle: usize, point: u32| Some(SessionFault::Arrays(ArrayFault::OutOfRange {
-        triangle,
-        point,
-    }));
     assert!(rt; fault_of(alloc, POINTS, &[[0, 1, 5]]) == missing(0, 5));
     assert!(rt; fault_of(alloc, POINTS, &[[0, 1, 0], [1, u32::MAX, 2]]) == missing(1, u32::MAX));
     assert!(rt; fault_of(alloc, POINTS, &[[0, 1, 0], [1, 2, 9]]) == out(1, 2));
@@ -122,7 +123,6 @@ fn the_first_fault_is_named(rt: HostRuntime) -> Result<(), Fail> {
             Some(SessionFault::Grid(_))
         )
     );
-    Ok(())
 }
 
 #[test]
@@ -155,13 +155,29 @@ fn is_same_in_inches(alloc: Global, points: &[[i32; 3]], triangles: &[[u32; 3]])
     found.is_ok() && are_answers_same(&found, &told)
 }
 
+/// The same for the arrays of the cube.
+fn is_cube_same_in_inches(alloc: Global) -> Result<bool, AllocError> {
+    let points = points_of(alloc, CUBE)?;
+    let triangles = triangles_of(alloc, CUBE)?;
+    Ok(is_same_in_inches(alloc, points.as_slice(), triangles.as_slice()))
+}
+
 /// The unit is of a text's numbers alone.
 #[test]
-fn the_unit_is_not_used(rt: HostRuntime) -> Result<(), Fail> {
-    let points = points_of(rt.alloc(), CUBE)?;
-    let triangles = triangles_of(rt.alloc(), CUBE)?;
-    assert!(rt; is_same_in_inches(rt.alloc(), points.as_slice(), triangles.as_slice()));
-    Ok(())
+fn the_unit_is_not_used(rt: HostRuntime) {
+    assert!(rt; is_cube_same_in_inches(rt.alloc()) == Ok(true));
+}
+
+/// How many facets the session of arrays has.
+fn facet_count(
+    memory: &ShortMemory<Global>,
+    points: &[[i32; 3]],
+    triangles: &[[u32; 3]],
+) -> Result<usize, SessionFault> {
+    match Session::open_mesh(memory, points, triangles, &fitted(1, Rule::NonZero)) {
+        Ok(session) => Ok(session.facet_count()),
+        Err(fault) => Err(fault),
+    }
 }
 
 /// Fails each allocation in turn until none is left to fail: how many of them were answered by `Memory`. `None` where an
@@ -170,8 +186,7 @@ fn failures(alloc: Global, points: &[[i32; 3]], triangles: &[[u32; 3]]) -> Optio
     let mut told = 0u32;
     for turn in 1..2000u64 {
         let memory = ShortMemory::new(alloc, turn);
-        let found = Session::open_mesh(&memory, points, triangles, &fitted(1, Rule::NonZero));
-        let facets = found.map(|session| session.facet_count());
+        let facets = facet_count(&memory, points, triangles);
         if !memory.has_failed() {
             return (facets == Ok(24)).then_some(told);
         }
@@ -183,11 +198,18 @@ fn failures(alloc: Global, points: &[[i32; 3]], triangles: &[[u32; 3]]) -> Optio
     None
 }
 
+/// The same for the arrays of two cubes. `None` also if there was no memory for the arrays.
+fn failures_of_cubes(alloc: Global) -> Option<u32> {
+    let Ok(points) = points_of(alloc, TWO_CUBES) else {
+        return None;
+    };
+    match triangles_of(alloc, TWO_CUBES) {
+        Ok(triangles) => failures(alloc, points.as_slice(), triangles.as_slice()),
+        Err(AllocError) => None,
+    }
+}
+
 #[test]
-fn memory_that_fails_is_told(rt: HostRuntime) -> Result<(), Fail> {
-    let points = points_of(rt.alloc(), TWO_CUBES)?;
-    let triangles = triangles_of(rt.alloc(), TWO_CUBES)?;
-    let told = failures(rt.alloc(), points.as_slice(), triangles.as_slice());
-    assert!(rt; told > Some(5));
-    Ok(())
+fn memory_that_fails_is_told(rt: HostRuntime) {
+    assert!(rt; failures_of_cubes(rt.alloc()) > Some(5));
 }

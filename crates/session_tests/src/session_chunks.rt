@@ -6,7 +6,6 @@ use layer_session::{Session, SessionFault, SessionReader, Setup};
 use raster::Rule;
 use short_memory::ShortMemory;
 use std::alloc::{Allocator, Global};
-use std::test::Fail;
 use test_meshes::{BOX, CORNERS, CUBE, CUBE_AND_FLAT, OCTAHEDRON, Part, SHEET, TWO_CUBES, text_of};
 
 /// The session of a text that is fed in chunks of this size.
@@ -65,8 +64,16 @@ fn is_chopped_well(alloc: Global, text: &[u8], setup: &Setup) -> bool {
     true
 }
 
+/// The same for the text of a mesh.
+fn is_mesh_chopped_well(alloc: Global, parts: &[Part<'_>]) -> bool {
+    match text_of(alloc, parts) {
+        Ok(text) => is_chopped_well(alloc, text.as_bytes(), &fitted(1, Rule::EvenOdd)),
+        Err(_) => false,
+    }
+}
+
 #[test]
-fn meshes_in_chunks(rt: HostRuntime) -> Result<(), Fail> {
+fn meshes_in_chunks(rt: HostRuntime) {
     let open_box: &[Part] = &[(CORNERS, &BOX[1..])];
     for parts in [
         CUBE,
@@ -77,24 +84,35 @@ fn meshes_in_chunks(rt: HostRuntime) -> Result<(), Fail> {
         open_box,
         &[],
     ] {
-        let text = text_of(rt.alloc(), parts)?;
-        let setup = fitted(1, Rule::EvenOdd);
-        assert!(rt; is_chopped_well(rt.alloc(), text.as_bytes(), &setup));
+        assert!(rt; is_mesh_chopped_well(rt.alloc(), parts));
     }
-    Ok(())
+}
+
+/// How many facets the session of a text has that is fed in chunks of this size.
+fn facet_count<A: Allocator + Copy + Send + Sync>(
+    alloc: A,
+    text: &[u8],
+    setup: &Setup,
+    size: usize,
+) -> Result<usize, SessionFault>
+    requires { 0 < size }
+{
+    match in_chunks(alloc, text, setup, size) {
+        Ok(session) => Ok(session.facet_count()),
+        Err(fault) => Err(fault),
+    }
 }
 
 /// The step goes before the text, and the text before the mesh.
 #[test]
-fn faults_in_chunks(rt: HostRuntime) -> Result<(), Fail> {
+fn faults_in_chunks(rt: HostRuntime) {
     let alloc = rt.alloc();
     let setup = fitted(1, Rule::NonZero);
     let none = Setup { pitch: 0, ..setup };
     let misread = b"solid\nendloop";
     assert!(rt; is_chopped_well(alloc, misread, &setup));
     assert!(rt; is_chopped_well(alloc, misread, &none));
-    assert!(rt; in_chunks(alloc, misread, &none, 4).err() == Some(SessionFault::Step));
-    Ok(())
+    assert!(rt; facet_count(alloc, misread, &none, 4) == Err(SessionFault::Step));
 }
 
 /// Fails each allocation in turn until none is left to fail. Returns how many of them gave `Memory`. It is `None` if a result
@@ -103,8 +121,7 @@ fn failures(alloc: Global, text: &[u8]) -> Option<u32> {
     let mut told = 0u32;
     for turn in 1..2000u64 {
         let memory = ShortMemory::new(alloc, turn);
-        let found = in_chunks(&memory, text, &fitted(1, Rule::NonZero), 7);
-        let facets = found.map(|session| session.facet_count());
+        let facets = facet_count(&memory, text, &fitted(1, Rule::NonZero), 7);
         if !memory.has_failed() {
             return (facets == Ok(24)).then_some(told);
         }
@@ -116,10 +133,15 @@ fn failures(alloc: Global, text: &[u8]) -> Option<u32> {
     None
 }
 
+/// The same for the text of two cubes. `None` also if there was no memory for the text.
+fn failures_of_cubes(alloc: Global) -> Option<u32> {
+    match text_of(alloc, TWO_CUBES) {
+        Ok(text) => failures(alloc, text.as_bytes()),
+        Err(_) => None,
+    }
+}
+
 #[test]
-fn memory_that_fails_is_told(rt: HostRuntime) -> Result<(), Fail> {
-    let text = text_of(rt.alloc(), TWO_CUBES)?;
-    let told = failures(rt.alloc(), text.as_bytes()).ok_or("another answer")?;
-    assert!(rt; told > 10);
-    Ok(())
+fn memory_that_fails_is_told(rt: HostRuntime) {
+    assert!(rt; failures_of_cubes(rt.alloc()) > Some(10));
 }

@@ -46,10 +46,14 @@ fn image_of(alloc: Global, job: &Job<Global>, k: u32) -> Option<Vec<u8, Global>>
     if k >= job.grid().layers() {
         return None;
     }
-    let spans = layer(alloc, job.solid(), job.grid(), job.rule(), k).ok()?;
-    let mut sink = Counted::new(Vec::new(alloc));
-    write_layer(job.grid(), spans.as_slice(), &mut sink).ok()?;
-    Some(sink.into_inner())
+    match layer(alloc, job.solid(), job.grid(), job.rule(), k) {
+        Ok(spans) => {
+            let mut sink = Counted::new(Vec::new(alloc));
+            let is_whole = write_layer(job.grid(), spans.as_slice(), &mut sink).is_ok();
+            is_whole.then_some(sink.into_inner())
+        }
+        Err(_) => None,
+    }
 }
 
 /// Whether a layer of a session has this image.
@@ -135,35 +139,45 @@ fn is_layer_of(
     job: &Job<Global>,
     layer: &Layer<Global>,
     images: &mut Vec<u8>,
-) -> Option<bool> {
+) -> bool {
     let k = layer.number();
-    let image = image_of(alloc, job, k)?;
-    images.extend_from_slice(image.as_slice()).ok()?;
-    Some(
-        is_image(session, k, image.as_slice())
-            && session.area(k) == Ok(layer.area())
-            && are_loops_like(session, k, layer.loops()),
-    )
+    match image_of(alloc, job, k) {
+        Some(image) => {
+            images.extend_from_slice(image.as_slice()).is_ok()
+                && is_image(session, k, image.as_slice())
+                && session.area(k) == Ok(layer.area())
+                && are_loops_like(session, k, layer.loops())
+        }
+        None => false,
+    }
 }
 
-/// Whether the layers of one stripe of a session are those of a job.
-fn is_stripe_of(
+/// Whether layers of a session are these of a job, and are the layers of its stripe of this number.
+fn are_layers_of(
     alloc: Global,
     session: &Session<Global>,
     job: &Job<Global>,
     s: u64,
-) -> Option<bool> {
-    if s >= job.stripes() {
-        return None;
-    }
-    let piece = slice_stripe(alloc, job, s).ok()?;
+    layers: &[Layer<Global>],
+) -> bool {
     let mut images = Vec::new(alloc);
-    for layer in piece.layers() {
-        if is_layer_of(alloc, session, job, layer, &mut images) != Some(true) {
-            return Some(false);
+    for layer in layers {
+        if !is_layer_of(alloc, session, job, layer, &mut images) {
+            return false;
         }
     }
-    Some(is_stripe(session, s, images.as_slice()))
+    is_stripe(session, s, images.as_slice())
+}
+
+/// Whether the layers of one stripe of a session are those of a job.
+fn is_stripe_of(alloc: Global, session: &Session<Global>, job: &Job<Global>, s: u64) -> bool {
+    if s >= job.stripes() {
+        return false;
+    }
+    match slice_stripe(alloc, job, s) {
+        Ok(piece) => are_layers_of(alloc, session, job, s, piece.layers()),
+        Err(_) => false,
+    }
 }
 
 /// The job of a mesh, with voxels of one size in micrometres.
@@ -176,28 +190,41 @@ pub(crate) fn job_of(
     requires low { 1 ≤ size }
     requires high { size ≤ 2 }
 {
-    let solid = solid_of(alloc, parts).ok()?;
-    let grid = Grid::fit(&solid, size, size).ok()?;
-    Some(Job::new(solid, grid, rule))
+    let Ok(solid) = solid_of(alloc, parts) else {
+        return None;
+    };
+    match Grid::fit(&solid, size, size) {
+        Ok(grid) => Some(Job::new(solid, grid, rule)),
+        Err(_) => None,
+    }
+}
+
+/// Whether all stripes of a session are those of a job.
+fn is_session_of(alloc: Global, session: &Session<Global>, job: &Job<Global>) -> bool {
+    for s in 0..job.stripes() {
+        if !is_stripe_of(alloc, session, job, s) {
+            return false;
+        }
+    }
+    session.stripes() == job.stripes() && session.layers() == job.grid().layers()
 }
 
 /// Whether all stripes of the session of a mesh's text are those of the mesh itself.
-fn are_stripes_of(alloc: Global, parts: &[Part<'_>], size: u32, rule: Rule) -> Option<bool>
+fn are_stripes_of(alloc: Global, parts: &[Part<'_>], size: u32, rule: Rule) -> bool
     requires low { 1 ≤ size }
     requires high { size ≤ 2 }
 {
-    let session = open(alloc, parts, &fitted(size, rule)).ok()?;
-    let job = job_of(alloc, parts, size, rule)?;
-    for s in 0..job.stripes() {
-        if is_stripe_of(alloc, &session, &job, s) != Some(true) {
-            return Some(false);
-        }
+    let Some(job) = job_of(alloc, parts, size, rule) else {
+        return false;
+    };
+    match open(alloc, parts, &fitted(size, rule)) {
+        Ok(session) => is_session_of(alloc, &session, &job),
+        Err(_) => false,
     }
-    Some(session.stripes() == job.stripes() && session.layers() == job.grid().layers())
 }
 
 #[test]
-fn layers_are_those_of_the_mesh(rt: HostRuntime) -> Result<(), Fail> {
+fn layers_are_those_of_the_mesh(rt: HostRuntime) {
     for parts in [
         CUBE,
         TWO_CUBES,
@@ -209,11 +236,10 @@ fn layers_are_those_of_the_mesh(rt: HostRuntime) -> Result<(), Fail> {
         SHEET,
     ] {
         for rule in EACH_RULE {
-            assert_eq!(rt; are_stripes_of(rt.alloc(), parts, 1, rule), Some(true));
-            assert_eq!(rt; are_stripes_of(rt.alloc(), parts, 2, rule), Some(true));
+            assert!(rt; are_stripes_of(rt.alloc(), parts, 1, rule));
+            assert!(rt; are_stripes_of(rt.alloc(), parts, 2, rule));
         }
     }
-    Ok(())
 }
 
 /// What is reported of a session as a whole: counts of facets, columns, rows, layers and stripes, and the rule.
@@ -228,37 +254,44 @@ fn told(session: &Session<Global>) -> (usize, [u32; 3], u64, Rule) {
 }
 
 #[test]
-fn a_column_of_seventeen_layers(rt: HostRuntime) -> Result<(), Fail> {
-    let session = open(rt.alloc(), COLUMN, &fitted(1, Rule::EvenOdd))?;
-    assert!(rt; told(&session) == (12, [1, 1, 17], 3, Rule::EvenOdd));
-    assert!(rt; session.layers() == 17);
-    assert!(rt; is_image(&session, 16, b"P4\n1 1\n\x80"));
-    assert!(rt; is_stripe(&session, 2, b"P4\n1 1\n\x80"));
-    assert!(rt; stripe_len(&session, 1) == Ok(64));
-    assert!(rt; session.area(16) == Ok(1) && loop_count(&session, 16) == Ok(1));
-    assert!(rt; session.probe(0, 0, 16) == Ok((1, 1)));
-    Ok(())
+fn a_column_of_seventeen_layers(rt: HostRuntime) {
+    match open(rt.alloc(), COLUMN, &fitted(1, Rule::EvenOdd)) {
+        Ok(session) => {
+            assert!(rt; told(&session) == (12, [1, 1, 17], 3, Rule::EvenOdd));
+            assert!(rt; session.layers() == 17);
+            assert!(rt; is_image(&session, 16, b"P4\n1 1\n\x80"));
+            assert!(rt; is_stripe(&session, 2, b"P4\n1 1\n\x80"));
+            assert!(rt; stripe_len(&session, 1) == Ok(64));
+            assert!(rt; session.area(16) == Ok(1) && loop_count(&session, 16) == Ok(1));
+            assert!(rt; session.probe(0, 0, 16) == Ok((1, 1)));
+        }
+        Err(_) => assert!(rt; false),
+    }
 }
 
 /// The box holds a degenerate facet too, which the grid does not.
 #[test]
-fn the_box_is_that_of_all_facets(rt: HostRuntime) -> Result<(), Fail> {
+fn the_box_is_that_of_all_facets(rt: HostRuntime) {
     let far: &[Part] = &[
         (CORNERS, BOX),
         (&[[0, 0, 0], [9, 9, 9]], &[[0, 0, 1], [1, 1, 0]]),
     ];
-    let session = open(rt.alloc(), far, &fitted(1, Rule::NonZero))?;
     let bounds = Point::new(0, 0, 0).zip(Point::new(9, 9, 9));
-    assert!(rt; bounds.is_some() && session.bounds() == bounds);
-    assert!(rt; told(&session) == (14, [2, 2, 2], 1, Rule::NonZero));
-    Ok(())
+    match open(rt.alloc(), far, &fitted(1, Rule::NonZero)) {
+        Ok(session) => {
+            assert!(rt; bounds.is_some() && session.bounds() == bounds);
+            assert!(rt; told(&session) == (14, [2, 2, 2], 1, Rule::NonZero));
+        }
+        Err(_) => assert!(rt; false),
+    }
 }
 
 #[test]
-fn a_degenerate_facet_is_counted(rt: HostRuntime) -> Result<(), Fail> {
-    let session = open(rt.alloc(), CUBE_AND_FLAT, &fitted(1, Rule::NonZero))?;
-    assert!(rt; told(&session) == (13, [2, 2, 2], 1, Rule::NonZero));
-    Ok(())
+fn a_degenerate_facet_is_counted(rt: HostRuntime) {
+    match open(rt.alloc(), CUBE_AND_FLAT, &fitted(1, Rule::NonZero)) {
+        Ok(session) => assert!(rt; told(&session) == (13, [2, 2, 2], 1, Rule::NonZero)),
+        Err(_) => assert!(rt; false),
+    }
 }
 
 /// A setup of voxels of a micrometre in a grid of this many columns, rows and layers, from a corner on.
@@ -290,9 +323,9 @@ fn a_given_grid(rt: HostRuntime) -> Result<(), Fail> {
 
 /// Whether opening a mesh's text fails, and the fault reads so.
 fn fails_with(alloc: Global, parts: &[Part<'_>], setup: &Setup, line: &str) -> bool {
-    match open(alloc, parts, setup).err() {
-        Some(fault) => reads(alloc, &fault, line),
-        None => false,
+    match open(alloc, parts, setup) {
+        Ok(_session) => false,
+        Err(fault) => reads(alloc, &fault, line),
     }
 }
 
@@ -316,29 +349,56 @@ fn faults_of_steps_read_as_the_program_s(rt: HostRuntime) {
 
 /// The mesh goes before the grid.
 #[test]
-fn faults_read_as_the_program_s(rt: HostRuntime) -> Result<(), Fail> {
+fn faults_read_as_the_program_s(rt: HostRuntime) {
     let open_box: &[Part] = &[(CORNERS, &BOX[1..])];
-    let no_cells = given([1, 0, 1], [0, 0, 0]).ok_or("no point")?;
-    assert!(rt; fails_with(rt.alloc(), open_box, &no_cells, OPEN_EDGE));
-    assert!(rt; fails_with(rt.alloc(), CUBE, &no_cells, "grid has no cells"));
+    match given([1, 0, 1], [0, 0, 0]) {
+        Some(no_cells) => {
+            assert!(rt; fails_with(rt.alloc(), open_box, &no_cells, OPEN_EDGE));
+            assert!(rt; fails_with(rt.alloc(), CUBE, &no_cells, "grid has no cells"));
+        }
+        None => assert!(rt; false),
+    }
     let setup = fitted(1, Rule::NonZero);
     assert!(rt; fails_with(rt.alloc(), &[], &setup, "no facet is left"));
-    Ok(())
+}
+
+/// Whether a text has no session for this fault.
+fn is_refused(alloc: Global, text: &[u8], setup: &Setup, told: SessionFault) -> bool {
+    match Session::open(alloc, text, setup) {
+        Ok(_session) => false,
+        Err(fault) => fault == told,
+    }
+}
+
+/// The same for the text of the cube.
+fn is_cube_refused(alloc: Global, setup: &Setup, told: SessionFault) -> bool {
+    match text_of(alloc, CUBE) {
+        Ok(text) => is_refused(alloc, text.as_bytes(), setup, told),
+        Err(_) => false,
+    }
 }
 
 /// A text goes before the grid, too.
 #[test]
-fn faults_of_a_text_and_of_a_grid(rt: HostRuntime) -> Result<(), Fail> {
-    let alloc = rt.alloc();
-    let no_cells = given([1, 0, 1], [0, 0, 0]).ok_or("no point")?;
-    let misread = Session::open(alloc, b"solid\nendloop", &no_cells).err();
+fn faults_of_a_text_and_of_a_grid(rt: HostRuntime) {
     let wanted = StlFault::Expected {
         word: Word::FacetOrEnd,
         at: 6,
     };
-    assert!(rt; misread == Some(SessionFault::Stl(wanted)));
-    assert!(rt; open(alloc, CUBE, &no_cells).err() == Some(SessionFault::Grid(GridFault::NoCells)));
-    Ok(())
+    let misread = SessionFault::Stl(wanted);
+    match given([1, 0, 1], [0, 0, 0]) {
+        Some(no_cells) => {
+            assert!(rt; is_refused(rt.alloc(), b"solid\nendloop", &no_cells, misread));
+            assert!(rt;
+                is_cube_refused(
+                    rt.alloc(),
+                    &no_cells,
+                    SessionFault::Grid(GridFault::NoCells)
+                )
+            );
+        }
+        None => assert!(rt; false),
+    }
 }
 
 /// What is reported of a layer, a stripe or a voxel outside the column's grid.
@@ -350,24 +410,28 @@ const OUTSIDE: SessionFault = SessionFault::Outside {
 
 /// Whether a layer of the column's session is outside, whatever is asked of it.
 fn is_outside(session: &Session<Global>, k: u32) -> bool {
-    session.image(k).err() == Some(OUTSIDE)
+    image_len(session, k) == Err(OUTSIDE)
         && session.area(k) == Err(OUTSIDE)
-        && session.loops(k).err() == Some(OUTSIDE)
+        && loop_count(session, k) == Err(OUTSIDE)
         && session.probe(0, 0, k) == Err(OUTSIDE)
 }
 
 /// Whether a stripe of the column's session is outside.
 fn is_stripe_outside(session: &Session<Global>, s: u64) -> bool {
-    session.stripe(s).err() == Some(OUTSIDE)
+    stripe_len(session, s) == Err(OUTSIDE)
 }
 
 #[test]
-fn nothing_lies_outside_the_grid(rt: HostRuntime) -> Result<(), Fail> {
-    let session = open(rt.alloc(), COLUMN, &fitted(1, Rule::NonZero))?;
-    assert!(rt; is_outside(&session, 17) && is_outside(&session, u32::MAX));
-    assert!(rt; is_stripe_outside(&session, 3) && is_stripe_outside(&session, u64::MAX));
-    assert!(rt; session.probe(1, 0, 0) == Err(OUTSIDE) && session.probe(0, 1, 0) == Err(OUTSIDE));
-    Ok(())
+fn nothing_lies_outside_the_grid(rt: HostRuntime) {
+    match open(rt.alloc(), COLUMN, &fitted(1, Rule::NonZero)) {
+        Ok(session) => {
+            assert!(rt; is_outside(&session, 17) && is_outside(&session, u32::MAX));
+            assert!(rt; is_stripe_outside(&session, 3) && is_stripe_outside(&session, u64::MAX));
+            assert!(rt; session.probe(1, 0, 0) == Err(OUTSIDE));
+            assert!(rt; session.probe(0, 1, 0) == Err(OUTSIDE));
+        }
+        Err(_) => assert!(rt; false),
+    }
 }
 
 #[test]
@@ -380,13 +444,13 @@ fn what_lies_outside_is_told_with_the_grid(rt: HostRuntime) {
 fn answers(
     memory: &ShortMemory<Global>,
 ) -> Result<(usize, usize, usize, u64, usize), SessionFault> {
-    let text = text_of(memory, TWO_CUBES)?;
-    let session = Session::open(memory, text.as_bytes(), &fitted(1, Rule::NonZero))?;
-    let first = answers_of(&session);
-    if first == Err(SessionFault::Memory) {
-        return answers_of(&session);
+    match open(memory, TWO_CUBES, &fitted(1, Rule::NonZero)) {
+        Ok(session) => match answers_of(&session) {
+            Err(SessionFault::Memory) => answers_of(&session),
+            first => first,
+        },
+        Err(fault) => Err(fault),
     }
-    first
 }
 
 /// The lengths of an image, of a PNG and of a stripe, an area and a count of loops.
@@ -425,8 +489,9 @@ fn failures(alloc: Global) -> Option<(u32, u32)> {
 }
 
 #[test]
-fn memory_that_fails_is_told_and_changes_nothing(rt: HostRuntime) -> Result<(), Fail> {
-    let (told, tried) = failures(rt.alloc()).ok_or("another answer")?;
-    assert!(rt; told > 10 && tried > 10);
-    Ok(())
+fn memory_that_fails_is_told_and_changes_nothing(rt: HostRuntime) {
+    match failures(rt.alloc()) {
+        Some((told, tried)) => assert!(rt; told > 10 && tried > 10),
+        None => assert!(rt; false),
+    }
 }

@@ -5,7 +5,6 @@ ghost use Rattle.deflate.specs.declared.run.TheConstants.{RUN_LIMIT};
 use deflate::{RUN_LIMIT, Run, ZlibWriter, write_zlib};
 use short_memory::{Count, Retry, ShortMemory, failures, first_free_turn};
 use std::alloc::{AllocError, Allocator, Global};
-use std::test::Fail;
 
 /// The bytes with which each stream begins.
 const HEAD: &[u8] =
@@ -134,22 +133,24 @@ fn is_stream_of<A: Allocator>(alloc: A, runs: &[Run], rest: &[u8]) -> Result<boo
 }
 
 #[test]
-fn each_run_is_one_stream(rt: HostRuntime) -> Result<(), Fail> {
+fn each_run_is_one_stream(rt: HostRuntime) {
     for (byte, count, rest) in ONE_RUN {
         let run = Run {
             byte: *byte,
             count: (*count).min(RUN_LIMIT),
         };
-        assert!(rt; is_stream_of(rt.alloc(), &[run], rest)?);
+        assert!(rt; is_stream_of(rt.alloc(), &[run], rest) == Ok(true));
     }
-    Ok(())
 }
 
 #[test]
-fn no_runs_are_an_empty_stream(rt: HostRuntime) -> Result<(), Fail> {
-    let bytes = write_zlib(Vec::new(rt.alloc()), &[])?;
-    assert!(rt; is_stream(bytes.as_slice(), &[], b"\x07\x00\x00\x00\x00\x01"));
-    Ok(())
+fn no_runs_are_an_empty_stream(rt: HostRuntime) {
+    match write_zlib(Vec::new(rt.alloc()), &[]) {
+        Ok(bytes) => {
+            assert!(rt; is_stream(bytes.as_slice(), &[], b"\x07\x00\x00\x00\x00\x01"));
+        }
+        Err(_) => assert!(rt; false),
+    }
 }
 
 /// Appends a run, once more if memory was refused: whether the first try failed.
@@ -183,11 +184,10 @@ fn is_written(alloc: Global, runs: &[(u8, u64)], rest: &[u8]) -> Result<bool, Al
 }
 
 #[test]
-fn runs_follow_one_another(rt: HostRuntime) -> Result<(), Fail> {
+fn runs_follow_one_another(rt: HostRuntime) {
     for (runs, rest) in SEVERAL {
-        assert!(rt; is_written(rt.alloc(), runs, rest)?);
+        assert!(rt; is_written(rt.alloc(), runs, rest) == Ok(true));
     }
-    Ok(())
 }
 
 /// All runs of the first table in one stream.
@@ -209,9 +209,8 @@ impl Retry for AllRuns {
 }
 
 #[test]
-fn a_writer_goes_on_after_a_failed_allocation(rt: HostRuntime) -> Result<(), Fail> {
+fn a_writer_goes_on_after_a_failed_allocation(rt: HostRuntime) {
     assert!(rt; failures::<AllRuns>(rt.alloc(), 500) > Some(0));
-    Ok(())
 }
 
 struct WholeStream;
@@ -244,8 +243,7 @@ impl Count for WholeStream {
 }
 
 #[test]
-fn no_stream_stays_after_a_failed_allocation(rt: HostRuntime) -> Result<(), Fail> {
+fn no_stream_stays_after_a_failed_allocation(rt: HostRuntime) {
     let turn = first_free_turn::<WholeStream>(rt.alloc(), 100, 1);
     assert!(rt; turn > Some(2));
-    Ok(())
 }

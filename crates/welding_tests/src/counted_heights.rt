@@ -1,12 +1,11 @@
 //! A mesh with enough facets that a counting sort brings them into their order by height.
-use crate::many_facets::first_free_turn_by;
-use crate::welders::{agree, fed, fed_by};
-use crate::welding::counts;
+use crate::many_facets::{first_free_turn_by, is_welded_alike};
+use crate::welders::{fed, kept};
+use crate::welding::counts_of;
 use geometry::{Facet, Point};
-use mesh_weld::{Solid, lowest};
+use mesh_weld::{Solid, WeldFault, lowest};
 use short_memory::{Count, ShortMemory, first_free_turn};
 use std::alloc::{AllocError, Allocator, Global};
-use std::test::Fail;
 use test_solids::welded;
 
 /// The number of tetrahedra, four facets each: more facets than comparisons sort.
@@ -39,18 +38,24 @@ fn corner(number: u32, x: i32, y: i32, z: i32) -> Result<Point, AllocError> {
     }
 }
 
+/// Adds the facets of a tetrahedron.
+fn push_tetrahedron<A: Allocator>(list: &mut Vec<Facet, A>, number: u32) -> Result<(), AllocError> {
+    let a = corner(number, 0, 0, 0)?;
+    let b = corner(number, 1, 0, 0)?;
+    let c = corner(number, 0, 1, 0)?;
+    let d = corner(number, 0, 0, 1)?;
+    list.push(Facet::of(a, c, b))?;
+    list.push(Facet::of(a, b, d))?;
+    list.push(Facet::of(a, d, c))?;
+    list.push(Facet::of(b, c, d))?;
+    Ok(())
+}
+
 /// The facets of separate tetrahedra.
 fn tetrahedra<A: Allocator + Copy>(alloc: A) -> Result<Vec<Facet, A>, AllocError> {
     let mut list = Vec::new(alloc);
     for number in 0..TETRAHEDRA {
-        let a = corner(number, 0, 0, 0)?;
-        let b = corner(number, 1, 0, 0)?;
-        let c = corner(number, 0, 1, 0)?;
-        let d = corner(number, 0, 0, 1)?;
-        list.push(Facet::of(a, c, b))?;
-        list.push(Facet::of(a, b, d))?;
-        list.push(Facet::of(a, d, c))?;
-        list.push(Facet::of(b, c, d))?;
+        push_tetrahedron(&mut list, number)?;
     }
     Ok(list)
 }
@@ -71,21 +76,28 @@ fn ascend<A: Allocator>(solid: &Solid<A>) -> bool {
     true
 }
 
-#[test]
-fn facets_of_few_heights(rt: HostRuntime) -> Result<(), Fail> {
-    let facets = tetrahedra(rt.alloc())?;
-    let solid = welded(rt.alloc(), facets)?;
-    assert!(rt; ascend(&solid));
-    assert_eq!(rt; counts(Ok(solid)), Some((FACETS, 0, FACETS, EDGES)));
-    Ok(())
+/// The solid of the tetrahedra.
+fn welded_tetrahedra(alloc: Global) -> Result<Solid<Global>, WeldFault> {
+    welded(alloc, tetrahedra(alloc)?)
 }
 
 #[test]
-fn by_threads(rt: HostRuntime) -> Result<(), Fail> {
-    let facets = tetrahedra(rt.alloc())?;
-    let one = fed(rt.alloc(), facets.as_slice(), 1000);
-    assert!(rt; agree(&one, &fed_by(&rt, rt.alloc(), facets.as_slice())));
-    Ok(())
+fn facets_of_few_heights(rt: HostRuntime) {
+    match welded_tetrahedra(rt.alloc()) {
+        Ok(solid) => {
+            assert!(rt; ascend(&solid));
+            assert!(rt; counts_of(&solid) == (FACETS, 0, FACETS, EDGES));
+        }
+        Err(_) => assert!(rt; false),
+    }
+}
+
+#[test]
+fn by_threads(rt: HostRuntime) {
+    match tetrahedra(rt.alloc()) {
+        Ok(facets) => assert!(rt; is_welded_alike(&rt, rt.alloc(), facets.as_slice())),
+        Err(AllocError) => assert!(rt; false),
+    }
 }
 
 /// The facets of the tetrahedra.
@@ -93,22 +105,25 @@ struct KeptOfTetrahedra;
 
 impl Count for KeptOfTetrahedra {
     fn count(memory: &ShortMemory<Global>) -> Option<usize> {
-        let facets = tetrahedra(memory).ok()?;
-        let solid = fed(memory, facets.as_slice(), 1000).ok()?;
-        Some(solid.count())
+        match tetrahedra(memory) {
+            Ok(facets) => kept(fed(memory, facets.as_slice(), 1000)),
+            Err(AllocError) => None,
+        }
     }
 }
 
 #[test]
-fn each_allocation_fails_in_turn(rt: HostRuntime) -> Result<(), Fail> {
+fn each_allocation_fails_in_turn(rt: HostRuntime) {
     assert!(rt; first_free_turn::<KeptOfTetrahedra>(rt.alloc(), 300, FACETS) > Some(60));
-    Ok(())
 }
 
 #[test]
-fn each_allocation_by_threads_fails_in_turn(rt: HostRuntime) -> Result<(), Fail> {
-    let facets = tetrahedra(rt.alloc())?;
+fn each_allocation_by_threads_fails_in_turn(rt: HostRuntime) {
     let usual = (FACETS, 0, FACETS, EDGES);
-    assert!(rt; first_free_turn_by(&rt, rt.alloc(), facets.as_slice(), usual) > Some(30));
-    Ok(())
+    match tetrahedra(rt.alloc()) {
+        Ok(facets) => {
+            assert!(rt; first_free_turn_by(&rt, rt.alloc(), facets.as_slice(), usual) > Some(30));
+        }
+        Err(AllocError) => assert!(rt; false),
+    }
 }

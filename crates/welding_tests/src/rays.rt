@@ -2,7 +2,6 @@
 use exact_cut::Centre;
 use mesh_weld::{Solid, probe, step};
 use std::alloc::Global;
-use std::test::Fail;
 use test_meshes::{INWARD_CUBE, OCTAHEDRON, Part, TOUCHING, TWO_CUBES};
 use test_solids::solid_of;
 
@@ -19,9 +18,10 @@ static PROBES: [Row; 5] = [
 ];
 
 fn probed(alloc: Global, parts: &[Part<'_>], [x2, y2, z2]: [i64; 3]) -> Option<(i32, i32)> {
-    let centre = Centre::new(x2, y2, z2)?;
-    let solid = solid_of(alloc, parts).ok()?;
-    Some(probe(&solid, &centre))
+    match (Centre::new(x2, y2, z2), solid_of(alloc, parts)) {
+        (Some(centre), Ok(solid)) => Some(probe(&solid, &centre)),
+        _ => None,
+    }
 }
 
 /// The number of the first row with other rays.
@@ -35,9 +35,8 @@ fn first_other_probe(alloc: Global, rows: &[Row<'_>]) -> Option<usize> {
 }
 
 #[test]
-fn probes_of_meshes(rt: HostRuntime) -> Result<(), Fail> {
-    assert_eq!(rt; first_other_probe(rt.alloc(), &PROBES), None);
-    Ok(())
+fn probes_of_meshes(rt: HostRuntime) {
+    assert!(rt; first_other_probe(rt.alloc(), &PROBES).is_none());
 }
 
 /// The ends of steps along x or y, and the rays along x from there through an octahedron.
@@ -61,8 +60,10 @@ fn stepped_in(solid: &Solid<Global>, start: &Centre, end: &Centre) -> Option<(i3
 fn stepped(alloc: Global, from: [i64; 2], to: [i64; 2]) -> Option<(i32, i32)> {
     let start = Centre::new(from[0], from[1], 0)?;
     let end = Centre::new(to[0], to[1], 0)?;
-    let solid = solid_of(alloc, OCTAHEDRON).ok()?;
-    stepped_in(&solid, &start, &end)
+    match solid_of(alloc, OCTAHEDRON) {
+        Ok(solid) => stepped_in(&solid, &start, &end),
+        Err(_) => None,
+    }
 }
 
 /// The number of the first row with other rays.
@@ -76,7 +77,6 @@ fn first_other_step(alloc: Global) -> Option<usize> {
 }
 
 #[test]
-fn steps_in_an_octahedron(rt: HostRuntime) -> Result<(), Fail> {
-    assert_eq!(rt; first_other_step(rt.alloc()), None);
-    Ok(())
+fn steps_in_an_octahedron(rt: HostRuntime) {
+    assert!(rt; first_other_step(rt.alloc()).is_none());
 }

@@ -1,8 +1,8 @@
 //! The segments of planes through meshes, also of planes through corners: a corner in the plane counts as below it.
 use exact_cut::Centre;
+use mesh_weld::Solid;
 use plane_segments::{Segment, segments};
 use std::alloc::Global;
-use std::test::Fail;
 use test_meshes::{CUBE, CUBE_AND_PAIR, OCTAHEDRON, Part};
 use test_solids::solid_of;
 
@@ -14,23 +14,36 @@ fn told_of(segment: &Segment) -> Told {
     (facet, [from.low, from.high, to.low, to.high])
 }
 
-/// Whether a mesh has just these segments at a height in half-micrometres.
-fn is_plane(alloc: Global, parts: &[Part<'_>], z2: i64, told: &[Told]) -> Option<bool> {
-    let at = Centre::new(0, 0, z2)?;
-    let solid = solid_of(alloc, parts).ok()?;
-    let list = segments(alloc, &solid, at.z2()).ok()?;
+/// Whether a list has just these segments.
+fn are_told(list: &[Segment], told: &[Told]) -> bool {
     for (found, row) in list.iter().zip(told) {
         if told_of(found) != *row {
-            return Some(false);
+            return false;
         }
     }
-    Some(list.len() == told.len())
+    list.len() == told.len()
+}
+
+/// Whether a solid has just these segments at the height of a centre.
+fn is_plane_of(alloc: Global, solid: &Solid<Global>, at: &Centre, told: &[Told]) -> bool {
+    match segments(alloc, solid, at.z2()) {
+        Ok(list) => are_told(list.as_slice(), told),
+        Err(_) => false,
+    }
+}
+
+/// Whether a mesh has just these segments at a height in half-micrometres.
+fn is_plane(alloc: Global, parts: &[Part<'_>], z2: i64, told: &[Told]) -> bool {
+    match (Centre::new(0, 0, z2), solid_of(alloc, parts)) {
+        (Some(at), Ok(solid)) => is_plane_of(alloc, &solid, &at, told),
+        _ => false,
+    }
 }
 
 /// The first of these heights at which a mesh has other segments.
 fn first_other(alloc: Global, parts: &[Part<'_>], heights: &[i64], told: &[Told]) -> Option<i64> {
     for z2 in heights {
-        if is_plane(alloc, parts, *z2, told) != Some(true) {
+        if !is_plane(alloc, parts, *z2, told) {
             return Some(*z2);
         }
     }
@@ -52,20 +65,15 @@ const SIDES_AND_PAIR: &[Told] = &[
 ];
 
 #[test]
-fn a_cube_is_cut_at_its_bottom_and_not_at_its_top(rt: HostRuntime) -> Result<(), Fail> {
+fn a_cube_is_cut_at_its_bottom_and_not_at_its_top(rt: HostRuntime) {
     let sides = &SIDES_AND_PAIR[..8];
-    assert_eq!(rt; first_other(rt.alloc(), CUBE, &[0, 1, 3], sides), None);
-    assert_eq!(rt; first_other(rt.alloc(), CUBE, &[-1, 4, 5], &[]), None);
-    Ok(())
+    assert!(rt; first_other(rt.alloc(), CUBE, &[0, 1, 3], sides).is_none());
+    assert!(rt; first_other(rt.alloc(), CUBE, &[-1, 4, 5], &[]).is_none());
 }
 
 #[test]
-fn a_pair_of_facets_beside_a_cube(rt: HostRuntime) -> Result<(), Fail> {
-    assert_eq!(rt;
-        first_other(rt.alloc(), CUBE_AND_PAIR, &[1], SIDES_AND_PAIR),
-        None
-    );
-    Ok(())
+fn a_pair_of_facets_beside_a_cube(rt: HostRuntime) {
+    assert!(rt; first_other(rt.alloc(), CUBE_AND_PAIR, &[1], SIDES_AND_PAIR).is_none());
 }
 
 const UPPER: &[Told] = &[
@@ -83,9 +91,8 @@ const LOWER: &[Told] = &[
 ];
 
 #[test]
-fn an_octahedron_is_not_cut_at_its_tip(rt: HostRuntime) -> Result<(), Fail> {
-    assert_eq!(rt; first_other(rt.alloc(), OCTAHEDRON, &[-4, -1], LOWER), None);
-    assert_eq!(rt; first_other(rt.alloc(), OCTAHEDRON, &[0, 3], UPPER), None);
-    assert_eq!(rt; first_other(rt.alloc(), OCTAHEDRON, &[-5, 4], &[]), None);
-    Ok(())
+fn an_octahedron_is_not_cut_at_its_tip(rt: HostRuntime) {
+    assert!(rt; first_other(rt.alloc(), OCTAHEDRON, &[-4, -1], LOWER).is_none());
+    assert!(rt; first_other(rt.alloc(), OCTAHEDRON, &[0, 3], UPPER).is_none());
+    assert!(rt; first_other(rt.alloc(), OCTAHEDRON, &[-5, 4], &[]).is_none());
 }

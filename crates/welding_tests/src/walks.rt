@@ -1,7 +1,6 @@
 //! Walks along the rows of a lattice, beside a crossing and a column for each row alone.
 use exact_cut::{Centre, Lattice, Walk, column, crossing};
 use geometry::{Facet, Point};
-use std::test::Fail;
 use test_meshes::published::MOST_COLUMNS;
 
 /// The factor and the summand of Knuth's linear congruential generator for 64 bits.
@@ -146,11 +145,10 @@ fn all_crossed(facets: u32, scale: i32, lattice: &Lattice) -> Option<u32> {
 }
 
 #[test]
-fn walks_cross_what_rows_cross_alone(rt: HostRuntime) -> Result<(), Fail> {
+fn walks_cross_what_rows_cross_alone(rt: HostRuntime) {
     let [near, coarse, beside, far] = LATTICES;
     assert!(rt; all_crossed(2000, 1, &near) > Some(2000));
     assert!(rt; all_crossed(2000, 1, &coarse) > Some(1000));
     assert!(rt; all_crossed(2000, 1, &beside) > Some(100));
     assert!(rt; all_crossed(20, FAR_SCALE, &far) > Some(200));
-    Ok(())
 }

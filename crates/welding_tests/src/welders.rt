@@ -1,10 +1,11 @@
 //! A welder that is fed in lists of any length returns what `weld` returns for the whole list.
+ghost use Rattle.std.specs.Prelude.{◌≤◌};
+
 use crate::welding::rings;
 use geometry::Facet;
 use mesh_weld::{Solid, WeldFault, Welder};
 use short_memory::{Count, ShortMemory, first_free_turn};
-use std::alloc::{Allocator, Global};
-use std::test::Fail;
+use std::alloc::{AllocError, Allocator, Global};
 use std::thread::Threads;
 use test_meshes::{
     BOX, CORNERS, CUBE, CUBE_AND_FLAT, CUBE_AND_PAIR, OCTAHEDRON, Part, TOUCHING, TWO_CUBES,
@@ -67,17 +68,28 @@ pub(crate) fn agree(
     }
 }
 
-/// The lengths of lists that are tried; 0 stands for one list of all.
-fn first_apart(alloc: Global, facets: Vec<Facet>, sizes: &[usize]) -> Option<usize> {
-    let copy = facets.clone().ok()?;
-    let whole = welded(alloc, facets);
+/// Whether facets in lists of each of these lengths have this result; 0 stands for one list of all.
+fn are_alike(
+    alloc: Global,
+    facets: &[Facet],
+    whole: &Result<Solid<Global>, WeldFault>,
+    sizes: &[usize],
+) -> bool {
     for size in sizes {
-        let length = if *size == 0 { copy.len() } else { *size };
-        if !agree(&fed(alloc, copy.as_slice(), length), &whole) {
-            return Some(*size);
+        let length = if *size == 0 { facets.len() } else { *size };
+        if !agree(&fed(alloc, facets, length), whole) {
+            return false;
         }
     }
-    None
+    true
+}
+
+/// Whether facets in lists of each of these lengths have the result of one list.
+fn are_as_one(alloc: Global, facets: Vec<Facet>, sizes: &[usize]) -> bool {
+    match facets.clone() {
+        Ok(copy) => are_alike(alloc, copy.as_slice(), &welded(alloc, facets), sizes),
+        Err(AllocError) => false,
+    }
 }
 
 const ALL_SIZES: [usize; 18] = [0, 1, 2, 3, 4, 5, 6, 7, 8, 9, 10, 11, 12, 13, 14, 15, 16, 17];
@@ -92,35 +104,55 @@ static CLOSED: [&[Part]; 7] = [
     &[],
 ];
 
-#[test]
-fn closed_meshes(rt: HostRuntime) -> Result<(), Fail> {
-    for parts in CLOSED {
-        let facets = facets_of(rt.alloc(), parts)?;
-        assert_eq!(rt; first_apart(rt.alloc(), facets, &ALL_SIZES), None);
+/// The same for a mesh and all those lengths.
+fn is_mesh_as_one(alloc: Global, parts: &[Part<'_>]) -> bool {
+    match facets_of(alloc, parts) {
+        Ok(facets) => are_as_one(alloc, facets, &ALL_SIZES),
+        Err(AllocError) => false,
     }
-    Ok(())
 }
 
 #[test]
-fn open_meshes(rt: HostRuntime) -> Result<(), Fail> {
+fn closed_meshes(rt: HostRuntime) {
+    for parts in &CLOSED {
+        assert!(rt; is_mesh_as_one(rt.alloc(), parts));
+    }
+}
+
+#[test]
+fn open_meshes(rt: HostRuntime) {
     let part = (CORNERS, &BOX[1..]);
-    let facets = facets_of(rt.alloc(), &[part])?;
-    assert_eq!(rt; first_apart(rt.alloc(), facets, &ALL_SIZES), None);
+    assert!(rt; is_mesh_as_one(rt.alloc(), &[part]));
     // the edges of degenerate facets count
     let flat = [[0, 2, 2], [7, 7, 7]];
     let parts: [Part<'_>; 3] = [(CORNERS, &[[1, 1, 4]]), part, (CORNERS, &flat)];
-    let facets = facets_of(rt.alloc(), &parts)?;
-    assert_eq!(rt; first_apart(rt.alloc(), facets, &ALL_SIZES), None);
-    Ok(())
+    assert!(rt; is_mesh_as_one(rt.alloc(), &parts));
+}
+
+/// The same for the first facets of the rings and some lengths.
+fn are_rings_as_one(alloc: Global, count: u32) -> bool
+    requires { count ≤ 4608 }
+{
+    match rings(alloc, count) {
+        Ok(facets) => are_as_one(alloc, facets, &[0, 1, 7, 17, 4096]),
+        Err(AllocError) => false,
+    }
 }
 
 #[test]
-fn many_facets(rt: HostRuntime) -> Result<(), Fail> {
-    for count in [4095, 4096, 4607, 4608] {
-        let facets = rings(rt.alloc(), count)?;
-        assert_eq!(rt; first_apart(rt.alloc(), facets, &[0, 1, 7, 17, 4096]), None);
+fn many_facets(rt: HostRuntime) {
+    assert!(rt; are_rings_as_one(rt.alloc(), 4095));
+    assert!(rt; are_rings_as_one(rt.alloc(), 4096));
+    assert!(rt; are_rings_as_one(rt.alloc(), 4607));
+    assert!(rt; are_rings_as_one(rt.alloc(), 4608));
+}
+
+/// How many facets a weld has kept; `None` if it has a fault.
+pub(crate) fn kept<A: Allocator>(welded: Result<Solid<A>, WeldFault>) -> Option<usize> {
+    match welded {
+        Ok(solid) => Some(solid.count()),
+        Err(_) => None,
     }
-    Ok(())
 }
 
 /// The facets of a mesh that is fed three at a time.
@@ -128,16 +160,16 @@ struct KeptOfLists;
 
 impl Count for KeptOfLists {
     fn count(memory: &ShortMemory<Global>) -> Option<usize> {
-        let facets = facets_of(memory, CUBE_AND_FLAT).ok()?;
-        let solid = fed(memory, facets.as_slice(), 3).ok()?;
-        Some(solid.count())
+        match facets_of(memory, CUBE_AND_FLAT) {
+            Ok(facets) => kept(fed(memory, facets.as_slice(), 3)),
+            Err(AllocError) => None,
+        }
     }
 }
 
 #[test]
-fn each_allocation_fails_in_turn(rt: HostRuntime) -> Result<(), Fail> {
+fn each_allocation_fails_in_turn(rt: HostRuntime) {
     assert!(rt; first_free_turn::<KeptOfLists>(rt.alloc(), 100, 12) > Some(8));
-    Ok(())
 }
 
 /// The facets of the rings, fed 100 at a time.
@@ -145,16 +177,16 @@ struct KeptOfRingLists;
 
 impl Count for KeptOfRingLists {
     fn count(memory: &ShortMemory<Global>) -> Option<usize> {
-        let facets = rings(memory, 4608).ok()?;
-        let solid = fed(memory, facets.as_slice(), 100).ok()?;
-        Some(solid.count())
+        match rings(memory, 4608) {
+            Ok(facets) => kept(fed(memory, facets.as_slice(), 100)),
+            Err(AllocError) => None,
+        }
     }
 }
 
 #[test]
-fn each_allocation_fails_in_turn_among_many_facets(rt: HostRuntime) -> Result<(), Fail> {
+fn each_allocation_fails_in_turn_among_many_facets(rt: HostRuntime) {
     assert!(rt; first_free_turn::<KeptOfRingLists>(rt.alloc(), 100, 4608) > Some(30));
-    Ok(())
 }
 
 /// Adds facets to a welder: whether it has taken them, or `None` if there is no room.
@@ -182,11 +214,14 @@ fn added_twice<A: Allocator + Copy + Send + Sync>(
 
 /// A welder that lost its facets when memory ran out can be fed again.
 #[test]
-fn a_welder_is_empty_after_a_failed_allocation(rt: HostRuntime) -> Result<(), Fail> {
+fn a_welder_is_empty_after_a_failed_allocation(rt: HostRuntime) {
     let memory = ShortMemory::new(rt.alloc(), 2);
-    let facets = facets_of(rt.alloc(), CUBE)?;
-    let found = added_twice(&memory, facets.as_slice());
-    assert!(rt; memory.has_failed());
-    assert_eq!(rt; found, [(Some(false), 0), (Some(true), 12)]);
-    Ok(())
+    match facets_of(rt.alloc(), CUBE) {
+        Ok(facets) => {
+            let found = added_twice(&memory, facets.as_slice());
+            assert!(rt; memory.has_failed());
+            assert!(rt; found == [(Some(false), 0), (Some(true), 12)]);
+        }
+        Err(AllocError) => assert!(rt; false),
+    }
 }

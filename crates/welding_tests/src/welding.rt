@@ -5,22 +5,28 @@ use geometry::{Facet, Point};
 use mesh_weld::{Solid, WeldFault};
 use short_memory::{Count, ShortMemory, first_free_turn};
 use std::alloc::{AllocError, Allocator, Global};
-use std::test::Fail;
 use test_meshes::{BOX, CORNERS, CUBE, CUBE_AND_FLAT, CUBE_AND_PAIR, Part};
 use test_solids::{solid_of, welded};
 
 /// How many facets were kept and dropped, and how many vertices and edges there are.
 pub(crate) type Counts = (usize, u32, usize, u32);
 
-/// The counts of a solid; `None` if an allocation failed.
-pub(crate) fn counts<A: Allocator>(welded: Result<Solid<A>, WeldFault>) -> Option<Counts> {
-    let solid = welded.ok()?;
-    Some((
+/// The counts of a solid.
+pub(crate) fn counts_of<A: Allocator>(solid: &Solid<A>) -> Counts {
+    (
         solid.count(),
         solid.dropped(),
         solid.vertices().len(),
         solid.edge_count(),
-    ))
+    )
+}
+
+/// The counts of a weld's solid; `None` if an allocation failed.
+pub(crate) fn counts<A: Allocator>(welded: Result<Solid<A>, WeldFault>) -> Option<Counts> {
+    match welded {
+        Ok(solid) => Some(counts_of(&solid)),
+        Err(_) => None,
+    }
 }
 
 static CLOSED: [(&[Part], Counts); 5] = [
@@ -43,9 +49,8 @@ fn first_other(alloc: Global, rows: &[(&[Part<'_>], Counts)]) -> Option<usize> {
 }
 
 #[test]
-fn closed_meshes(rt: HostRuntime) -> Result<(), Fail> {
-    assert_eq!(rt; first_other(rt.alloc(), &CLOSED), None);
-    Ok(())
+fn closed_meshes(rt: HostRuntime) {
+    assert!(rt; first_other(rt.alloc(), &CLOSED).is_none());
 }
 
 fn place(point: Point) -> [i32; 3] {
@@ -69,12 +74,11 @@ pub(crate) fn open_edge(
 }
 
 #[test]
-fn box_without_its_first_facet(rt: HostRuntime) -> Result<(), Fail> {
+fn box_without_its_first_facet(rt: HostRuntime) {
     let parts = [(CORNERS, &BOX[1..]), (CORNERS, &[[0, 2, 2]])];
     let open = open_edge(solid_of(rt.alloc(), &parts));
     // the dropped facet has one edge either way
-    assert_eq!(rt; open, Some(([0, 0, 0], [0, 2, 0], 1, 2)));
-    Ok(())
+    assert!(rt; open == Some(([0, 0, 0], [0, 2, 0], 1, 2)));
 }
 
 /// Whether a solid is the cube.
@@ -90,22 +94,25 @@ fn is_cube(solid: &Solid<Global>) -> bool {
         && solid.same(solid)
 }
 
-/// Whether a solid is the same as that of the cube and a degenerate facet.
-fn is_same(alloc: Global, solid: &Solid<Global>) -> Option<bool> {
-    let other = solid_of(alloc, CUBE_AND_FLAT).ok()?;
-    Some(solid.same(&other))
+/// Whether a solid is not the same as that of the cube and a degenerate facet.
+fn is_apart(alloc: Global, solid: &Solid<Global>) -> bool {
+    match solid_of(alloc, CUBE_AND_FLAT) {
+        Ok(other) => !solid.same(&other),
+        Err(_) => false,
+    }
 }
 
 /// Whether the cube's solid is the cube, and not the same as the other.
-fn is_itself(alloc: Global) -> Option<bool> {
-    let solid = solid_of(alloc, CUBE).ok()?;
-    Some(is_cube(&solid) && !is_same(alloc, &solid)?)
+fn is_itself(alloc: Global) -> bool {
+    match solid_of(alloc, CUBE) {
+        Ok(solid) => is_cube(&solid) && is_apart(alloc, &solid),
+        Err(_) => false,
+    }
 }
 
 #[test]
-fn solid_of_a_box(rt: HostRuntime) -> Result<(), Fail> {
-    assert_eq!(rt; is_itself(rt.alloc()), Some(true));
-    Ok(())
+fn solid_of_a_box(rt: HostRuntime) {
+    assert!(rt; is_itself(rt.alloc()));
 }
 
 /// The facets of a solid.
@@ -113,15 +120,16 @@ struct Kept;
 
 impl Count for Kept {
     fn count(memory: &ShortMemory<Global>) -> Option<usize> {
-        let solid = solid_of(memory, CUBE_AND_FLAT).ok()?;
-        Some(solid.count())
+        match solid_of(memory, CUBE_AND_FLAT) {
+            Ok(solid) => Some(solid.count()),
+            Err(_) => None,
+        }
     }
 }
 
 #[test]
-fn each_allocation_fails_in_turn(rt: HostRuntime) -> Result<(), Fail> {
+fn each_allocation_fails_in_turn(rt: HostRuntime) {
     assert!(rt; first_free_turn::<Kept>(rt.alloc(), 100, 12) > Some(8));
-    Ok(())
 }
 
 /// One of 48 by 48 points that lie in rings both ways.
@@ -175,11 +183,10 @@ fn welded_rings<A: Allocator + Copy + Send + Sync>(
 }
 
 #[test]
-fn rings_of_many_facets(rt: HostRuntime) -> Result<(), Fail> {
+fn rings_of_many_facets(rt: HostRuntime) {
     let all = counts(welded_rings(rt.alloc(), 4608));
-    assert_eq!(rt; all, Some((4608, 0, 2304, 6912)));
+    assert!(rt; all == Some((4608, 0, 2304, 6912)));
     // the last facet, which is left out, leads from its second corner to its third
     let open = open_edge(welded_rings(rt.alloc(), 4607));
-    assert_eq!(rt; open, Some(([0, 0, 0], [43, 0, 47], 0, 1)));
-    Ok(())
+    assert!(rt; open == Some(([0, 0, 0], [43, 0, 47], 0, 1)));
 }
