@@ -49,9 +49,9 @@ LEMMA = """pub fact : (n : ℕ) → n ≡ n
 fact n = refl
 """
 STAND_IN = "#!/bin/sh\necho \"$(basename \"$0\") $* in $(basename \"$PWD\")\" >> \"$LOG\"\ntest \"$*\" != \"$FAILS\"\n"
-MAKEFILE = "build/stlslice:\n\tmkdir -p build; printf '#!/bin/sh\\n' > $@; chmod 755 $@\n"
+MAKEFILE = "library:\nbuild/stlslice:\n\tmkdir -p build; printf '#!/bin/sh\\n' > $@; chmod 755 $@\n"
 FILES = {
-    "crates.txt": "# name: libraries\nbase:\nlow: base\nhigh: low\nlow_tests: low\nhigh_tests: high low\ntask_words:\n",
+    "crates.txt": "# name: libraries\nbase:\nlow: base\nhigh: low\nlow_tests: low\nhigh_tests: high low\ntask_words:\nstlslice_c staticlib: base\n",
     "crates/base/src/lib.rt": LOW,
     "crates/low/src/lib.rt": LOW,
     "crates/low/proofs/Facts.antt": LEMMA,
@@ -61,11 +61,13 @@ FILES = {
     "crates/high/src/lib.rt": LOW,
     "crates/low_tests/src/lib.rt": "#[test]\nfn a() {}\n",
     "crates/high_tests/src/lib.rt": "#[test]\nfn b() {}\n",
+    "crates/stlslice_c/src/lib.rt": LOW,
     "crates/task_words/src/lib.rt": LOW,
     "crates/task_words/src/tests.rt": "#[test]\nfn c() {}\n",
     "tools/script": "#!/bin/sh\n",
     "tests/test_script.py": "#!/usr/bin/env python3\n# tries tools/script\n",
     "tests/test_other.py": "#!/usr/bin/env python3\nfrom shared import it\n",
+    "tests/test_library.py": "#!/usr/bin/env python3\n",
     "tests/shared.py": "it = 1\n",
     "tools/parts/one.c": "",
     "NOTES": "",
@@ -132,7 +134,7 @@ def main():
         steps = ["proof of low", "libraries below low_tests", "tests of low_tests"]
         tried = "edits --changed crates/low/src/lib.rt"
         same("a body", it.check(), (body, [f"passed: {step}" for step in [*steps, tried]], "4 passed, 0 failed", 0))
-        same("what a body leaves", it.left, ["proofs of base, high, task_words", "tests of high_tests, task_words", "edits but those of crates/low/src/lib.rt", "the program, and 2 of 2 tests in tests/"])
+        same("what a body leaves", it.left, ["proofs of base, high, task_words, stlslice_c", "tests of high_tests, task_words", "edits but those of crates/low/src/lib.rt", "the program, and 3 of 3 tests in tests/"])
 
         put(f"{it.top}/crates/low/src/lib.rt", LOW.replace("return 1;", "return 2 - 1;"))
         same("an edit that is proved", it.check(FAILS="--changed crates/low/src/lib.rt")[1:],
@@ -141,12 +143,20 @@ def main():
         put(f"{it.top}/crates/low/src/lib.rt", LOW.replace("≡ 1", "≡ 2"))
         log, passed, *_ = it.check()
         same("a contract", log, sorted([*body, "rt check in high"]))
-        built = ["passed: the program", "passed: 2 tests in tests/"]
+        built = ["passed: the program", "passed: 3 tests in tests/"]
         same("the program is built then", passed[-3:], [*built, f"passed: {tried}"])
-        same("what a contract leaves", it.left[-1], "0 of 2 tests in tests/")
+        same("what a contract leaves", it.left[-1], "0 of 3 tests in tests/")
 
         put(f"{it.top}/crates/task_words/src/lib.rt", LOW.replace("return 1;", "return 2 - 1;"))
         same("so it is for a body that writes words", it.check()[1][-3:-1], built)
+
+        put(f"{it.top}/crates/stlslice_c/src/lib.rt", LOW.replace("return 1;", "return 2 - 1;"))
+        tried = "edits --changed crates/stlslice_c/src/lib.rt"
+        called = [f"passed: {step}" for step in ("proof of stlslice_c", "the library", "the program", "1 tests in tests/", tried)]
+        same("a body of the library's calls", it.check()[1], called)
+        same("what it leaves", it.left[-1], "2 of 3 tests in tests/")
+        put(f"{it.top}/crates/stlslice_c/src/lib.rt", LOW.replace("≡ 1", "≡ 2"))
+        same("a contract of one", it.check()[1], called)
 
         put(f"{it.top}/crates/task_words/src/lib.rt", LOW.replace("return 1;", "return 2 - 1;"))
         put(f"{it.top}/crates/low/src/lib.rt", LOW.replace("return 1;", "return 2 - 1;"))
@@ -176,7 +186,7 @@ def main():
 
         put(f"{it.top}/crates/high/src/lib.rt", LOW.replace("return 1;", "return 2 - 1;"))
         same("a proof that fails ends it", it.check(FAILS="check"), (["rt check in high"], ["FAILED: proof of high"], "0 passed, 1 failed", 1))
-        same("what it leaves then", it.left, ["proofs of base, low, task_words", "tests of low_tests, high_tests, task_words", "edits", "the program, and 2 of 2 tests in tests/"])
+        same("what it leaves then", it.left, ["proofs of base, low, task_words, stlslice_c", "tests of low_tests, high_tests, task_words", "edits", "the program, and 3 of 3 tests in tests/"])
 
         for name in ("edits/one.of_two", "must-fail/one.of_three"):
             put(f"{it.top}/crates/low/{name}.edit", "file: src/lib.rt\nold: 1\nnew: 2\n")

@@ -13,7 +13,7 @@ sys.path.insert(0, os.path.join(ROOT, "tools"))
 import gate as tool  # noqa: E402
 
 RT = """#!/bin/sh
-echo "what rt ci says on its way"
+echo "what rt ci says on its way, by $RT_JOBS"
 {builds}
 echo "{last}"
 exit {status}
@@ -82,6 +82,9 @@ PROVE = """
 class toolchain:
     def crates_below(self, root):
         return []
+
+    def fits(self, *needs):
+        return len(needs) < 3
 """
 
 
@@ -157,6 +160,17 @@ def room_for_batches():
         same(f"room beside {own} of {running} checks at {looked}", batches.has_room(), wanted)
 
 
+def proofs_side_by_side():
+    """One a processor, or fewer if memory holds no more."""
+    for processors, memory, wanted in ((4, 23e9, 4), (4, 9e9, 2), (2, 23e9, 2), (2, 3e9, 1), (1, 23e9, 1)):
+        class rtlib:
+            @staticmethod
+            def fits(*needs):
+                return sum(needs) <= memory
+
+        same(f"proofs of {processors} processors and {memory} bytes", tool.lanes(rtlib, processors), wanted)
+
+
 def runs(pid):
     try:
         with open(f"/proc/{pid}/cmdline") as file:
@@ -168,6 +182,7 @@ def runs(pid):
 def main():
     libraries()
     room_for_batches()
+    proofs_side_by_side()
     with Room() as room:
         for name in ("tests/run", "tools/gate.py", "tools/spent.py"):
             os.makedirs(room.file(os.path.dirname(name)), exist_ok=True)
@@ -191,6 +206,12 @@ def main():
 
         well = "12 passed, 0 failed"
         same("all well", gate(BUILDS, well, 0, [0, 0]), ("17 passed, 0 failed", 0))
+        said = f"on its way, by {min(2, len(os.sched_getaffinity(0)))}\n"
+        holds("rt ci is told how many proofs to run side by side", said in gate(BUILDS, well, 0, [0], lines=999)[0])
+        room.environment["RT_JOBS"] = "7"
+        holds("a number that is given stands", "on its way, by 7\n" in gate(BUILDS, well, 0, [0], lines=999)[0])
+        del room.environment["RT_JOBS"]
+        same("the library's calls are proved by one process", gate(BUILDS, well, 0, [0, 0], library='test "$(LIBRARY_JOBS)" = 1'), ("17 passed, 0 failed", 0))
         holds("what a test left behind has ended", not runs(text_of(room.file("left")).strip()))
         times = gate(BUILDS, well, 0, [0, 0], lines=99)[0].partition("minutes")[2].splitlines()
         parts = ["proofs of crates", "proofs of tests", "edits in must-fail/", "edits in batches", "the library", "tests/run", "the whole"]

@@ -8,7 +8,7 @@ The change is all that differs from REV (HEAD), with files that git doesn't know
   can see: a definition, a signature, a contract, a type, the statement of a public lemma;
 - tries changed edits, those of changed sources, and those that a changed definition reaches, in batches;
 - proves and runs the nearest tests: those of the changed crates, and of the crates of tests that use one, the one with the
-  fewest libraries;
+  fewest libraries; those of the crate of the C calls are in C, so the library is built for them;
 - builds the program and runs the tests in tests/, except the demo's, if something changed that other crates can see, or in a
   crate of words that no clause fixes; else it runs those that name a changed file, its module or its folder.
 
@@ -27,6 +27,8 @@ sys.dont_write_bytecode = True
 
 ROOT = os.path.dirname(os.path.dirname(os.path.abspath(__file__)))
 PROGRAM = "build/stlslice"
+# The crate of the C calls, on which no crate can depend, and what tests it.
+LIBRARY_CRATE, LIBRARY_TEST = "stlslice_c", "test_library.py"
 # It takes a minute, since it runs the sources unproved.
 SLOW_TESTS = ("test_demo_unproved",)
 # The crates whose bodies write words, which no clause fixes. A proved body of another one changes nothing in what is written,
@@ -188,16 +190,21 @@ def try_edits(change, steps):
 
 
 def try_crates(change, steps):
-    """Proves, and tries edits and tests. Returns whether the program was built, which takes minutes and is left out if it would
-    write the same."""
+    """Proves, and tries edits and tests. Returns the tests in tests/ for what was built. The program takes minutes, so it is left
+    out if it would write the same, unless the library is compared with it."""
     for crate in change.crates_to_prove():
         if not steps.run(f"proof of {crate}", ["rt", "check"], f"crates/{crate}"):
-            return False
+            return set()
     try_edits(change, steps)
     for crate in change.nearest_tests():
         steps.run(f"libraries below {crate}", ["tools/prove.py", f"crates/{crate}"])
         steps.run(f"tests of {crate}", ["rt", "test"], f"crates/{crate}")
-    return bool(change.open or OF_WORDS & {*change.sources}) and steps.run("the program", ["make", PROGRAM])
+    is_library = LIBRARY_CRATE in change.sources and steps.run("the library", ["make", "library"])
+    is_seen = bool(change.open - {LIBRARY_CRATE} or OF_WORDS & {*change.sources})
+    chosen = set()
+    if (is_seen or is_library) and steps.run("the program", ["make", PROGRAM]):
+        chosen = {LIBRARY_TEST} if not is_seen else {it for it in tests() if not it.startswith(SLOW_TESTS)}
+    return chosen
 
 
 def main():
@@ -214,8 +221,8 @@ def main():
     chosen = set().union(*change.tests.values())
     if not change.sources:
         try_edits(change, steps)
-    elif try_crates(change, steps):
-        chosen = {it for it in tests() if not it.startswith(SLOW_TESTS)}
+    else:
+        chosen |= try_crates(change, steps)
     chosen = [] if steps.failed else sorted(chosen)
     if chosen:
         steps.run(f"{len(chosen)} tests in tests/", ["tests/run", PROGRAM, *chosen])

@@ -39,6 +39,8 @@ import spent  # noqa: E402
 LIBRARY_CRATE = "stlslice_c"
 # The memory that a batch leaves free for what runs beside it.
 RESERVE = 3_000_000_000
+# The most memory that a proof takes. `rt ci` counts it itself only if it may choose how many run side by side.
+MOST_OF_A_PROOF = 4_000_000_000
 # Another kit of the same logic keeps what it proved, and then says `is kept`.
 PROVED = re.compile(r"rt: (\w+) (?:proved|is kept: .*)$")
 REFUSED = re.compile(r"rt: must-fail (\S+)\.edit: refused, as it must be(?:: )?(.*)$")
@@ -55,10 +57,11 @@ def show(text):
         print(text, flush=True)
 
 
-def run(words, hear=lambda line: None):
-    """Runs a command, shows its lines as they come, and returns what came of it, with its seconds."""
+def run(words, hear=lambda line: None, **settings):
+    """Runs a command with these settings of the environment, shows its lines as they come, and returns what came of it, with its
+    seconds."""
     began, lines = time.monotonic(), []
-    how = {"stdin": subprocess.DEVNULL, "stdout": subprocess.PIPE, "stderr": subprocess.STDOUT}
+    how = {"stdin": subprocess.DEVNULL, "stdout": subprocess.PIPE, "stderr": subprocess.STDOUT, "env": {**os.environ, **settings}}
     child = subprocess.Popen(words, cwd=ROOT, text=True, errors="replace", **how)
     for line in child.stdout:
         lines.append(line.rstrip("\n"))
@@ -67,6 +70,11 @@ def run(words, hear=lambda line: None):
     _, status, usage = os.wait4(child.pid, 0)
     child.returncode = -(status & 0x7F) or status >> 8
     return Ran(child.returncode, lines, time.monotonic() - began, usage.ru_utime + usage.ru_stime)
+
+
+def lanes(rtlib, processors):
+    """How many proofs `rt ci` may run side by side: one a processor, or fewer if memory doesn't hold as many."""
+    return max((it for it in range(2, processors + 1) if rtlib.fits(*[MOST_OF_A_PROOF] * it)), default=1)
 
 
 def counts(ran):
@@ -216,7 +224,7 @@ class Batches:
 
 def library():
     """Builds the library, and the page that has it, from what was proved: only the crate of the C calls is proved again."""
-    return run(["make", "library", "web"])
+    return run(["make", "library", "web", "LIBRARY_JOBS=1"])
 
 
 def failures(*parts):
@@ -243,7 +251,8 @@ def main():
     if os.path.exists(program):
         os.remove(program)
     began, times, tree = time.monotonic(), spent.Spent(), ProvedTree()
-    batches = Batches(tree.path, len(os.sched_getaffinity(0)), times)
+    processors = len(os.sched_getaffinity(0))
+    batches = Batches(tree.path, processors, times)
 
     def hear(line):
         told, refused = PROVED.match(line), REFUSED.match(line)
@@ -253,7 +262,9 @@ def main():
         if refused:
             batches.refused(refused[1], refused[2])
 
-    proofs = run(["rt", "ci"], hear)
+    # one process a proof: several that share one each read the libraries, and batches use what is left over
+    wanted = os.environ.get("RT_JOBS") or str(lanes(prove.toolchain(), processors))
+    proofs = run(["rt", "ci"], hear, RT_JOBS=wanted)
     # what the library and tests/run prove has its time in their rows
     times.parts = {spent.BATCHES}
     passed, failed = counts(proofs)
