@@ -86,8 +86,10 @@ for line, row in enumerate(open("src/parts.rt").read().split("\n"), 1):
     if "SYNTAX" in row:
         print(f"src/parts.rt:{line}:5: error[syntax]: expected an expression")
         sys.exit(1)
+bodies = {name: text.partition(f"fn {name.rpartition('::')[2]}(")[2].partition("fn ")[0] for name in asked}
+edited = [name for name in asked if "let _same" not in bodies[name]]
 with open(os.environ["ASKED"], "a") as it:
-    print(*asked, file=it)
+    print("harmless", *edited, file=it)
 kept = sys.argv[sys.argv.index("--incremental") + 1] if "--incremental" in sys.argv else None
 with open(os.environ["ASKED"] + ".kept", "a") as it:
     print(len(os.listdir(kept)) if kept else "none", file=it)
@@ -98,11 +100,11 @@ for line, row in enumerate(open("src/parts.rt").read().split("\n"), 1):
         print(f"src/parts.rt:{line}:5: error: `ensures-value`: `UNKNOWN` is not in scope")
 lines = []
 # a check of two or more edits that breaks off before the harmless one's line, or after it and the first edit's
-is_cut = len(asked) > 2 and "CUT" in text
+is_cut = len(edited) > 1 and "CUT" in text
 is_late = is_cut and "CUT_LATE" in text
 for name in asked:
-    path, last = name.replace("::", "/"), name.rpartition("::")[2]
-    body = text.partition(f"fn {last}(")[2].partition("fn ")[0]
+    path, last, body = name.replace("::", "/"), name.rpartition("::")[2], bodies[name]
+    has_refused = os.path.isfile(f"proofs/{path}/Answers.antt") and "no-offers" in open(f"proofs/{path}/Answers.antt").read()
     goal = "note: src/parts.rt:1:1: it is not proved that what the function ensures holds when it returns (`{0}`); `search` gave up at one of its limits\n"
     own = f"fn thing::{name}: not proved; it stands on `Rattle.thing.proofs.{name.replace('::', '.')}.Answers.{{0}}`, which antt refuses"
     if "let _same" in body:
@@ -110,6 +112,9 @@ for name in asked:
         holds_proof = os.path.exists(f"proofs/{path}/Proof.antt")
         said = f"fn thing::{name}: depends on a hole" if holds_proof else said
         said = "" if os.environ["CONTROL"] == "missing" or is_cut and not is_late else said
+        # beside an answer that is refused, all are, if it is so told
+        said = own.format("no-offers") if has_refused else said
+        said = goal.format("returns-clause-value") + said if has_refused and os.environ["SPOILS"] else said
     elif "HIDDEN" in body and "BREAKS" in text:
         said = f"fn thing::{name}: no proof: the borrow checker's part in its proof is not made yet: a call of `thing::parts::looped`, which has no proof"
     elif "SEARCHED" in body or "HIDDEN" in body:
@@ -159,6 +164,8 @@ for name in asked:
         said = f"fn thing::{name}: not proved; it calls `thing::parts::other`, which is not proved"
     else:
         said = f"fn thing::{name}: no holes"
+    # what has no answer is open then
+    lines += [goal.format("returns-clause-value").strip()] * (f"#[tactic(none)] pub fn {last}(" in text)
     lines.append(said)
 print("\n".join(lines[:2] if is_late else lines))
 if is_cut:
@@ -315,17 +322,22 @@ returns-clause-value c = (inside c, sum_is c, limit-twice)
 PLANTS = {"looped": "let mut sum = 1;", "of": "let part = 2;", "from": "let from = 3;"}
 
 
-def written(room, name, file, *pairs):
+# what an answer refuses
+BY_ANSWERS = ("ANSWERED", "LEMMA", "BESIDE", "NAMES")
+
+
+def written(room, name, file, *pairs, first=()):
     path = room.file("crates", "thing", "edits", f"{name}.edit")
     with open(path, "w", encoding="utf-8") as it:
-        it.write("\n".join([f"file: {file}", *(f"{word}: {text}" for pair in pairs for word, text in zip(("old", "new"), pair))]))
+        it.write("\n".join([*first, f"file: {file}", *(f"{word}: {text}" for pair in pairs for word, text in zip(("old", "new"), pair))]))
     return path
 
 
-def planted(room, name, word):
-    """An edit of the function that is named first, in which the stand-in finds the word."""
+def planted(room, name, word, is_marked=True):
+    """An edit of the function that is named first, in which the stand-in finds the word. If no answer refuses it, it says so."""
     line = PLANTS[name.partition(".")[0]]
-    return written(room, name, "src/parts.rt", (line, f"{line} {word}();"))
+    first = [edits.BY_SEARCH] if is_marked and word not in BY_ANSWERS else []
+    return written(room, name, "src/parts.rt", (line, f"{line} {word}();"), first=first)
 
 
 def emptied(room):
@@ -337,10 +349,11 @@ def emptied(room):
     os.mkdir(folder)
 
 
-def tries(room, *words, control="no holes", built="yes"):
-    """What the tool does: its status, and the lines of its two outputs. `control` is what the check says of the harmless edit, and
-    `built` whether the library below is built; `fails` if it can't be."""
-    room.environment.update(CONTROL=control, ASKED=room.file("asked"), BUILT=built, XDG_CACHE_HOME=room.file("cache"))
+def tries(room, *words, control="no holes", spoils="", built="yes"):
+    """What the tool does: its status, and the lines of its two outputs. `control` is what the check says of the harmless edit,
+    `spoils` whether a lemma that is refused spoils all answers beside it, and `built` whether the library below is built; `fails` if
+    it can't be."""
+    room.environment.update(CONTROL=control, SPOILS=spoils, ASKED=room.file("asked"), BUILT=built, XDG_CACHE_HOME=room.file("cache"))
     ran = room.run(sys.executable, "tools/edits.py", *words, cwd=room.path)
     holds("the tool ends well", "Traceback" not in ran.stderr or sys.exit(ran.stderr))
     return ran.returncode, ran.stdout.splitlines(), ran.stderr.splitlines()
@@ -381,6 +394,8 @@ def functions():
     same("words of a body; a question mark calls `from`", sorted(asking.words()), ["Ok", "from", "number"])
     trait = "pub trait Sink {\n    fn put(&mut self) -> u32\n        ensures { result ≡ 1 };\n\n    fn end(&self) {\n        1\n    }\n}\n"
     same("a trait", [(it.symbol, it.may_be_left_out()) for it in edits.functions_of("src/a/b.rt", trait, {})], [("a::b::Sink::put", False), ("a::b::Sink::end", True)])
+    same("one that calls itself, and one that calls another type's of its name", [it.may_be_left_out() for text in ("new(1)", "Vec::new()") for it in
+         edits.functions_of("src/a.rt", f"fn new() {{\n    {text}\n}}\n", {})], [False, True])
     for head, name in (("impl<'a, A: Allocator + Copy> Layout<'a, A>", "Layout"), ("impl<T: Write> Sink for Counted<T>", "CountedSink"),
                        ("impl<T: Drop> From<AllocFailed<T>> for StlFault", "StlFaultFromAllocFailed"), ("impl Debug for Point", "PointDebug"),
                        ("unsafe impl<B: Allocator> Allocator for ShortMemory<B>", "ShortMemoryAllocator"), ("pub trait Gate<A: Allocator>", "Gate")):
@@ -488,6 +503,85 @@ def copies(room):
             text = it.read()
         holds("both bodies are planted", "let part = 2; ANSWERED();" in text and "Part { n: part + SEARCHED }" in text)
         holds("with the copy's proof", os.path.isfile(f"{folder}/proofs/parts/looped_copy_1/Answers.antt"))
+    of_closure = "use Rattle.thing.proofs.parts.fn.Part.n.each.Goals as goal\n"
+    texts = {**edits.Source(crate.folder).texts, "proofs/parts/fn/Part/n/each/Answers.antt": of_closure}
+    own = edits.Source(crate.folder, texts)
+    two = [written(room, f"n.plus_{more}", "src/parts.rt", ("        self.n", f"        self.n + {more}")) for more in ("1", "self.n")]
+    source, _ = edits.with_copies(own, [edits.Edit(it, "thing", own) for it in two])
+    same("and those of its closures", source.texts.get("proofs/parts/fn/Part/n_copy_1/each/Answers.antt"), of_closure.replace("Part.n.", "Part.n_copy_1."))
+
+
+def left_out(room):
+    """A function that no edit concerns has no code in the copy of the crate, in as many lines, so it calls nothing. If another proof
+    names what belongs to its code, it keeps that. Its closures' proofs go with it."""
+    emptied(room)
+    crate = StandIn(room)
+    each, named = "proofs/parts/fn/plain/each/Answers.antt", "use Rattle.thing.proofs.parts.plain.{}\n"
+    for more, is_bare in ((named.format("Met.{met}"), True), (named.format("Goals as goal"), False)):
+        for file, text in ((each, "-- of a closure"), ("proofs/lemmas/More.antt", more)):
+            os.makedirs(os.path.dirname(f"{crate.folder}/{file}"), exist_ok=True)
+            with open(f"{crate.folder}/{file}", "w", encoding="utf-8") as it:
+                it.write(text)
+        source = edits.Source(crate.folder)
+        edit = edits.Edit(planted(room, "looped.a", "SEARCHED"), "thing", source)
+        with tempfile.TemporaryDirectory() as folder:
+            batch = edits.Batch(crate, source, [edit], None)
+            controls = edits.harmless(batch)
+            asked = edits.plant(batch, folder, controls)
+            with open(f"{folder}/src/parts.rt", encoding="utf-8") as it:
+                rows = it.read().split("\n")
+            own = next(it for it in source.functions if it.name == "plain")
+            holds("it is left out", own not in asked and os.path.isfile(f"{folder}/proofs/parts/plain/Proof.antt"))
+            same(f"its code beside {more}", rows[own.opens : own.last + 1],
+                 ["{", "    unreachable!()", "", "}"] if is_bare else source.texts["src/parts.rt"].split("\n")[own.opens : own.last + 1])
+            same(f"its closures' proofs beside {more}", os.path.isfile(f"{folder}/{each}"), not is_bare)
+            with open(f"{folder}/proofs/parts/looped/Answers.antt", encoding="utf-8") as it:
+                same("the answers of an edited function, with a lemma that is refused", it.read(), ANSWERS + edits.REFUSED_LEMMA)
+            has_lemma = [os.path.isfile(f"{folder}/proofs/{it.symbol.replace('::', '/')}/Answers.antt") for it, _, _ in controls]
+            same("the second harmless edit's function has it, and not the first one's", has_lemma, [False, True])
+            holds("the edit stands", rows[9:13] == ["        result ≡ n", "    }", "{", "    let mut sum = 1; SEARCHED();"])
+            holds("a law has no code", rows[-5:] == ["/// A law.", "pub fn law()", "    ensures held { IsLaw }", "{}", ""])
+            for it in source.functions:
+                edits.ask_for_no_offers(folder, it)
+            without = [it.symbol for it in source.functions if not os.path.isfile(f"{folder}/proofs/{it.symbol.replace('::', '/')}/Answers.antt")]
+            same("without a lemma that is refused: a law, and what has a proof by hand or none", without,
+                 [it.symbol for it in source.functions if it.is_law() or os.path.isfile(f"{folder}/proofs/{it.symbol.replace('::', '/')}/Proof.antt")])
+    shutil.rmtree(f"{crate.folder}/proofs/parts/fn")
+    os.remove(f"{crate.folder}/proofs/lemmas/More.antt")
+    texts = {"src/a/b.rt": "impl Part {\n    fn n() {\n        1\n    }\n\n    const fn m() {\n        1\n    }\n}\n", "src/lib.rt": "fn n() {}\n"}
+    source = edits.Source(crate.folder, texts)
+    same("closures' proofs in a nested module, and at the top", [edits.closures_of(it) for it in source.functions],
+         ["proofs/a/b/fn/Part/n/", "proofs/a/b/fn/Part/m/", "proofs/fn/n/"])
+    same("what keeps its code", [it.symbol for it in source.functions if not edits.without_code(source, it)], ["a::b::Part::m", "n"])
+
+
+def without_search(room):
+    """A function whose goals have answers is not searched, unless the edit says that a search refuses it. What no answer refuses is
+    tried once more, with a search."""
+    emptied(room)
+    by_answer, by_search = planted(room, "looped.a", "LEMMA"), planted(room, "looped.b", "SEARCHED")
+    same("by an answer, and by a search", sorted(tries(room)[1][:2]),
+         ["thing/looped.a: refused by `returns-clause-many`", "thing/looped.b: refused by `returns-clause-value`"])
+    same("in one check", checks_in(room), [["parts::looped", "parts::looped_copy_1"]])
+    crate = StandIn(room)
+    source = edits.Source(crate.folder)
+    for path, line in ((by_answer, "#[tactic(none)] pub fn looped(n: u32) -> u32"), (by_search, "pub fn looped(n: u32) -> u32")):
+        batch = edits.Batch(crate, source, [edits.Edit(path, "thing", source)], None)
+        with tempfile.TemporaryDirectory() as folder:
+            edits.plant(batch, folder, edits.harmless(batch))
+            with open(f"{folder}/src/parts.rt") as it:
+                holds(line, line in it.read().split("\n"))
+    source = edits.Source(crate.folder, {**source.texts, "src/parts.rt": SOURCE.replace("pub fn looped", "#[tactic(auto)]\npub fn looped")})
+    same("one that says by which tactics", [it.symbol for it in source.functions if source.has_answers(it)], [])
+
+    emptied(room)
+    planted(room, "looped.a", "SEARCHED", is_marked=False)
+    planted(room, "looped.b", "HARMLESS", is_marked=False)
+    planted(room, "looped.c", "LEMMA")
+    status, lines, _ = tries(room)
+    same("what is not marked", (status, sorted(lines[:3])), (1, ["thing/looped.a: refused by `returns-clause-value`, and its file lacks the line 'refused: by a search'",
+         "thing/looped.b: NOT REFUSED: no holes", "thing/looped.c: refused by `returns-clause-many`"]))
+    same("is tried again", [len(it) for it in checks_in(room)], [3, 2])
 
 
 def uncopied(room):
@@ -497,7 +591,8 @@ def uncopied(room):
     source = edits.Source(folder)
     same("by kind", [it.symbol for it in source.functions if source.may_be_copied(it)], ["parts::looped", "parts::Part::of", "parts::Part::n", "parts::plain"])
     texts = {**source.texts, "proofs/lemmas/Limits.antt": LIMITS + "use Rattle.thing.proofs.parts.looped.Goals as goal\n",
-             "proofs/parts/Part/of/Proof.antt": "-- by hand", "proofs/parts/fn/Part/n/each/Answers.antt": "-- of a closure",
+             "proofs/parts/Part/of/Proof.antt": "-- by hand",
+             "proofs/lemmas/Each.antt": "use Rattle.thing.proofs.parts.fn.Part.n.each.Goals as goal\n",
              "src/parts.rt": SOURCE.replace("    let plain = n;", "    let plain = crate::parts::plain(n);")}
     changed = edits.Source(folder, texts, source)
     same("by proof", [it.symbol for it in changed.functions if changed.may_be_copied(it)], [])
@@ -549,6 +644,9 @@ def control(room):
         status, lines, _ = tries(room, control=how)
         holds(f"a harmless edit that is {how.partition(';')[0]}", sum("NOT TRIED: the harmless edit of" in it for it in lines) == 2)
         same("last line", (status, lines[-1]), (1, "0 passed, 2 failed"))
+    status, lines, _ = tries(room, spoils="yes")
+    holds("a harmless edit that is refused as the others are", sum("is refused by `returns-clause-value`" in it and "NOT TRIED" in it for it in lines) == 2)
+    same("last line", (status, lines[-1]), (1, "0 passed, 2 failed"))
 
 
 def a_law(room):
@@ -812,7 +910,9 @@ def main():
         each_kind(room)
         refused_batches(room)
         copies(room)
+        without_search(room)
         uncopied(room)
+        left_out(room)
         what_rt_ci_says(room)
         shown(room)
         control(room)

@@ -10,22 +10,27 @@ of a batch that passed are taken from ~/.cache/stlslice/edits if neither the bat
 toolchain has changed. So a second gate on the same machine takes them from there, in any checkout.
 
 An edit is a file crates/NAME/edits/FUNCTION.FAULT.edit, in the form that `rt must-fail` reads (CONTRIBUTING.md). It is planted
-in a copy of the crate, together with others. The functions that none of them edits keep their statements, and their proofs
-are left out. If several are of one function, each but the first is planted in a copy of it, which has another name and the
-same contract and proof.
+in a copy of the crate, together with others. The functions that none of them edits keep their statements; their proofs and
+their code are left out. If several are of one function, each but the first is planted in a copy of it, which has another name
+and the same contract and proof.
 
 So each edited function is judged by itself: it has to be refused by a goal of its own, or of a closure in it. That goal is a
 clause (`returns..`), or the invariant of a loop or of a type (`loop-..`, `invariant_of-..`; a loop that has a label goes by it,
 as in `rows-preserved`). A lemma of its answers stands for the goals that depend on it, if all of them are such.
 
+Most edits are refused by an answer that proves its goal no more. So nothing is searched for in an edited function that has
+answers: a goal without one says nothing. An edit that no answer refuses has the line 'refused: by a search' in its file. Without
+it the edit is tried once more, with a search, and its line says so.
+
 An edit of a definition, in specs/, has to be refused in a function whose contract cites it, a law if there is one. Edits of
 laws are tried together if no clause depends on two of them. Each is then refused by a clause that depends on it. If the answers
 of a law are one record, no goal names a clause, so one edit of that law is tried at a time. A definition that only laws see is
-tried beside edits of functions. Any other is tried alone, since its edit changes all that read it. An edit that is refused otherwise has failed, unless
-tools/edits_refused_otherwise.txt names it, with the goal and the reason.
+tried beside edits of functions. Any other is tried alone, since its edit changes all that read it. An edit that is refused
+otherwise has failed, unless tools/edits_refused_otherwise.txt names it, with the goal and the reason.
 
 Each check has one edit more, which means the same as before. It has to be reported as proved. So a check that sees nothing
-is noticed.
+is noticed. If the crate has more such functions, a second is planted as the edits are, and may have no open goal, and a third,
+which has answers, isn't searched, and no answer may be refused. So a check that refuses everything is noticed too.
 
 Each edit has a line, and the last line is 'N passed, N failed'. The status is 0 if none failed, 1 if one did, and 2 if
 nothing could be begun. The libraries below a crate are built first, if they aren't.
@@ -69,6 +74,9 @@ NICENESS = 10
 # Goals that show a contract: what a clause says, and what a loop or a type keeps. That a loop's measure is smaller shows none.
 OF_CONTRACT = re.compile(r"returns|invariant_of-|loop-(?!.*-smaller\b)")
 
+# The line of an edit whose goal has no answer, so that only a search can find that it isn't proved.
+BY_SEARCH = "refused: by a search"
+
 # What antt says of an answer that names what the edit took away, or that cites such an answer. It shows nothing.
 ONLY_NAMES = re.compile(r"has no field|is not in scope|has no `|was not admitted|is no name")
 
@@ -96,11 +104,11 @@ def clauses_of(contract):
 
 
 class Function:
-    """A function: its path below the crate as the toolchain spells it, its lines, the one on which its body opens, and whether
-    it is of a trait."""
+    """A function: its path below the crate as the toolchain spells it, how many modules that begins with, its lines, the one on which
+    its body opens, and whether it is of a trait."""
 
-    def __init__(self, symbol, file, first, opens, last, lines, is_of_trait=False):
-        self.symbol, self.file, self.first, self.opens, self.last = symbol, file, first, opens, last
+    def __init__(self, symbol, modules, file, first, opens, last, lines, is_of_trait=False):
+        self.symbol, self.modules, self.file, self.first, self.opens, self.last = symbol, modules, file, first, opens, last
         self.name, self.is_of_trait = symbol.rpartition("::")[2], is_of_trait
         self.head = lines[first : (last if opens is None else opens) + 1]
         self.body = [] if opens is None else lines[opens : last + 1]
@@ -132,8 +140,18 @@ class Function:
         return bool(re.search(rf"(?:(?<![\w.:])|\bself\.|\b(?:Self|self|{within})::){self.name}(?:::<|\()", text))
 
     def may_be_left_out(self):
-        """Whether a proof can be written for it alone: it has a body, in which its name does not stand, and is no `drop`."""
-        return bool(self.body) and self.name not in self.words() and not self.symbol.endswith("Drop::drop")
+        """Whether a proof can be written for it alone: it has a body, which does not call itself, and is no `drop`."""
+        return bool(self.body) and not self.calls_itself() and not self.symbol.endswith("Drop::drop")
+
+
+# The files of a function's proof, of answers and invariants.
+OWN_PROOF = ("Answers.antt", "Invariants.antt")
+
+
+def closures_of(function):
+    """The folder below the crate with the proofs of a function's closures."""
+    path = function.symbol.split("::")
+    return "/".join(["proofs", *path[: function.modules], "fn", *path[function.modules :], ""])
 
 
 IS_FUNCTION = re.compile(r'^( *)(?:pub(?:\([a-z]+\))? )?(?:const )?(?:unsafe )?(?:extern "C" )?fn (\w+)')
@@ -210,8 +228,9 @@ def functions_of(file, text, homes):
         it = IS_FUNCTION.match(line)
         if it and "#[test]" not in lines[at - 1]:
             opens, last = opening(lines, at, it[1])
-            within = [*homes.get(block[0], place_of(file)), *block] if block and it[1] else place_of(file)
-            found.append(Function("::".join([*within, it[2]]), file, at, opens, last, lines, of_trait))
+            modules = homes.get(block[0], place_of(file)) if block and it[1] else place_of(file)
+            within = [*modules, *(block if it[1] else []), it[2]]
+            found.append(Function("::".join(within), len(modules), file, at, opens, last, lines, of_trait))
     return found
 
 
@@ -260,13 +279,23 @@ class Source:
         """Whether a copy of the function may stand beside it: no trait names it, it is no law, and its proof consists of answers and
         invariants that nothing else reads."""
         path = function.symbol.replace("::", "/")
-        own = {f"proofs/{path}/{name}" for name in ("Answers.antt", "Invariants.antt")}
-        places = re.compile(rf"proofs\.{re.escape(path.replace('/', '.'))}\b")
-        within = f"proofs/{'/fn/'.join(path.split('/', 1))}/"
+        own = {f"proofs/{path}/{name}" for name in OWN_PROOF}
         return (bool(function.body) and not (function.calls_itself() or function.is_of_trait or function.is_law())
                 and not any("extern" in it or "cycle(" in it for it in [*function.head, *self.attributes(function)])
-                and not any(it.startswith((f"proofs/{path}/", within)) and it not in own for it in self.texts)
-                and not any(places.search(text) for file, text in self.texts.items() if file not in own))
+                and not any(it.startswith(f"proofs/{path}/") and it not in own for it in self.texts)
+                and not self.is_named(function))
+
+    def has_answers(self, function):
+        """Whether goals of the function have answers, and no attribute says by which tactics the others are proved."""
+        return (f"proofs/{function.symbol.replace('::', '/')}/Answers.antt" in self.texts and not function.is_law()
+                and not any("tactic(" in it for it in self.attributes(function)))
+
+    def is_named(self, function, besides=None):
+        """Whether another's proof names what the toolchain makes of the function or of its closures, besides this module of it."""
+        folders = [f"proofs/{function.symbol.replace('::', '/')}/", closures_of(function)]
+        of_these = "|".join(re.escape(it[:-1].replace("/", ".")) for it in folders)
+        places = re.compile(rf"(?:{of_these})\b" + (rf"(?!{re.escape(besides)}\b)" if besides else ""))
+        return any(places.search(text) for file, text in self.texts.items() if not file.startswith(tuple(folders)))
 
     def is_import(self, file, row):
         return bool(re.match(r"(pub |ghost )*use ", self.texts[file].split("\n")[row]))
@@ -371,9 +400,9 @@ class Edit:
 
     def __init__(self, path, crate, source):
         self.path, self.name = path, f"{crate}/{os.path.basename(path)[: -len('.edit')]}"
-        self.filed, self.may_move = self, False
+        self.filed, self.may_move, self.is_searched = self, False, False
         self.rows, self.functions, self.definitions, self.judged, self.reach, self.clauses = {}, [], [], [], [], set()
-        self.is_alone, self.is_of_laws = True, False
+        self.is_alone, self.is_of_laws, self.is_unmarked = True, False, False
         self.bad = self.apply(text_of(path), source)
         if not self.bad:
             self.place(source)
@@ -386,6 +415,8 @@ class Edit:
                 file, old = line[len("file: ") :].strip(), None
                 if file not in source.texts:
                     return f"there is no file {file}"
+            elif line == BY_SEARCH:
+                self.is_searched = True
             elif line.startswith("old: "):
                 old = line[len("old: ") :]
             elif line.startswith("new:"):
@@ -519,10 +550,15 @@ def spread(edits):
 
 
 def renamed(text, function, name):
-    """A text of the function's own code or proofs, with another name for it."""
-    path = re.escape(".".join(function.symbol.split("::")[:-1]))
+    """A text of the function's own code or proofs, or of its closures', with another name for it."""
+    path = "|".join(re.escape(it) for it in (".".join(function.symbol.split("::")[:-1]), within_closures(function)))
     text = re.sub(rf"\bfn {function.name}\b", f"fn {name}", text)
-    return re.sub(rf"((?:proofs|specs\.contracts)\.{path})\.{function.name}(?![\w-])", rf"\1.{name}", text)
+    return re.sub(rf"((?:proofs|specs\.contracts)\.(?:{path}))\.{function.name}(?![\w-])", rf"\1.{name}", text)
+
+
+def within_closures(function):
+    """The module of closures' proofs in which those of the function have one of its name."""
+    return ".".join(closures_of(function).split("/")[1:-2])
 
 
 def with_copies(source, edits):
@@ -556,10 +592,10 @@ def with_copies(source, edits):
 
 def copied(source, function, name, texts):
     """The lines of a function under another name. Its proof is added to the texts under that name."""
-    path = function.symbol.replace("::", "/")
-    for file in [it for it in source.texts if os.path.dirname(it) == f"proofs/{path}"]:
-        to = f"{os.path.dirname(os.path.dirname(file))}/{name}/{os.path.basename(file)}"
-        texts[to] = renamed(source.texts[file], function, name)
+    for folder in (f"proofs/{function.symbol.replace('::', '/')}/", closures_of(function)):
+        for file in [it for it in source.texts if it.startswith(folder)]:
+            to = f"{os.path.dirname(folder[:-1])}/{name}/{file[len(folder):]}"
+            texts[to] = renamed(source.texts[file], function, name)
     lines = source.texts[function.file].split("\n")[function.first : function.last + 1]
     return [renamed(lines[0], function, name), *lines[1:]]
 
@@ -573,6 +609,12 @@ class Batch:
     def __init__(self, crate, source, edits, kept):
         self.crate, self.source, self.edits, self.kept, self.name = crate, source, edits, kept, crate.name
         self.need = 1_000_000_000 + 15_000_000 * len(edits) + 150_000 * crate.count(rb"\n")
+
+    def unsearched(self, controls=()):
+        """The functions whose goals without an answer no search has to prove: those that are edited and that an answer refuses, and a
+        harmless edit's."""
+        edited = [f for it in self.edits if not (it.is_searched or it.definitions or it.is_alone) for f in it.functions if f in it.judged]
+        return [it for it in [*edited, *(it for it, _, _ in controls[2:])] if self.source.has_answers(it)]
 
     def finds_work(self):
         """Whether an earlier check of the crate kept what this one begins with, if it begins with any."""
@@ -619,8 +661,9 @@ def called(source, function):
 
 
 def harmless(batch):
-    """The plainest function that no edit of the batch reaches, nor any that it calls. With it the line on which its body opens,
-    with a statement more that does nothing, and the functions that it may call. None if there is none."""
+    """The plainest functions, at most two, that no edit of the batch reaches, nor any that they call. With each the line on which its
+    body opens, with a statement more that does nothing, and the functions that it may call. The second is no law. If an edit of the
+    batch is to be refused by an answer, there is a third, the plainest that has answers."""
     reach = {it for edit in batch.edits for it in [*edit.reach, *edit.judged]}
     found = []
     for it in batch.source.functions:
@@ -633,22 +676,52 @@ def harmless(batch):
         if not reach & {*calls}:
             text = f"{opens} let _same = ();" if opens.endswith("{") else f"{opens[:-2]}{{ let _same = (); }}"
             found.append((it.is_law(), len(calls), not it.contract(), len(it.body), it.symbol, it, text, calls))
-    return min(found, key=lambda it: it[:5])[5:] if found else None
+    found.sort(key=lambda it: it[:5])
+    chosen = found[:1] + [it for it in found[1:2] if not it[0]]
+    answered = [it for it in found[2:] if batch.source.has_answers(it[5])] if len(chosen) == 2 and batch.unsearched() else []
+    return [it[5:] for it in chosen + answered[:1]]
 
 
 STUB = "use {0}.Statement.{{statement}}\n\npub {1}_spec : {{M : Type 1}} → statement M\n{1}_spec = ?\n"
 
 
-def leave_out(room, crate, function):
-    """Gives the function a proof that is left out, in place of its own."""
+def leave_out(room, crate, function, is_bare):
+    """Gives the function a proof that is left out, in place of its own. If it has no code either, the proofs of its closures go."""
     path = function.symbol.split("::")
     folder = f"{room}/proofs/{'/'.join(path)}"
-    for name in ("Answers.antt", "Invariants.antt"):
+    for name in OWN_PROOF:
         with contextlib.suppress(FileNotFoundError):
             os.remove(f"{folder}/{name}")
+    if is_bare:
+        shutil.rmtree(f"{room}/{closures_of(function)}", ignore_errors=True)
     os.makedirs(folder, exist_ok=True)
     with open(f"{folder}/Proof.antt", "w", encoding="utf-8") as it:
         it.write(STUB.format(f"Rattle.{crate}.proofs.{'.'.join(path)}", path[-1]))
+
+
+def without_code(source, function):
+    """The lines of a function of which no code is left, as many as before. There are none if it has no code, as a law, or if other
+    proofs name what belongs to its code."""
+    lines, inside = source.texts[function.file].split("\n"), range(function.opens + 1, function.last)
+    if not inside or any("const fn" in it for it in function.head) or source.is_named(function, besides=".Met"):
+        return {}
+    indent = re.match(" *", lines[function.last])[0]
+    return {(function.file, at): f"{indent}    unreachable!()" if at == inside[0] else "" for at in inside}
+
+
+# A lemma that antt refuses, since nothing says in which universe its type is. No proof uses it.
+NO_OFFERS = "no-offers"
+REFUSED_LEMMA = f"\n{NO_OFFERS} : Unit\n{NO_OFFERS} = ?\n"
+
+
+def ask_for_no_offers(room, function):
+    """Adds a lemma to the function's answers that antt refuses. The toolchain then doesn't run once more to print answers for goals that
+    no search proves. It names these goals all the same."""
+    folder = f"{room}/proofs/{function.symbol.replace('::', '/')}"
+    if not function.is_law() and not os.path.isfile(f"{folder}/Proof.antt"):
+        os.makedirs(folder, exist_ok=True)
+        with open(f"{folder}/Answers.antt", "a", encoding="utf-8") as it:
+            it.write(REFUSED_LEMMA)
 
 
 def copy_with(batch, room, rows):
@@ -669,16 +742,29 @@ def copy_with(batch, room, rows):
             it.write("\n".join(lines))
 
 
-def plant(batch, room, control):
-    """Makes the copy of the crate in which the edits of the batch stand, and returns the functions that are to be checked."""
-    function, line, calls = control
+def plant(batch, room, controls):
+    """Makes the copy of the crate in which the edits of the batch stand, and returns the functions that are to be checked. The first
+    harmless edit stands as it is, and the others as the edits do, beside answers of which one is refused, and the third without a
+    search."""
+    calls = {it for _, _, more in controls for it in more}
     rows = {row: new for edit in batch.edits for row, new in edit.rows.items()}
-    rows[function.file, function.opens] = line
-    asked = list(dict.fromkeys([function, *(it for edit in batch.edits for it in [*edit.functions, *edit.judged])]))
+    rows.update({(it.file, it.opens): line for it, line, _ in controls})
+    first, *others = [it for it, _, _ in controls]
+    for it in batch.unsearched(controls):
+        line = rows.get((it.file, it.first), batch.source.texts[it.file].split("\n")[it.first])
+        rows[it.file, it.first] = re.sub(r"\A *", r"\g<0>#[tactic(none)] ", line)
+    asked = list(dict.fromkeys([first, *(it for edit in batch.edits for it in [*edit.functions, *edit.judged]), *others]))
+    left_out = [it for it in batch.source.functions
+                if it.may_be_left_out() and it not in asked and it not in calls and it.symbol not in batch.source.unread]
+    # a check goes through all that a function calls, and what has no code calls nothing
+    bare = {it: without_code(batch.source, it) for it in left_out}
+    for it in left_out:
+        rows.update(bare[it])
     copy_with(batch, room, rows)
-    for it in batch.source.functions:
-        if it.may_be_left_out() and it not in asked and it not in calls and it.symbol not in batch.source.unread:
-            leave_out(room, batch.name, it)
+    for it in left_out:
+        leave_out(room, batch.name, it, bool(bare[it]))
+    for it in asked[1:]:
+        ask_for_no_offers(room, it)
     return asked
 
 
@@ -687,10 +773,11 @@ IS_GOAL = re.compile(r"note: src/\S+: it is not proved that .* \(`([^`]+)`\)")
 
 class Check:
     """What a check said: its status, its lines, the seconds of processor time that it took, and the most bytes of memory. Each
-    function has a line, and above it stand the goals that no search proves."""
+    function has a line, and above it stand the goals that no search proves. Of the functions that were not searched, these are
+    all goals without an answer, and say nothing."""
 
-    def __init__(self, status, said, seconds, memory):
-        self.status, self.said, self.seconds, self.memory = status, said, seconds, memory
+    def __init__(self, status, said, seconds, memory, unsearched=()):
+        self.status, self.said, self.seconds, self.memory, self.unsearched = status, said, seconds, memory, unsearched
         self.is_whole = bool(re.search(r"(?m)^(only|holes)=\d", said))
         self.lines, self.open, goals = {}, {}, []
         for line in said.split("\n"):
@@ -734,7 +821,7 @@ def link_module(one, other):
     return shutil.copy2(one, other)
 
 
-def check(batch, asked, room):
+def check(batch, asked, room, unsearched=()):
     """Checks these functions of the copy of a crate in a folder, past those that are left out; the whole crate if none is named."""
     rtlib, kept = toolchain(), batch.kept.begin() if asked and batch.kept else None
     flags = [*(["--allow-holes"] if asked else []), *(["--incremental", kept.name] if kept else [])]
@@ -750,7 +837,7 @@ def check(batch, asked, room):
         said.seek(0)
         if kept and ran.returncode >= 0:
             batch.kept.end(kept)
-        return Check(ran.returncode, said.read(), used.ru_utime + used.ru_stime, 1024 * used.ru_maxrss)
+        return Check(ran.returncode, said.read(), used.ru_utime + used.ru_stime, 1024 * used.ru_maxrss, unsearched)
 
 
 # ---- what a check said of an edit
@@ -786,11 +873,12 @@ def lines_of(function, check):
 def goals_of(function, batch, check):
     """The goals of the function's own that the check refuses: those that no search proves, and those whose answers prove them no
     more. The last come with what antt says of them."""
-    found = {}
+    found, is_searched = {}, function not in check.unsearched
     for symbol, words in lines_of(function, check).items():
-        found.update(dict.fromkeys(check.open.get(symbol, []), ""))
-        for names in re.findall(r"`search` did not prove ((?:`[^`]+`(?:, | and )?)+)", words):
-            found.update(dict.fromkeys(re.findall(r"`([^`]+)`", names), ""))
+        if is_searched:
+            found.update(dict.fromkeys(check.open.get(symbol, []), ""))
+            for names in re.findall(r"`search` did not prove ((?:`[^`]+`(?:, | and )?)+)", words):
+                found.update(dict.fromkeys(re.findall(r"`([^`]+)`", names), ""))
         # a loop that the edit adds, of which nothing shows that it ends
         found.update(dict.fromkeys(re.findall(r"expected a (measure) in ", words), ""))
         for module, lemma, said in lemmas_of(symbol, batch, check):
@@ -805,7 +893,7 @@ def lemmas_of(symbol, batch, check):
     words = check.lines.get(symbol, "")
     if words.startswith("depends on a hole"):
         return
-    for module, lemma in re.findall(rf"`Rattle\.{batch.name}\.(proofs\.[\w.]+)\.([^`.]+)`", words):
+    for module, lemma in re.findall(rf"`Rattle\.{batch.name}\.(proofs\.[\w.]+)\.(?!{NO_OFFERS}`)([^`.]+)`", words):
         said = [why for name, why in check.errors(f"{module[len('proofs.') :].replace('.', '/')}.antt") if name == lemma]
         yield module, lemma, said[0] if said else ""
 
@@ -863,7 +951,7 @@ def judge(edit, batch, check, otherwise, other=None):
     if is_clause and known:
         return False, f"refused by `{goal}`, a clause: take it out of {OTHERWISE}"
     if is_clause:
-        return True, f"refused by `{goal}`"
+        return True, f"refused by `{goal}`" + (f", and its file lacks the line '{BY_SEARCH}'" if edit.is_unmarked else "")
     if goal and known and known[0] == goal:
         return True, f"REFUSED OTHERWISE: by `{goal}`: {known[1]}"
     if goal:
@@ -899,15 +987,26 @@ def is_by_clause(edit, batch):
     return bool(edit.definitions) and len(batch.edits) > 1
 
 
-def results_of(batch, check, control, otherwise):
+def unseen(batch, check, controls):
+    """Why a check can't be believed, if it can't: the first harmless edit has to be seen as proved, and no goal of the second, beside
+    the lemma that is refused, may be open."""
+    (first, _, _), *others = controls
+    seen = check.lines.get(first.symbol, "the check has no line for it")
+    if seen != "no holes":
+        return f"the harmless edit of {first.symbol} isn't seen as proved: {seen[:160]}"
+    opened = [(it, goal) for it, _, _ in others for goal in goals_of(it, batch, check)]
+    return f"the harmless edit of {opened[0][0].symbol} is refused by `{opened[0][1]}`" if opened else None
+
+
+def results_of(batch, check, controls, otherwise):
     """The results that a check gives, and the edits of which it says nothing, in the lists in which they are to be tried."""
-    seen = check.lines.get(control[0].symbol, "the check has no line for it")
+    why = unseen(batch, check, controls)
     bad = blamed(batch, check) if check.is_whole or not check.lines else {}
     told = {it: judge(it, batch, check, otherwise) for it in batch.edits}
-    if check.is_whole and seen != "no holes":
-        told = dict.fromkeys(batch.edits, (False, f"NOT TRIED: the harmless edit of {control[0].symbol} isn't seen as proved: {seen[:160]}"))
+    if check.is_whole and why:
+        told = dict.fromkeys(batch.edits, (False, f"NOT TRIED: {why}"))
     elif not check.is_whole:
-        told = {it: told[it] for it in batch.edits if seen == "no holes" and told[it][0]}
+        told = {it: told[it] for it in batch.edits if not why and told[it][0]}
         told.update({it: (False, said) for it, said in bad.items()})
     else:
         # hidden ones are tried again without the others; if all are hidden and none is of laws, something else hides them
@@ -915,11 +1014,16 @@ def results_of(batch, check, control, otherwise):
         is_for_nothing = len(hidden) == len(batch.edits) and not any(is_by_clause(it, batch) for it in hidden)
         told = {it: told[it] for it in batch.edits if it not in hidden or is_for_nothing}
         told.update({it: (False, said) for it, said in bad.items()})
-    left = [it for it in batch.edits if it not in told]
+    # those that no answer refuses, a search may
+    again = [it for it in told if not told[it][0] and it not in bad and {*it.functions} & {*check.unsearched}] if check.is_whole and not why else []
+    for it in again:
+        it.is_searched = it.is_unmarked = True
+    told = {it: told[it] for it in told if it not in again}
+    left = [it for it in batch.edits if it not in told and it not in again]
     if len(batch.edits) == 1 and left:
         return [(left[0], False, f"NOT TRIED: {ended(check)}")], []
     half = len(left) // 2 if len(left) == len(batch.edits) else 0
-    return [(it, *told[it]) for it in told], [left[:half], left[half:]]
+    return [(it, *told[it]) for it in told], [again, left[:half], left[half:]]
 
 
 def ended(check):
@@ -930,7 +1034,7 @@ def ended(check):
 def kept_at(batch, root):
     """The file in which the results of the batch are kept. Its name is a hash of all that they depend on."""
     rests = [text_of(os.path.abspath(__file__)), batch.crate.stamp(), sorted(listed_otherwise(root).items())]
-    rests += [(it.name, sorted(it.rows.items())) for it in batch.edits]
+    rests += [(it.name, sorted(it.rows.items()), it.is_searched) for it in batch.edits]
     return f"{KEPT}/{hashlib.sha256(repr(rests).encode()).hexdigest()}"
 
 
@@ -957,10 +1061,10 @@ def try_batch(batch, root=ROOT, show=None):
     processor time that all took. Threads may try batches side by side: all that it writes stands in a folder of its own."""
     if any(it.bad for it in batch.edits):
         return [(it, False, f"BAD EDIT: {it.bad or 'it stands beside one'}") for it in batch.edits], 0
-    control, results, left, seconds = harmless(batch), [], [batch.edits], 0
-    if control:
+    controls, results, left, seconds = harmless(batch), [], [batch.edits], 0
+    if controls:
         with tempfile.TemporaryDirectory(prefix="edits-") as room:
-            said = check(batch, plant(batch, room, control), room)
+            said = check(batch, plant(batch, room, controls), room, batch.unsearched(controls))
         unread = set(re.findall(r"(?m)^(?:\./)?proofs/(\S+)/Proof\.antt: error", said.said))
         if unread and not said.is_whole and not {it.replace("/", "::") for it in unread} <= batch.source.unread:
             batch.source.unread |= {it.replace("/", "::") for it in unread}
@@ -970,7 +1074,7 @@ def try_batch(batch, root=ROOT, show=None):
             with tempfile.NamedTemporaryFile("w", dir=show, prefix=f"{batch.name}-", suffix=".txt", delete=False) as it:
                 start = f"{said.seconds:.0f} s of processor time, {said.memory / 1_000_000:.0f} MB of {batch.need / 1_000_000:.0f}"
                 it.write("\n".join([start, *(edit.name for edit in batch.edits), said.said]))
-        results, left = results_of(batch, said, control, listed_otherwise(root))
+        results, left = results_of(batch, said, controls, listed_otherwise(root))
         seconds = said.seconds
     elif len(batch.edits) == 1:
         return [(batch.edits[0], False, "NOT TRIED: the crate has no function for a harmless edit")], 0

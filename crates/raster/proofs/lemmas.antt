@@ -21,3 +21,4 @@ pub mod Turns
 pub mod ColumnSums
 pub mod Images
 pub mod OddMarks
+pub mod FreeRoom

@@ -85,3 +85,18 @@ module _ {S : Type 0} (remaining : S → Option (List ℕ)) (failure_count : S �
     sound = λ other. absurd (other (ap Err (is ∙ read)));
     only = inl (is ∙ read);
   }
+
+  -- memory is short before the source is read
+  pub not_grown : (r : Result (Unit {0}) ReadFault) → IsErrAnd r (λ f. f ≡ fault.Memory) → failure_count new ≡ failure_count old
+      → IsFilled remaining failure_count old new before after r
+  not_grown (Ok x) short sound = absurd short
+  not_grown (Err f) short sound = record {
+    taken = tt;
+    full = tt;
+    waits = waits;
+    kept = λ e. (cc, cc);
+    whole = tt;
+    unread = rw short (λ e. cc);
+    sound = λ _. sound;
+    only = inr short;
+  }

@@ -56,10 +56,16 @@ middle-read start s step number a b e f g h k l =
     ∙ ap (λ x. pos 2 *ℤ s +ℤ x) (to_z-of_z w64 (pos (a * (2 * b + 1))) (reach-signed a b k l))
     ∙ ap (λ x. middle x a b) e ∙ ap (λ n. middle start n b) f ∙ ap (λ n. middle start step n) g
 
--- ---- the grid of a box
 pub coordinate : (z : ℤ) → IsAtMost COORDINATE_LIMIT z → to_z w32 (of_z w32 z) ≡ z
 coordinate z h = to_z-of_z w32 z (fits w32 (size_known h) refl)
 
+-- a middle that is computed from a coordinate
+pub middle-at : (z o m : ℤ) (step n : ℕ) → z ≡ o → IsAtMost COORDINATE_LIMIT z → m ≡ middle (to_z w32 (of_z w32 z)) step n → IsAtMost CENTRE_LIMIT m
+    → to_z w64 (of_z w64 m) ≡ middle o step n
+middle-at z o m step n e h f k =
+    to_z-of_z w64 m (fits w64 (size_known k) refl) ∙ f ∙ ap (λ x. middle x step n) (coordinate z h ∙ e)
+
+-- ---- the grid of a box
 pub coordinate-in : (z : ℤ) → IsAtMost COORDINATE_LIMIT z → IsAtMost COORDINATE_LIMIT (to_z w32 (of_z w32 z))
 coordinate-in z h = subst (IsAtMost COORDINATE_LIMIT) (sym (coordinate z h)) h
 

@@ -6,7 +6,7 @@ use Rattle.std.proofs.lemmas.Bool.{and_parts}
 use Rattle.std.proofs.lemmas.List.Sums.{AllPass-from_list_all}
 use Rattle.std.proofs.lemmas.Bool.Decides.{nat_tests}
 use Rattle.raster.specs.declared.span.Span.{Span}
-use Rattle.raster.specs.Span.{are_apart, is_span_before}
+use Rattle.raster.specs.Span.{are_apart, is_span_before, is_span_within}
 use Rattle.raster.specs.Rows.{IsRowStart, are_within, crosses, span_at}
 use Rattle.raster.proofs.lemmas.Areas.{before-test}
 
@@ -24,6 +24,18 @@ rows-ascend (s ∷ rest) (suc k) (suc l) h low room =
 
 last-or-before : (k n : ℕ) → k < n → (k ≡ n - 1) ⊎ (k < n - 1)
 last-or-before k n h = grind arith
+
+within-row : (columns rows : ℕ) (s : Span) → is_span_within columns rows s ≡ true → s.row < rows
+within-row columns rows s h = grind (arith, nat_tests, h)
+
+-- all spans are those in rows below the last one
+pub split-all : (columns rows : ℕ) (spans : List Span) → list_all (is_span_within columns rows) spans ≡ true → IsRowStart spans (length spans) rows
+split-all columns rows spans h = record {
+  within = omega arith;
+  below = λ k low. within-row columns rows (span_at spans k)
+      (AllPass-from_list_all (is_span_within columns rows) spans h k (record { row = 0; from = 0; to = 0 }) low);
+  above = λ k low high. absurd (omega (arith, low, high));
+}
 
 -- the spans of a row begin after a span of a lower row
 pub split-here : (spans : List Span) (start end number : ℕ) → are_apart spans ≡ true → IsRowStart spans end (number + 1) → start ≤ end → 0 < start → ((span_at spans (start - 1)).row ≡ number → ⊥) → ((k : ℕ) → start ≤ k → k < length spans → number ≤ (span_at spans k).row) → IsRowStart spans start number

@@ -11,7 +11,7 @@ use Rattle.micro_num.specs.declared.unit.Unit.{Unit as LengthUnit}
 use Rattle.geometry.specs.Facet.{Facet}
 use Rattle.stl_text.specs.FacetRun.{IsRestOf, IsFacetRun, StandsBefore, next_solid}
 use Rattle.stl_text.specs.Reader.{facet_tail}
-use Rattle.stl_text.specs.Text.{Token, keyword, normal_word, coordinate, rest_of_line, after_space, after_token, after_word, begins_with, end_keyword, facet_keyword, is_line_end, is_white, keyword_of, facet_tokens, rest_after}
+use Rattle.stl_text.specs.Text.{Token, keyword, normal_word, coordinate, rest_of_line, after_space, after_token, after_word, after_line, begins_with, end_keyword, facet_keyword, first_word, is_keyword, is_line_end, is_white, keyword_of, keyword_text, facet_tokens, rest_after}
 use Rattle.stl_text.specs.declared.word.Word.TheVariants.{FacetOrEnd, Solid}
 use Rattle.stl_text.proofs.lemmas.Locality.{seen_keyword, tokens-on}
 use Rattle.stl_text.proofs.lemmas.Stages.{facet_read, solid_passed}
@@ -131,6 +131,18 @@ run_solid unit text facets from to rest run spelled some = record {
         sees = refl;
       };
 }
+
+-- the end of a solid and the beginning of the next, word by word and line by line
+pub next_solid_read : (unit : LengthUnit) (bytes remark line solid name inside : List ℕ) → is_keyword end_keyword (first_word bytes) ≡ true
+    → remark ≡ after_word bytes → line ≡ after_line remark → solid ≡ keyword_text Solid → is_keyword solid (first_word line) ≡ true
+    → name ≡ after_word line → inside ≡ after_line name → rest_after unit next_solid bytes ≡ Some inside
+next_solid_read unit bytes remark line solid name inside ends remark_is line_is solid_is begins name_is inside_is =
+    let mid : after_line (after_word bytes) ≡ line = sym (line_is ∙ ap after_line remark_is) in
+    let next : is_keyword (keyword_text Solid) (first_word line) ≡ true = sym (ap (λ s. is_keyword s (first_word line)) solid_is) ∙ begins in
+    ap (λ b. if b then rest_after unit (rest_of_line ∷ keyword_of Solid ∷ rest_of_line ∷ []) (after_word bytes) else None) ends
+    ∙ ap (λ bs. rest_after unit (keyword_of Solid ∷ rest_of_line ∷ []) bs) mid
+    ∙ ap (λ b. if b then Some (after_line (after_word line)) else None) next
+    ∙ ap Some (sym (inside_is ∙ ap after_line name_is))
 
 -- Lists of runs.
 

@@ -44,17 +44,13 @@ module _ (bytes : List ℕ) (room : 16 ≤ length bytes) where
   pub none_count : low_mask bytes ≡ 0 → high_len bytes ≡ 16
   none_count none = leading_from_mask_l is_low (take 16 bytes) (sym mask_is ∙ none) ∙ long
 
-  pub none_low : low_mask bytes ≡ 0 → list_all (λ byte. not (is_white byte)) (take 16 bytes) ≡ true
-  none_low none =
-      subst (λ n. list_all (λ byte. not (is_white byte)) (take n bytes) ≡ true) (none_count none) (high_clear 16 bytes)
-
   pub lowest : 0 < low_mask bytes → count_trailing_zeros 64 (low_mask bytes) ≡ high_len bytes
   lowest some =
       ap (count_trailing_zeros 64) mask_is
       ∙ trailing_mask_l is_low 64 (take 16 bytes) (omega (arith, long)) (subst (λ m. 0 < m) mask_is some)
 
-  pub some_low : 0 < low_mask bytes → list_all (λ byte. not (is_white byte)) (take (count_trailing_zeros 64 (low_mask bytes)) bytes) ≡ true
-  some_low some = subst (λ n. list_all (λ byte. not (is_white byte)) (take n bytes) ≡ true) (sym (lowest some)) (high_clear 16 bytes)
+  pub count_clear : (n : ℕ) → n ≡ high_len bytes → list_all (λ byte. not (is_white byte)) (take n bytes) ≡ true
+  count_clear n is = subst (λ k. list_all (λ byte. not (is_white byte)) (take k bytes) ≡ true) (sym is) (high_clear 16 bytes)
 
-  pub lowest_within : 0 < low_mask bytes → count_trailing_zeros 64 (low_mask bytes) ≤ 16
-  lowest_within some = omega (arith, lowest some, long, prefix_len-le-length (λ byte. not (is_low byte)) (take 16 bytes))
+  pub count_within : (n : ℕ) → n ≡ high_len bytes → n ≤ 16
+  count_within n is = omega (arith, is, long, prefix_len-le-length (λ byte. not (is_low byte)) (take 16 bytes))

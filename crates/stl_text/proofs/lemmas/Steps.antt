@@ -88,3 +88,7 @@ coordinate-within-bits unit word z e =
 pub empty-list : {A : Type 0} (xs : List A) → (length xs == 0) ≡ true → xs ≡ []
 empty-list [] h = refl
 empty-list (x ∷ xs) h = absurd (omega (arith, eqb-true _ _ h))
+
+pub some-items : {A : Type 0} (xs : List A) (b : Bool) → b ≡ (length xs == 0) → b ≡ false → 0 < length xs
+some-items [] b is h = cc
+some-items (x ∷ xs) b is h = omega arith

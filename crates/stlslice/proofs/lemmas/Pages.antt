@@ -1,5 +1,5 @@
 -- Images that are drawn into pages: which bytes they have, and how many.
-use Rattle.std.proofs.Common.{◌≡◌, ℕ, zero, suc, ◌+◌, ◌*◌, ◌-◌, ◌<◌, ◌≤◌, List, [], ◌∷◌, ◌++◌, min, length, length-append, append_assoc, ap, sym, ◌∙◌, arith, refl, slice_index_or, drop, subst, Option}
+use Rattle.std.proofs.Common.{◌≡◌, ℕ, zero, suc, ◌+◌, ◌*◌, ◌-◌, ◌<◌, ◌≤◌, List, [], ◌∷◌, ◌++◌, max, min, length, length-append, append_assoc, ap, sym, ◌∙◌, arith, refl, slice_index_or, drop, subst, Option}
 use Rattle.std.specs.Prelude.{Bool, false, Ok, flat_map}
 use Rattle.std.specs.List.{All, range_with_len}
 use Rattle.std.proofs.lemmas.List.Concat.{flat_map-cons}
@@ -182,3 +182,7 @@ pub fewer-left : (count first m per end : ℕ) → 1 ≤ m → 1 ≤ per → fir
 fewer-left count first m per end some few h is =
     let one : per * 1 ≤ per * m = mul-le-mul_left per some in
     omega (arith, one, few, h, is)
+
+-- a number of images or PNGs of a page
+pub one_at_least : (m n : ℕ) → n ≡ max m 1 → 0 < n
+one_at_least m n is = omega (arith, is)

@@ -1,8 +1,18 @@
-use Rattle.std.proofs.Common.{◌≡◌, ◌<◌, ◌+◌, ◌-◌, ℕ, length, get_or, set, subst, sym, ap, arith}
-use Rattle.std.proofs.lemmas.List.{get_or_read}
-use Rattle.contour.specs.Linker.{HasFirsts, HasNexts}
+use Rattle.std.proofs.Common.{◌≡◌, ◌<◌, ◌+◌, ◌-◌, ℕ, length, get_or, set, subst, sym, ap, ◌∙◌, arith}
+use Rattle.std.proofs.lemmas.List.{drop_all, get_or_read}
+use Rattle.std.specs.Prelude.{slice_index_or}
+use Rattle.contour.specs.Linker.{HasFirsts, HasNexts, slots}
+use Rattle.contour.specs.declared.linker.TheConstants.{NONE}
 use Rattle.contour.proofs.lemmas.Slots.{push-firsts, push-nexts}
 use Rattle.contour.proofs.linker.push_starts.Goals as goal
+
+pub loop-i-init : goal.loop-i-init
+loop-i-init g c =
+    let starts = c.args.edges.now.starts.items in
+    record {
+      firsts = λ e. c.requires.clear e ∙ sym (ap (λ xs. slice_index_or (slots c.len-i.result e xs) 0 NONE) (drop_all c.len-i.result starts (omega arith)));
+      nexts = λ j low less. let no : ⊥ = omega (arith, low, less) in absurd no;
+    }
 
 pub loop-i-preserved : goal.loop-i-preserved
 loop-i-preserved g c =
@@ -20,3 +30,13 @@ loop-i-preserved g c =
       nexts = push-nexts c.loop-i.heads starts i l edge firsts c.loop-i.after (get_or c.loop-i.heads c.index.result.now 0) inside
           (ap (λ x. get_or c.loop-i.heads x 0) read) nexts;
     }
+
+pub returns-clause-firsts : goal.returns-clause-firsts
+returns-clause-firsts g c =
+    let none : c.loop-i.i ≡ 0 = omega (arith, c.loop-i-test.false) in
+    subst (λ n. HasFirsts c.loop-i.heads n c.args.edges.now.starts.items) none c.loop-i.invariant.firsts
+
+pub returns-clause-nexts : goal.returns-clause-nexts
+returns-clause-nexts g c =
+    let none : c.loop-i.i ≡ 0 = omega (arith, c.loop-i-test.false) in
+    subst (λ n. HasNexts c.loop-i.after n c.args.edges.now.starts.items) none c.loop-i.invariant.nexts

@@ -1,4 +1,4 @@
-use Rattle.std.proofs.Common.{◌∙◌, ap, arith, sym}
+use Rattle.std.proofs.Common.{◌∙◌, ap, arith, refl, sym}
 use Rattle.std.proofs.lemmas.List.{take_all}
 use Rattle.std.specs.Prelude.{slice_get}
 use Rattle.plane_segments.specs.declared.segment.Segment.{Segment}
@@ -20,6 +20,9 @@ facet-requires g c =
     is_loop c.args.s.now.facets c.args.c.now.z c.args.list.now c.requires.0 c.requires.1 in
     let below = c.loop-segment-test.true in
     in-facets c.args.s.now.facets c.args.list.now c.loop-segment.segment-index c.segment-item.result is.within (omega arith) c.segment-item.is
+
+pub loop-segment-init : goal.loop-segment-init
+loop-segment-init g c = record { sum_is = refl; small = record { at_most = omega arith } }
 
 pub loop-segment-preserved : goal.loop-segment-preserved
 loop-segment-preserved g c =

@@ -1,5 +1,5 @@
-use Rattle.std.proofs.Common.{◌≡◌, ◌<◌, ◌+◌, ◌++◌, ◌∷◌, [], ◌∙◌, ℕ, List, get_or, length, sym, take}
-use Rattle.std.proofs.lemmas.List.{map_more}
+use Rattle.std.proofs.Common.{◌≡◌, ◌<◌, ◌+◌, ◌++◌, ◌∷◌, [], ◌∙◌, ℕ, List, get_or, length, sym, ap, take}
+use Rattle.std.proofs.lemmas.List.{map_more, take_all}
 use Rattle.geometry.specs.Point.{Point}
 use Rattle.geometry.specs.Facet.{Facet}
 use Rattle.mesh_weld.specs.Solid.{facet_by, facets_by}
@@ -18,3 +18,6 @@ pub loop-own-preserved : goal.loop-own-preserved
 loop-own-preserved g c =
     one_more c.args.points.now c.args.numbers.now c.loop-own.own-index c.loop-own.facets.items c.push.new.self.items c.facet_by.result
     c.loop-own-test.true c.loop-own.invariant c.facet_by.ensures c.in_ok-push.ensures.items
+
+pub returns : goal.returns
+returns g c = c.loop-own.invariant ∙ ap (facets_by c.args.points.now) (take_all c.loop-own.own-index c.args.numbers.now c.loop-own-test.false)

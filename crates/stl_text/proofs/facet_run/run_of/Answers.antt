@@ -6,3 +6,6 @@ run-init g c = rw c.new-facets.ensures.items (run_begun c.args.unit c.args.text.
 
 pub run-preserved : goal.run-preserved
 run-preserved g c = c.in-Some.ensures.run c.args.text.now c.after_end_facet-from.result.now c.run.invariant
+
+pub returns : goal.returns
+returns g c = rw c.in_default.ensures.none c.run.invariant

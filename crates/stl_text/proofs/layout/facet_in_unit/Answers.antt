@@ -1,22 +1,28 @@
-use Rattle.std.proofs.Common.{sym, ap}
+use Rattle.std.proofs.Common.{◌≡◌, Some, sym, ap, subst}
 use Rattle.stl_text.specs.Layout.{separator_tokens}
-use Rattle.stl_text.specs.Text.{facet_tokens}
+use Rattle.stl_text.specs.Text.{facet_tokens, rest_after}
 use Rattle.stl_text.specs.declared.grammar.Separator.TheVariants as separator
 use Rattle.geometry.specs.Facet.{facet_with}
 use Rattle.stl_text.proofs.lemmas.Layouts.{facet-some, in_layout, read_from}
+use Rattle.stl_text.proofs.lemmas.Steps.{some-items}
 use Rattle.stl_text.proofs.layout.facet_in_unit.Goals as goal
 
 pub returns-clause-read : goal.returns-clause-read
 returns-clause-read c =
     let is = c.layout.invariant in
-    rw c.of.ensures
+    let opening = c.in_ok-skip.ensures (separator_tokens separator.Opening) is.opening in
+    let first = c.in_ok-skip-2.ensures (separator_tokens separator.First) is.first in
+    let second = c.in_ok-skip-3.ensures (separator_tokens separator.Next) is.next in
+    let third = c.in_ok-skip-4.ensures (separator_tokens separator.Next) is.next in
+    let corners : c.of.result ≡ facet_with c.in_ok-a.a c.in_ok-b.b c.in_ok-c.c = c.of.ensures in
+    subst (λ t. rest_after c.args.unit (facet_tokens t) c.args.bytes.now ≡ Some c.reader.inside.rest.now) (sym corners)
     (read_from (facet_tokens (facet_with c.in_ok-a.a c.in_ok-b.b c.in_ok-c.c)) c.args.unit c.args.bytes.now c.reader.inside.rest.now c.new-reader.ensures
-    (in_layout c.in_ok-a.a c.in_ok-b.b c.in_ok-c.c
-    (c.in_ok-skip.ensures (separator_tokens separator.Opening) is.opening) c.in_ok-near_normal.ensures.some
-    (c.in_ok-skip-2.ensures (separator_tokens separator.First) is.first) c.in_ok-a.ensures
-    (c.in_ok-skip-3.ensures (separator_tokens separator.Next) is.next) c.in_ok-b.ensures
-    (c.in_ok-skip-4.ensures (separator_tokens separator.Next) is.next) c.in_ok-c.ensures c.in_ok-close.ensures)
+    (in_layout c.in_ok-a.a c.in_ok-b.b c.in_ok-c.c opening c.in_ok-near_normal.ensures.some first c.in_ok-a.ensures second c.in_ok-b.ensures third
+    c.in_ok-c.ensures c.in_ok-close.ensures)
     (ap (λ r. r.rest) (sym c.reader.view_is)))
+
+pub returns-clause-some : goal.returns-clause-some
+returns-clause-some c = some-items c.reader.inside.rest.now c.is_empty.result c.is_empty.ensures c.if-is_empty.false
 
 pub returns-clause-shorter : goal.returns-clause-shorter
 returns-clause-shorter c = facet-some c.of.result c.args.unit c.args.bytes.now c.reader.inside.rest.now (returns-clause-read c)

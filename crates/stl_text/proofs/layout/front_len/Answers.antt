@@ -1,12 +1,12 @@
 use Rattle.std.proofs.Common.{rules, sym, ◌<◌}
-use Rattle.stl_text.proofs.lemmas.Lanes.{low_mask, lowest, lowest_within, none_count, none_low, some_low}
+use Rattle.stl_text.proofs.lemmas.Lanes.{low_mask, lowest, none_count, count_clear, count_within}
 use Rattle.stl_text.proofs.layout.front_len.Goals as goal
 
 pub returns-then-low-eq0-clause-count : goal.returns-then-low-eq0-clause-count
 returns-then-low-eq0-clause-count c = sym (none_count c.args.bytes.now c.requires c.if-low-eq0.true)
 
 pub returns-then-low-eq0-clause-clear : goal.returns-then-low-eq0-clause-clear
-returns-then-low-eq0-clause-clear c = none_low c.args.bytes.now c.requires c.if-low-eq0.true
+returns-then-low-eq0-clause-clear c = count_clear c.args.bytes.now c.requires _ (returns-then-low-eq0-clause-count c)
 
 pub returns-else-low-eq0-clause-count : goal.returns-else-low-eq0-clause-count
 returns-else-low-eq0-clause-count c =
@@ -14,11 +14,7 @@ returns-else-low-eq0-clause-count c =
     lowest c.args.bytes.now c.requires some
 
 pub returns-else-low-eq0-clause-clear : goal.returns-else-low-eq0-clause-clear
-returns-else-low-eq0-clause-clear c =
-    let some : 0 < low_mask c.args.bytes.now = search rules in
-    some_low c.args.bytes.now c.requires some
+returns-else-low-eq0-clause-clear c = count_clear c.args.bytes.now c.requires _ (returns-else-low-eq0-clause-count c)
 
 pub returns-else-low-eq0-clause-within : goal.returns-else-low-eq0-clause-within
-returns-else-low-eq0-clause-within c =
-    let some : 0 < low_mask c.args.bytes.now = search rules in
-    lowest_within c.args.bytes.now c.requires some
+returns-else-low-eq0-clause-within c = count_within c.args.bytes.now c.requires _ (returns-else-low-eq0-clause-count c)

@@ -25,3 +25,6 @@ invariant_of-result g c =
     c.sort_unstable.ensures.permutation c.sort_unstable.ensures.sorted
     (rw c.as_slice.ensures.value at c.in_ok-active.ensures.numbers) (rw c.as_slice.ensures.value at c.in_ok-active.ensures.tops) in
     rw same swept
+
+pub returns-clause-at : goal.returns-clause-at
+returns-clause-at g c = to_z-of_z w64 c.args.z2 c.ranges.z2

@@ -15,3 +15,6 @@ pub returns-clause-members : goal.returns-clause-members
 returns-clause-members g c p =
     let points_are : c.as_slice.result.now ≡ vertices (facets_by c.self.inside.numbering.points.items c.self.inside.numbering.numbers.items) = c.as_slice.ensures.value ∙ c.self.invariant.0.points_are in
     rw (points_are, ← c.self.view_is) (in_order-contains (flat_map corners (facets_by c.self.inside.numbering.points.items c.self.inside.numbering.numbers.items)) p)
+
+pub returns-clause-value : goal.returns-clause-value
+returns-clause-value g c = rw (← c.self.view_is) (c.as_slice.ensures.value ∙ c.self.invariant.0.points_are)

@@ -40,6 +40,15 @@ taken_in old new ids more degenerate w t is kept added =
     let same : degenerate ≡ degenerate ++ degenerate_facets (t ∷ []) = sym (append-nil degenerate) ∙ ap (λ (l : List Facet). degenerate ++ l) (sym none) in
     (λ n. record { kept = facets n; degenerate = same n }) ∙ ap (λ (v : Welder). with_facets v (t ∷ [])) is
 
+degenerate_in : (points : List Point) (ids : List (List ℕ)) (old new : List Facet) (w : Welder) (t : Facet) → welder_by points ids old ≡ w
+    → is_kept t ≡ false → new ≡ old ++ t ∷ [] → welder_by points ids new ≡ with_facets w (t ∷ [])
+degenerate_in points ids old new w t is dropped added =
+    let none : kept_facets (t ∷ []) ≡ [] = rw dropped refl in
+    let one : degenerate_facets (t ∷ []) ≡ t ∷ [] = rw dropped refl in
+    let same : facets_by points ids ≡ facets_by points ids ++ kept_facets (t ∷ []) = sym (append-nil (facets_by points ids)) ∙ ap (λ (l : List Facet). facets_by points ids ++ l) (sym none) in
+    let more : new ≡ old ++ degenerate_facets (t ∷ []) = added ∙ ap (λ (l : List Facet). old ++ l) (sym one) in
+    (λ n. record { kept = same n; degenerate = more n }) ∙ ap (λ (v : Welder). with_facets v (t ∷ [])) is
+
 pub name_facet-named-requires-clause-few : goal.name_facet-named-requires-clause-few
 name_facet-named-requires-clause-few g c =
     let own = c.self.inside in
@@ -77,3 +86,9 @@ returns-else-is_err g c =
     (λ added. taken_in own.points.items new.points.items own.kept new.kept own.degenerate.items c.args.self.now c.args.facet.now c.self.view_is
     (sym c.if-not-has_distinct_corners.ensures) added)
     c.name_facet-named.ensures.added
+
+pub returns-then-not-has_distinct_corners : goal.returns-then-not-has_distinct_corners
+returns-then-not-has_distinct_corners g c =
+    let own = c.self.inside in
+    degenerate_in own.points.items own.kept own.degenerate.items c.push.new.self.items c.args.self.now c.args.facet.now c.self.view_is
+    (sym c.if-not-has_distinct_corners.ensures) c.in_ok-push.ensures.items

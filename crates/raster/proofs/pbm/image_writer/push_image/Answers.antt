@@ -1,12 +1,16 @@
-use Rattle.std.proofs.Common.{◌-◌, ◌∙◌, ◌≤◌, ℕ, arith, subst}
+use Rattle.std.proofs.Common.{◌≡◌, ◌+◌, ◌++◌, ◌-◌, ◌∙◌, ◌≤◌, ℕ, ap, arith, length, subst, sym}
 use Rattle.std.proofs.lemmas.Result.{err_from_is_err_and}
+use Rattle.std.proofs.lemmas.List.{append-nil}
+use Rattle.std.specs.Int.{div_ceil}
 use Rattle.devices.specs.Devices.{Fails}
 use Rattle.geometry.specs.declared.limits.TheConstants.{COLUMN_LIMIT}
-use Rattle.raster.specs.Image.{row_bytes}
+use Rattle.raster.specs.Image.{header, image_of_pixels, row_bytes}
 use Rattle.raster.specs.ImageWriter.{pending}
+use Rattle.raster.specs.Rows.{IsRowStart}
 use Rattle.raster.specs.Span.{covers}
 use Rattle.raster.proofs.lemmas.Images.{held-few}
-use Rattle.raster.proofs.lemmas.Written.{lower_rows, more-out, moved, next-row, taken-on, written-within}
+use Rattle.raster.proofs.lemmas.SpanOrder.{split-all}
+use Rattle.raster.proofs.lemmas.Written.{begun, lower_rows, more-out, moved, next-row, taken-on, written-within}
 use Rattle.raster.proofs.pbm.image_writer.push_image.Goals as goal
 
 pub make_room-requires-in-loop-row-clause-count : goal.make_room-requires-in-loop-row-clause-count
@@ -64,3 +68,48 @@ loop-row-preserved g c =
           (next-row at.columns c.loop-row.row (c.loop-row.row - 1) (covers c.args.spans.now) (omega arith)) c.push_row-end.ensures.drawn;
       same = out.ok.same ∙ inv.same;
     }
+
+pub loop-row-init : goal.loop-row-init
+loop-row-init g c =
+    let at = c.args.g.now in
+    let pixel = covers c.args.spans.now in
+    let image = image_of_pixels at.columns at.rows pixel in
+    let old = g.W.Sink.contents c.args.w.now in
+    let new = g.W.Sink.contents c.make_room.new.w in
+    let text = pending c.args.chunk.now at c.args.spans.now in
+    let out = c.in_ok-written.ensures in
+    let chunk = c.make_room.new.self in
+    let wide : c.push_header.new.self ≡ chunk ++ header at.columns c.rows.result =
+    c.push_header.ensures ∙ ap (λ n. chunk ++ header n c.rows.result) c.columns-2.ensures.value in
+    let headed : c.push_header.new.self ≡ chunk ++ header at.columns at.rows = wide ∙ ap (λ n. chunk ++ header at.columns n) c.rows.ensures.value in
+    record {
+      needed = c.div_ceil-needed.ensures ∙ ap (λ n. div_ceil n 8) c.columns.ensures.value;
+      rows = omega (arith, c.rows-row.ensures.value);
+      split = subst (IsRowStart c.args.spans.now (length c.args.spans.now)) (sym c.rows-row.ensures.value)
+          (split-all at.columns at.rows c.args.spans.now c.requires.form.within);
+      text = taken-on old new text c.args.before c.in_ok-written.written chunk c.push_header.new.self (header at.columns at.rows)
+          (lower_rows at.columns pixel c.rows-row.result) image
+          (moved old old new text c.args.before c.args.before c.in_ok-written.written c.args.chunk.now chunk image (begun old c.args.before c.args.chunk.now image)
+          out.ok.low out.ok.high out.ok.out out.kept)
+          (ap (λ n. header at.columns at.rows ++ lower_rows at.columns pixel n) (sym c.rows-row.ensures.value))
+          headed;
+      same = out.ok.same;
+    }
+
+pub push_row-end-requires-clause-split : goal.push_row-end-requires-clause-split
+push_row-end-requires-clause-split g c =
+    let above : c.loop-row.row ≡ c.loop-row.row - 1 + 1 = omega (arith, c.loop-row-test.true) in
+    subst (IsRowStart c.args.spans.now c.loop-row.end) above c.loop-row.invariant.split
+
+pub returns-clause-ok : goal.returns-clause-ok
+returns-clause-ok g c =
+    let inv = c.loop-row.invariant in
+    record { low = inv.text.low; high = inv.text.high; out = inv.text.out; same = inv.same }
+
+pub returns-clause-held : goal.returns-clause-held
+returns-clause-held g c =
+    let at = c.args.g.now in
+    let none : c.loop-row.row ≡ 0 = omega (arith, c.loop-row-test.false) in
+    sym (c.loop-row.invariant.text.left
+    ∙ ap (λ n. c.loop-row.chunk ++ lower_rows at.columns (covers c.args.spans.now) n) none
+    ∙ append-nil c.loop-row.chunk)

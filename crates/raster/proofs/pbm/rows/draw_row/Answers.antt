@@ -1,5 +1,7 @@
-use Rattle.std.proofs.Common.{◌∙◌, ap, List}
+use Rattle.std.proofs.Common.{◌-◌, ◌/◌, ◌%◌, ◌∙◌, ap, List}
+use Rattle.std.specs.Int.{bit_at}
 use Rattle.std.proofs.lemmas.List.{take_all}
+use Rattle.std.proofs.lemmas.Nat.Bits.{bit_at-zero}
 use Rattle.raster.specs.declared.span.Span.{Span}
 use Rattle.raster.specs.Rows.{crosses}
 use Rattle.raster.proofs.lemmas.Packing.{indicator, row-is}
@@ -12,3 +14,9 @@ returns c =
     (c.loop-span.auto.row ∙ c.requires.size)
     c.loop-span.invariant.bytes
     (λ i. c.loop-span.invariant.drawn i ∙ ap (λ (spans : List Span). indicator (crosses spans i)) (take_all c.loop-span.span-index c.args.spans.now c.loop-span-test.false) ∙ ap indicator (within-crosses c.args.width c.args.spans.now i c.requires.within))
+
+pub loop-span-init : goal.loop-span-init
+loop-span-init c = record {
+  bytes = λ k. (c.type_inv.row k).fits;
+  drawn = λ i. ap (λ n. bit_at n (7 - i % 8)) (c.requires.blank (i / 8)) ∙ bit_at-zero (7 - i % 8);
+}

@@ -17,3 +17,6 @@ invariant_of-self g c =
     let more : All (P i.unit i.chunk.now) m.runs.items =
     subst (λ b. All (P i.unit b) m.runs.items) bytes_is (subst (λ u. All (P u m.chunk.now) m.runs.items) unit_is c.more.invariant) in
     all_added (P i.unit i.chunk.now) (is_ok c.append.result) i.runs.items m.runs.items c.append.new.self.items c.append.ensures.items c.self.invariant more
+
+pub returns : goal.returns
+returns g c = c.self.view_is

@@ -13,3 +13,6 @@ invariant_of-self g c =
     let one : P here c.args.run = subst (λ v. P v c.args.run) (sym c.self.view_is) c.requires in
     all_added (P here) (is_ok c.push.result) i.runs.items (c.args.run ∷ []) c.push.new.self.items c.push.ensures.items c.self.invariant
     (all_of_one (P here) c.args.run one)
+
+pub returns : goal.returns
+returns g c = c.self.view_is

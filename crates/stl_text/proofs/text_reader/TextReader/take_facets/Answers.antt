@@ -22,3 +22,6 @@ returns-clause-after g c = λ limit unit taken fed is.
     (λ few. omega (arith, few, c.saturating_sub-self-inside.ensures, c.len.ensures, i.facets.ok.0, length-append taken i.facets.items))
     refl refl refl refl (ap (λ v. (taken ++ i.facets.items) ++ v.items) c.swap.ensures.x_after
     ∙ ap (λ fs. (taken ++ i.facets.items) ++ fs) c.clear.ensures.items ∙ append-nil (taken ++ i.facets.items)))
+
+pub returns-clause-given : goal.returns-clause-given
+returns-clause-given g c = ap (λ v. v.items) c.swap.ensures.y_after ∙ ap (λ p. p.facets) c.self.view_is

@@ -1,6 +1,7 @@
-use Rattle.std.proofs.Common.{◌≡◌, ◌≤◌, ◌+◌, ◌-◌, ◌++◌, ◌∙◌, Bool, List, ℕ, suc, ap, arith, append_assoc, length, length-append, sym}
+use Rattle.std.proofs.Common.{◌≡◌, ◌≤◌, ◌+◌, ◌-◌, ◌++◌, ◌∙◌, Bool, List, ℕ, suc, ap, arith, append_assoc, length, length-append, subst, sym}
 use Rattle.std.specs.Int.{div_ceil}
 use Rattle.raster.specs.Image.{image_of_pixels, row_bytes}
+use Rattle.raster.specs.Rows.{IsRowStart}
 use Rattle.raster.specs.Span.{covers}
 use Rattle.raster.proofs.lemmas.Written.{length-row, lower_rows, next-row}
 use Rattle.raster.proofs.pbm.page.Page.draw.Goals as goal
@@ -47,3 +48,8 @@ loop-row-preserved g c =
           (c.args.self.now.bytes ++ image_of_pixels at.columns at.rows (covers c.args.spans.now)) (omega arith) inv.text c.push_row-end.ensures.drawn;
       room = c.push_row-end.ensures.room ∙ inv.room;
     }
+
+pub push_row-end-requires-clause-split : goal.push_row-end-requires-clause-split
+push_row-end-requires-clause-split g c =
+    let above : c.loop-row.row ≡ c.loop-row.row - 1 + 1 = omega (arith, c.loop-row-test.true) in
+    subst (IsRowStart c.args.spans.now c.loop-row.end) above c.loop-row.invariant.split

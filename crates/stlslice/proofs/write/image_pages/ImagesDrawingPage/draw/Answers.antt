@@ -1,4 +1,4 @@
-use Rattle.std.proofs.Common.{◌≡◌, ◌≤◌, ◌<◌, ◌+◌, ◌*◌, ◌∙◌, List, ℕ, ap, arith, length, subst, sym}
+use Rattle.std.proofs.Common.{◌≡◌, ◌≤◌, ◌<◌, ◌+◌, ◌*◌, ◌∙◌, ◌++◌, List, [], ℕ, ap, arith, length, rules, subst, sym}
 use Rattle.raster.specs.Image.{layer_image}
 use Rattle.raster.specs.Span.{covers}
 use Rattle.build_book.specs.Job.{Job}
@@ -44,4 +44,12 @@ loop-k-preserved g c =
       text = image-drawn f c.loop-k.k c.args.end c.loop-k.page.bytes c.draw.new.self.bytes (image c.grid-grid.result.now c.spans.result.now)
           (images_between f c.args.start c.args.end) c.loop-k-test.true here c.draw.ensures.drawn c.loop-k.invariant.text;
       room = c.draw.ensures.room ∙ c.loop-k.invariant.room;
+    }
+
+pub loop-k-init : goal.loop-k-init
+loop-k-init g c =
+    let job : Job = c.args.self.now.build.now.job in
+    record {
+      text = ap (λ (l : List ℕ). l ++ images_between (layer_image job.grid job.rule job.solid.facets) c.args.start c.args.end) {y = []} cc;
+      room = search rules;
     }

@@ -1,4 +1,4 @@
-use Rattle.std.proofs.Common.{◌≡◌, ◌≤◌, ◌<◌, ◌+◌, ◌-◌, ◌∙◌, List, ℕ, ap, arith, length, vec_capacity}
+use Rattle.std.proofs.Common.{◌≡◌, ◌≤◌, ◌<◌, ◌+◌, ◌-◌, ◌∙◌, ◌++◌, List, [], ℕ, ap, arith, length, vec_capacity}
 use Rattle.build_book.specs.Job.{Job}
 use Rattle.layer_png.specs.Depth.{bits}
 use Rattle.layer_png.specs.Layer.{shown}
@@ -61,4 +61,15 @@ loop-k-preserved g c =
       few = longer (at.k - c.args.start) (at.k + 1 - c.args.start) at.bytes.len c.add_png-bytes.result.len most it.room (omega arith)
           at.invariant.few c.add_png-bytes.ensures.most small;
       capacity = omega (arith, at.invariant.capacity, c.add_png-bytes.ensures.capacity);
+    }
+
+pub loop-k-init : goal.loop-k-init
+loop-k-init g c =
+    let it = c.args.self.now in
+    let job : Job = it.build.now.job in
+    let f : ℕ → List ℕ = layer_png job.grid job.rule job.solid.facets it.depth it.mirrors in
+    record {
+      text = ap (λ (l : List ℕ). l ++ images_between f c.args.start c.args.end) {y = []} cc;
+      few = omega arith;
+      capacity = omega arith;
     }

@@ -1,0 +1,5 @@
+use Rattle.std.proofs.Common.{rules}
+use Rattle.mesh_weld.proofs.by_hash.numbered_facets.NumberedFacets.clear.Goals as goal
+
+pub returns : goal.returns
+returns g c = search rules

@@ -1,0 +1,5 @@
+use Rattle.std.proofs.Common.{rules}
+use Rattle.mesh_weld.proofs.height_order.highest.Goals as goal
+
+pub returns : goal.returns
+returns c = search rules
