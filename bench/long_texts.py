@@ -21,8 +21,8 @@ MB = 1_000_000
 LENGTH = 2_000 * MB
 # what the program may take, in bytes: --box holds a window of the text, several workers hold two rounds
 ROOM, BOX_ROOM = 20 * MB, 4 * MB
-# the seconds within which two times aren't told apart
-NOISE = 0.2
+# the seconds within which two times aren't told apart, and how often a text is tried that takes longer than it should
+NOISE, TRIES = 0.2, 3
 SLICE = ["--pitch", "100", "--layer", "1000"]
 
 CUBE = box((0, 0, 0), (1, 1, 1))
@@ -120,6 +120,10 @@ def try_all(program, part):
     for text in texts(part):
         half, _, _ = run(program, text, text.length // 2)
         seconds, memory, answer = run(program, text, text.length)
+        # what else the machine does can only make a run longer
+        for _ in range(TRIES - 1):
+            if seconds > 3 * half + NOISE:
+                seconds = min(seconds, run(program, text, text.length)[0])
         label = f"{text.name}, {' '.join(text.words[-2:])}"
         print(f"{label:42} {text.length / MB:8.0f} MB {seconds:7.2f} s {seconds / text.length * 1000 * MB:6.2f} s/GB "
               f"{memory / MB:7.1f} MB", flush=True)

@@ -474,7 +474,7 @@ def stopped_script_leaves_nothing(program, folder):
     """By each signal, and by further ones that come at once. A signal that nohup ignores is none."""
     for command in (SL1, PNGS, PAGE):
         image = printed(image_for(command)).strip()
-        path = slicer(folder, f"for k in $(seq 500); do {image}; done\ntouch begun\nexec sleep 60\n", 500)
+        path = slicer(folder, f"for k in $(seq 500); do {image}; done\necho $$ > pid\nmv pid begun\nexec sleep 60\n", 500)
         for number in (signal.SIGHUP, signal.SIGINT, signal.SIGTERM):
             def listen():
                 for other in (signal.SIGHUP, signal.SIGINT, signal.SIGTERM):
@@ -490,6 +490,9 @@ def stopped_script_leaves_nothing(program, folder):
                 time.sleep(0.0005)
             same((child.returncode, child.stderr.read()), (128 + number, b""), f"{os.path.basename(command)}, signal {number}")
             child.stderr.close()
+            with open(os.path.join(folder, "begun")) as file:
+                pid = int(file.read())
+            waited(lambda: has_ended(pid))
             os.remove(os.path.join(folder, "begun"))
             leaves_nothing(folder, ["slicer"])
 
@@ -506,12 +509,21 @@ def signal_within_a_library_is_no_fault(program, folder):
     leaves_nothing(folder, ["slicer"])
 
 
+def has_ended(pid):
+    """Whether a process is gone, or waits only for its parent to ask for its status."""
+    try:
+        with open(f"/proc/{pid}/stat") as file:
+            return file.read().rpartition(")")[2].split()[0] == "Z"
+    except (FileNotFoundError, ProcessLookupError):
+        return True
+
+
 def waited(is_so):
     for _ in range(1200):
         if is_so():
             return
         time.sleep(0.05)
-    raise AssertionError("nothing came in a minute")
+    raise AssertionError("it was not so within a minute")
 
 
 def early_signal_is_no_fault(program, folder):

@@ -171,7 +171,7 @@ def end_of(fault):
 
 
 def ended(main):
-    """Runs a command, and ends with its status: 0, the program's, or that of a fault or of a signal."""
+    """Runs a command, and ends with its status: 0, the program's, or that of a fault."""
     sys.stdout, sys.stderr = (it or open(os.devnull, "w") for it in (sys.stdout, sys.stderr))
     sys.stdout.reconfigure(errors="backslashreplace")
     try:
