@@ -988,7 +988,7 @@ def is_by_clause(edit, batch):
 
 
 def unseen(batch, check, controls):
-    """Why a check can't be believed, if it can't: the first harmless edit has to be seen as proved, and no goal of the second, beside
+    """Why a check can't be believed, if it can't: the first harmless edit has to be seen as proved, and no goal of the others, beside
     the lemma that is refused, may be open."""
     (first, _, _), *others = controls
     seen = check.lines.get(first.symbol, "the check has no line for it")
@@ -1001,6 +1001,7 @@ def unseen(batch, check, controls):
 def results_of(batch, check, controls, otherwise):
     """The results that a check gives, and the edits of which it says nothing, in the lists in which they are to be tried."""
     why = unseen(batch, check, controls)
+    is_believed = check.is_whole and not why
     bad = blamed(batch, check) if check.is_whole or not check.lines else {}
     told = {it: judge(it, batch, check, otherwise) for it in batch.edits}
     if check.is_whole and why:
@@ -1015,7 +1016,8 @@ def results_of(batch, check, controls, otherwise):
         told = {it: told[it] for it in batch.edits if it not in hidden or is_for_nothing}
         told.update({it: (False, said) for it, said in bad.items()})
     # those that no answer refuses, a search may
-    again = [it for it in told if not told[it][0] and it not in bad and {*it.functions} & {*check.unsearched}] if check.is_whole and not why else []
+    refused_by_none = [it for it in told if is_believed and not told[it][0] and it not in bad]
+    again = [it for it in refused_by_none if {*it.functions} & {*check.unsearched}]
     for it in again:
         it.is_searched = it.is_unmarked = True
     told = {it: told[it] for it in told if it not in again}
