@@ -1,6 +1,7 @@
 //! The work on a round of a text that several workers share. They weld the facets of the round before, fill the next round, and
 //! look for runs of facets in parts of this round.
 ghost use Rattle.std.specs.Prelude.{◌≡◌, ◌++◌, IfErr, List, OnOk, ℕ};
+ghost use Rattle.std.specs.Result.{result_and};
 ghost use Rattle.geometry.specs.Facet.{Facet};
 ghost use Rattle.geometry.specs.declared.limits.TheConstants.{FACET_LIMIT};
 ghost use Rattle.micro_num.specs.declared.unit.Unit.{Unit as LengthUnit};
@@ -97,9 +98,7 @@ fn weld_and_fill<'t, R: Threads + Sync, A: Allocator + Copy + Send + Sync, I: So
     ensures filled { IsFilled I.remaining I.Failures.failure_count source.old source.new next.old next.new result.1 }
 {
     if workers < 3 {
-        let welded = weld_next(welder, facets);
-        let (found, filled) = fill_first(source, next, parts);
-        return (found, filled.and(welded));
+        return weld_then_fill(source, next, parts, welder, facets);
     }
     // three workers have tasks of their own: the first new thread, the one that welds, and the one that fills
     let others = workers - 3;
@@ -112,9 +111,40 @@ fn weld_and_fill<'t, R: Threads + Sync, A: Allocator + Copy + Send + Sync, I: So
         ensures found { result.0 ≡ parts.entry.now }
         ensures filled { IsFilled I.remaining I.Failures.failure_count source.entry.now source.exit.now next.entry.now next.exit.now result.1 }
     { fill_beside(rt, others, source, next, parts) };
-    let ((mut found, welded), (more, filled)) = join_mut(rt, &mut weld, &mut fill);
-    found.add(more);
-    (found, filled.and(welded))
+    let (welding, filling) = join_mut(rt, &mut weld, &mut fill);
+    both(welding, filling)
+}
+
+/// What two workers found, of which one welded and one filled. A fault of filling comes before one of welding.
+fn both<'t, A: Allocator>(
+    welding: (FacetRuns<'t, A>, Result<(), ReadFault>),
+    filling: (FacetRuns<'t, A>, Result<(), ReadFault>),
+) -> (FacetRuns<'t, A>, Result<(), ReadFault>)
+    requires { filling.0 ≡ welding.0 }
+    ensures found { result.0 ≡ welding.entry.0 }
+    ensures done { result.1 ≡ result_and filling.entry.1 welding.entry.1 }
+{
+    let (mut all, welded) = welding;
+    let (more, filled) = filling;
+    all.add(more);
+    (all, filled.and(welded))
+}
+
+/// The same as [`weld_and_fill`] by one worker.
+fn weld_then_fill<'t, A: Allocator + Copy + Send + Sync, I: Source>(
+    source: &mut I,
+    next: &mut Round<A>,
+    parts: &ChunkParts<'t, A>,
+    welder: &mut Welder<A>,
+    facets: &[Facet],
+) -> (FacetRuns<'t, A>, Result<(), ReadFault>)
+    ensures found { result.0 ≡ parts.now }
+    ensures welded { OnOk result.1 (HasWelded facets.now welder.old welder.new) }
+    ensures filled { IsFilled I.remaining I.Failures.failure_count source.old source.new next.old next.new result.1 }
+{
+    let done = weld_next(welder, facets);
+    let (found, filled) = fill_first(source, next, parts);
+    (found, filled.and(done))
 }
 
 /// Adds facets to a welder, and then finds runs in the parts that nobody has drawn yet.
