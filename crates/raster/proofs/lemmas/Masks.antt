@@ -26,6 +26,13 @@ max-one n m t h = omega (arith, bit_at-lt n t)
 pub max-none : (n m t : ℕ) → bit_at m t ≡ 0 → max (bit_at n t) (bit_at m t) ≡ bit_at n t
 max-none n m t h = omega (arith, bit_at-lt n t)
 
+-- a bit under the bit of a mask
+pub max-set : (n t m : ℕ) → m ≡ 1 → max (bit_at n t) m ≡ 1
+max-set n t m h = omega (arith, bit_at-lt n t)
+
+pub max-kept : (n t m : ℕ) → m ≡ 0 → max (bit_at n t) m ≡ bit_at n t
+max-kept n t m h = omega (arith, bit_at-lt n t)
+
 -- a byte of a part that was written over
 at-part : (row part : List ℕ) (a k m : ℕ) → length part ≡ k → a + k ≤ length row → a ≤ m → m < a + k → get_or (put_mid a k row part) m 0 ≡ get_or part (m - a) 0
 at-part row part a k m size room low high =
