@@ -1,9 +1,9 @@
 -- The middle of a cell and the grid of a box, as the machine computes them.
 use Rattle.std.proofs.Common.{◌≡◌, ℕ, ◌+◌, ◌-◌, ◌*◌, ◌^◌, ◌<◌, ◌≤◌, Bool, true, false, cond, ◌||◌, refl, ap, subst, sym, ◌∙◌, arith}
-use Rattle.std.specs.Prelude.{ℤ, pos, ◌+ℤ◌, ◌*ℤ◌, ◌≤ℤ◌, FitsSigned, int_lt, ◌==◌, Ok, Err}
+use Rattle.std.specs.Prelude.{ℤ, pos, ◌+ℤ◌, ◌*ℤ◌, ◌≤ℤ◌, FitsSigned, unsigned_abs, int_lt, ◌==◌, Ok, Err}
 use Rattle.std.proofs.lemmas.Int.{ints, to_z-of_z}
 use Rattle.std.proofs.lemmas.Bool.Decides.{nat_tests}
-use Rattle.std.proofs.Math.Nat.{mul-le-mul}
+use Rattle.std.proofs.Math.Nat.{le_refl, mul-le-mul}
 use mir.Syntax.{w32, w64}
 use mir.Val.{Fits, of_z, to_z}
 use Rattle.exact_int.specs.Bounds.{IsAtMost}
@@ -64,6 +64,28 @@ pub middle-at : (z o m : ℤ) (step n : ℕ) → z ≡ o → IsAtMost COORDINATE
     → to_z w64 (of_z w64 m) ≡ middle o step n
 middle-at z o m step n e h f k =
     to_z-of_z w64 m (fits w64 (size_known k) refl) ∙ f ∙ ap (λ x. middle x step n) (coordinate z h ∙ e)
+
+pub height : (z : ℤ) → IsAtMost CENTRE_LIMIT z → to_z w64 (of_z w64 z) ≡ z
+height z h = to_z-of_z w64 z (fits w64 (size_known h) refl)
+
+-- the middle of the last cell, of a coordinate that is read back
+pub last-back : (z low : ℤ) (step n : ℕ) → z ≡ low → IsAtMost COORDINATE_LIMIT z → middle low step (n - 1) ≤ℤ pos CENTRE_LIMIT → middle (to_z w32 (of_z w32 z)) step (n - 1) ≤ℤ pos CENTRE_LIMIT
+last-back z low step n e h k = subst (λ (x : ℤ). middle x step (n - 1) ≤ℤ pos CENTRE_LIMIT) (sym (coordinate z h ∙ e)) k
+
+-- a middle is within the limit if that of the last cell is
+middle-within : (start : ℤ) (step number count : ℕ) → IsAtMost COORDINATE_LIMIT start → number < count → middle start step (count - 1) ≤ℤ pos CENTRE_LIMIT → IsAtMost CENTRE_LIMIT (middle start step number)
+middle-within start step number count h low last =
+    let up : step * (2 * number + 1) ≤ step * (2 * (count - 1) + 1) = mul-le-mul (le_refl step) (omega arith) in
+    record { at_most = between (step * (2 * number + 1)) (step * (2 * (count - 1) + 1)) up last }
+  where
+    between : (m n : ℕ) → m ≤ n → (pos 2 *ℤ start +ℤ pos n) ≤ℤ pos CENTRE_LIMIT → unsigned_abs (pos 2 *ℤ start +ℤ pos m) ≤ CENTRE_LIMIT
+    between m n up last = omega (arith, ints, up, last, h.at_most)
+
+pub middle-back : (start m : ℤ) (step number count : ℕ) → m ≡ middle start step number → IsAtMost COORDINATE_LIMIT start → number < count → middle start step (count - 1) ≤ℤ pos CENTRE_LIMIT
+    → IsAtMost CENTRE_LIMIT (to_z w64 (of_z w64 m))
+middle-back start m step number count e h low last =
+    let k : IsAtMost CENTRE_LIMIT m = subst (IsAtMost CENTRE_LIMIT) (sym e) (middle-within start step number count h low last) in
+    subst (IsAtMost CENTRE_LIMIT) (sym (height m k)) k
 
 -- ---- the grid of a box
 pub coordinate-in : (z : ℤ) → IsAtMost COORDINATE_LIMIT z → IsAtMost COORDINATE_LIMIT (to_z w32 (of_z w32 z))

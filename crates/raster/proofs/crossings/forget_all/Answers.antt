@@ -21,3 +21,7 @@ returns-clause-empty g c = λ k d low.
 
 pub returns-clause-count : goal.returns-clause-count
 returns-clause-count g c = c.loop-row.invariant.rows
+
+pub index_mut-requires : goal.index_mut-requires
+index_mut-requires g c =
+    omega (arith, c.loop-row-test.true, c.len-row-end.ensures, c.loop-row.invariant.rows, c.args.rows.now.ok.0, c.loop-row.rows.ok.0)

@@ -25,3 +25,26 @@ returns-clause-ok g c =
     let held = rw (c.new-writer.ensures, all) at c.in_ok-add.ensures.held in
     whole-out (g.W.Sink.contents c.args.w.now) (g.W.Sink.contents c.add.new.w) (g.W.Sink.contents c.finish.new.w)
     (image_of_pixels at.columns at.rows (covers c.args.spans.now)) c.add.new.self.held c.add.new.self.sent ok held c.in_ok-finish.ensures.ok
+
+pub add-requires-clause-form : goal.add-requires-clause-form
+add-requires-clause-form g c = c.requires
+
+pub returns-in_err-add-clause-ok : goal.returns-in_err-add-clause-ok
+returns-in_err-add-clause-ok g c =
+    let p = err_from_is_err_and c.from_residual.result c.from_residual.ensures.1 in
+    rw p.1 tt
+
+pub returns-in_err-add-clause-same : goal.returns-in_err-add-clause-same
+returns-in_err-add-clause-same g c =
+    let p = err_from_is_err_and c.from_residual.result c.from_residual.ensures.1 in
+    rw p.1 tt
+
+pub returns-in_err-finish-clause-ok : goal.returns-in_err-finish-clause-ok
+returns-in_err-finish-clause-ok g c =
+    let p = err_from_is_err_and c.from_residual-in_err-finish.result c.from_residual-in_err-finish.ensures.1 in
+    rw p.1 tt
+
+pub returns-in_err-finish-clause-same : goal.returns-in_err-finish-clause-same
+returns-in_err-finish-clause-same g c =
+    let p = err_from_is_err_and c.from_residual-in_err-finish.result c.from_residual-in_err-finish.ensures.1 in
+    rw p.1 tt

@@ -8,6 +8,7 @@ use Rattle.raster.specs.Image.{header, image_of_pixels, row_bytes}
 use Rattle.raster.specs.ImageWriter.{pending}
 use Rattle.raster.specs.Rows.{IsRowStart}
 use Rattle.raster.specs.Span.{covers}
+use Rattle.raster.specs.declared.pbm.chunk.TheConstants.{CHUNK_LEN}
 use Rattle.raster.proofs.lemmas.Images.{held-few}
 use Rattle.raster.proofs.lemmas.SpanOrder.{split-all}
 use Rattle.raster.proofs.lemmas.Written.{begun, lower_rows, more-out, moved, next-row, taken-on, written-within}
@@ -113,3 +114,49 @@ returns-clause-held g c =
     sym (c.loop-row.invariant.text.left
     ∙ ap (λ n. c.loop-row.chunk ++ lower_rows at.columns (covers c.args.spans.now) n) none
     ∙ append-nil c.loop-row.chunk)
+
+pub returns-in_err-written-clause-ok : goal.returns-in_err-written-clause-ok
+returns-in_err-written-clause-ok g c =
+    let p = err_from_is_err_and c.from_residual.result c.from_residual.ensures.1 in
+    rw p.1 tt
+
+pub returns-in_err-written-clause-held : goal.returns-in_err-written-clause-held
+returns-in_err-written-clause-held g c =
+    let p = err_from_is_err_and c.from_residual.result c.from_residual.ensures.1 in
+    rw p.1 tt
+
+pub returns-in_err-written-clause-few : goal.returns-in_err-written-clause-few
+returns-in_err-written-clause-few g c =
+    let p = err_from_is_err_and c.from_residual.result c.from_residual.ensures.1 in
+    rw p.1 tt
+
+pub returns-in_err-written-2-clause-ok : goal.returns-in_err-written-2-clause-ok
+returns-in_err-written-2-clause-ok g c =
+    let p = err_from_is_err_and c.from_residual-in_err-written-2.result c.from_residual-in_err-written-2.ensures.1 in
+    rw p.1 tt
+
+pub returns-in_err-written-2-clause-held : goal.returns-in_err-written-2-clause-held
+returns-in_err-written-2-clause-held g c =
+    let p = err_from_is_err_and c.from_residual-in_err-written-2.result c.from_residual-in_err-written-2.ensures.1 in
+    rw p.1 tt
+
+pub returns-in_err-written-2-clause-few : goal.returns-in_err-written-2-clause-few
+returns-in_err-written-2-clause-few g c =
+    let p = err_from_is_err_and c.from_residual-in_err-written-2.result c.from_residual-in_err-written-2.ensures.1 in
+    rw p.1 tt
+
+pub push_header-requires-clause-room : goal.push_header-requires-clause-room
+push_header-requires-clause-room g c = c.in_ok-written.ensures.room
+
+pub push_header-requires-clause-width : goal.push_header-requires-clause-width
+push_header-requires-clause-width g c = c.columns-2.ensures.high
+
+pub push_header-requires-clause-height : goal.push_header-requires-clause-height
+push_header-requires-clause-height g c = c.rows.ensures.high
+
+pub push_row-end-requires-clause-form : goal.push_row-end-requires-clause-form
+push_row-end-requires-clause-form g c = c.requires.form
+
+pub push_row-end-requires-clause-room : goal.push_row-end-requires-clause-room
+push_row-end-requires-clause-room g c =
+    subst (λ (n : ℕ). length c.make_room-in-loop-row.new.self + n ≤ CHUNK_LEN) c.loop-row.invariant.needed c.in_ok-written-2.ensures.room

@@ -1,4 +1,4 @@
-use Rattle.std.proofs.Common.{◌≡◌, ◌≤◌, ◌+◌, ◌-◌, ◌∙◌, ℕ, List, ap, arith, drop, get_or, length, subst, sym, take}
+use Rattle.std.proofs.Common.{◌≡◌, ◌≤◌, ◌+◌, ◌∙◌, ℕ, List, ap, arith, get_or, length, subst, sym, take}
 use Rattle.std.specs.Int.{div_ceil}
 use Rattle.raster.specs.Image.{row_bytes}
 use Rattle.raster.specs.Span.{covers}
