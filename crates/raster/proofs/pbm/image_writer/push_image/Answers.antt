@@ -3,6 +3,7 @@ use Rattle.std.proofs.lemmas.Result.{err_from_is_err_and}
 use Rattle.std.proofs.lemmas.List.{append-nil}
 use Rattle.std.specs.Int.{div_ceil}
 use Rattle.devices.specs.Devices.{Fails}
+use Rattle.devices.specs.Transcript.{transcript_of}
 use Rattle.geometry.specs.declared.limits.TheConstants.{COLUMN_LIMIT}
 use Rattle.raster.specs.Image.{header, image_of_pixels, row_bytes}
 use Rattle.raster.specs.ImageWriter.{pending}
@@ -11,7 +12,7 @@ use Rattle.raster.specs.Span.{covers}
 use Rattle.raster.specs.declared.pbm.chunk.TheConstants.{CHUNK_LEN}
 use Rattle.raster.proofs.lemmas.Images.{held-few}
 use Rattle.raster.proofs.lemmas.SpanOrder.{split-all}
-use Rattle.raster.proofs.lemmas.Written.{begun, lower_rows, more-out, moved, next-row, taken-on, written-within}
+use Rattle.raster.proofs.lemmas.Written.{begun, cut-before, lower_rows, more-out, moved, next-row, taken-on, written-within}
 use Rattle.raster.proofs.pbm.image_writer.push_image.Goals as goal
 
 pub make_room-requires-in-loop-row-clause-count : goal.make_room-requires-in-loop-row-clause-count
@@ -160,3 +161,12 @@ push_row-end-requires-clause-form g c = c.requires.form
 pub push_row-end-requires-clause-room : goal.push_row-end-requires-clause-room
 push_row-end-requires-clause-room g c =
     subst (λ (n : ℕ). length c.make_room-in-loop-row.new.self + n ≤ CHUNK_LEN) c.loop-row.invariant.needed c.in_ok-written-2.ensures.room
+
+pub returns-in_err-written-clause-err : goal.returns-in_err-written-clause-err
+returns-in_err-written-clause-err g c =
+    let p = err_from_is_err_and c.from_residual.result c.from_residual.ensures.1 in
+    let at = c.args.g.now in
+    let sink = transcript_of g.W.Sink.contents g.W.Failures.failure_count c.args.w.now c.make_room.new.w in
+    rw (p.1, p.2)
+    (cut-before sink c.args.chunk.now (image_of_pixels at.columns at.rows (covers c.args.spans.now)) c.args.before c.in_err-written.field-0.0.written
+    c.in_err-written.ensures.err)
