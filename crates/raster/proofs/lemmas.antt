@@ -22,3 +22,4 @@ pub mod ColumnSums
 pub mod Images
 pub mod OddMarks
 pub mod FreeRoom
+pub mod DrawnRoom

@@ -1,5 +1,5 @@
 -- The free room after bytes stays 0 when those are set to 0.
-use Rattle.std.proofs.Common.{◌≡◌, ℕ, ◌-◌, ◌+◌, ◌<◌, ◌≤◌, List, length, get_or, subst, sym, arith, take, drop, length-append, length-drop, ap, ◌++◌, ◌∙◌, inl, inr, refl}
+use Rattle.std.proofs.Common.{◌≡◌, ℕ, ◌-◌, ◌+◌, ◌≤◌, List, length, get_or, arith, take, drop, length-append, length-drop, ap, ◌++◌, ◌∙◌, inl, inr, refl}
 use Rattle.std.proofs.Math.ListN.{replicate}
 use Rattle.std.proofs.lemmas.Bool.{cases_lt}
 use Rattle.std.proofs.lemmas.List.{get_or-append_right, get_or_append_left, get_or-drop, get_or_past, get_or-replicate, get_or-take, length-replicate, length-take}

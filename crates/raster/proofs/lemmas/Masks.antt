@@ -7,6 +7,7 @@ use Rattle.std.proofs.lemmas.Nat.Bits.{bit_at_and, bit_at-lt, bit_at_cat_low, bi
 use Rattle.std.proofs.Math.ListN.{replicate}
 use borrow.Rule.Slice.PartMut.{put_mid}
 use Rattle.std.proofs.lemmas.List.{get_or-append_right, get_or_append_left, get_or-drop, get_or-replicate, get_or-take, length-take-le}
+use Rattle.std.proofs.lemmas.Slice.{drop-put_mid}
 use Rattle.raster.specs.Bits.{pixel_bit}
 
 -- both masks have the bit
@@ -25,6 +26,13 @@ max-one n m t h = omega (arith, bit_at-lt n t)
 
 pub max-none : (n m t : ℕ) → bit_at m t ≡ 0 → max (bit_at n t) (bit_at m t) ≡ bit_at n t
 max-none n m t h = omega (arith, bit_at-lt n t)
+
+-- a bit under the bit of a mask
+pub max-set : (n t m : ℕ) → m ≡ 1 → max (bit_at n t) m ≡ 1
+max-set n t m h = omega (arith, bit_at-lt n t)
+
+pub max-kept : (n t m : ℕ) → m ≡ 0 → max (bit_at n t) m ≡ bit_at n t
+max-kept n t m h = omega (arith, bit_at-lt n t)
 
 -- a byte of a part that was written over
 at-part : (row part : List ℕ) (a k m : ℕ) → length part ≡ k → a + k ≤ length row → a ≤ m → m < a + k → get_or (put_mid a k row part) m 0 ≡ get_or part (m - a) 0
@@ -74,3 +82,19 @@ at-read row a k m low high =
 -- a pixel of a part that was written over
 pub pixel_bit-part : (row part : List ℕ) (a k i : ℕ) → length part ≡ k → a + k ≤ length row → a ≤ i / 8 → i / 8 < a + k → pixel_bit (put_mid a k row part) i ≡ bit_at (get_or part (i / 8 - a) 0) (7 - i % 8)
 pixel_bit-part row part a k i size room low high = ap (λ (n : ℕ). bit_at n (7 - i % 8)) (at-part row part a k (i / 8) size room low high)
+
+-- a pixel before or behind such a part
+pub pixel_bit-before : (row part : List ℕ) (a k i : ℕ) → a ≤ length row → i / 8 < a → pixel_bit (put_mid a k row part) i ≡ pixel_bit row i
+pixel_bit-before row part a k i inside low =
+    ap (λ (n : ℕ). bit_at n (7 - i % 8))
+    (get_or_append_left (take a row) (part ++ drop k (drop a row)) 0 (i / 8) (omega (arith, length-take-le a row inside)) ∙ get_or-take a row (i / 8) 0 low)
+
+pub pixel_bit-behind : (row part : List ℕ) (a k i : ℕ) → length part ≡ k → a + k ≤ length row → a + k ≤ i / 8 → pixel_bit (put_mid a k row part) i ≡ pixel_bit row i
+pixel_bit-behind row part a k i size room high =
+    let place : (a + k) + (i / 8 - (a + k)) ≡ i / 8 = omega arith in
+    ap (λ (n : ℕ). bit_at n (7 - i % 8))
+    (ap (λ (m : ℕ). get_or (put_mid a k row part) m 0) (sym place)
+    ∙ sym (get_or-drop (a + k) (put_mid a k row part) (i / 8 - (a + k)) 0)
+    ∙ ap (λ (l : List ℕ). get_or l (i / 8 - (a + k)) 0) (drop-put_mid a k row part (a + k) (omega arith) (omega arith) size)
+    ∙ get_or-drop (a + k) row (i / 8 - (a + k)) 0
+    ∙ ap (λ (m : ℕ). get_or row m 0) place)

@@ -10,6 +10,8 @@ use Rattle.std.proofs.lemmas.List.{append-nil, drop-append-le, drop-drop, revers
 use Rattle.std.proofs.lemmas.List.Concat.{flat_map-cons}
 use Rattle.std.proofs.Math.Seq.{take-add}
 use Rattle.devices.specs.Devices.{AppendsFirst}
+use Rattle.devices.specs.Sent.{IsCutOff}
+use Rattle.devices.specs.Transcript.{Transcript}
 use Rattle.raster.specs.Filler.{below}
 use Rattle.raster.specs.Image.{packed_byte, row_bytes}
 
@@ -118,3 +120,25 @@ length-row width pixel = length-map-range_with_len (packed_byte (λ i. nat_lt i 
 -- the row above those of a number
 pub next-row : (width m n : ℕ) (pixel : ℕ → ℕ → Bool) → m ≡ suc n → lower_rows width pixel m ≡ row_bytes width (λ i. pixel i n) ++ lower_rows width pixel n
 next-row width m n pixel next = ap (λ (k : ℕ). lower_rows width pixel k) next ∙ rows-step width pixel n
+
+-- a text that was cut off, and what was to come after it
+pub cut-before : (sink : Transcript) (text more : List ℕ) (before written : ℕ) → IsCutOff sink text before written → IsCutOff sink (text ++ more) before written
+cut-before sink text more before written h = record {
+  low = h.low;
+  high = omega (arith, h.high, length-append text more);
+  out = subst (λ (l : List ℕ). Appends sink.old sink.new l) (sym (take-append-le (written - before) text more (omega (arith, h.high)))) h.out;
+  failed = h.failed;
+}
+
+-- a text that was cut off, if nothing went out before it
+pub cut-first : (sink : Transcript) (text : List ℕ) (written : ℕ) → IsCutOff sink text 0 written → AppendsFirst sink.old sink.new written text
+cut-first sink text written h =
+    let all : written - 0 ≡ written = omega arith in
+    subst (λ (n : ℕ). AppendsFirst sink.old sink.new n text) all h.out
+
+pub cut-within : (sink : Transcript) (text : List ℕ) (written : ℕ) → IsCutOff sink text 0 written → written < length text
+cut-within sink text written h = omega (arith, h.high)
+
+-- the rest of a text that was cut off
+pub rest-within : (sent written : ℕ) (text held : List ℕ) → held ≡ drop (sent - 0) text → sent ≤ 0 + length text → written < sent + length held → written < length text
+rest-within sent written text held is high low = omega (arith, ap (λ (l : List ℕ). length l) is, length-drop (sent - 0) text)

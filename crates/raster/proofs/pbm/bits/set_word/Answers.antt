@@ -1,6 +1,6 @@
 use Rattle.std.proofs.Common.{◌≡◌, ◌<◌, ◌+◌, ◌*◌, ◌-◌, ◌/◌, ◌%◌, ℕ, List, length, max, ap, get_or, take, drop, ◌∙◌, arith}
 use Rattle.std.specs.Int.{bit_at}
-use Rattle.raster.proofs.lemmas.Masks.{at-read, part-length, pixel_bit-part}
+use Rattle.raster.proofs.lemmas.Masks.{at-read, part-length, pixel_bit-before, pixel_bit-behind, pixel_bit-part}
 use Rattle.raster.proofs.pbm.bits.set_word.Goals as goal
 
 pub returns-clause-there : goal.returns-clause-there
@@ -20,3 +20,13 @@ returns-clause-there c = λ i low high.
     ∙ c.with_mask.ensures k b inside (omega arith)
     ∙ ap (λ (l : List ℕ). max (bit_at (get_or l k 0) (7 - b)) (bit_at mask (63 - (8 * k + b)))) c.copy_from_slice.ensures.after
     ∙ (λ j. max (bit_at (read j) (7 - b)) (bit_at mask (place j)))
+
+pub returns-clause-left : goal.returns-clause-left
+returns-clause-left c = λ i low. pixel_bit-before c.args.row.now c.copy_from_slice-2.new.self c.args.first ((c.args.first + 8) - c.args.first) i (omega (arith, c.requires)) low
+
+pub returns-clause-right : goal.returns-clause-right
+returns-clause-right c = λ i high.
+    let row = c.args.row.now in
+    let first = c.args.first in
+    let size = c.copy_from_slice-2.ensures.len ∙ part-length row first (first + 8) (omega arith) c.requires in
+    pixel_bit-behind row c.copy_from_slice-2.new.self first ((first + 8) - first) i size (omega (arith, c.requires)) (omega (arith, high))

@@ -3,14 +3,16 @@ use Rattle.std.proofs.lemmas.Result.{err_from_is_err_and}
 use Rattle.std.proofs.lemmas.List.{append-nil}
 use Rattle.std.specs.Int.{div_ceil}
 use Rattle.devices.specs.Devices.{Fails}
+use Rattle.devices.specs.Transcript.{transcript_of}
 use Rattle.geometry.specs.declared.limits.TheConstants.{COLUMN_LIMIT}
 use Rattle.raster.specs.Image.{header, image_of_pixels, row_bytes}
 use Rattle.raster.specs.ImageWriter.{pending}
 use Rattle.raster.specs.Rows.{IsRowStart}
 use Rattle.raster.specs.Span.{covers}
+use Rattle.raster.specs.declared.pbm.chunk.TheConstants.{CHUNK_LEN}
 use Rattle.raster.proofs.lemmas.Images.{held-few}
 use Rattle.raster.proofs.lemmas.SpanOrder.{split-all}
-use Rattle.raster.proofs.lemmas.Written.{begun, lower_rows, more-out, moved, next-row, taken-on, written-within}
+use Rattle.raster.proofs.lemmas.Written.{begun, cut-before, lower_rows, more-out, moved, next-row, taken-on, written-within}
 use Rattle.raster.proofs.pbm.image_writer.push_image.Goals as goal
 
 pub make_room-requires-in-loop-row-clause-count : goal.make_room-requires-in-loop-row-clause-count
@@ -113,3 +115,58 @@ returns-clause-held g c =
     sym (c.loop-row.invariant.text.left
     ∙ ap (λ n. c.loop-row.chunk ++ lower_rows at.columns (covers c.args.spans.now) n) none
     ∙ append-nil c.loop-row.chunk)
+
+pub returns-in_err-written-clause-ok : goal.returns-in_err-written-clause-ok
+returns-in_err-written-clause-ok g c =
+    let p = err_from_is_err_and c.from_residual.result c.from_residual.ensures.1 in
+    rw p.1 tt
+
+pub returns-in_err-written-clause-held : goal.returns-in_err-written-clause-held
+returns-in_err-written-clause-held g c =
+    let p = err_from_is_err_and c.from_residual.result c.from_residual.ensures.1 in
+    rw p.1 tt
+
+pub returns-in_err-written-clause-few : goal.returns-in_err-written-clause-few
+returns-in_err-written-clause-few g c =
+    let p = err_from_is_err_and c.from_residual.result c.from_residual.ensures.1 in
+    rw p.1 tt
+
+pub returns-in_err-written-2-clause-ok : goal.returns-in_err-written-2-clause-ok
+returns-in_err-written-2-clause-ok g c =
+    let p = err_from_is_err_and c.from_residual-in_err-written-2.result c.from_residual-in_err-written-2.ensures.1 in
+    rw p.1 tt
+
+pub returns-in_err-written-2-clause-held : goal.returns-in_err-written-2-clause-held
+returns-in_err-written-2-clause-held g c =
+    let p = err_from_is_err_and c.from_residual-in_err-written-2.result c.from_residual-in_err-written-2.ensures.1 in
+    rw p.1 tt
+
+pub returns-in_err-written-2-clause-few : goal.returns-in_err-written-2-clause-few
+returns-in_err-written-2-clause-few g c =
+    let p = err_from_is_err_and c.from_residual-in_err-written-2.result c.from_residual-in_err-written-2.ensures.1 in
+    rw p.1 tt
+
+pub push_header-requires-clause-room : goal.push_header-requires-clause-room
+push_header-requires-clause-room g c = c.in_ok-written.ensures.room
+
+pub push_header-requires-clause-width : goal.push_header-requires-clause-width
+push_header-requires-clause-width g c = c.columns-2.ensures.high
+
+pub push_header-requires-clause-height : goal.push_header-requires-clause-height
+push_header-requires-clause-height g c = c.rows.ensures.high
+
+pub push_row-end-requires-clause-form : goal.push_row-end-requires-clause-form
+push_row-end-requires-clause-form g c = c.requires.form
+
+pub push_row-end-requires-clause-room : goal.push_row-end-requires-clause-room
+push_row-end-requires-clause-room g c =
+    subst (λ (n : ℕ). length c.make_room-in-loop-row.new.self + n ≤ CHUNK_LEN) c.loop-row.invariant.needed c.in_ok-written-2.ensures.room
+
+pub returns-in_err-written-clause-err : goal.returns-in_err-written-clause-err
+returns-in_err-written-clause-err g c =
+    let p = err_from_is_err_and c.from_residual.result c.from_residual.ensures.1 in
+    let at = c.args.g.now in
+    let sink = transcript_of g.W.Sink.contents g.W.Failures.failure_count c.args.w.now c.make_room.new.w in
+    rw (p.1, p.2)
+    (cut-before sink c.args.chunk.now (image_of_pixels at.columns at.rows (covers c.args.spans.now)) c.args.before c.in_err-written.field-0.0.written
+    c.in_err-written.ensures.err)
