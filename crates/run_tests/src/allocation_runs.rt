@@ -3,19 +3,18 @@
 use crate::answers::outcome;
 use crate::drawn_runs::{COMB, COMB_IMAGES};
 use crate::meshes::Mesh::{Boxes, Parts};
-use crate::meshes::{OPEN, gap, mesh_text};
+use crate::meshes::{Mesh, OPEN, gap, mesh_text};
 use crate::png_runs::CUBE_PNGS;
 use raster::GridFault;
 use short_memory::ShortMemory;
 use std::alloc::{AllocError, Global};
 use std::sync::Wait;
-use std::test::Fail;
 use std::thread::Threads;
 use stlslice::RunFault;
-use test_meshes::{BOX, CORNERS, CUBE, Part, text_of};
+use test_meshes::{BOX, CORNERS, CUBE, text_of};
 
 /// How a run ends as usual, and what it has written then.
-pub(crate) type Usual<'a> = (Result<(), RunFault>, &'a [u8]);
+type Usual<'a> = (Result<(), RunFault>, &'a [u8]);
 
 /// Whether a run with this end and this text had no allocation that failed. `None` if it ended neither as usual nor out of
 /// memory with nothing written.
@@ -70,10 +69,10 @@ pub(crate) fn first_free_turn<R: Threads + Wait + Sync + AllocGlobal>(
 fn first_free_turn_over<R: Threads + Wait + Sync + AllocGlobal>(
     rt: &R,
     line: &str,
-    parts: &[Part<'_>],
+    mesh: Mesh<'_>,
     usual: &Usual<'_>,
 ) -> u64 {
-    match mesh_text(rt.alloc(), Parts(parts)) {
+    match mesh_text(rt.alloc(), mesh) {
         Ok(input) => first_free_turn(rt, line, input.as_str(), usual),
         Err(_) => 0,
     }
@@ -118,33 +117,29 @@ static ROWS: [Row; 9] = [
     ),
 ];
 
-/// `Ok`, or the number of the first row of which a run ends otherwise.
-fn all_free<R: Threads + Wait + Sync + AllocGlobal>(rt: &R, rows: &[Row<'_>]) -> Result<(), usize> {
-    for (n, (line, text, least)) in rows.iter().enumerate() {
-        if first_free_turn_over(rt, line, CUBE, &(Ok(()), text)) <= *least {
-            return Err(n);
-        }
-    }
-    Ok(())
+/// Whether each allocation fails in turn of the run of a row.
+fn fails_in_turn<R: Threads + Wait + Sync + AllocGlobal>(rt: &R, row: &Row<'_>) -> bool {
+    let (line, text, least) = *row;
+    first_free_turn_over(rt, line, Parts(CUBE), &(Ok(()), text)) > least
 }
 
 #[test]
-fn each_allocation_fails_in_turn(rt: HostRuntime) -> Result<(), usize> {
-    all_free(&rt, &ROWS)
+fn each_allocation_fails_in_turn(rt: HostRuntime) {
+    for row in &ROWS {
+        assert!(rt; fails_in_turn(&rt, row), "{}", row.0);
+    }
 }
+
+/// How a run that slices the comb ends.
+const DRAWN: Usual = (Ok(()), COMB_IMAGES);
 
 /// If there is no memory to draw by several workers, one worker writes the images.
 #[test]
-fn each_allocation_fails_where_several_draw(rt: HostRuntime) -> Result<(), Fail> {
-    let comb = mesh_text(rt.alloc(), Boxes(&COMB))?;
-    let usual: Usual = (Ok(()), COMB_IMAGES);
-    for line in [
-        "--pitch 1 --layer 1 --workers 2",
-        "--pitch 1 --layer 1 --workers 4",
-    ] {
-        assert!(rt; first_free_turn(&rt, line, comb.as_str(), &usual) > 20);
-    }
-    Ok(())
+fn each_allocation_fails_where_several_draw(rt: HostRuntime) {
+    let line = "--pitch 1 --layer 1 --workers 2";
+    assert!(rt; first_free_turn_over(&rt, line, Boxes(&COMB), &DRAWN) > 20);
+    let line = "--pitch 1 --layer 1 --workers 4";
+    assert!(rt; first_free_turn_over(&rt, line, Boxes(&COMB), &DRAWN) > 20);
 }
 
 /// A solid of no facets with a name of `eights` times eight bytes.
@@ -178,18 +173,33 @@ const PART_LEN: usize = 32_768;
 /// How many times eight bytes long the names are in a cube of four parts.
 const NAME_OF_PARTS: u32 = 4_096;
 
+/// Whether more than this many allocations fail in turn of a run over a cube of at least this length, with names of `eights`
+/// times eight bytes.
+fn fails_over_cube<R: Threads + Wait + Sync + AllocGlobal>(
+    rt: &R,
+    line: &str,
+    (eights, least_len): (u32, usize),
+    usual: &Usual<'_>,
+    least: u64,
+) -> bool {
+    match long_cube(rt.alloc(), eights) {
+        Ok(cube) => {
+            least_len <= cube.len() && first_free_turn(rt, line, cube.as_str(), usual) > least
+        }
+        Err(AllocError) => false,
+    }
+}
+
 #[test]
-fn each_allocation_fails_in_parts(rt: HostRuntime) -> Result<(), Fail> {
-    let cube = long_cube(rt.alloc(), NAME_OF_PARTS)?;
-    assert!(rt; 4 * PART_LEN <= cube.len());
-    for line in [
+fn each_allocation_fails_in_parts(rt: HostRuntime) {
+    let cube = (NAME_OF_PARTS, 4 * PART_LEN);
+    for line in &[
         "--pitch 1 --layer 1 --workers 2",
         "--pitch 1 --layer 1 --workers 3",
         "--pitch 1 --layer 1 --workers 4",
     ] {
-        assert!(rt; first_free_turn(&rt, line, cube.as_str(), &SLICED) > 40);
+        assert!(rt; fails_over_cube(&rt, line, cube, &SLICED, 40));
     }
-    Ok(())
 }
 
 /// The length of a round for each of its workers, without the window that it may have more.
@@ -200,39 +210,24 @@ const NAME_OF_TWO_WORKERS: u32 = 68_500;
 
 const NAME_OF_THREE_WORKERS: u32 = 100_400;
 
-/// How a run ends whose grid has no column.
+/// How a run ends whose grid has no column. The fault comes once the mesh is closed: a facet that was left out would show as an
+/// open edge.
 const NO_CELLS: Usual = (Err(RunFault::Grid(GridFault::NoCells)), b"");
 
-/// Whether each allocation fails in turn of a run over a cube of at least this length, with names of `eights` times eight
-/// bytes. Its second round has two parts, and the last facets. The fault comes once the mesh is closed: a facet that was left
-/// out would show as an open edge.
-fn fails_in_two_rounds<R: Threads + Wait + Sync + AllocGlobal>(
-    rt: &R,
-    line: &str,
-    eights: u32,
-    least_len: usize,
-) -> Result<bool, AllocError> {
-    let cube = long_cube(rt.alloc(), eights)?;
-    let turn = first_free_turn(rt, line, cube.as_str(), &NO_CELLS);
-    Ok(least_len <= cube.len() && turn > 10)
-}
-
-/// One thread welds and fills.
+/// One thread welds and fills. The second round has two parts, and the last facets.
 #[test]
-fn each_allocation_of_two_rounds_fails_by_two_workers(rt: HostRuntime) -> Result<(), Fail> {
+fn each_allocation_of_two_rounds_fails_by_two_workers(rt: HostRuntime) {
     let line = "--pitch 1 --layer 1 --workers 2 --grid 0,1,1,0,0,0";
-    let least_len = 2 * WORKER_LEN + 2 * PART_LEN;
-    assert!(rt; fails_in_two_rounds(&rt, line, NAME_OF_TWO_WORKERS, least_len)?);
-    Ok(())
+    let cube = (NAME_OF_TWO_WORKERS, 2 * WORKER_LEN + 2 * PART_LEN);
+    assert!(rt; fails_over_cube(&rt, line, cube, &NO_CELLS, 10));
 }
 
-/// One thread welds, and another one fills.
+/// One thread welds, and another one fills. The second round is as above.
 #[test]
-fn each_allocation_of_two_rounds_fails_by_three_workers(rt: HostRuntime) -> Result<(), Fail> {
+fn each_allocation_of_two_rounds_fails_by_three_workers(rt: HostRuntime) {
     let line = "--pitch 1 --layer 1 --workers 3 --grid 0,1,1,0,0,0";
-    let least_len = 3 * WORKER_LEN + 2 * PART_LEN;
-    assert!(rt; fails_in_two_rounds(&rt, line, NAME_OF_THREE_WORKERS, least_len)?);
-    Ok(())
+    let cube = (NAME_OF_THREE_WORKERS, 3 * WORKER_LEN + 2 * PART_LEN);
+    assert!(rt; fails_over_cube(&rt, line, cube, &NO_CELLS, 10));
 }
 
 /// The same for a cube of more than two rounds of four workers.
@@ -241,18 +236,10 @@ const NAME_OF_THREE_ROUNDS: u32 = 264_200;
 /// While the second round is read, one thread welds the facets of the first, another one fills the third, and two look for
 /// runs of facets alone. The third round has two parts, and the last facets.
 #[test]
-fn each_allocation_of_three_rounds_fails_by_four_workers(rt: HostRuntime) -> Result<(), Fail> {
-    let cube = long_cube(rt.alloc(), NAME_OF_THREE_ROUNDS)?;
-    assert!(rt; 2 * (4 * WORKER_LEN) + 2 * PART_LEN <= cube.len());
-    assert!(rt;
-        first_free_turn(
-            &rt,
-            "--pitch 1 --layer 1 --workers 4",
-            cube.as_str(),
-            &SLICED
-        ) > 40
-    );
-    Ok(())
+fn each_allocation_of_three_rounds_fails_by_four_workers(rt: HostRuntime) {
+    let line = "--pitch 1 --layer 1 --workers 4";
+    let cube = (NAME_OF_THREE_ROUNDS, 2 * (4 * WORKER_LEN) + 2 * PART_LEN);
+    assert!(rt; fails_over_cube(&rt, line, cube, &SLICED, 40));
 }
 
 #[test]
@@ -260,7 +247,7 @@ fn each_allocation_fails_before_a_gap(rt: HostRuntime) {
     match gap() {
         Some(fault) => {
             let usual: Usual = (Err(fault), b"");
-            assert!(rt; first_free_turn_over(&rt, "--pitch 1 --layer 1", OPEN, &usual) > 8);
+            assert!(rt; first_free_turn_over(&rt, "--pitch 1 --layer 1", Parts(OPEN), &usual) > 8);
         }
         None => assert!(rt; false),
     }

@@ -116,20 +116,9 @@ fn is_misread<R: Threads + Wait + Sync + AllocGlobal>(rt: &R, input: &str, told:
     true
 }
 
-/// `Ok`, or the number of the first text that some task ends otherwise for.
-fn all_misread<R: Threads + Wait + Sync + AllocGlobal>(
-    rt: &R,
-    rows: &[(&str, &str)],
-) -> Result<(), usize> {
-    for (n, (input, told)) in rows.iter().enumerate() {
-        if !is_misread(rt, input, told) {
-            return Err(n);
-        }
-    }
-    Ok(())
-}
-
 #[test]
-fn misread_texts_by_each_task(rt: HostRuntime) -> Result<(), usize> {
-    all_misread(&rt, &MISREAD)
+fn misread_texts_by_each_task(rt: HostRuntime) {
+    for row in &MISREAD {
+        assert!(rt; is_misread(&rt, row.0, row.1), "{}", row.1);
+    }
 }

@@ -209,23 +209,20 @@ static ROWS: [Row; 21] = [
     ),
 ];
 
-/// `Ok`, or the number of the first row whose run ends otherwise over devices that move a byte a call.
-fn all_alike<R: Threads + Wait + Sync + AllocGlobal>(
-    rt: &R,
-    rows: &[Row<'_>],
-) -> Result<(), usize> {
-    for (n, (line, mesh, status)) in rows.iter().enumerate() {
-        match mesh_text(rt.alloc(), *mesh) {
-            Ok(input) if is_alike(rt, line, input.as_str(), *status) => {}
-            _ => return Err(n),
-        }
+/// Whether the run of a row ends alike over devices that move a byte a call.
+fn is_row_alike<R: Threads + Wait + Sync + AllocGlobal>(rt: &R, row: &Row<'_>) -> bool {
+    let (line, mesh, status) = *row;
+    match mesh_text(rt.alloc(), mesh) {
+        Ok(input) => is_alike(rt, line, input.as_str(), status),
+        Err(_) => false,
     }
-    Ok(())
 }
 
 #[test]
-fn devices_that_move_a_byte_a_call(rt: HostRuntime) -> Result<(), usize> {
-    all_alike(&rt, &ROWS)
+fn devices_that_move_a_byte_a_call(rt: HostRuntime) {
+    for row in &ROWS {
+        assert!(rt; is_row_alike(&rt, row), "{}", row.0);
+    }
 }
 
 /// Whether a run whose first allocation fails ends out of memory, with nothing written.

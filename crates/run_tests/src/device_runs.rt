@@ -7,7 +7,6 @@ use crate::png_runs::CUBE_PNGS;
 use short_memory::{InterruptedOnce, OneByteReader, SmallWriter};
 use std::io::ErrorKind;
 use std::sync::Wait;
-use std::test::Fail;
 use std::thread::Threads;
 use stl_text::{StlFault, Word};
 use stlslice::{Counted, Failures, RunFault, Sink};
@@ -88,13 +87,12 @@ static WAYS: [Way; 7] = [
     (1, None, false),
 ];
 
-/// The first room, up to the length of the text, with which a run does not go as it should. A run fills the room, and succeeds
-/// exactly if the whole text fits and is flushed.
-fn first_other_room<R: Threads + Wait + Sync + AllocGlobal>(
+/// Whether a run fills each room, up to the length of the text. It succeeds exactly if the whole text fits and is flushed.
+fn fills_each_room<R: Threads + Wait + Sync + AllocGlobal>(
     rt: &R,
     row: &Row<'_>,
     way: &Way,
-) -> Option<usize> {
+) -> bool {
     let (line, text) = *row;
     let (most_per_call, fault, flushes) = *way;
     for room in 0..=text.len() {
@@ -106,51 +104,38 @@ fn first_other_room<R: Threads + Wait + Sync + AllocGlobal>(
         };
         let writer = SmallWriter::new(rt.alloc(), room, most_per_call, fault, flushes);
         if !is_taken(rt, line, writer, end, &text[..room]) {
-            return Some(room);
+            return false;
         }
     }
-    None
+    true
 }
 
-/// `Ok`, or the number of the first row for which some room is filled otherwise by a writer of this way.
-fn all_filled<R: Threads + Wait + Sync + AllocGlobal>(
+/// The same by a writer of each of these ways.
+fn fills_by_each<R: Threads + Wait + Sync + AllocGlobal>(
     rt: &R,
-    rows: &[Row<'_>],
-    way: &Way,
-) -> Result<(), usize> {
-    for (n, row) in rows.iter().enumerate() {
-        if first_other_room(rt, row, way).is_some() {
-            return Err(n);
-        }
-    }
-    Ok(())
-}
-
-/// The same for each of these ways.
-fn all_filled_by_each<R: Threads + Wait + Sync + AllocGlobal>(
-    rt: &R,
-    rows: &[Row<'_>],
+    row: &Row<'_>,
     ways: &[Way],
-) -> Result<(), usize> {
+) -> bool {
     for way in ways {
-        all_filled(rt, rows, way)?;
+        if !fills_each_room(rt, row, way) {
+            return false;
+        }
     }
-    Ok(())
+    true
 }
 
 #[test]
-fn writers_with_little_room(rt: HostRuntime) -> Result<(), usize> {
-    all_filled_by_each(&rt, &TEXTS, &WAYS)
+fn writers_with_little_room(rt: HostRuntime) {
+    for row in &TEXTS {
+        assert!(rt; fills_by_each(&rt, row, &WAYS), "{}", row.0);
+    }
 }
 
 #[test]
 fn a_writer_that_fails_after_five_bytes(rt: HostRuntime) {
     let writer = SmallWriter::new(rt.alloc(), 5, 5, Some(ErrorKind::Other), true);
-    let mut sink = Counted::new(writer);
-    let found = end_by_cube(&rt, "--pitch 1 --layer 1", &mut sink);
     let fault = RunFault::Write { written: 5 };
-    assert!(rt; found == Some(Err(fault)) && sink.failures() == 1);
-    assert!(rt; sink.inner().taken.as_slice() == b"P4\n2 ".as_slice());
+    assert!(rt; is_taken(&rt, "--pitch 1 --layer 1", writer, Err(fault), b"P4\n2 "));
     assert!(rt;
         is_told(
             rt.alloc(),
@@ -202,43 +187,35 @@ fn is_read_until<R: Threads + Wait + Sync + AllocGlobal>(
     }
 }
 
-/// The first number of calls up to all those that read the cube with which a run ends otherwise.
-fn first_other_call<R: Threads + Wait + Sync + AllocGlobal>(
+/// Whether a run ends as it should with each number of calls before the failure, up to all those that read the cube.
+fn is_read_until_each<R: Threads + Wait + Sync + AllocGlobal>(
     rt: &R,
     line: &str,
     input: &str,
     text: &[u8],
-) -> Option<u64> {
+) -> bool {
     for calls in 0..=1484 {
         if !is_read_until(rt, line, input, calls, text) {
-            return Some(calls);
+            return false;
         }
     }
-    None
+    true
 }
 
-/// Whether a run ends as it should with each number of calls before the failure.
+/// The same for a row, over the cube.
 fn is_each_read<R: Threads + Wait + Sync + AllocGlobal>(rt: &R, row: &Row<'_>) -> bool {
     let (line, text) = *row;
     match mesh_text(rt.alloc(), Parts(CUBE)) {
-        Ok(cube) => first_other_call(rt, line, cube.as_str(), text).is_none(),
+        Ok(cube) => is_read_until_each(rt, line, cube.as_str(), text),
         Err(_) => false,
     }
 }
 
-/// `Ok`, or the number of the first row that is read otherwise.
-fn all_read<R: Threads + Wait + Sync + AllocGlobal>(rt: &R, rows: &[Row<'_>]) -> Result<(), usize> {
-    for (n, row) in rows.iter().enumerate() {
-        if !is_each_read(rt, row) {
-            return Err(n);
-        }
-    }
-    Ok(())
-}
-
 #[test]
-fn readers_that_fail(rt: HostRuntime) -> Result<(), usize> {
-    all_read(&rt, &TEXTS)
+fn readers_that_fail(rt: HostRuntime) {
+    for row in &TEXTS {
+        assert!(rt; is_each_read(&rt, row), "{}", row.0);
+    }
 }
 
 /// A text with a fault at its front.
@@ -334,46 +311,47 @@ fn readers_that_are_interrupted_once(rt: HostRuntime) {
     }
 }
 
-/// The first number of calls before the interrupted one with which a run does not end by a failed write. The calls take one
-/// byte each, and the last one is the flush. No byte goes out after the one that failed.
-fn first_other_interruption<R: Threads + Wait + Sync + AllocGlobal>(
+/// Whether a run ends by a failed write, having written this front, if its writer is interrupted once after as many calls. The
+/// writer takes a byte a call.
+fn is_ended_by_a_write<R: Threads + Wait + Sync + AllocGlobal>(
     rt: &R,
-    row: &Row<'_>,
-) -> Option<usize> {
-    let (line, text) = *row;
-    for calls in 0..=text.len() {
-        let written = calls as u64;
-        let mut sink = Counted::new(InterruptedOnce {
-            inner: SmallWriter::new(rt.alloc(), text.len(), 1, None, true),
-            calls: Some(written),
-        });
-        let found = end_by_cube(rt, line, &mut sink);
-        let failures = sink.failures();
-        let taken = sink.inner().inner.taken.as_slice();
-        let end = Err(RunFault::Write { written });
-        if !is_alike(found, failures, taken, end, &text[..calls]) {
-            return Some(calls);
-        }
-    }
-    None
+    line: &str,
+    front: &[u8],
+    room: usize,
+) -> bool {
+    let written = front.len() as u64;
+    let mut sink = Counted::new(InterruptedOnce {
+        inner: SmallWriter::new(rt.alloc(), room, 1, None, true),
+        calls: Some(written),
+    });
+    let found = end_by_cube(rt, line, &mut sink);
+    let failures = sink.failures();
+    let taken = sink.inner().inner.taken.as_slice();
+    is_alike(
+        found,
+        failures,
+        taken,
+        Err(RunFault::Write { written }),
+        front,
+    )
 }
 
-/// `Ok`, or the number of the first row for which a run goes on after some interruption.
-fn all_interrupted<R: Threads + Wait + Sync + AllocGlobal>(
-    rt: &R,
-    rows: &[Row<'_>],
-) -> Result<(), usize> {
-    for (n, row) in rows.iter().enumerate() {
-        if first_other_interruption(rt, row).is_some() {
-            return Err(n);
+/// Whether that is so after each number of calls. The last one is the flush. No byte goes out after the one that failed.
+fn is_each_ended_by_a_write<R: Threads + Wait + Sync + AllocGlobal>(rt: &R, row: &Row<'_>) -> bool {
+    let (line, text) = *row;
+    for calls in 0..=text.len() {
+        if !is_ended_by_a_write(rt, line, &text[..calls], text.len()) {
+            return false;
         }
     }
-    Ok(())
+    true
 }
 
 #[test]
-fn writers_that_are_interrupted_once(rt: HostRuntime) -> Result<(), usize> {
-    all_interrupted(&rt, &TEXTS)
+fn writers_that_are_interrupted_once(rt: HostRuntime) {
+    for row in &TEXTS {
+        assert!(rt; is_each_ended_by_a_write(&rt, row), "{}", row.0);
+    }
 }
 
 /// How many calls a run makes of a writer that takes all that it is given, the flush among them. `None` if it does not end
@@ -395,12 +373,17 @@ fn calls_of<R: Threads + Wait + Sync + AllocGlobal>(
     100_u64.checked_sub(sink.inner().calls?)
 }
 
-#[test]
-fn images_of_all_layers_in_one_call(rt: HostRuntime) -> Result<(), Fail> {
-    let column = mesh_text(rt.alloc(), Boxes(&[[[0, 0, 0], [1, 1, 17]]]))?;
-    // one call takes 17 images, and another one flushes
-    for line in &["--pitch 1 --layer 1", "--pitch 1 --layer 1 --workers 3"] {
-        assert_eq!(rt; calls_of(&rt, line, column.as_str()), Some(2));
+/// The same for a column of 17 layers.
+fn calls_of_column<R: Threads + Wait + Sync + AllocGlobal>(rt: &R, line: &str) -> Option<u64> {
+    match mesh_text(rt.alloc(), Boxes(&[[[0, 0, 0], [1, 1, 17]]])) {
+        Ok(column) => calls_of(rt, line, column.as_str()),
+        Err(_) => None,
     }
-    Ok(())
+}
+
+#[test]
+fn images_of_all_layers_in_one_call(rt: HostRuntime) {
+    // one call takes 17 images, and another one flushes
+    assert!(rt; calls_of_column(&rt, "--pitch 1 --layer 1") == Some(2));
+    assert!(rt; calls_of_column(&rt, "--pitch 1 --layer 1 --workers 3") == Some(2));
 }

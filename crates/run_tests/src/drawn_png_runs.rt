@@ -1,14 +1,11 @@
 //! Runs whose PNGs are long, so that several workers make them while others are written: they write what one worker writes,
 //! also to writers that fail, and without memory for several. No clause says that several make them.
-use crate::allocation_runs::{Usual, first_free_turn};
-use crate::answers::{writes, written};
-use crate::drawn_runs::{COMB, is_filled};
+use crate::allocation_runs::first_free_turn;
+use crate::answers::written;
+use crate::drawn_runs::{COMB, each_writes, is_filled_about};
 use crate::meshes::Mesh::Boxes;
 use crate::meshes::{Corners, mesh_text};
-use std::alloc::{AllocError, Global};
-use std::io::ErrorKind;
 use std::sync::Wait;
-use std::test::Fail;
 use std::thread::Threads;
 
 /// A comb of ten wide teeth. The PNG of each layer takes up to 30 kilobytes, so that 34 fit a page. There are 250 layers: four
@@ -26,129 +23,137 @@ const HIGH_COMB: [Corners; 10] = [
     [[14400, 0, 0], [15200, 550, 250]],
 ];
 
-/// The layer height at which the comb has this number of layers.
-const HEIGHTS: [(u32, usize); 2] = [(1, 250), (5, 50)];
+/// The number of its layers.
+const LAYERS: usize = 250;
+
+/// The words that make a PNG of each of them by several numbers of workers.
+static LINES: [&str; 4] = [
+    "--pitch 1 --layer 1 --png --workers 2",
+    "--pitch 1 --layer 1 --png --workers 3",
+    "--pitch 1 --layer 1 --png --workers 4",
+    "--pitch 1 --layer 1 --png --workers 64",
+];
+
+/// The same with layers five times as high.
+const HIGH_LAYERS: usize = 50;
+
+static LINES_OF_HIGH_LAYERS: [&str; 4] = [
+    "--pitch 1 --layer 5 --png --workers 2",
+    "--pitch 1 --layer 5 --png --workers 3",
+    "--pitch 1 --layer 5 --png --workers 4",
+    "--pitch 1 --layer 5 --png --workers 64",
+];
 
 /// How many PNGs a page has.
 const PAGE: usize = 34;
 
-/// The greatest number of bytes that a writer takes in one call.
-const MOST_PER_CALL: usize = 100_000;
-
-/// The words that make PNGs by this number of workers.
-fn line_by(alloc: Global, layer: u32, workers: u32) -> Result<String, AllocError> {
-    format!(in alloc; "--pitch 1 --layer {layer} --png --workers {workers}")
-}
-
-/// The PNGs of the comb by one worker. They are alike, so `None` also if their number does not divide their length.
+/// The PNGs of a comb by a line of words. They are alike, so `None` also if their number does not divide their length.
 fn pngs_of<R: Threads + Wait + Sync + AllocGlobal>(
     rt: &R,
+    line: &str,
     input: &str,
-    layer: u32,
     count: usize,
-) -> Result<Option<Vec<u8>>, AllocError> {
-    let line = line_by(rt.alloc(), layer, 1)?;
-    match written(rt, line.as_str(), input) {
-        Some(pngs) if pngs.len() > 0 && pngs.len().checked_rem(count) == Some(0) => Ok(Some(pngs)),
-        _ => Ok(None),
+) -> Option<Vec<u8>> {
+    match written(rt, line, input) {
+        Some(pngs) if pngs.len() > 0 && pngs.len().checked_rem(count) == Some(0) => Some(pngs),
+        _ => None,
     }
 }
 
-/// Whether several numbers of workers write these PNGs.
-fn each_writes<R: Threads + Wait + Sync + AllocGlobal>(
+/// Whether several lines of words write the PNGs that one writes.
+fn is_alike<R: Threads + Wait + Sync + AllocGlobal>(
     rt: &R,
-    layer: u32,
+    one: &str,
+    lines: &[&str],
     input: &str,
-    pngs: &[u8],
-) -> Result<bool, AllocError> {
-    for workers in &[2, 3, 4, 64] {
-        let line = line_by(rt.alloc(), layer, *workers)?;
-        if !writes(rt, line.as_str(), input, pngs) {
-            return Ok(false);
-        }
+    count: usize,
+) -> bool {
+    match pngs_of(rt, one, input, count) {
+        Some(pngs) => each_writes(rt, lines, input, pngs.as_slice()),
+        None => false,
     }
-    Ok(true)
+}
+
+/// The same for the comb.
+fn is_comb_alike<R: Threads + Wait + Sync + AllocGlobal>(
+    rt: &R,
+    one: &str,
+    lines: &[&str],
+    count: usize,
+) -> bool {
+    match mesh_text(rt.alloc(), Boxes(&HIGH_COMB)) {
+        Ok(comb) => is_alike(rt, one, lines, comb.as_str(), count),
+        Err(_) => false,
+    }
 }
 
 #[test]
-fn pngs_of_many_spans(rt: HostRuntime) -> Result<(), Fail> {
-    let comb = mesh_text(rt.alloc(), Boxes(&HIGH_COMB))?;
-    for (layer, count) in HEIGHTS {
-        match pngs_of(&rt, comb.as_str(), layer, count)? {
-            Some(pngs) => {
-                assert!(rt; each_writes(&rt, layer, comb.as_str(), pngs.as_slice())?);
-            }
-            None => assert!(rt; false),
-        }
-    }
-    Ok(())
+fn pngs_of_many_spans(rt: HostRuntime) {
+    let one = "--pitch 1 --layer 1 --png --workers 1";
+    assert!(rt; is_comb_alike(&rt, one, &LINES, LAYERS));
+    let one = "--pitch 1 --layer 5 --png --workers 1";
+    assert!(rt; is_comb_alike(&rt, one, &LINES_OF_HIGH_LAYERS, HIGH_LAYERS));
 }
 
 /// Whether a run by two workers fills writers up to rooms at the borders of the first page, of the first set and of the second,
 /// and about the end.
-fn is_filled_at_borders<R: Threads + Wait + Sync + AllocGlobal>(
-    rt: &R,
-    line: &str,
-    input: &str,
-    pngs: &[u8],
-    count: usize,
-) -> bool {
-    let one = pngs.len() / count.max(1);
-    for number in [PAGE, 2 * PAGE, 4 * PAGE, count] {
-        for shift in 0..3usize {
-            let room = number
-                .saturating_mul(one)
-                .saturating_add(shift)
-                .saturating_sub(1);
-            if !is_filled(
+fn is_filled_at_borders<R: Threads + Wait + Sync + AllocGlobal>(rt: &R, input: &str) -> bool {
+    match pngs_of(rt, "--pitch 1 --layer 1 --png --workers 1", input, LAYERS) {
+        Some(pngs) => {
+            is_filled_about(
                 rt,
-                line,
+                "--pitch 1 --layer 1 --png --workers 2",
                 input,
-                pngs,
-                room,
-                MOST_PER_CALL,
-                Some(ErrorKind::Other),
-            ) {
-                return false;
-            }
+                pngs.as_slice(),
+                LAYERS,
+                &[PAGE, 2 * PAGE, 4 * PAGE, LAYERS],
+            )
         }
+        None => false,
     }
-    true
+}
+
+/// The same for the comb.
+fn is_comb_filled<R: Threads + Wait + Sync + AllocGlobal>(rt: &R) -> bool {
+    match mesh_text(rt.alloc(), Boxes(&HIGH_COMB)) {
+        Ok(comb) => is_filled_at_borders(rt, comb.as_str()),
+        Err(_) => false,
+    }
 }
 
 #[test]
-fn writers_that_fail_between_pages_of_pngs(rt: HostRuntime) -> Result<(), Fail> {
-    let comb = mesh_text(rt.alloc(), Boxes(&HIGH_COMB))?;
-    let (layer, count) = HEIGHTS[0];
-    match pngs_of(&rt, comb.as_str(), layer, count)? {
-        Some(pngs) => {
-            let line = line_by(rt.alloc(), layer, 2)?;
-            assert!(rt;
-                is_filled_at_borders(&rt, line.as_str(), comb.as_str(), pngs.as_slice(), count)
-            );
-        }
-        None => assert!(rt; false),
-    }
-    Ok(())
+fn writers_that_fail_between_pages_of_pngs(rt: HostRuntime) {
+    assert!(rt; is_comb_filled(&rt));
 }
 
 /// The number of layers of `COMB`.
 const FEW_LAYERS: usize = 3;
 
+/// Whether each allocation fails in turn of a run that makes the PNGs of a text by several workers.
+fn fails_in_turn<R: Threads + Wait + Sync + AllocGlobal>(rt: &R, line: &str, input: &str) -> bool {
+    match pngs_of(
+        rt,
+        "--pitch 1 --layer 1 --png --workers 1",
+        input,
+        FEW_LAYERS,
+    ) {
+        Some(pngs) => first_free_turn(rt, line, input, &(Ok(()), pngs.as_slice())) > 20,
+        None => false,
+    }
+}
+
+/// The same for the small comb.
+fn comb_fails_in_turn<R: Threads + Wait + Sync + AllocGlobal>(rt: &R, line: &str) -> bool {
+    match mesh_text(rt.alloc(), Boxes(&COMB)) {
+        Ok(comb) => fails_in_turn(rt, line, comb.as_str()),
+        Err(_) => false,
+    }
+}
+
 /// If there is no memory for the PNGs of several workers, one worker makes them; if there is none for one PNG, nothing is
 /// written.
 #[test]
-fn each_allocation_fails_where_several_make_pngs(rt: HostRuntime) -> Result<(), Fail> {
-    let comb = mesh_text(rt.alloc(), Boxes(&COMB))?;
-    match pngs_of(&rt, comb.as_str(), 1, FEW_LAYERS)? {
-        Some(pngs) => {
-            let usual: Usual = (Ok(()), pngs.as_slice());
-            for workers in [2, 4] {
-                let line = line_by(rt.alloc(), 1, workers)?;
-                assert!(rt; first_free_turn(&rt, line.as_str(), comb.as_str(), &usual) > 20);
-            }
-        }
-        None => assert!(rt; false),
-    }
-    Ok(())
+fn each_allocation_fails_where_several_make_pngs(rt: HostRuntime) {
+    assert!(rt; comb_fails_in_turn(&rt, "--pitch 1 --layer 1 --png --workers 2"));
+    assert!(rt; comb_fails_in_turn(&rt, "--pitch 1 --layer 1 --png --workers 4"));
 }

@@ -4,10 +4,8 @@ use crate::answers::{end_of, writes, written};
 use crate::meshes::Mesh::Boxes;
 use crate::meshes::{Corners, mesh_text};
 use short_memory::SmallWriter;
-use std::alloc::{AllocError, Global};
 use std::io::ErrorKind;
 use std::sync::Wait;
-use std::test::Fail;
 use std::thread::Threads;
 use stlslice::{Counted, Failures, RunFault};
 
@@ -50,46 +48,79 @@ const WIDE_COMB: [Corners; 10] = [
 /// The number of its layers.
 const WIDE_LAYERS: usize = 34;
 
-/// The words that slice by this number of workers.
-fn line_by(alloc: Global, layer: u32, workers: u32) -> Result<String, AllocError> {
-    format!(in alloc; "--pitch 1 --layer {layer} --workers {workers}")
-}
+/// The words that slice by several numbers of workers.
+static LINES: [&str; 5] = [
+    "--pitch 1 --layer 1 --workers 1",
+    "--pitch 1 --layer 1 --workers 2",
+    "--pitch 1 --layer 1 --workers 3",
+    "--pitch 1 --layer 1 --workers 4",
+    "--pitch 1 --layer 1 --workers 64",
+];
 
-/// Whether a text is sliced to these images by several numbers of workers.
-fn each_writes<R: Threads + Wait + Sync + AllocGlobal>(
+/// The same with one layer as high as the comb.
+static LINES_OF_ONE_LAYER: [&str; 5] = [
+    "--pitch 1 --layer 3 --workers 1",
+    "--pitch 1 --layer 3 --workers 2",
+    "--pitch 1 --layer 3 --workers 3",
+    "--pitch 1 --layer 3 --workers 4",
+    "--pitch 1 --layer 3 --workers 64",
+];
+
+/// Whether each of these lines of words writes these images.
+pub(crate) fn each_writes<R: Threads + Wait + Sync + AllocGlobal>(
     rt: &R,
-    layer: u32,
+    lines: &[&str],
     input: &str,
     images: &[u8],
-) -> Result<bool, AllocError> {
-    for workers in &[1, 2, 3, 4, 64] {
-        let line = line_by(rt.alloc(), layer, *workers)?;
-        if !writes(rt, line.as_str(), input, images) {
-            return Ok(false);
+) -> bool {
+    for line in lines {
+        if !writes(rt, line, input, images) {
+            return false;
         }
     }
-    Ok(true)
+    true
+}
+
+/// Whether the comb is sliced to these images by each of these lines of words.
+fn is_comb_sliced<R: Threads + Wait + Sync + AllocGlobal>(
+    rt: &R,
+    lines: &[&str],
+    images: &[u8],
+) -> bool {
+    match mesh_text(rt.alloc(), Boxes(&COMB)) {
+        Ok(comb) => each_writes(rt, lines, comb.as_str(), images),
+        Err(_) => false,
+    }
 }
 
 #[test]
-fn rows_of_many_spans(rt: HostRuntime) -> Result<(), Fail> {
-    let comb = mesh_text(rt.alloc(), Boxes(&COMB))?;
-    assert!(rt; each_writes(&rt, 1, comb.as_str(), COMB_IMAGES)?);
-    assert!(rt; each_writes(&rt, 3, comb.as_str(), ONE_IMAGE)?);
-    Ok(())
+fn rows_of_many_spans(rt: HostRuntime) {
+    assert!(rt; is_comb_sliced(&rt, &LINES, COMB_IMAGES));
+    assert!(rt; is_comb_sliced(&rt, &LINES_OF_ONE_LAYER, ONE_IMAGE));
 }
 
-#[test]
-fn sets_of_long_images(rt: HostRuntime) -> Result<(), Fail> {
-    let comb = mesh_text(rt.alloc(), Boxes(&WIDE_COMB))?;
-    match written(&rt, "--pitch 1 --layer 1", comb.as_str()) {
+/// Whether a text is sliced to the images of the wide comb's length, and to the same by several numbers of workers.
+fn is_sliced_alike<R: Threads + Wait + Sync + AllocGlobal>(rt: &R, input: &str) -> bool {
+    match written(rt, "--pitch 1 --layer 1", input) {
         Some(images) => {
-            assert_eq!(rt; images.len(), WIDE_LAYERS * (13 + 550 * 1900));
-            assert!(rt; each_writes(&rt, 1, comb.as_str(), images.as_slice())?);
+            images.len() == WIDE_LAYERS * (13 + 550 * 1900)
+                && each_writes(rt, &LINES, input, images.as_slice())
         }
-        None => assert!(rt; false),
+        None => false,
     }
-    Ok(())
+}
+
+/// The same for the wide comb.
+fn is_wide_comb_alike<R: Threads + Wait + Sync + AllocGlobal>(rt: &R) -> bool {
+    match mesh_text(rt.alloc(), Boxes(&WIDE_COMB)) {
+        Ok(comb) => is_sliced_alike(rt, comb.as_str()),
+        Err(_) => false,
+    }
+}
+
+#[test]
+fn sets_of_long_images(rt: HostRuntime) {
+    assert!(rt; is_wide_comb_alike(&rt));
 }
 
 /// Whether a run that slices a text by a line of words fills a writer up to its room, and ends with one failure unless
@@ -117,13 +148,13 @@ pub(crate) fn is_filled<R: Threads + Wait + Sync + AllocGlobal>(
     found == Some(end) && taken && sink.failures() == u64::from(end.is_err())
 }
 
-/// The first room of which some writer is filled otherwise.
-fn first_other_room<R: Threads + Wait + Sync + AllocGlobal>(
+/// Whether writers of several ways are filled up to each room.
+fn fills_each_room<R: Threads + Wait + Sync + AllocGlobal>(
     rt: &R,
     line: &str,
     input: &str,
     images: &[u8],
-) -> Option<usize> {
+) -> bool {
     for room in 0..=images.len() {
         for (most_per_call, fault) in [
             (1, Some(ErrorKind::Other)),
@@ -132,38 +163,47 @@ fn first_other_room<R: Threads + Wait + Sync + AllocGlobal>(
             (100, None),
         ] {
             if !is_filled(rt, line, input, images, room, most_per_call, fault) {
-                return Some(room);
+                return false;
             }
         }
     }
-    None
+    true
+}
+
+/// The same for the comb.
+fn comb_fills_each_room<R: Threads + Wait + Sync + AllocGlobal>(rt: &R, line: &str) -> bool {
+    match mesh_text(rt.alloc(), Boxes(&COMB)) {
+        Ok(comb) => fills_each_room(rt, line, comb.as_str(), COMB_IMAGES),
+        Err(_) => false,
+    }
 }
 
 #[test]
-fn writers_with_little_room_for_drawn_images(rt: HostRuntime) -> Result<(), Fail> {
-    let comb = mesh_text(rt.alloc(), Boxes(&COMB))?;
-    for workers in [2, 3, 64] {
-        let line = line_by(rt.alloc(), 1, workers)?;
-        assert!(rt; first_other_room(&rt, line.as_str(), comb.as_str(), COMB_IMAGES).is_none());
-    }
-    Ok(())
+fn writers_with_little_room_for_drawn_images(rt: HostRuntime) {
+    assert!(rt; comb_fills_each_room(&rt, "--pitch 1 --layer 1 --workers 2"));
+    assert!(rt; comb_fills_each_room(&rt, "--pitch 1 --layer 1 --workers 3"));
+    assert!(rt; comb_fills_each_room(&rt, "--pitch 1 --layer 1 --workers 64"));
 }
 
 /// The greatest number of bytes that a writer takes in one call there.
 const MOST_PER_CALL: usize = 100_000;
 
-/// Whether a run by two workers fills writers up to rooms at the border of the first page and of the first set, and about the
-/// end.
-fn is_filled_at_borders<R: Threads + Wait + Sync + AllocGlobal>(
+/// Whether a run fills writers up to rooms about the ends of these numbers of images, which are alike and `count` in all.
+pub(crate) fn is_filled_about<R: Threads + Wait + Sync + AllocGlobal>(
     rt: &R,
     line: &str,
     input: &str,
     images: &[u8],
+    count: usize,
+    numbers: &[usize],
 ) -> bool {
-    let one = images.len() / WIDE_LAYERS;
-    for border in [8 * one, 16 * one, WIDE_LAYERS * one] {
+    let one = images.len() / count.max(1);
+    for number in numbers {
         for shift in 0..3usize {
-            let room = border.saturating_add(shift).saturating_sub(1);
+            let room = number
+                .saturating_mul(one)
+                .saturating_add(shift)
+                .saturating_sub(1);
             if !is_filled(
                 rt,
                 line,
@@ -180,15 +220,33 @@ fn is_filled_at_borders<R: Threads + Wait + Sync + AllocGlobal>(
     true
 }
 
-#[test]
-fn writers_that_fail_between_sets(rt: HostRuntime) -> Result<(), Fail> {
-    let comb = mesh_text(rt.alloc(), Boxes(&WIDE_COMB))?;
-    match written(&rt, "--pitch 1 --layer 1", comb.as_str()) {
+/// Whether a run by two workers fills writers up to rooms at the border of the first page and of the first set, and about the
+/// end.
+fn is_filled_at_borders<R: Threads + Wait + Sync + AllocGlobal>(rt: &R, input: &str) -> bool {
+    match written(rt, "--pitch 1 --layer 1", input) {
         Some(images) => {
-            let line = line_by(rt.alloc(), 1, 2)?;
-            assert!(rt; is_filled_at_borders(&rt, line.as_str(), comb.as_str(), images.as_slice()));
+            is_filled_about(
+                rt,
+                "--pitch 1 --layer 1 --workers 2",
+                input,
+                images.as_slice(),
+                WIDE_LAYERS,
+                &[8, 16, WIDE_LAYERS],
+            )
         }
-        None => assert!(rt; false),
+        None => false,
     }
-    Ok(())
+}
+
+/// The same for the wide comb.
+fn is_wide_comb_filled<R: Threads + Wait + Sync + AllocGlobal>(rt: &R) -> bool {
+    match mesh_text(rt.alloc(), Boxes(&WIDE_COMB)) {
+        Ok(comb) => is_filled_at_borders(rt, comb.as_str()),
+        Err(_) => false,
+    }
+}
+
+#[test]
+fn writers_that_fail_between_sets(rt: HostRuntime) {
+    assert!(rt; is_wide_comb_filled(&rt));
 }

@@ -4,7 +4,7 @@ use crate::meshes::Mesh::{Parts, Text};
 use crate::meshes::{Mesh, OPEN, SPIKED, gap, mesh_text};
 use micro_num::Unit;
 use short_memory::ShortMemory;
-use std::alloc::{Allocator, Global};
+use std::alloc::{AllocError, Allocator, Global};
 use stl_text::{Point, StlFault, Word};
 use stlslice::{RunFault, load};
 use test_meshes::{CUBE, CUBE_AND_FLAT, CUBE_AND_PAIR, SHEET};
@@ -36,33 +36,28 @@ static SOLIDS: [Row; 5] = [
     (Parts(SHEET), 2, 0, 0),
 ];
 
-/// `Ok`, or the number of the first row whose solid has other facts.
-fn all_solids(alloc: Global, rows: &[Row<'_>]) -> Result<(), usize> {
-    for (n, (mesh, kept, dropped, top)) in rows.iter().enumerate() {
-        let corners = Point::new(0, 0, 0).zip(Point::new(2, 2, *top));
-        if corners.is_none() || facts_of_mesh(alloc, *mesh) != Ok((*kept, *dropped, corners)) {
-            return Err(n);
-        }
-    }
-    Ok(())
+/// Whether the solid of a row has its facts.
+fn is_solid(alloc: Global, row: &Row<'_>) -> bool {
+    let (mesh, kept, dropped, top) = *row;
+    let corners = Point::new(0, 0, 0).zip(Point::new(2, 2, top));
+    corners.is_some() && facts_of_mesh(alloc, mesh) == Ok((kept, dropped, corners))
 }
 
 #[test]
-fn solids_of_texts(rt: HostRuntime) -> Result<(), usize> {
-    all_solids(rt.alloc(), &SOLIDS)
+fn solids_of_texts(rt: HostRuntime) {
+    for row in &SOLIDS {
+        assert!(rt; is_solid(rt.alloc(), row), "{} facets", row.1);
+    }
 }
 
-/// Whether a mesh has no solid for this fault.
-fn is_refused(alloc: Global, mesh: Mesh<'_>, fault: RunFault) -> bool {
-    facts_of_mesh(alloc, mesh) == Err(fault)
+/// Whether a mesh has no solid for this fault, which is `None` if it could not be made.
+fn is_refused(alloc: Global, mesh: Mesh<'_>, fault: Option<RunFault>) -> bool {
+    fault.is_some() && facts_of_mesh(alloc, mesh).err() == fault
 }
 
 #[test]
 fn a_text_with_a_gap(rt: HostRuntime) {
-    match gap() {
-        Some(fault) => assert!(rt; is_refused(rt.alloc(), Parts(OPEN), fault)),
-        None => assert!(rt; false),
-    }
+    assert!(rt; is_refused(rt.alloc(), Parts(OPEN), gap()));
 }
 
 /// The text of the cube before its first `endfacet`.
@@ -79,7 +74,7 @@ endloop
 fn a_text_that_is_cut(rt: HostRuntime) {
     let word = Word::EndFacet;
     let fault = RunFault::Stl(StlFault::Ended { word });
-    assert!(rt; is_refused(rt.alloc(), Text(CUT), fault));
+    assert!(rt; is_refused(rt.alloc(), Text(CUT), Some(fault)));
 }
 
 /// Fails each allocation of a load in turn, and returns the first turn at which none failed. It is `None` if a load returns
@@ -104,8 +99,10 @@ fn first_free_turn(alloc: Global, text: &str) -> Option<u64> {
 
 /// The first turn at which no allocation of a mesh's load fails.
 fn free_turn(alloc: Global, mesh: Mesh<'_>) -> Option<u64> {
-    let text = mesh_text(alloc, mesh).ok()?;
-    first_free_turn(alloc, text.as_str())
+    match mesh_text(alloc, mesh) {
+        Ok(text) => first_free_turn(alloc, text.as_str()),
+        Err(AllocError) => None,
+    }
 }
 
 #[test]

@@ -121,20 +121,9 @@ fn is_drawn<R: Threads + Wait + Sync + AllocGlobal>(rt: &R, row: &Row<'_>) -> bo
     }
 }
 
-/// `Ok`, or the number of the first row that comes out otherwise.
-fn all_drawn<R: Threads + Wait + Sync + AllocGlobal>(
-    rt: &R,
-    rows: &[Row<'_>],
-) -> Result<(), usize> {
-    for (n, row) in rows.iter().enumerate() {
-        if !is_drawn(rt, row) {
-            return Err(n);
-        }
-    }
-    Ok(())
-}
-
 #[test]
-fn pngs_that_are_known(rt: HostRuntime) -> Result<(), usize> {
-    all_drawn(&rt, &PNGS)
+fn pngs_that_are_known(rt: HostRuntime) {
+    for row in &PNGS {
+        assert!(rt; is_drawn(&rt, row), "{}", row.0);
+    }
 }

@@ -31,14 +31,11 @@ fn cut_at(place: usize, bytes: &[u8]) -> u64 {
 #[test]
 fn pngs_of_a_stream_that_is_cut_anywhere(rt: HostRuntime) {
     for len in 1..200usize {
-        assert_eq!(rt; in_pieces_of(len, &[SHORT]), 1);
-        assert_eq!(rt;
-            in_pieces_of(len, &[SHORT, WITH_LAST_CHUNK_INSIDE, SHORT]),
-            3
-        );
+        assert!(rt; in_pieces_of(len, &[SHORT]) == 1);
+        assert!(rt; in_pieces_of(len, &[SHORT, WITH_LAST_CHUNK_INSIDE, SHORT]) == 3);
     }
     for place in 0..SHORT.len() {
-        assert_eq!(rt; cut_at(place, SHORT), 1);
+        assert!(rt; cut_at(place, SHORT) == 1);
     }
 }
 
@@ -46,6 +43,6 @@ fn pngs_of_a_stream_that_is_cut_anywhere(rt: HostRuntime) {
 fn a_png_that_is_not_whole(rt: HostRuntime) {
     for place in 0..SHORT.len() {
         let mut count = PngCount::new();
-        assert_eq!(rt; count.take(SHORT.get(..place).unwrap_or(SHORT)), 0);
+        assert!(rt; count.take(SHORT.get(..place).unwrap_or(SHORT)) == 0);
     }
 }

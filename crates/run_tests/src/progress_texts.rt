@@ -5,7 +5,7 @@ use std::alloc::Global;
 /// What is shown, and its text.
 type Row<'a> = (BarText, &'a str);
 
-const TEXTS: [Row; 5] = [
+static TEXTS: [Row; 5] = [
     (
         BarText {
             bar: Bar {
@@ -81,17 +81,9 @@ fn is_text(alloc: Global, shown: &BarText, text: &str) -> bool {
     }
 }
 
-/// `Ok`, or the number of the first row with another text.
-fn all_texts(alloc: Global, rows: &[Row<'_>]) -> Result<(), usize> {
-    for (n, (shown, text)) in rows.iter().enumerate() {
-        if !is_text(alloc, shown, text) {
-            return Err(n);
-        }
-    }
-    Ok(())
-}
-
 #[test]
-fn texts_of_bars(rt: HostRuntime) -> Result<(), usize> {
-    all_texts(rt.alloc(), &TEXTS)
+fn texts_of_bars(rt: HostRuntime) {
+    for row in &TEXTS {
+        assert!(rt; is_text(rt.alloc(), &row.0, row.1), "{}", row.1);
+    }
 }

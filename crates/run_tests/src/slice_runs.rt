@@ -457,19 +457,6 @@ fn is_built<R: Threads + Wait + Sync + AllocGlobal>(rt: &R, row: &Build<'_>) -> 
     }
 }
 
-/// `Ok`, or the number of the first row that comes out otherwise.
-fn all_built<R: Threads + Wait + Sync + AllocGlobal>(
-    rt: &R,
-    rows: &[Build<'_>],
-) -> Result<(), usize> {
-    for (n, row) in rows.iter().enumerate() {
-        if !is_built(rt, row) {
-            return Err(n);
-        }
-    }
-    Ok(())
-}
-
 /// Two boxes, of which the second begins at another height.
 const PASSING: Mesh<'static> = Boxes(&[[[0, 0, 0], [5, 3, 20]], [[2, 1, 9], [8, 4, 30]]]);
 
@@ -514,8 +501,10 @@ static STRIPES: [Build; 4] = [
 ];
 
 #[test]
-fn builds_in_several_stripes(rt: HostRuntime) -> Result<(), usize> {
-    all_built(&rt, &STRIPES)
+fn builds_in_several_stripes(rt: HostRuntime) {
+    for row in &STRIPES {
+        assert!(rt; is_built(&rt, row), "{}", row.3);
+    }
 }
 
 /// How many bytes are written by a line of words. `None` if the number of workers makes a difference.

@@ -6,14 +6,9 @@ use std::alloc::Global;
 use task_words::{Depth, Given, Mirrors, Task, WordFault, wants_progress};
 use test_words::{split, task_of};
 
-/// `Ok`, or the number of the first row whose words are another task or none.
-fn all_tasks(alloc: Global, rows: &[(&str, Task)]) -> Result<(), usize> {
-    for (n, (line, task)) in rows.iter().enumerate() {
-        if task_of(alloc, line).ok() != Some(*task) {
-            return Err(n);
-        }
-    }
-    Ok(())
+/// Whether a line of words is this task, which is `None` if it could not be made.
+fn is_task(alloc: Global, line: &str, task: Option<Task>) -> bool {
+    task.is_some() && task_of(alloc, line).ok() == task
 }
 
 /// The greatest number of nine digits, the most that a count has.
@@ -54,7 +49,9 @@ const PROBE_AT_0: Task = Task::Probe {
 };
 
 /// Words, and their task.
-const TASKS: [(&str, Task); 15] = [
+type TaskWords<'a> = (&'a str, Task);
+
+const TASKS: [TaskWords; 15] = [
     ("--pitch 50 --layer 100000 --png --report", REPORT),
     (
         "--report --pitch 50 --layer 100000 --png --depth 1 --mirror-x --mirror-y",
@@ -107,14 +104,16 @@ const TASKS: [(&str, Task); 15] = [
 ];
 
 #[test]
-fn words_are_tasks(rt: HostRuntime) -> Result<(), usize> {
-    all_tasks(rt.alloc(), &TASKS)
+fn words_are_tasks(rt: HostRuntime) {
+    for row in &TASKS {
+        assert!(rt; is_task(rt.alloc(), row.0, Some(row.1)), "{}", row.0);
+    }
 }
 
 /// The options of PNGs, and what they stand for.
 type PngWords<'a> = (&'a str, Depth, Mirrors);
 
-const PNGS: [PngWords; 7] = [
+static PNGS: [PngWords; 7] = [
     (
         "--pitch 50 --layer 100000 --png",
         Depth::Eight,
@@ -167,31 +166,29 @@ fn png_task(row: &PngWords<'_>) -> Task {
     }
 }
 
-/// `Ok`, or the number of the first row whose words are another task or none.
-fn all_png_tasks(alloc: Global, rows: &[PngWords<'_>]) -> Result<(), usize> {
-    for (n, row) in rows.iter().enumerate() {
-        if task_of(alloc, row.0).ok() != Some(png_task(row)) {
-            return Err(n);
-        }
-    }
-    Ok(())
-}
-
 #[test]
-fn words_are_tasks_of_pngs(rt: HostRuntime) -> Result<(), usize> {
-    all_png_tasks(rt.alloc(), &PNGS)
+fn words_are_tasks_of_pngs(rt: HostRuntime) {
+    for row in &PNGS {
+        assert!(rt;
+            is_task(rt.alloc(), row.0, Some(png_task(row))),
+            "{}",
+            row.0
+        );
+    }
 }
 
-/// Whether a line of words asks for progress. `None` if memory is short.
-fn asks_for_progress(alloc: Global, line: &str) -> Option<bool> {
-    let words = split(alloc, line).ok()?;
-    Some(wants_progress(words.as_slice()))
+/// Whether a line of words asks for progress, or does not, as this says.
+fn asks_for_progress(alloc: Global, line: &str, wanted: bool) -> bool {
+    match split(alloc, line) {
+        Ok(words) => wants_progress(words.as_slice()) == wanted,
+        Err(_) => false,
+    }
 }
 
 #[test]
 fn words_that_ask_for_progress(rt: HostRuntime) {
-    assert!(rt; asks_for_progress(rt.alloc(), "--pitch 1 --progress --layer 1") == Some(true));
-    assert!(rt; asks_for_progress(rt.alloc(), "--pitch 1 --layer 1 --report") == Some(false));
+    assert!(rt; asks_for_progress(rt.alloc(), "--pitch 1 --progress --layer 1", true));
+    assert!(rt; asks_for_progress(rt.alloc(), "--pitch 1 --layer 1 --report", false));
 }
 
 /// The least coordinate of a point, in micrometres.
@@ -237,23 +234,17 @@ fn full_pngs() -> Option<Task> {
 }
 
 #[test]
-fn words_are_a_full_task_of_pngs(rt: HostRuntime) -> Result<(), usize> {
+fn words_are_a_full_task_of_pngs(rt: HostRuntime) {
     let line =
         "--png --grid 4,5,6,0,0,0 --pitch 5 --layer 7 --rule nonzero --workers 3 --unit inch --depth 1 --mirror-y";
-    match full_pngs() {
-        Some(task) => all_tasks(rt.alloc(), &[(line, task)]),
-        None => Err(0),
-    }
+    assert!(rt; is_task(rt.alloc(), line, full_pngs()));
 }
 
 #[test]
-fn words_are_a_full_task(rt: HostRuntime) -> Result<(), usize> {
+fn words_are_a_full_task(rt: HostRuntime) {
     let line =
         "--report --grid 4,0,999999999,-1,-0,-128000000 --pitch +5 --layer 007 --rule positive --workers 64 --unit inch";
-    match full_task() {
-        Some(task) => all_tasks(rt.alloc(), &[(line, task)]),
-        None => Err(0),
-    }
+    assert!(rt; is_task(rt.alloc(), line, full_task()));
 }
 
 const PITCH: &str = "stlslice: --pitch is missing";
@@ -329,28 +320,6 @@ fn is_told(alloc: Global, fault: &WordFault, status: u8, told: &str) -> bool {
     }
 }
 
-#[test]
-fn a_grid_of_five_numbers(rt: HostRuntime) {
-    match task_of(rt.alloc(), "--pitch 1 --layer 1 --grid 1,1,1,0,0") {
-        Ok(_) => assert!(rt; false),
-        Err(fault) => {
-            assert!(rt; matches!(fault, WordFault::BadGrid));
-            assert!(rt; is_told(rt.alloc(), &fault, 2, GRID));
-        }
-    }
-}
-
-#[test]
-fn a_probe_of_two_numbers(rt: HostRuntime) {
-    match task_of(rt.alloc(), "--pitch 1 --layer 1 --probe 0,0") {
-        Ok(_) => assert!(rt; false),
-        Err(fault) => {
-            assert!(rt; matches!(fault, WordFault::BadProbe));
-            assert!(rt; is_told(rt.alloc(), &fault, 2, PROBE));
-        }
-    }
-}
-
 /// Whether a line of words is no task, by a fault of status 2 with this line.
 fn is_no_task(alloc: Global, line: &str, told: &str) -> bool {
     match task_of(alloc, line) {
@@ -359,19 +328,25 @@ fn is_no_task(alloc: Global, line: &str, told: &str) -> bool {
     }
 }
 
-/// `Ok`, or the number of the first row whose words are a task or whose fault has another line.
-fn all_no_task(alloc: Global, rows: &[(&str, &str)]) -> Result<(), usize> {
-    for (n, (line, told)) in rows.iter().enumerate() {
-        if !is_no_task(alloc, line, told) {
-            return Err(n);
-        }
-    }
-    Ok(())
+#[test]
+fn a_grid_of_five_numbers(rt: HostRuntime) {
+    let line = "--pitch 1 --layer 1 --grid 1,1,1,0,0";
+    assert!(rt; matches!(task_of(rt.alloc(), line), Err(WordFault::BadGrid)));
+    assert!(rt; is_no_task(rt.alloc(), line, GRID));
 }
 
 #[test]
-fn words_that_are_no_task(rt: HostRuntime) -> Result<(), usize> {
-    all_no_task(rt.alloc(), &NO_TASKS)
+fn a_probe_of_two_numbers(rt: HostRuntime) {
+    let line = "--pitch 1 --layer 1 --probe 0,0";
+    assert!(rt; matches!(task_of(rt.alloc(), line), Err(WordFault::BadProbe)));
+    assert!(rt; is_no_task(rt.alloc(), line, PROBE));
+}
+
+#[test]
+fn words_that_are_no_task(rt: HostRuntime) {
+    for row in &NO_TASKS {
+        assert!(rt; is_no_task(rt.alloc(), row.0, row.1), "{}", row.0);
+    }
 }
 
 #[test]
@@ -515,22 +490,16 @@ fn is_refused(alloc: Global, row: &Refused<'_>) -> bool {
     }
 }
 
-/// `Ok`, or the number of the first row whose words are a task or refused otherwise.
-fn all_refused(alloc: Global, rows: &[Refused<'_>]) -> Result<(), usize> {
-    for (n, row) in rows.iter().enumerate() {
-        if !is_refused(alloc, row) {
-            return Err(n);
-        }
+#[test]
+fn words_that_are_refused(rt: HostRuntime) {
+    for row in &REFUSED {
+        assert!(rt; is_refused(rt.alloc(), row), "{}", row.0);
     }
-    Ok(())
 }
 
 #[test]
-fn words_that_are_refused(rt: HostRuntime) -> Result<(), usize> {
-    all_refused(rt.alloc(), &REFUSED)
-}
-
-#[test]
-fn texts_that_begin_with_a_dash(rt: HostRuntime) -> Result<(), usize> {
-    all_refused(rt.alloc(), &DASHED)
+fn texts_that_begin_with_a_dash(rt: HostRuntime) {
+    for row in &DASHED {
+        assert!(rt; is_refused(rt.alloc(), row), "{}", row.0);
+    }
 }
