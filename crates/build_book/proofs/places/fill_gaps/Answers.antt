@@ -1,9 +1,8 @@
 use Rattle.std.proofs.Common.{◌≡◌, ◌+◌, ◌^◌, ◌<◌, ◌≤◌, length, arith, rules, length-set, ◌∙◌, ap, sym}
 use Rattle.std.specs.Prelude.{get_or}
-use Rattle.std.specs.Vec.Iter.{into_iter_items}
 use Rattle.build_book.specs.Places.{with_layers, or_layer}
 use Rattle.build_book.specs.declared.limits.TheConstants.{STRIPE_LAYERS}
-use Rattle.build_book.proofs.lemmas.Places.{all_front, filled_step, filled_empty, front_step, count_step, room_here, room_after, few_front, length_step, one_if_free, one_or_none, one_at_most, length-filled}
+use Rattle.build_book.proofs.lemmas.Places.{filled_step, filled_empty, front_step, count_step, room_here, room_after, few_front, length_step, one_if_free, one_or_none, one_at_most, length-filled}
 use Rattle.build_book.proofs.places.fill_gaps.Goals as goal
 
 pub loop-layer-init : goal.loop-layer-init
@@ -51,16 +50,3 @@ loop-layer-preserved g c =
           (c.index-places-at.is ∙ ap (λ ps. get_or ps c.loop-layer.at c.index-places-at.result) {y = with_layers c.args.first c.loop-layer.yielded c.args.places.now} c.loop-layer.invariant.places));
       made = rw put (omega (arith, one, c.loop-layer.invariant.made, count_step c.loop-layer.places c.loop-layer.at c.in-Some.layer c.index-places-at.result low c.index-places-at.is));
     }
-
-pub bounds-places-at : goal.bounds-places-at
-bounds-places-at g c = room_here _ _ _ _ _ c.loop-layer.invariant.left c.in-Some.ensures.steps.0
-
-pub returns-clause-places : goal.returns-clause-places
-returns-clause-places g c =
-    c.loop-layer.invariant.places
-    ∙ ap (λ ys. with_layers c.args.first ys c.args.places.now)
-    (all_front c.loop-layer.yielded (into_iter_items c.loop-layer.layer-iterator) _ c.args.layers.items c.loop-layer.layer-iterator.rest.len
-    c.loop-layer.invariant.front c.loop-layer.layer-iterator.rest.ok.0 c.in-None.ensures.steps.0 c.into_iter-layer-iterator.ensures.into_iter_gives.0)
-
-pub returns-clause-made : goal.returns-clause-made
-returns-clause-made g c = c.loop-layer.invariant.made

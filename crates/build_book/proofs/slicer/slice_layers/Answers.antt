@@ -28,27 +28,3 @@ returns-clause-lawful g c = c.loop-k.invariant.lawful
 
 pub returns-clause-solid : goal.returns-clause-solid
 returns-clause-solid g c = c.loop-k.invariant.solid ∙ sym c.requires.solid
-
-pub returns-in_err-step_up-clause-solid : goal.returns-in_err-step_up-clause-solid
-returns-in_err-step_up-clause-solid g c = c.step_up.ensures.solid ∙ c.loop-k.invariant.solid ∙ sym c.requires.solid
-
-pub returns-in_err-slice_layer-2-clause-solid : goal.returns-in_err-slice_layer-2-clause-solid
-returns-in_err-slice_layer-2-clause-solid g c = c.step_up.ensures.solid ∙ c.loop-k.invariant.solid ∙ sym c.requires.solid
-
-pub returns-in_err-push-2-clause-solid : goal.returns-in_err-push-2-clause-solid
-returns-in_err-push-2-clause-solid g c = c.step_up.ensures.solid ∙ c.loop-k.invariant.solid ∙ sym c.requires.solid
-
-pub slice_layer-requires-clause-solid : goal.slice_layer-requires-clause-solid
-slice_layer-requires-clause-solid g c κs within = c.requires.solid
-
-pub slice_layer-requires-clause-height : goal.slice_layer-requires-clause-height
-slice_layer-requires-clause-height g c κs within = c.requires.height
-
-pub step_up-requires-clause-before : goal.step_up-requires-clause-before
-step_up-requires-clause-before g c κs within = c.loop-k.invariant.height
-
-pub slice_layer-requires-in-loop-k-clause-solid : goal.slice_layer-requires-in-loop-k-clause-solid
-slice_layer-requires-in-loop-k-clause-solid g c κs within = c.step_up.ensures.solid ∙ c.loop-k.invariant.solid
-
-pub slice_layer-requires-in-loop-k-clause-height : goal.slice_layer-requires-in-loop-k-clause-height
-slice_layer-requires-in-loop-k-clause-height g c κs within = c.in_ok-step_up.ensures.height

@@ -1,4 +1,5 @@
 use Rattle.std.proofs.Common.{◌≡◌, None, ap, replicate, sym, subst, refl, ◌∙◌}
+use Rattle.std.proofs.lemmas.Bool.{false≢true}
 use Rattle.std.proofs.lemmas.Result.{IfOk-weaker}
 use Rattle.raster.specs.Grid.{Grid}
 use Rattle.build_book.specs.Book.{Book, IsLawfulBook}
@@ -28,3 +29,9 @@ returns-else-same-clause-other g c =
     IfOk-weaker c.empty_places.result (λ places. places.items ≡ replicate c.layers.result None)
     (λ places. (c.args.self.job ≡ c.args.job.now → ⊥) → filed_count places.items ≡ 0)
     (λ places is other. ap filed_count is ∙ none_filed c.layers.result) c.empty_places.ensures
+
+pub returns-else-same-clause-same : goal.returns-else-same-clause-same
+returns-else-same-clause-same g c =
+    IfOk-weaker c.empty_places.result (λ places. places.items ≡ replicate c.layers.result None)
+    (λ places. c.args.self.job ≡ c.args.job.now → places.items ≡ c.args.self.places)
+    (λ places is own. absurd (false≢true (c.if-same.ensures.1 (ap (λ (s : Book). s.job) c.self.view_is ∙ own)))) c.empty_places.ensures

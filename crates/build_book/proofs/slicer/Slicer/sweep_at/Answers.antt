@@ -1,7 +1,6 @@
-use Rattle.std.proofs.Common.{◌≡◌, ◌∙◌, ◌<◌, ℕ, ℤ, Some, ap, sym, subst}
+use Rattle.std.proofs.Common.{◌≡◌, ◌∙◌, ◌<◌, ℕ, ℤ, ap, sym, subst}
 use Rattle.std.proofs.lemmas.Option.{none-some}
 use Rattle.std.proofs.lemmas.Result.{IfOk-weaker}
-use Rattle.contour.specs.Sweep.{Sweep}
 use Rattle.geometry.specs.declared.limits.TheConstants.{CENTRE_LIMIT}
 use Rattle.exact_int.specs.Bounds.{IsAtMost}
 use Rattle.raster.specs.Grid.{Grid, plane}
