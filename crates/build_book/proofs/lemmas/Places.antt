@@ -1,9 +1,10 @@
 -- Places of a book, before and after layers are put into those that are free.
-use Rattle.std.proofs.Common.{◌≡◌, ℕ, zero, suc, ◌+◌, ◌*◌, ◌<◌, ◌≤◌, Bool, true, false, not, ◌⊎◌, inl, inr, List, [], ◌∷◌, ◌++◌, length, append_assoc, length-append, take, drop, map, set, get_or, refl, sym, ◌∙◌, ap, subst, arith, Option, Some, None, cond, is_some, flat_map, option_to_list, slice_get, Fits}
+use Rattle.std.proofs.Common.{◌≡◌, ℕ, zero, suc, ◌+◌, ◌*◌, ◌<◌, ◌≤◌, Bool, true, false, not, ◌⊎◌, inl, inr, List, [], ◌∷◌, ◌++◌, length, append_assoc, append-nil, length-append, replicate, take, drop, map, set, get_or, refl, sym, ◌∙◌, ap, subst, arith, Option, Some, None, cond, is_some, flat_map, option_to_list, slice_get, Fits}
 use mir.Syntax.{w64}
 use mir.Val.{bool_byte}
 use Rattle.std.specs.Prelude.{nat_le}
 use Rattle.std.proofs.lemmas.Bool.Decides.{leb_tells}
+use Rattle.std.proofs.lemmas.List.{length-replicate}
 use Rattle.std.proofs.lemmas.List.Sums.{sum_by-cons, count_by-le-length}
 use Rattle.build_book.specs.Job.{Job, stripe_length, stripe_count}
 use Rattle.build_book.specs.Layer.{Layer, IsLawful, AreLawfulFrom}
@@ -26,6 +27,11 @@ filled_empty (suc f) (p ∷ ps) = ap (λ qs. p ∷ qs) (filled_empty f ps)
 -- an iterator gives its next layer
 pub front_step : {X : Type 0} (ys zs rest all : List X) (x : X) → ys ++ zs ≡ all → zs ≡ x ∷ rest → (ys ++ x ∷ []) ++ rest ≡ all
 front_step ys zs rest all x whole next = append_assoc ys (x ∷ []) rest ∙ ap (λ l. ys ++ l) (sym next) ∙ whole
+
+-- an iterator that has none left has given all
+pub all_front : {X : Type 0} (ys zs all items : List X) (left : ℕ) → ys ++ zs ≡ all → left ≡ length zs → left ≡ 0 → all ≡ items → ys ≡ items
+all_front ys [] all items left whole counted none same = sym (append-nil ys) ∙ whole ∙ same
+all_front ys (z ∷ zs) all items left whole counted none same = absurd (omega (arith, counted, none))
 
 pub room_here : {X : Type 0} (at room : ℕ) (zs rest : List X) (x : X) → at + length zs ≤ room → zs ≡ x ∷ rest → at < room
 room_here at room zs rest x within next = omega (arith, within, ap length next)
@@ -172,6 +178,31 @@ taken_filled (suc f) n ys (p ∷ ps) at zero low below near = below (omega arith
 taken_filled (suc f) zero ys (p ∷ ps) at (suc k) low below near = absurd (omega (arith, at))
 taken_filled (suc f) (suc n) ys (p ∷ ps) at (suc k) low below near =
     taken_filled f n ys ps (omega (arith, at)) k (omega (arith, low)) (λ h. below (omega (arith, h))) (omega (arith, near))
+
+-- a book of empty places
+
+pub none_filed : (n : ℕ) → filed_count (replicate n None) ≡ 0
+none_filed zero = refl
+none_filed (suc n) = simp sum_by-cons (omega (arith, none_filed n))
+
+none_there : (job : Job) (n k : ℕ) (place : Option Layer) → slice_get (replicate {A = Option Layer} n None) k ≡ Some place → IsLawfulPlace job k place
+none_there job n k None h = tt
+none_there job zero k (Some layer) h = absurd (cc)
+none_there job (suc n) zero (Some layer) h = absurd (cc)
+none_there job (suc n) (suc k) (Some layer) h = absurd (clash n k layer h)
+  where
+    clash : (n k : ℕ) (layer : Layer) → slice_get (replicate {A = Option Layer} n None) k ≡ Some (Some layer) → ⊥
+    clash zero k layer h = cc
+    clash (suc n) zero layer h = cc
+    clash (suc n) (suc k) layer h = clash n k layer h
+
+pub none_lawful : (job : Job) (places : List (Option Layer)) (n : ℕ) → places ≡ replicate n None → n ≡ job.grid.layers
+    → IsLawfulBook (record { job = job; places = places })
+none_lawful job places n is whole =
+    record {
+      one_each = ap length is ∙ length-replicate n None ∙ whole;
+      lawful = λ k place h. none_there job n k place (ap (λ ps. slice_get ps k) (sym is) ∙ h);
+    }
 
 -- a place that is taken has a layer
 module _ (Goal : Option Layer → Type 0) (some : (x : Layer) → Goal (Some x)) where

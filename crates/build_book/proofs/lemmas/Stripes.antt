@@ -1,7 +1,9 @@
 -- Layers from the lowest up, and the planes that they lie in.
-use Rattle.std.proofs.Common.{◌≡◌, ℕ, ◌+◌, ◌-◌, ◌≤◌, List, [], ◌∷◌, ◌++◌, length, subst, arith, pos, ◌+ℤ◌, ◌*ℤ◌, ℤ, ◌≤ℤ◌}
-use Rattle.std.proofs.lemmas.Int.{ints}
+use Rattle.std.proofs.Common.{◌≡◌, ℕ, ◌+◌, ◌-◌, ◌≤◌, List, [], ◌∷◌, ◌++◌, length, subst, arith, pos, ◌+ℤ◌, ◌*ℤ◌, ℤ, ◌≤ℤ◌, to_z, of_z, w64}
+use Rattle.std.proofs.lemmas.Int.{fits_signed_from_abs, ints, to_z-of_z}
 use Rattle.std.proofs.Math.Nat.{mul-le-mul_left}
+use Rattle.exact_int.specs.Bounds.{IsAtMost}
+use Rattle.geometry.specs.declared.limits.TheConstants.{CENTRE_LIMIT}
 use Rattle.raster.specs.Grid.{Grid, plane}
 use Rattle.build_book.specs.Job.{Job}
 use Rattle.build_book.specs.Layer.{Layer, IsLawful, AreLawfulFrom}
@@ -15,6 +17,10 @@ planes_rise g j k h = raised (pos 2 *ℤ g.origin.z) _ _ (mul-le-mul_left g.laye
 
 pub higher_plane : (g : Grid) (k : ℕ) (low high : ℤ) → low ≡ plane g (k - 1) → high ≡ plane g k → low ≤ℤ high
 higher_plane g k low high l h = rw (l, h) (planes_rise g (k - 1) k (omega arith))
+
+-- the height of a plane is unchanged by 64 bits
+pub plane_kept : (z : ℤ) → IsAtMost CENTRE_LIMIT z → to_z w64 (of_z w64 z) ≡ z
+plane_kept z near = to_z-of_z w64 z (fits_signed_from_abs w64 z (omega (arith, near.at_most)))
 
 -- one more layer
 pub lawful_push : (job : Job) (k : ℕ) (layers : List Layer) (layer : Layer) → AreLawfulFrom job k layers

@@ -14,3 +14,9 @@ pub loop-k-preserved : goal.loop-k-preserved
 loop-k-preserved g c =
     one_further (λ n. slice_get c.args.places.now n ≡ Some None) c.args.first c.loop-k.k c.loop-k.invariant
     (free_at c.args.places.now c.loop-k.k c.index-places-k.result (omega (arith, c.loop-k-test.true, c.requires)) c.index-places-k.is (sym c.if-is_some.ensures))
+
+pub loop-k-init : goal.loop-k-init
+loop-k-init g c = λ k from below. absurd (omega (arith, from, below))
+
+pub returns-clause-none : goal.returns-clause-none
+returns-clause-none g c = λ k from below. c.loop-k.invariant k from (omega (arith, below, c.loop-k-test.false))

@@ -1,6 +1,5 @@
 use Rattle.std.proofs.Common.{◌∙◌, ◌+◌, ◌^◌, ◌<◌, arith, refl, rules}
 use Rattle.std.proofs.Math.Nat.{zero-add}
-use Rattle.std.proofs.lemmas.Result.{err_from_is_err_and}
 use Rattle.build_book.specs.Places.{filed_count}
 use Rattle.build_book.proofs.lemmas.Places.{few_layers}
 use Rattle.build_book.proofs.places.make_missing.Goals as goal
@@ -28,15 +27,6 @@ returns-then-is_full-clause-all g c k low = c.if-is_full.ensures refl k (omega a
 pub returns-then-is_full-clause-late : goal.returns-then-is_full-clause-late
 returns-then-is_full-clause-late g c = zero-add (filed_count c.args.places.now)
 
-pub returns-in_err-slicer-clause-lawful : goal.returns-in_err-slicer-clause-lawful
-returns-in_err-slicer-clause-lawful g c = let p = err_from_is_err_and c.from_residual.result c.from_residual.ensures.1 in rw p.1 tt
-
-pub returns-in_err-slicer-clause-all : goal.returns-in_err-slicer-clause-all
-returns-in_err-slicer-clause-all g c = let p = err_from_is_err_and c.from_residual.result c.from_residual.ensures.1 in rw p.1 tt
-
-pub returns-in_err-slicer-clause-late : goal.returns-in_err-slicer-clause-late
-returns-in_err-slicer-clause-late g c = let p = err_from_is_err_and c.from_residual.result c.from_residual.ensures.1 in rw p.1 tt
-
 pub loop-s-init : goal.loop-s-init
 loop-s-init g c = record {
   slicer = c.in_ok-slicer.ensures;
@@ -56,15 +46,6 @@ make_stripe-requires-clause-lawful g c κs within = c.loop-s.invariant.lawful
 
 pub make_stripe-requires-clause-below : goal.make_stripe-requires-clause-below
 make_stripe-requires-clause-below g c κs within = c.loop-s.invariant.below
-
-pub returns-in_err-late-clause-lawful : goal.returns-in_err-late-clause-lawful
-returns-in_err-late-clause-lawful g c = let p = err_from_is_err_and c.from_residual-in_err-late.result c.from_residual-in_err-late.ensures.1 in rw p.1 tt
-
-pub returns-in_err-late-clause-all : goal.returns-in_err-late-clause-all
-returns-in_err-late-clause-all g c = let p = err_from_is_err_and c.from_residual-in_err-late.result c.from_residual-in_err-late.ensures.1 in rw p.1 tt
-
-pub returns-in_err-late-clause-late : goal.returns-in_err-late-clause-late
-returns-in_err-late-clause-late g c = let p = err_from_is_err_and c.from_residual-in_err-late.result c.from_residual-in_err-late.ensures.1 in rw p.1 tt
 
 pub loop-s-preserved : goal.loop-s-preserved
 loop-s-preserved g c = record {

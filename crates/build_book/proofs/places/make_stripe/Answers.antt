@@ -1,6 +1,5 @@
 use Rattle.std.proofs.Common.{◌∙◌, ◌<◌, refl, subst, sym}
 use Rattle.std.proofs.Math.Nat.{zero-add}
-use Rattle.std.proofs.lemmas.Result.{err_from_is_err_and}
 use Rattle.build_book.proofs.lemmas.Places.{moved_stripe, stripe_taken, stripe_lawful, stripe_filled, below_end, at_end, end_within, stripe_fits, stripe_few}
 use Rattle.build_book.specs.Job.{Job, stripe_count}
 use Rattle.build_book.specs.Piece.{IsStripe}
@@ -52,15 +51,6 @@ returns-clause-below g c =
 
 pub returns-then-is_full-clause-slicer : goal.returns-then-is_full-clause-slicer
 returns-then-is_full-clause-slicer g c = refl
-
-pub returns-in_err-piece-clause-lawful : goal.returns-in_err-piece-clause-lawful
-returns-in_err-piece-clause-lawful g c = let p = err_from_is_err_and c.from_residual.result c.from_residual.ensures.1 in rw p.1 tt
-
-pub returns-in_err-piece-clause-below : goal.returns-in_err-piece-clause-below
-returns-in_err-piece-clause-below g c = let p = err_from_is_err_and c.from_residual.result c.from_residual.ensures.1 in rw p.1 tt
-
-pub returns-in_err-piece-clause-made : goal.returns-in_err-piece-clause-made
-returns-in_err-piece-clause-made g c = let p = err_from_is_err_and c.from_residual.result c.from_residual.ensures.1 in rw p.1 tt
 
 pub returns-in_err-piece-clause-slicer : goal.returns-in_err-piece-clause-slicer
 returns-in_err-piece-clause-slicer g c = c.slice.ensures.kept

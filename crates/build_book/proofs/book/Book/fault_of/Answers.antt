@@ -1,9 +1,9 @@
-use Rattle.std.proofs.Common.{◌≡◌, ◌∙◌, ◌+◌, ◌*◌, length, sym, ap, Some, None, slice_get, subst, arith}
+use Rattle.std.proofs.Common.{◌≡◌, ◌∙◌, ◌+◌, ◌*◌, length, sym, ap, Some, None, refl, slice_get, subst, arith}
 use Rattle.build_book.specs.Job.{Job, stripe_length}
 use Rattle.build_book.specs.Places.{AreFree, IsTaken}
 use Rattle.build_book.specs.Book.{Book}
 use Rattle.build_book.specs.declared.limits.TheConstants.{STRIPE_LAYERS}
-use Rattle.build_book.proofs.lemmas.Places.{none_before}
+use Rattle.build_book.proofs.lemmas.Places.{end_within, moved_stripe, none_before}
 use Rattle.build_book.proofs.book.Book.fault_of.Goals as goal
 use Rattle.build_book.proofs.book.Book.fault_of.Goals.{After-first_taken}
 
@@ -40,3 +40,12 @@ returns-clause-fault g c =
       there,
       λ k at taken. none_before c.args.self.now.places c.layer_range-first.result.0 c.in_ok-taken.taken k before (omega (arith, at.0, first_place g d)) taken,
     )
+
+pub layer_range-first-requires : goal.layer_range-first-requires
+layer_range-first-requires g c =
+    (moved_stripe c.self.inside.job.now _ c.stripe.result _ _ _ (c.requires ∙ sym (ap (λ (s : Book). s.job) c.self.view_is)) (sym c.stripe.ensures) refl c.layers-layers.ensures.lawful).within
+
+pub first_taken-requires : goal.first_taken-requires
+first_taken-requires g c =
+    rw c.as_slice-places.ensures.value
+    (end_within c.self.inside.job.now _ c.self.inside.places.items c.self.invariant c.layer_range-first.ensures.within)

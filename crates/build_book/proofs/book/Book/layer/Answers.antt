@@ -1,6 +1,6 @@
-use Rattle.std.proofs.Common.{◌≡◌, ℕ, List, Option, Some, None, IfSome, Bor, length, get_or, sym, subst, ap, ◌∙◌}
+use Rattle.std.proofs.Common.{◌≡◌, ◌≤◌, ℕ, List, Option, Some, None, IfSome, Bor, length, get_or, sym, subst, ap, ◌∙◌}
 use Rattle.std.specs.Prelude.{option_copied, slice_get}
-use Rattle.std.proofs.lemmas.Option.{slice_get_read}
+use Rattle.std.proofs.lemmas.Option.{none-some, slice_get_past, slice_get_read}
 use Rattle.build_book.specs.Job.{Job}
 use Rattle.build_book.specs.Layer.{Layer, IsLawful}
 use Rattle.build_book.specs.Book.{Book, IsLawfulPlace}
@@ -51,3 +51,16 @@ returns-clause-lawful g c =
     lawful_read c.args.self.now.job c.args.k c.as_ref.result
     (subst (IsLawfulPlace c.args.self.now.job c.args.k) (sym c.as_ref.ensures.value)
     (subst (λ job. IsLawfulPlace job c.args.k c.in_ok-get.field-0.now) (ap (λ (s : Book). s.job) c.self.view_is) there))
+
+pub returns-in_err-get-clause-some : goal.returns-in_err-get-clause-some
+returns-in_err-get-clause-some g c = rw c.from_residual.ensures tt
+
+pub returns-in_err-get-clause-lawful : goal.returns-in_err-get-clause-lawful
+returns-in_err-get-clause-lawful g c = rw c.from_residual.ensures tt
+
+pub returns-in_err-get-clause-none : goal.returns-in_err-get-clause-none
+returns-in_err-get-clause-none g c = λ none layer there.
+    none-some (Some layer)
+    (sym (slice_get_past c.args.self.now.places c.args.k
+    (subst (λ l. length l ≤ c.args.k) (c.deref.ensures.value ∙ ap (λ (s : Book). s.places) c.self.view_is) c.in_err-get.ensures.lookup.3))
+    ∙ there)

@@ -5,7 +5,7 @@ use Rattle.build_book.specs.Job.{stripe_length}
 use Rattle.build_book.specs.Piece.{IsStripe}
 use Rattle.build_book.specs.Places.{with_layers, AreFree}
 use Rattle.build_book.specs.declared.limits.TheConstants.{STRIPE_LAYERS}
-use Rattle.build_book.proofs.lemmas.Places.{moved_stripe, stripe_lawful, stripe_filed, stripe_few, below_end, length-filled}
+use Rattle.build_book.proofs.lemmas.Places.{moved_stripe, stripe_lawful, stripe_filed, stripe_few, stripe_fits, below_end, length-filled}
 use Rattle.build_book.proofs.book.Book.put.Goals as goal
 use Rattle.build_book.proofs.book.Book.put.Goals.{After-fill_gaps, After-into_layers}
 
@@ -69,3 +69,9 @@ returns g c =
           _ d.self.invariant (piece_stripe g d) (first_place g d) refl (filed_places g d) (free_places g d)
           d.into_layers.ensures (ap (λ s. s.places) d.self.view_is);
     }
+
+pub fill_gaps-requires-clause-room : goal.fill_gaps-requires-clause-room
+fill_gaps-requires-clause-room g c =
+    rw c.as_mut_slice-places.ensures.value
+    (stripe_fits c.self.inside.job.now c.stripe.result _ _ _ c.self.inside.places.items c.self.invariant c.layer_range-first.ensures.first
+    c.layer_range-first.ensures.end c.layer_range-first.ensures.within (read_stripe g c))

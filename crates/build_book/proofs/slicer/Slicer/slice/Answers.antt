@@ -1,5 +1,4 @@
 use Rattle.std.proofs.Common.{◌≡◌, ◌∙◌, ◌+◌, ◌*◌, ◌<◌, ◌≤◌, ℕ, List, Some, ap, arith, length, subst, sym}
-use Rattle.std.proofs.lemmas.Result.{err_from_is_err_and}
 use Rattle.contour.specs.Sweep.{Sweep}
 use Rattle.raster.specs.Grid.{plane}
 use Rattle.build_book.specs.Job.{Job, stripe_count, stripe_length}
@@ -36,15 +35,6 @@ pub sweep_at-requires-after_bounds : goal.sweep_at-requires-after_bounds
 sweep_at-requires-after_bounds g c κs within =
     omega (arith, c.layer_range-first.ensures.some, c.layer_range-first.ensures.within, ap (λ (w : Job). w.grid.layers) c.self.view_is)
 
-pub returns-in_err-sweep-clause-job : goal.returns-in_err-sweep-clause-job
-returns-in_err-sweep-clause-job g c = let p = err_from_is_err_and c.from_residual.result c.from_residual.ensures.1 in rw p.1 tt
-
-pub returns-in_err-sweep-clause-stripe : goal.returns-in_err-sweep-clause-stripe
-returns-in_err-sweep-clause-stripe g c = let p = err_from_is_err_and c.from_residual.result c.from_residual.ensures.1 in rw p.1 tt
-
-pub returns-in_err-sweep-clause-lawful : goal.returns-in_err-sweep-clause-lawful
-returns-in_err-sweep-clause-lawful g c = let p = err_from_is_err_and c.from_residual.result c.from_residual.ensures.1 in rw p.1 tt
-
 pub returns-in_err-sweep-clause-kept : goal.returns-in_err-sweep-clause-kept
 returns-in_err-sweep-clause-kept g c = c.sweep_at.ensures.kept
 
@@ -67,15 +57,6 @@ slice_layers-requires-clause-height g c κs within =
 
 pub invariant_of-self : goal.invariant_of-self
 invariant_of-self g c = c.self-2.invariant
-
-pub returns-in_err-layers-clause-job : goal.returns-in_err-layers-clause-job
-returns-in_err-layers-clause-job g c = let p = err_from_is_err_and c.from_residual-in_err-layers.result c.from_residual-in_err-layers.ensures.1 in rw p.1 tt
-
-pub returns-in_err-layers-clause-stripe : goal.returns-in_err-layers-clause-stripe
-returns-in_err-layers-clause-stripe g c = let p = err_from_is_err_and c.from_residual-in_err-layers.result c.from_residual-in_err-layers.ensures.1 in rw p.1 tt
-
-pub returns-in_err-layers-clause-lawful : goal.returns-in_err-layers-clause-lawful
-returns-in_err-layers-clause-lawful g c = let p = err_from_is_err_and c.from_residual-in_err-layers.result c.from_residual-in_err-layers.ensures.1 in rw p.1 tt
 
 pub returns-in_err-layers-clause-kept : goal.returns-in_err-layers-clause-kept
 returns-in_err-layers-clause-kept g c = c.self-2.view_is ∙ c.sweep_at.ensures.kept
