@@ -722,8 +722,8 @@ def laws_in_copies(room):
     folder = room.file("crates", "thing")
     more = {"specs/Lib.antt": "pub mod Both\npub mod Laws\n", "proofs/lemmas.antt": "pub mod Both\npub mod Limits\n",
             "specs/Both.antt": BOTH_SPECS + "\npub data Side : Type 0 where\n  left : Side\n\nabbrev hidden : Type\nhidden = true\n",
-            "proofs/lemmas/Both.antt": "-- Lemmas.\nuse Rattle.thing.specs.Both.{Is_two, left}\n\nhidden-is : Type\nunfolding left\nhidden-is = inner 1\n\n"
-                                       "module _ (n : ℕ) where\n  inner : Type\n  inner = left\n\nother : Type\nother = left\n\npub third : Type\nthird = left\n\npub two-is : Is_two\ntwo-is = hidden-is\n",
+            "proofs/lemmas/Both.antt": "-- Lemmas.\nuse Rattle.thing.specs.Both.{Is_two, left}\n\nhidden-is : Type\nunfolding left\nhidden-is = left\n\n"
+                                       "module _ (n : ℕ) where\n  inner : Type\n  inner = left\n\nother : Type\nother = left\n\npub third : Type\nthird = left\n\npub two-is : Is_two\ntwo-is = hidden-is inner\n",
             "proofs/laws/both/Answers.antt": "use Rattle.thing.proofs.lemmas.Both.{two-is}\nuse Rattle.thing.proofs.laws.both.Goals as goal\n\n"
                                              "pub returns : goal.returns\nreturns c = two-is\n"}
     was = edits.texts_in(folder)
@@ -752,13 +752,18 @@ def laws_in_copies(room):
     same("the law's file", texts[f"src/laws{suffix}.rt"], BOTH_LAWS.replace("//! Two laws.", "").replace("specs.Both", f"specs.Both{suffix}"))
     same("a module of definitions passes on what it does not copy", texts[f"specs/Both{suffix}.antt"].split("\n")[:3],
          ["pub use Rattle.thing.specs.Both.{Side, left}", "-- What the laws say.", "abbrev pub Is_one : Type"])
-    same("a module of lemmas, with the private ones that it needs", texts[f"proofs/lemmas/Both{suffix}.antt"],
-         "pub use Rattle.thing.proofs.lemmas.Both.{third}\n" + more["proofs/lemmas/Both.antt"].replace("specs.Both", f"specs.Both{suffix}")
-         .replace("other : Type\nother = left\n", "\n\n").replace("pub third : Type\nthird = left\n", "\n\n"))
+    lemmas = more["proofs/lemmas/Both.antt"]
+    same("a module of lemmas", texts[f"proofs/lemmas/Both{suffix}.antt"].split("\n\n"), [
+        "pub use Rattle.thing.proofs.lemmas.Both.{hidden-is, inner, third}\n-- Lemmas.\n" + f"use Rattle.thing.specs.Both{suffix}.{{Is_two, left}}", *[""] * 7,
+        "pub two-is : Is_two\ntwo-is = hidden-is inner\n"])
+    same("the private ones that it cites are public now", texts["proofs/lemmas/Both.antt"],
+         lemmas.replace("hidden-is : Type", "pub hidden-is : Type").replace("  inner : ", "  pub inner : "))
     same("its proof", texts[f"proofs/laws{suffix}/both/Answers.antt"], more["proofs/laws/both/Answers.antt"].replace("Both.{", f"Both{suffix}.{{")
          .replace("laws.both", f"laws{suffix}.both"))
     holds("where modules are listed", f"mod laws{suffix};" in texts["src/lib.rt"] and all(f"pub mod Both{suffix}\n" in texts[it] for it in ("specs/Lib.antt", "proofs/lemmas.antt")))
     same("what it stands by is as it was", [texts[it] for it in ("src/laws.rt", "specs/Both.antt")], [BOTH_LAWS, more["specs/Both.antt"]])
+    same("records", edits.opened("record One : Type where\n  first : Two\n\nabbrev Two : Type\nTwo = One", {"One", "Two"}),
+         "pub record One : Type where\n  pub first : Two\n\nabbrev pub Two : Type\nTwo = One")
     rows = [(texts[file].split("\n")[at], new) for (file, at), new in moved["thing/both.two"].rows.items()]
     same("the edit's line", rows, [("Is_two = true", "Is_two = broken")])
 

@@ -655,9 +655,9 @@ def copied(source, function, name, texts):
 # ---- copies of laws
 
 
-# What of a text of specs/ or proofs/ other modules may name, and what stands in a data type or in a block `module _`.
+# What of a text of specs/ or proofs/ other modules may name, and what stands in a type or in a block `module _`.
 IS_PUBLIC = re.compile(r"(?:(?:unfoldable|abbrev) )*pub ")
-INSIDE = re.compile(r"(?m)^  ([^\s:({]+) :")
+INSIDE = re.compile(r"(?m)^  (?:pub )?([^\s:({]+) :")
 
 
 def parts_of(text):
@@ -670,23 +670,41 @@ def parts_of(text):
         yield name, part
 
 
-def with_private(text, names):
-    """These items of a text, and the private ones that they cite, directly or through others."""
+def private_in(text, names):
+    """The private items of a text that these of its items cite."""
     parts = list(parts_of(text))
     public = {name for name, part in parts if IS_PUBLIC.match(part)}
     private = {it: name for name, part in parts if name and name not in public for it in INSIDE.findall(part)}
     private.update({name: name for name, _ in parts if name and name not in public})
-    found, more = set(), set(names)
-    while more:
-        found |= more
-        more = {private[it] for name, part in parts if name in more for it in words_of(part) & {*private}} - found
-    return found
+    return {private[it] for name, part in parts if name in names for it in words_of(part) & {*private}} - names
+
+
+def opened(text, names):
+    """A text with these items public, and what stands in them. No row moves."""
+    found, seen = [], set()
+    for name, part in parts_of(text):
+        is_first, is_block = name not in seen, part.startswith("module ")
+        if name in names and (is_first or is_block) and not IS_PUBLIC.match(part):
+            part = INSIDE.sub(r"  pub \1 :", part) if is_block or part.startswith("record ") else part
+            part = part if is_block else re.sub(r"\A((?:(?:unfoldable|abbrev) )*)", r"\1pub ", part)
+        seen.add(name)
+        found.append(part)
+    return "\n".join(found)
+
+
+def passed_on(parts):
+    """What a module can pass on of these parts of another."""
+    for name, part in parts:
+        if part.startswith("module "):
+            yield from re.findall(r"(?m)^  pub ([^\s:({]+) :", part)
+        elif IS_PUBLIC.match(part):
+            yield from [name, *(INSIDE.findall(part) if part.startswith("pub data ") else [])]
 
 
 class LawCopy:
     """How a law is copied: its file, of which only the law and the imports are left, its proof, and the modules with these definitions
     and with what rests on them and the law's proof reads. Each has another name, by which the others call it. The copy of a module
-    has only these items, and those private ones that they cite; it passes on the others of the module itself."""
+    has only these items, and passes on the others of the module itself. Private ones that these cite are made public there."""
 
     def __init__(self, source, law, definitions):
         self.source, self.law, self.modules = source, law, {}
@@ -695,7 +713,6 @@ class LawCopy:
         for module, name in source.resting_on(definitions) if definitions else ():
             if module in read and files[module] not in source.proof_of(law):
                 self.modules.setdefault(files[module], set()).add(name)
-        self.modules = {file: with_private(source.texts[file], names) for file, names in self.modules.items()}
         # the modules by whose lines `mod` the copies are found
         self.parents = {file: self.parent(file) for file in [law.file, *self.modules]}
         self.rows = self.own_rows()
@@ -752,6 +769,7 @@ class LawCopy:
             texts[self.named(file, suffix)] = self.renamed(self.source.texts[file], suffix)
         for file, names in self.modules.items():
             texts[self.named(file, suffix)] = self.copied_module(file, names, suffix)
+            texts[file] = opened(texts[file], private_in(self.source.texts[file], names))
         for file, parent in self.parents.items():
             name = os.path.basename(re.sub(r"(/Lib)?\.(rt|antt)$", "", file))
             more = rf"\1; mod {name}{suffix};" if file.endswith(".rt") else rf"\1\n\1{suffix}"
@@ -759,12 +777,10 @@ class LawCopy:
 
     def copied_module(self, file, names, suffix):
         """The copy of a module, a row below the module's own rows."""
-        parts = list(parts_of(self.source.texts[file]))
-        passed = []
-        for part in (part for name, part in parts if name not in names and IS_PUBLIC.match(part)):
-            passed += [IS_ITEM.match(part)[1], *(INSIDE.findall(part) if part.startswith("pub data ") else [])]
+        text = opened(self.source.texts[file], private_in(self.source.texts[file], names))
+        passed = list(passed_on((name, part) for name, part in parts_of(text) if name not in names))
         head = f"pub use Rattle.{self.source.crate}.{module_of(file)}.{{{', '.join(passed)}}}" if passed else ""
-        text = "\n".join(part if name is None or name in names else "\n" * part.count("\n") for name, part in parts)
+        text = "\n".join(part if name is None or name in names else "\n" * part.count("\n") for name, part in parts_of(text))
         return f"{head}\n{self.renamed(text, suffix)}"
 
     def place(self, row, suffix):
