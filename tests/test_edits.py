@@ -477,6 +477,7 @@ def refused_batches(room):
     same("edits of a function that may be copied are together", [sorted(it.name for it in group) for group in groups],
          [["thing/looped.a", "thing/of.a", "thing/of.b", "thing/of.c"]])
     same("two of one import are not", len(edits.grouped([edits.Edit(path, "thing", source) for path in imports])), 2)
+    same("nor are one of an import and one of its function", len(edits.grouped([edits.Edit(path, "thing", source) for path in (imports[0], wrong)])), 2)
 
 
 def copies(room):

@@ -262,7 +262,7 @@ class Source:
 
     def __init__(self, folder, texts=None, filed=None):
         self.folder, self.texts, self.functions, self.crate = folder, texts or texts_in(folder), [], os.path.basename(folder)
-        self.filed, self.unread = filed or self, filed.unread if filed else set()
+        self.filed, self.unread, self.resting = filed or self, filed.unread if filed else set(), {}
         sources = {file: text for file, text in self.texts.items() if file.endswith(".rt")}
         homes = {name: place_of(file) for file, text in sources.items() for name in re.findall(IS_TYPE, text)}
         for file, text in sources.items():
@@ -337,11 +337,14 @@ class Source:
 
     def resting_on(self, names):
         """These definitions and lemmas, and all that cite one, directly or through others."""
-        found, more = set(), set(names)
-        while more:
-            found |= more
-            more = self.citing(found)[2]
-        return found
+        key = frozenset(names)
+        if key not in self.resting:
+            found, more = set(), set(names)
+            while more:
+                found |= more
+                more = self.citing(found)[2]
+            self.resting[key] = found
+        return self.resting[key]
 
     def clauses_on(self, law, names):
         """The clauses of a law that cite one of these definitions, or whose answers are among these. Of each the goal."""
