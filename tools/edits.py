@@ -527,9 +527,8 @@ class Edit:
 
     def may_stand_beside(self, other):
         """Whether one check can have both, in copies of one function or law if need be."""
-        if self.is_beside or other.is_beside or self.may_move and other.is_inside or other.may_move and self.is_inside:
-            return True
-        return not (self.clash(other) or self.differs(other))
+        is_in_copy = self.is_beside or other.is_beside or self.may_move and other.is_inside or other.may_move and self.is_inside
+        return is_in_copy or not (self.clash(other) or self.differs(other))
 
     def moved(self, source, places, names):
         """The same in another source of the crate, where these are the places of its lines and the names of its functions."""
@@ -592,9 +591,19 @@ def may_join(more, edits):
 
 def spread(edits):
     """The edits in few lists, in which no two clash. The first has as many as it can."""
+    return in_lists(sorted(edits, key=lambda it: (it.may_move, -len(it.reach), it.name)), Edit.may_stand_beside)
+
+
+def shared(edits):
+    """Edits of a law in few lists, in which no two clash as they are."""
+    return in_lists(edits, lambda it, other: not (it.clash(other) or it.differs(other)))
+
+
+def in_lists(edits, may_stand_beside):
+    """The edits in few lists, in which each may stand beside the others."""
     lists = []
-    for it in sorted(edits, key=lambda it: (it.may_move, -len(it.reach), it.name)):
-        free = [one for one in lists if len(one) < MOST and all(it.may_stand_beside(other) for other in one)]
+    for it in edits:
+        free = [one for one in lists if len(one) < MOST and all(may_stand_beside(it, other) for other in one)]
         if not free:
             free = [[]]
             lists += free
@@ -806,18 +815,6 @@ def copies_of_laws(source, edits, texts):
             found.update({it: (whole, suffix, suffixes[0]) for it in them})
         number += len(lists)
     return found
-
-
-def shared(edits):
-    """Edits of a law in few lists, in each of which no two clash."""
-    lists = []
-    for it in edits:
-        free = [one for one in lists if not any(it.clash(other) or it.differs(other) for other in one)]
-        if not free:
-            free = [[]]
-            lists += free
-        free[0].append(it)
-    return lists
 
 
 def in_law_copy(edit, wide, whole, suffix, unedited):
