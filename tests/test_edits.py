@@ -745,14 +745,14 @@ def laws_in_copies(room):
     wanted = ["thing/both.no_more: refused by `returns`", "thing/both.one: refused by `returns-clause-one`",
               "thing/both.two: refused by `two-is`", "thing/of.a: refused by `returns-in-Some`"]
     same("each by its own copy", sorted(tries(room)[1][:4]), wanted)
-    same("in one check, beside a copy without an edit", checks_in(room), [[*(f"laws_copy_{at}::both" for at in (1, 2, 3, 4)), "parts::Part::of"]])
+    same("in one check, each beside a copy without an edit", checks_in(room), [[*(f"laws_copy_{at}::both" for at in range(1, 7)), "parts::Part::of"]])
 
     batch, = edits.batches_of_crate(StandIn(room), paths)
     texts, moved = batch.source.texts, {it.name: it for it in batch.edits}
     suffix = moved["thing/both.two"].judged[0].symbol[len("laws") : -len("::both")]
     same("the law's file", texts[f"src/laws{suffix}.rt"], BOTH_LAWS.replace("//! Two laws.", "").replace("specs.Both", f"specs.Both{suffix}"))
     same("a module of definitions passes on what it does not copy", texts[f"specs/Both{suffix}.antt"].split("\n")[:3],
-         ["pub use Rattle.thing.specs.Both.{Side, left}", "-- What the laws say.", "abbrev pub Is_one : Type"])
+         ["pub use Rattle.thing.specs.Both.{Is_one, Side, left}", "-- What the laws say.", ""])
     lemmas = more["proofs/lemmas/Both.antt"]
     same("a module of lemmas", texts[f"proofs/lemmas/Both{suffix}.antt"].split("\n\n"), [
         "pub use Rattle.thing.proofs.lemmas.Both.{hidden-is, inner, third}\n-- Lemmas.\n" + f"use Rattle.thing.specs.Both{suffix}.{{Is_two, left}}", *[""] * 7,

@@ -25,8 +25,8 @@ it the edit is tried once more, with a search, and its line says so.
 An edit of a definition, in specs/, has to be refused in a function whose contract cites it, a law if there is one. Edits of a
 law stand in the law itself if no clause depends on two of them and nothing else sees what they change. Each is then refused by a
 clause that depends on it. Otherwise they stand in copies of the law, of its proof, and of the definitions and lemmas that rest
-on what they change. One copy more has no edit, and has to be proved. If it isn't, or a copy isn't refused, the edit is tried
-alone in the law itself, and its line says so. An edit of a constant or a type is tried alone, since it changes all that read
+on what they change. The same copy without an edit has to be proved. If it isn't, or if the edit's isn't refused, the edit is
+tried alone in the law itself, and its line says so. An edit of a constant or a type is tried alone, since it changes all that read
 it, and so is one of a definition that only functions see, or that can't be copied. An edit that is refused otherwise has
 failed, unless tools/edits_refused_otherwise.txt names it, with the goal and the reason.
 
@@ -41,6 +41,7 @@ nothing could be begun. The libraries below a crate are built first, if they are
 import contextlib
 import copy
 import hashlib
+import itertools
 import json
 import os
 import re
@@ -803,17 +804,17 @@ class LawCopy:
 
 def copies_of_laws(source, edits, texts):
     """Adds copies of the laws of these edits to the texts, as few as can be: edits of one law share one if no clause depends on two of
-    them. All copies of a law have the same definitions and lemmas, and one has no edit. It returns of each edit the copy, its
-    suffix, and that of the one without an edit."""
-    found, number = {}, 0
-    for law in dict.fromkeys(it.copy.law for it in edits):
-        own = [it for it in edits if it.copy.law is law]
-        whole, lists = LawCopy(source, law, {name for it in own for name in it.definitions}), [[], *shared(own)]
-        suffixes = [f"_copy_{number + at}" for at in range(1, len(lists) + 1)]
-        for suffix, them in zip(suffixes, lists):
+    them. Beside those that copy the same there is one more, without an edit. It returns of each edit the copy, its suffix, and
+    that of the one without."""
+    found, unedited, suffixes = {}, {}, (f"_copy_{at}" for at in itertools.count(1))
+    for group in (group for law in dict.fromkeys(it.copy.law for it in edits) for group in shared([it for it in edits if it.copy.law is law])):
+        whole = LawCopy(source, group[0].copy.law, {name for it in group for name in it.definitions})
+        same = repr((whole.law.symbol, sorted((file, sorted(names)) for file, names in whole.modules.items())))
+        for them in [group] if same in unedited else [[], group]:
+            suffix = next(suffixes)
             whole.write(suffix, texts)
-            found.update({it: (whole, suffix, suffixes[0]) for it in them})
-        number += len(lists)
+            found.update({it: (whole, suffix, unedited[same]) for it in them})
+            unedited.setdefault(same, suffix)
     return found
 
 
