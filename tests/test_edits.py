@@ -722,7 +722,8 @@ def laws_in_copies(room):
     """Edits of one law that no clause tells apart are tried together in copies of it, of what it rests on, and of its proof."""
     folder = room.file("crates", "thing")
     more = {"specs/Lib.antt": "pub mod Both\npub mod Laws\n", "proofs/lemmas.antt": "pub mod Both\npub mod Limits\n",
-            "specs/Both.antt": BOTH_SPECS + "\npub data Side : Type 0 where\n  left : Side\n\nabbrev hidden : Type\nhidden = true\n",
+            "specs/Both.antt": BOTH_SPECS + "\npub data Side : Type 0 where\n  left : Side\n\nabbrev hidden : Type\nhidden = true\n"
+            "\nunfoldable pub Free : Type\nFree = true\n",
             "proofs/lemmas/Both.antt": "-- Lemmas.\nuse Rattle.thing.specs.Both.{Is_two, left}\n\nhidden-is : Type\nunfolding left\nhidden-is = left\n\n"
                                        "module _ (n : ℕ) where\n  inner : Type\n  inner = left\n\nother : Type\nother = left\n\npub third : Type\nthird = left\n\npub two-is : Is_two\ntwo-is = hidden-is inner\n",
             "proofs/laws/both/Answers.antt": "use Rattle.thing.proofs.lemmas.Both.{two-is}\nuse Rattle.thing.proofs.laws.both.Goals as goal\n\n"
@@ -752,10 +753,10 @@ def laws_in_copies(room):
     suffix = moved["thing/both.two"].judged[0].symbol[len("laws") : -len("::both")]
     same("the law's file", texts[f"src/laws{suffix}.rt"], BOTH_LAWS.replace("//! Two laws.", "").replace("specs.Both", f"specs.Both{suffix}"))
     same("a module of definitions passes on what it does not copy", texts[f"specs/Both{suffix}.antt"].split("\n")[:3],
-         ["pub use Rattle.thing.specs.Both.{Is_one, Side, left}", "-- What the laws say.", ""])
+         ["pub use Rattle.thing.specs.Both.{Is_one, Side, left}", "unfoldable pub use Rattle.thing.specs.Both.{Free}", "-- What the laws say."])
     lemmas = more["proofs/lemmas/Both.antt"]
     same("a module of lemmas", texts[f"proofs/lemmas/Both{suffix}.antt"].split("\n\n"), [
-        "pub use Rattle.thing.proofs.lemmas.Both.{hidden-is, inner, third}\n-- Lemmas.\n" + f"use Rattle.thing.specs.Both{suffix}.{{Is_two, left}}", *[""] * 7,
+        "pub use Rattle.thing.proofs.lemmas.Both.{hidden-is, inner, third}", "-- Lemmas.\n" f"use Rattle.thing.specs.Both{suffix}.{{Is_two, left}}", *[""] * 7,
         "pub two-is : Is_two\ntwo-is = hidden-is inner\n"])
     same("the private ones that it cites are public now", texts["proofs/lemmas/Both.antt"],
          lemmas.replace("hidden-is : Type", "pub hidden-is : Type").replace("  inner : ", "  pub inner : "))

@@ -789,17 +789,20 @@ class LawCopy:
             texts[parent] = re.sub(rf"(?m)^((?:pub )?mod {name})(?:;|$)", more, texts[parent], count=1)
 
     def copied_module(self, file, names, suffix):
-        """The copy of a module, a row below the module's own rows."""
+        """The copy of a module, two rows below the module's own rows."""
         text = opened(self.source.texts[file], private_in(self.source.texts[file], names))
-        passed = list(passed_on((name, part) for name, part in parts_of(text) if name not in names))
-        head = f"pub use Rattle.{self.source.crate}.{module_of(file)}.{{{', '.join(passed)}}}" if passed else ""
+        others = [(name, part) for name, part in parts_of(text) if name not in names]
+        sealed, free = ([it for it in others if it[1].startswith("unfoldable ") is is_free] for is_free in (False, True))
+        heads = []
+        for words, passed in (("pub use", list(passed_on(sealed))), ("unfoldable pub use", list(passed_on(free)))):
+            heads.append(f"{words} Rattle.{self.source.crate}.{module_of(file)}.{{{', '.join(passed)}}}" if passed else "")
         text = "\n".join(part if name is None or name in names else "\n" * part.count("\n") for name, part in parts_of(text))
-        return f"{head}\n{self.renamed(text, suffix)}"
+        return "\n".join([*heads, self.renamed(text, suffix)])
 
     def place(self, row, suffix):
         """The row of the copy that is this one of a file."""
         file, at = row
-        return self.named(file, suffix), at + (file in self.modules)
+        return self.named(file, suffix), at + 2 * (file in self.modules)
 
 
 def copies_of_laws(source, edits, texts):
