@@ -81,11 +81,13 @@ import os, re, sys
 asked = [name for flag, name in zip(sys.argv, sys.argv[1:]) if flag == "--only"]
 text = "".join(open(f"src/{name}").read() for name in sorted(os.listdir("src")))
 specs = open("specs/Laws.antt").read()
-both = open("specs/Both.antt").read()
 for line, row in enumerate(open("src/parts.rt").read().split("\n"), 1):
     if "SYNTAX" in row:
         print(f"src/parts.rt:{line}:5: error[syntax]: expected an expression")
         sys.exit(1)
+if any(re.match("Both_copy", name) and "BROKEN" in open(f"specs/{name}").read() for name in os.listdir("specs")):
+    print("./specs/Both_copy_1.antt:2:1: error: `Is_one` is declared twice")
+    sys.exit(1)
 bodies = {name: text.partition(f"fn {name.rpartition('::')[2]}(")[2].partition("fn ")[0] for name in asked}
 edited = [name for name in asked if "let _same" not in bodies[name]]
 with open(os.environ["ASKED"], "a") as it:
@@ -104,16 +106,21 @@ is_cut = len(edited) > 1 and "CUT" in text
 is_late = is_cut and "CUT_LATE" in text
 for name in asked:
     path, last, body = name.replace("::", "/"), name.rpartition("::")[2], bodies[name]
+    # a copy of a law says what its own copies of files say
+    own = re.match(r"laws(_copy_[0-9]+)?::", name)
+    suffix = own[1] or "" if own else ""
+    both = open(f"specs/Both{suffix if os.path.isfile(f'specs/Both{suffix}.antt') else ''}.antt").read()
+    stated = open(f"src/laws{suffix}.rt").read() if own else ""
     has_refused = os.path.isfile(f"proofs/{path}/Answers.antt") and "no-offers" in open(f"proofs/{path}/Answers.antt").read()
     goal = "note: src/parts.rt:1:1: it is not proved that what the function ensures holds when it returns (`{0}`); `search` gave up at one of its limits\n"
-    own = f"fn thing::{name}: not proved; it stands on `Rattle.thing.proofs.{name.replace('::', '.')}.Answers.{{0}}`, which antt refuses"
+    own_answer = f"fn thing::{name}: not proved; it stands on `Rattle.thing.proofs.{name.replace('::', '.')}.Answers.{{0}}`, which antt refuses"
     if "let _same" in body:
         said = f"fn thing::{name}: {os.environ['CONTROL']}"
         holds_proof = os.path.exists(f"proofs/{path}/Proof.antt")
         said = f"fn thing::{name}: depends on a hole" if holds_proof else said
         said = "" if os.environ["CONTROL"] == "missing" or is_cut and not is_late else said
         # beside an answer that is refused, all are, if it is so told
-        said = own.format("no-offers") if has_refused else said
+        said = own_answer.format("no-offers") if has_refused else said
         said = goal.format("returns-clause-value") + said if has_refused and os.environ["SPOILS"] else said
     elif "HIDDEN" in body and "BREAKS" in text:
         said = f"fn thing::{name}: no proof: the borrow checker's part in its proof is not made yet: a call of `thing::parts::looped`, which has no proof"
@@ -126,15 +133,18 @@ for name in asked:
     elif last == "law" and "lemma" in specs:
         print(f"./proofs/lemmas/Laws.antt:3:1: error: `law-holds`: as printed, the two types differ only where one has `a`")
         said = f"fn thing::{name}: not proved; it stands on `Rattle.thing.proofs.lemmas.Laws.law-holds`, which antt refuses"
+    elif last == "both" and ("more { False }" in stated or suffix and "UNCOPIED" in both):
+        print(f"./proofs/{path}/Answers.antt:5:1: error: `returns`: as printed, the two types differ only where one has `a`")
+        said = own_answer.format("returns")
     elif last == "both" and "broken" in both:
         clauses = [it for it in ("one", "two") if f"Is_{it} = broken" in both][: 1 if "HIDES" in both else None]
-        places = {"one": ("laws.both.Answers", "returns-clause-one"), "two": ("lemmas.Both", "two-is")}
+        places = {"one": (f"laws{suffix}.both.Answers", "returns-clause-one"), "two": (f"lemmas.Both{suffix}", "two-is")}
         for place, item in (places[it] for it in clauses):
             print(f"./proofs/{place.replace('.', '/')}.antt:5:26: error: `{item}`: as printed, the two types differ only where one has `a`")
         said = f"fn thing::{name}: not proved; it stands on " + ", ".join(f"`Rattle.thing.proofs.{place}.{item}`" for place, item in (places[it] for it in clauses)) + ", which antt refuses"
     elif "ANSWERED" in body or last == "law" and "false" in specs:
         print(f"./proofs/{path}/Answers.antt:8:25: error: `returns-in-Some`: as printed, the two types differ only where one has `a`")
-        said = own.format("returns-in-Some")
+        said = own_answer.format("returns-in-Some")
     elif "LOOP" in body:
         said = goal.format("loop-facet-preserved") + f"fn thing::{name}: no proof: `search` did not prove `loop-facet-preserved`; it calls `thing::parts::other`, which is not proved"
     elif "LABEL" in body:
@@ -146,7 +156,7 @@ for name in asked:
     elif "LEMMA" in body or "BESIDE" in body:
         lemma = "sum_is" if "LEMMA" in body else "inside"
         print(f"./proofs/{path}/Answers.antt:8:25: error: `{lemma}`: as printed, the two types differ only where one has `a`")
-        said = own.format(lemma)
+        said = own_answer.format(lemma)
     elif "CLOSURE" in body:
         inner = name.replace("::", "::fn::", 1) + "::each"
         lines.append(goal.format("returns-2") + f"fn thing::{inner}: no proof: `search` did not prove `returns-2`")
@@ -159,7 +169,7 @@ for name in asked:
         said = goal.format("overflow_add-gap") + f"fn thing::{name}: no proof: `search` did not prove `overflow_add-gap`"
     elif "NAMES" in body:
         print(f"./proofs/{path}/Answers.antt:8:75: error: `returns`: record `Rattle.thing.proofs.After` has no field `grown`")
-        said = own.format("returns")
+        said = own_answer.format("returns")
     elif "CALLS" in body or "UNKNOWN" in body:
         said = f"fn thing::{name}: not proved; it calls `thing::parts::other`, which is not proved"
     else:
@@ -467,6 +477,7 @@ def refused_batches(room):
     same("edits of a function that may be copied are together", [sorted(it.name for it in group) for group in groups],
          [["thing/looped.a", "thing/of.a", "thing/of.b", "thing/of.c"]])
     same("two of one import are not", len(edits.grouped([edits.Edit(path, "thing", source) for path in imports])), 2)
+    same("nor are one of an import and one of its function", len(edits.grouped([edits.Edit(path, "thing", source) for path in (imports[0], wrong)])), 2)
 
 
 def copies(room):
@@ -496,6 +507,14 @@ def copies(room):
     again, = edits.batches_of_crate(crate, [line, written(room, "n.twice", "src/parts.rt", ("        self.n", "        self.n + self.n"))])
     same("the line that has a copy's name has it in the edit too", [list(it.rows.values()) for it in again.edits if it.name == "thing/n.type"],
          [["    pub fn n_copy_1(&self) -> u64"]])
+    both = [written(room, f"of.{name}", "src/parts.rt", ("let part = 2;", f"let part = {name};"), ("        self.n", f"        self.n + {name}")) for name in "45"]
+    again, = edits.batches_of_crate(crate, [*both, line])
+    same("edits of two functions, and one of one of these", sorted((it.name, sorted(f.name for f in it.functions)) for it in again.edits),
+         [("thing/n.type", ["n_copy_2"]), ("thing/of.4", ["n", "of"]), ("thing/of.5", ["n_copy_1", "of_copy_1"])])
+    same("lines of one in copies of both", [it.rows for it in again.edits if it.name == "thing/of.5"],
+         [{("src/parts.rt", at): new for at, line in enumerate(again.source.texts["src/parts.rt"].split("\n")) for name, old, new in
+           (("of_copy_1", "let part = 2;", "        let part = 5;"), ("n_copy_1", "        self.n", "        self.n + 5"))
+           if old in line and again.source.at("src/parts.rt", at).name == name}])
     same("the edit as it was read", (moved["thing/of.b"].filed.functions[0].name, moved["thing/of.a"].functions[0].name), ("of", "of"))
     with tempfile.TemporaryDirectory() as folder:
         edits.plant(batch, folder, edits.harmless(batch))
@@ -697,6 +716,77 @@ def clauses_of_one_law(room):
     same("one answer for all clauses tells none", len(edits.grouped([edits.Edit(it, "thing", source) for it in paths])), 3)
     with open(answers, "w", encoding="utf-8") as it:
         it.write(BOTH_ANSWERS)
+
+
+def laws_in_copies(room):
+    """Edits of one law that no clause tells apart are tried together in copies of it, of what it rests on, and of its proof."""
+    folder = room.file("crates", "thing")
+    more = {"specs/Lib.antt": "pub mod Both\npub mod Laws\n", "proofs/lemmas.antt": "pub mod Both\npub mod Limits\n",
+            "specs/Both.antt": BOTH_SPECS + "\npub data Side : Type 0 where\n  left : Side\n\nabbrev hidden : Type\nhidden = true\n"
+            "\nunfoldable pub Free : Type\nFree = true\n",
+            "proofs/lemmas/Both.antt": "-- Lemmas.\nuse Rattle.thing.specs.Both.{Is_two, left}\n\nhidden-is : Type\nunfolding left\nhidden-is = left\n\n"
+                                       "module _ (n : ℕ) where\n  inner : Type\n  inner = left\n\nother : Type\nother = left\n\npub third : Type\nthird = left\n\npub two-is : Is_two\ntwo-is = hidden-is inner\n",
+            "proofs/laws/both/Answers.antt": "use Rattle.thing.proofs.lemmas.Both.{two-is}\nuse Rattle.thing.proofs.laws.both.Goals as goal\n\n"
+                                             "pub returns : goal.returns\nreturns c = two-is\n"}
+    was = edits.texts_in(folder)
+
+    def fill(texts):
+        for file in more:
+            with contextlib.suppress(FileNotFoundError):
+                os.remove(f"{folder}/{file}")
+            if file in texts:
+                with open(f"{folder}/{file}", "w", encoding="utf-8") as it:
+                    it.write(texts[file])
+
+    fill(more)
+    emptied(room)
+    paths = [written(room, "both.one", "specs/Both.antt", ("Is_one = true", "Is_one = broken")),
+             written(room, "both.two", "specs/Both.antt", ("Is_two = true", "Is_two = broken")),
+             written(room, "both.no_more", "src/laws.rt", ("more { True }", "more { False }")), planted(room, "of.a", "ANSWERED")]
+    wanted = ["thing/both.no_more: refused by `returns`", "thing/both.one: refused by `returns-clause-one`",
+              "thing/both.two: refused by `two-is`", "thing/of.a: refused by `returns-in-Some`"]
+    same("each by its own copy", sorted(tries(room)[1][:4]), wanted)
+    same("in one check, each beside a copy without an edit", checks_in(room), [[*(f"laws_copy_{at}::both" for at in range(1, 7)), "parts::Part::of"]])
+
+    batch, = edits.batches_of_crate(StandIn(room), paths)
+    texts, moved = batch.source.texts, {it.name: it for it in batch.edits}
+    suffix = moved["thing/both.two"].judged[0].symbol[len("laws") : -len("::both")]
+    same("the law's file", texts[f"src/laws{suffix}.rt"], BOTH_LAWS.replace("//! Two laws.", "").replace("specs.Both", f"specs.Both{suffix}"))
+    same("a module of definitions passes on what it does not copy", texts[f"specs/Both{suffix}.antt"].split("\n")[:3],
+         ["pub use Rattle.thing.specs.Both.{Is_one, Side, left}", "unfoldable pub use Rattle.thing.specs.Both.{Free}", "-- What the laws say."])
+    lemmas = more["proofs/lemmas/Both.antt"]
+    same("a module of lemmas", texts[f"proofs/lemmas/Both{suffix}.antt"].split("\n\n"), [
+        "pub use Rattle.thing.proofs.lemmas.Both.{hidden-is, inner, third}", "-- Lemmas.\n" f"use Rattle.thing.specs.Both{suffix}.{{Is_two, left}}", *[""] * 7,
+        "pub two-is : Is_two\ntwo-is = hidden-is inner\n"])
+    same("the private ones that it cites are public now", texts["proofs/lemmas/Both.antt"],
+         lemmas.replace("hidden-is : Type", "pub hidden-is : Type").replace("  inner : ", "  pub inner : "))
+    same("its proof", texts[f"proofs/laws{suffix}/both/Answers.antt"], more["proofs/laws/both/Answers.antt"].replace("Both.{", f"Both{suffix}.{{")
+         .replace("laws.both", f"laws{suffix}.both"))
+    holds("where modules are listed", f"mod laws{suffix};" in texts["src/lib.rt"] and all(f"pub mod Both{suffix}\n" in texts[it] for it in ("specs/Lib.antt", "proofs/lemmas.antt")))
+    same("what it stands by is as it was", [texts[it] for it in ("src/laws.rt", "specs/Both.antt")], [BOTH_LAWS, more["specs/Both.antt"]])
+    same("records", edits.opened("record One : Type where\n  first : Two\n\nabbrev Two : Type\nTwo = One", {"One", "Two"}),
+         "pub record One : Type where\n  pub first : Two\n\nabbrev pub Two : Type\nTwo = One")
+    rows = [(texts[file].split("\n")[at], new) for (file, at), new in moved["thing/both.two"].rows.items()]
+    same("the edit's line", rows, [("Is_two = true", "Is_two = broken")])
+
+    for what, spoilt in (("a copy that is refused without an edit too", "UNCOPIED"), ("copies that a check breaks off for", "BROKEN")):
+        emptied(room)
+        fill({**more, "specs/Both.antt": more["specs/Both.antt"].replace("What the laws say", spoilt)})
+        for name, old, new in (("one", "Is_one = true", "Is_one = broken"), ("two", "Is_two = true", "Is_two = true true"), ("three", "Is_two = true", "Is_two = broken")):
+            written(room, f"both.{name}", "specs/Both.antt", (old, new))
+        planted(room, "of.a", "ANSWERED")
+        found = sorted(tries(room)[1][:4])
+        same(what, [it.partition(" as ")[0] for it in found], [f"thing/both.one: refused by `returns-clause-one`{edits.WITHOUT_COPY}",
+             f"thing/both.three: refused by `two-is`{edits.WITHOUT_COPY}", f"thing/both.two: NOT REFUSED: no holes{edits.WITHOUT_COPY}", "thing/of.a: refused by `returns-in-Some`"])
+        same("each is tried in the law itself", [it for it in checks_in(room) if "laws::both" in it], [["laws::both"]] * 3)
+
+    source = edits.Source(folder)
+    texts = {"src/laws.rt": BOTH_LAWS + "const MORE: u32 = 1;\n", "src/lib.rt": "mod parts;\n", "specs/Lib.antt": "pub mod Laws\n",
+             "proofs/lemmas/More.antt": "use Rattle.thing.proofs.laws.both.Goals as goal\n"}
+    for file, text in texts.items():
+        other = edits.Source(folder, {**source.texts, file: text}, source)
+        same(f"not with {file}", edits.Edit(room.file("crates", "thing", "edits", "both.one.edit"), "thing", other).copy, None)
+    fill(was)
 
 
 def laws_beside_functions(room):
@@ -918,6 +1008,7 @@ def main():
         control(room)
         a_law(room)
         clauses_of_one_law(room)
+        laws_in_copies(room)
         laws_beside_functions(room)
         a_constant(room)
         one_that_hides_another(room)

@@ -11,8 +11,8 @@ toolchain has changed. So a second gate on the same machine takes them from ther
 
 An edit is a file crates/NAME/edits/FUNCTION.FAULT.edit, in the form that `rt must-fail` reads (CONTRIBUTING.md). It is planted
 in a copy of the crate, together with others. The functions that none of them edits keep their statements; their proofs and
-their code are left out. If several are of one function, each but the first is planted in a copy of it, which has another name
-and the same contract and proof.
+their code are left out. If several are of one function, each but one is planted in a copy of it, which has another name and the
+same contract and proof.
 
 So each edited function is judged by itself: it has to be refused by a goal of its own, or of a closure in it. That goal is a
 clause (`returns..`), or the invariant of a loop or of a type (`loop-..`, `invariant_of-..`; a loop that has a label goes by it,
@@ -22,11 +22,13 @@ Most edits are refused by an answer that proves its goal no more. So nothing is 
 answers: a goal without one says nothing. An edit that no answer refuses has the line 'refused: by a search' in its file. Without
 it the edit is tried once more, with a search, and its line says so.
 
-An edit of a definition, in specs/, has to be refused in a function whose contract cites it, a law if there is one. Edits of
-laws are tried together if no clause depends on two of them. Each is then refused by a clause that depends on it. If the answers
-of a law are one record, no goal names a clause, so one edit of that law is tried at a time. A definition that only laws see is
-tried beside edits of functions. Any other is tried alone, since its edit changes all that read it. An edit that is refused
-otherwise has failed, unless tools/edits_refused_otherwise.txt names it, with the goal and the reason.
+An edit of a definition, in specs/, has to be refused in a function whose contract cites it, a law if there is one. Edits of a
+law stand in the law itself if no clause depends on two of them and nothing else sees what they change. Each is then refused by a
+clause that depends on it. Otherwise they stand in copies of the law, of its proof, and of the definitions and lemmas that rest
+on what they change. The same copy without an edit has to be proved. If it isn't, or if the edit's isn't refused, the edit is
+tried alone in the law itself, and its line says so. An edit of a constant or a type is tried alone, since it changes all that read
+it, and so is one of a definition that only functions see, or that can't be copied. An edit that is refused otherwise has
+failed, unless tools/edits_refused_otherwise.txt names it, with the goal and the reason.
 
 Each check has one edit more, which means the same as before. It has to be reported as proved. So a check that sees nothing
 is noticed. If the crate has more such functions, a second is planted as the edits are, and may have no open goal, and a third,
@@ -39,6 +41,7 @@ nothing could be begun. The libraries below a crate are built first, if they are
 import contextlib
 import copy
 import hashlib
+import itertools
 import json
 import os
 import re
@@ -76,6 +79,9 @@ OF_CONTRACT = re.compile(r"returns|invariant_of-|loop-(?!.*-smaller\b)")
 
 # The line of an edit whose goal has no answer, so that only a search can find that it isn't proved.
 BY_SEARCH = "refused: by a search"
+
+# What is said of an edit that a copy of its law can't judge.
+WITHOUT_COPY = " (in its law, not in a copy)"
 
 # What antt says of an answer that names what the edit took away, or that cites such an answer. It shows nothing.
 ONLY_NAMES = re.compile(r"has no field|is not in scope|has no `|was not admitted|is no name")
@@ -256,8 +262,8 @@ class Source:
     With texts of its own it differs from `filed`, the crate as it stands in its folder."""
 
     def __init__(self, folder, texts=None, filed=None):
-        self.folder, self.texts, self.functions = folder, texts or texts_in(folder), []
-        self.filed, self.unread = filed or self, filed.unread if filed else set()
+        self.folder, self.texts, self.functions, self.crate = folder, texts or texts_in(folder), [], os.path.basename(folder)
+        self.filed, self.unread, self.resting = filed or self, filed.unread if filed else set(), {}
         sources = {file: text for file, text in self.texts.items() if file.endswith(".rt")}
         homes = {name: place_of(file) for file, text in sources.items() for name in re.findall(IS_TYPE, text)}
         for file, text in sources.items():
@@ -284,6 +290,20 @@ class Source:
                 and not any("extern" in it or "cycle(" in it for it in [*function.head, *self.attributes(function)])
                 and not any(it.startswith(f"proofs/{path}/") and it not in own for it in self.texts)
                 and not self.is_named(function))
+
+    def read_by(self, law):
+        """The modules of specs/ and proofs/ that a law's statement and proof read, directly or through others."""
+        modules = {module_of(file): file for file in self.texts if file.endswith(".antt")}
+        found, left = set(), [self.texts[law.file], *(self.texts[it] for it in self.proof_of(law))]
+        while left:
+            more = {it for it in imported(left.pop(), self.crate) if it in modules} - found
+            found |= more
+            left += [self.texts[modules[it]] for it in more]
+        return found
+
+    def proof_of(self, function):
+        """The files of the function's proof."""
+        return [it for it in self.texts if it.startswith(f"proofs/{function.symbol.replace('::', '/')}/")]
 
     def has_answers(self, function):
         """Whether goals of the function have answers, and no attribute says by which tactics the others are proved."""
@@ -318,11 +338,14 @@ class Source:
 
     def resting_on(self, names):
         """These definitions and lemmas, and all that cite one, directly or through others."""
-        found, more = set(), set(names)
-        while more:
-            found |= more
-            more = self.citing(found)[2]
-        return found
+        key = frozenset(names)
+        if key not in self.resting:
+            found, more = set(), set(names)
+            while more:
+                found |= more
+                more = self.citing(found)[2]
+            self.resting[key] = found
+        return self.resting[key]
 
     def clauses_on(self, law, names):
         """The clauses of a law that cite one of these definitions, or whose answers are among these. Of each the goal."""
@@ -346,6 +369,11 @@ def seen_from(text, names):
     for module, name in re.findall(r"use Rattle\.\w+\.((?:specs|proofs)\.[\w.]+) as (\w+)", text):
         found |= {f"{name}.{it}" for other, it in names if other == module}
     return found
+
+
+def imported(text, crate):
+    """The modules of a crate's specs/ and proofs/ that a text imports."""
+    return re.findall(rf"\bRattle\.{crate}\.((?:specs|proofs)(?:\.\w+)+)", text)
 
 
 def words_of(text):
@@ -396,13 +424,16 @@ def reached(source, definitions):
 class Edit:
     """An edit as its file has it: which lines of which files it changes, and the functions whose lines these are. It also has
     the functions of which one has to be refused, and all whose proof it can change. One of laws has the clauses that depend
-    on it. It is `bad` if it can't be applied. `filed` is the edit as it was read, if it now stands in a copy of its function."""
+    on it. It is `bad` if it can't be applied. `filed` is the edit as it was read, if it now stands in a copy of its function.
+    If it is of a law that can be copied, `copy` says how, and it `is_beside` the law if it is to stand in a copy. Once it does,
+    `control` is the copy without an edit."""
 
     def __init__(self, path, crate, source):
         self.path, self.name = path, f"{crate}/{os.path.basename(path)[: -len('.edit')]}"
-        self.filed, self.may_move, self.is_searched = self, False, False
+        self.filed, self.is_inside, self.may_move, self.is_searched = self, False, False, False
         self.rows, self.functions, self.definitions, self.judged, self.reach, self.clauses = {}, [], [], [], [], set()
         self.is_alone, self.is_of_laws, self.is_unmarked = True, False, False
+        self.copy, self.is_beside, self.control = None, False, None
         self.bad = self.apply(text_of(path), source)
         if not self.bad:
             self.place(source)
@@ -451,8 +482,11 @@ class Edit:
             self.bad = "it is of no function, and its name begins with none: nothing says which one has to be refused"
         elif not self.is_alone and all(it.is_law() for it in [*self.functions, *self.judged]):
             self.clauses = self.clauses_of_laws(source)
-        one = self.functions[0] if len(self.functions) == 1 and self.judged == self.functions else None
-        self.may_move = bool(one) and all(source.at(*row) is one for row in self.rows) and source.may_be_copied(one)
+        self.is_inside = all(source.at(*row) for row in self.rows)
+        self.may_move = self.is_inside and {*self.functions} >= {*self.judged} and all(map(source.may_be_copied, self.functions))
+        if not self.is_alone and len(self.judged) == 1 and all(it.is_law() for it in [*self.functions, *self.judged]):
+            law = LawCopy(source, self.judged[0], self.definitions)
+            self.copy = law if law.is_possible and all(law.has(file) for file, _ in self.rows) else None
 
     def is_seen_by_laws_alone(self, source):
         """Whether it is of definitions that nothing of src/ sees but laws. So it changes no other function's proof."""
@@ -486,9 +520,16 @@ class Edit:
         both += [it for it in other.reach if it in self.functions or it in self.judged]
         return both[0] if both else None
 
+    def disturbs(self, other):
+        """Whether an edit of definitions changes what another one in the same check is judged by."""
+        if other.is_beside:
+            return other.copy.law in self.reach
+        return other.bad or other.definitions or self.clash(other) or self.differs(other)
+
     def may_stand_beside(self, other):
-        """Whether one check can have both, in copies of one function if need be."""
-        return self.may_move and other.may_move or not (self.clash(other) or self.differs(other))
+        """Whether one check can have both, in copies of one function or law if need be."""
+        is_in_copy = self.is_beside or other.is_beside or self.may_move and other.is_inside or other.may_move and self.is_inside
+        return is_in_copy or not (self.clash(other) or self.differs(other))
 
     def moved(self, source, places, names):
         """The same in another source of the crate, where these are the places of its lines and the names of its functions."""
@@ -515,11 +556,13 @@ def stop_on_clash(edits):
 
 
 def grouped(edits):
-    """The edits in few lists, in which no two clash. Those of laws go together if no clause depends on two of them, and beside edits
-    of functions if only laws see what they change. Another one of a definition is tried without others, since a lemma that it
-    refuses could be theirs."""
+    """The edits in few lists, in which no two clash. Those of laws go together, in copies or if no clause depends on two of them, and
+    beside edits of functions if only laws see what they change. Another one of a definition is tried without others, since a
+    lemma that it refuses could be theirs."""
     fit = [it for it in edits if not it.bad and not it.is_alone]
-    together, of_laws = [it for it in fit if not it.definitions], [it for it in fit if it.definitions and it.clauses]
+    put_beside(fit)
+    together = [it for it in fit if not it.definitions or it.is_beside]
+    of_laws = [it for it in fit if it.definitions and it.clauses and it not in together]
     lists = spread(together)
     for more in [*spread(of_laws), *([it] for it in edits if it not in together and it not in of_laws)]:
         free = [one for one in lists if may_join(more, one)]
@@ -530,18 +573,38 @@ def grouped(edits):
     return lists
 
 
+def put_beside(edits):
+    """Marks the edits of laws that are to stand in copies: those of each law of which not all could be tried together as they are, and
+    those that change what another law rests on, or a function."""
+    laws = [it for it in edits if it.copy]
+    for law in {it.copy.law for it in laws}:
+        own = [it for it in laws if it.copy.law is law]
+        is_fit = all((it.clauses and it.is_of_laws or not it.definitions) and {*it.reach} <= {law} for it in own)
+        for it in own:
+            it.is_beside = len(edits) > 1 and not (is_fit and len(shared(own)) == 1)
+
+
 def may_join(more, edits):
-    """Whether edits of definitions can be tried beside these of functions."""
-    pairs = [(it, other) for it in more for other in edits]
+    """Whether edits of definitions can be tried beside these."""
     return (len(more) + len(edits) <= MOST and all(it.is_of_laws for it in more)
-            and not any(other.bad or other.definitions or it.clash(other) or it.differs(other) for it, other in pairs))
+            and not any(it.disturbs(other) for it in more for other in edits))
 
 
 def spread(edits):
     """The edits in few lists, in which no two clash. The first has as many as it can."""
+    return in_lists(sorted(edits, key=lambda it: (it.may_move, -len(it.reach), it.name)), Edit.may_stand_beside)
+
+
+def shared(edits):
+    """Edits of a law in few lists, in which no two clash as they are."""
+    return in_lists(edits, lambda it, other: not (it.clash(other) or it.differs(other)))
+
+
+def in_lists(edits, may_stand_beside):
+    """The edits in few lists, in which each may stand beside the others."""
     lists = []
-    for it in sorted(edits, key=lambda it: (it.may_move, -len(it.reach), it.name)):
-        free = [one for one in lists if len(one) < MOST and all(it.may_stand_beside(other) for other in one)]
+    for it in edits:
+        free = [one for one in lists if len(one) < MOST and all(may_stand_beside(it, other) for other in one)]
         if not free:
             free = [[]]
             lists += free
@@ -563,30 +626,32 @@ def within_closures(function):
 
 def with_copies(source, edits):
     """A source with copies of functions, and the edits of a batch, of which no two are of one function or copy."""
-    again = [it for at, it in enumerate(edits) if it.may_move and any(it.functions == other.functions for other in edits[:at])]
+    again = [it for at, it in enumerate(edits) if it.may_move and any({*it.functions} & {*other.functions} for other in edits[:at])]
+    beside = [it for it in edits if it.is_beside] if len(edits) > 1 else []
     texts, places, names, own = dict(source.texts), {}, {}, {}
-    for file in {file for edit in edits for file, _ in edit.rows} | {it.functions[0].file for it in again}:
+    for file in {file for edit in edits if edit not in beside for file, _ in edit.rows}:
         lines = []
         for row, line in enumerate(source.texts[file].split("\n")):
             places[file, row] = file, len(lines)
             lines.append(line)
-            for it in again:
-                function = it.functions[0]
+            for it, function in ((it, function) for it in again for function in it.functions):
                 if (function.file, function.last) == (file, row):
                     name = f"{function.name}_copy_{again.index(it) + 1}"
-                    names[it] = {function.symbol: f"{function.symbol.rpartition('::')[0]}::{name}"}
+                    names.setdefault(it, {})[function.symbol] = f"{function.symbol.rpartition('::')[0]}::{name}"
                     lines += ["", *source.attributes(function)]
-                    own[it] = {(file, at): (file, len(lines) + at - function.first) for at in range(function.first, function.last + 1)}
+                    rows = range(function.first, function.last + 1)
+                    own.setdefault(it, {}).update({(file, at): (file, len(lines) + at - function.first) for at in rows})
                     lines += copied(source, function, name, texts)
         texts[file] = "\n".join(lines)
-    if not again:
+    if not again and not beside:
         return source, edits
+    copies = copies_of_laws(source, beside, texts)
     wide = Source(source.folder, texts, source)
-    moved = [it.moved(wide, own.get(it, places), names.get(it, {})) for it in edits]
+    moved = [in_law_copy(it, wide, *copies[it]) if it in copies else it.moved(wide, own.get(it, places), names.get(it, {})) for it in edits]
     for it in (it for it in moved if it.filed in own):
-        # the line that has the name
-        was, now = it.filed.functions[0], it.functions[0]
-        it.rows.update({place: renamed(new, was, now.name) for place, new in it.rows.items() if place == (now.file, now.first)})
+        # the lines that have the names
+        for was, now in zip(it.filed.functions, it.functions):
+            it.rows.update({place: renamed(new, was, now.name) for place, new in it.rows.items() if place == (now.file, now.first)})
     return wide, moved
 
 
@@ -598,6 +663,173 @@ def copied(source, function, name, texts):
             texts[to] = renamed(source.texts[file], function, name)
     lines = source.texts[function.file].split("\n")[function.first : function.last + 1]
     return [renamed(lines[0], function, name), *lines[1:]]
+
+
+# ---- copies of laws
+
+
+# What of a text of specs/ or proofs/ other modules may name, and what stands in a type or in a block `module _`.
+IS_PUBLIC = re.compile(r"(?:(?:unfoldable|abbrev) )*pub ")
+INSIDE = re.compile(r"(?m)^  (?:pub )?([^\s:({]+) :")
+
+
+def parts_of(text):
+    """The parts of a text of specs/ or proofs/: of each the name of its item, or None if it stands above them all, and its text. A
+    line such as `unfolding f` or `}` is of the item above."""
+    name = None
+    for part in re.split(r"\n(?=[^\s-])", text):
+        found = IS_ITEM.match(part)
+        name = found[1] if found else name
+        yield name, part
+
+
+def private_in(text, names):
+    """The private items of a text that these of its items cite."""
+    parts = list(parts_of(text))
+    public = {name for name, part in parts if IS_PUBLIC.match(part)}
+    private = {it: name for name, part in parts if name and name not in public for it in INSIDE.findall(part)}
+    private.update({name: name for name, _ in parts if name and name not in public})
+    return {private[it] for name, part in parts if name in names for it in words_of(part) & {*private}} - names
+
+
+def opened(text, names):
+    """A text with these items public, and what stands in them. No row moves."""
+    found, seen = [], set()
+    for name, part in parts_of(text):
+        is_first, is_block = name not in seen, part.startswith("module ")
+        if name in names and (is_first or is_block) and not IS_PUBLIC.match(part):
+            part = INSIDE.sub(r"  pub \1 :", part) if is_block or part.startswith("record ") else part
+            part = part if is_block else re.sub(r"\A((?:(?:unfoldable|abbrev) )*)", r"\1pub ", part)
+        seen.add(name)
+        found.append(part)
+    return "\n".join(found)
+
+
+def passed_on(parts):
+    """What a module can pass on of these parts of another."""
+    for name, part in parts:
+        if part.startswith("module "):
+            yield from re.findall(r"(?m)^  pub ([^\s:({]+) :", part)
+        elif IS_PUBLIC.match(part):
+            yield from [name, *(INSIDE.findall(part) if part.startswith("pub data ") else [])]
+
+
+class LawCopy:
+    """How a law is copied: its file, of which only the law and the imports are left, its proof, and the modules with these definitions
+    and with what rests on them and the law's proof reads. Each has another name, by which the others call it. The copy of a module
+    has only these items, and passes on the others of the module itself. Private ones that these cite are made public there."""
+
+    def __init__(self, source, law, definitions):
+        self.source, self.law, self.modules = source, law, {}
+        read = source.read_by(law) if definitions else set()
+        files = {module_of(file): file for file in source.texts if file.endswith(".antt")}
+        for module, name in source.resting_on(definitions) if definitions else ():
+            if module in read and files[module] not in source.proof_of(law):
+                self.modules.setdefault(files[module], set()).add(name)
+        # the modules by whose lines `mod` the copies are found
+        self.parents = {file: self.parent(file) for file in [law.file, *self.modules]}
+        self.rows = self.own_rows()
+        self.is_possible = (all(self.parents.values()) and self.is_plain() and not source.is_named(law)
+                            and not any(os.path.dirname(it) in source.proved_in for it in self.modules))
+
+    def has(self, file):
+        """Whether it copies a file."""
+        return file == self.law.file or file in self.modules
+
+    def parent(self, file):
+        """The file that has a module's line `mod`, or None."""
+        folder, name = os.path.split(re.sub(r"(/Lib)?\.(rt|antt)$", "", file))
+        among = [f"{folder}/lib.rt", f"{folder}/main.rt"] if file.endswith(".rt") else [f"{folder}/Lib.antt", f"{folder}.antt"]
+        line = re.compile(rf"(?m)^(?:pub )?mod {name};?$")
+        return next((it for it in among if line.search(self.source.texts.get(it, ""))), None)
+
+    def own_rows(self):
+        """The rows of the law in its file, and of the imports."""
+        text = self.source.texts[self.law.file]
+        rows = set(range(self.law.first - len(self.source.attributes(self.law)), self.law.last + 1))
+        for it in re.finditer(r"(?m)^(?:pub |ghost )*use [^;]*;", text):
+            rows |= set(range(text.count("\n", 0, it.start()), text.count("\n", 0, it.end()) + 1))
+        return rows
+
+    def is_plain(self):
+        """Whether the law's file has only functions, imports and comments."""
+        rows = enumerate(self.source.texts[self.law.file].split("\n"))
+        return all(at in self.rows or self.source.at(self.law.file, at) or re.match(r"\s*(?://|#\[(?!test)|$)", line) for at, line in rows)
+
+    def symbol(self, suffix):
+        """The path of the law in the copy with this suffix."""
+        return self.law.symbol.replace("::", f"{suffix}::", 1)
+
+    def named(self, file, suffix):
+        """The path of a file in it."""
+        if self.has(file):
+            return re.sub(r"((?:/Lib)?\.(?:rt|antt))$", rf"{suffix}\1", file)
+        return file.replace(self.law.symbol.replace("::", "/"), self.symbol(suffix).replace("::", "/"), 1)
+
+    def renamed(self, text, suffix):
+        """A text of it, with the names of the copied modules."""
+        modules = "|".join(re.escape(module_of(it)) for it in self.modules)
+        text = re.sub(rf"(?m)(\bRattle\.{self.source.crate}\.(?:{modules}))(?=\.\{{|[\s;]|$)", rf"\1{suffix}", text) if modules else text
+        was, now = (it.replace("::", ".") for it in (self.law.symbol, self.symbol(suffix)))
+        return re.sub(rf"(\bRattle\.{self.source.crate}\.proofs\.){re.escape(was)}(?=\.)", rf"\g<1>{now}", text)
+
+    def write(self, suffix, texts):
+        """Adds the copy with this suffix to the texts."""
+        lines = self.source.texts[self.law.file].split("\n")
+        text = "\n".join(line if at in self.rows else "" for at, line in enumerate(lines))
+        texts[self.named(self.law.file, suffix)] = self.renamed(text, suffix)
+        for file in self.source.proof_of(self.law):
+            texts[self.named(file, suffix)] = self.renamed(self.source.texts[file], suffix)
+        for file, names in self.modules.items():
+            texts[self.named(file, suffix)] = self.copied_module(file, names, suffix)
+            texts[file] = opened(texts[file], private_in(self.source.texts[file], names))
+        for file, parent in self.parents.items():
+            name = os.path.basename(re.sub(r"(/Lib)?\.(rt|antt)$", "", file))
+            more = rf"\1; mod {name}{suffix};" if file.endswith(".rt") else rf"\1\n\1{suffix}"
+            texts[parent] = re.sub(rf"(?m)^((?:pub )?mod {name})(?:;|$)", more, texts[parent], count=1)
+
+    def copied_module(self, file, names, suffix):
+        """The copy of a module, two rows below the module's own rows."""
+        text = opened(self.source.texts[file], private_in(self.source.texts[file], names))
+        others = [(name, part) for name, part in parts_of(text) if name not in names]
+        sealed, free = ([it for it in others if it[1].startswith("unfoldable ") is is_free] for is_free in (False, True))
+        heads = []
+        for words, passed in (("pub use", list(passed_on(sealed))), ("unfoldable pub use", list(passed_on(free)))):
+            heads.append(f"{words} Rattle.{self.source.crate}.{module_of(file)}.{{{', '.join(passed)}}}" if passed else "")
+        text = "\n".join(part if name is None or name in names else "\n" * part.count("\n") for name, part in parts_of(text))
+        return "\n".join([*heads, self.renamed(text, suffix)])
+
+    def place(self, row, suffix):
+        """The row of the copy that is this one of a file."""
+        file, at = row
+        return self.named(file, suffix), at + 2 * (file in self.modules)
+
+
+def copies_of_laws(source, edits, texts):
+    """Adds copies of the laws of these edits to the texts, as few as can be: edits of one law share one if no clause depends on two of
+    them. Beside those that copy the same there is one more, without an edit. It returns of each edit the copy, its suffix, and
+    that of the one without."""
+    found, unedited, suffixes = {}, {}, (f"_copy_{at}" for at in itertools.count(1))
+    for group in (group for law in dict.fromkeys(it.copy.law for it in edits) for group in shared([it for it in edits if it.copy.law is law])):
+        whole = LawCopy(source, group[0].copy.law, {name for it in group for name in it.definitions})
+        same = repr((whole.law.symbol, sorted((file, sorted(names)) for file, names in whole.modules.items())))
+        for them in [group] if same in unedited else [[], group]:
+            suffix = next(suffixes)
+            whole.write(suffix, texts)
+            found.update({it: (whole, suffix, unedited[same]) for it in them})
+            unedited.setdefault(same, suffix)
+    return found
+
+
+def in_law_copy(edit, wide, whole, suffix, unedited):
+    """An edit of a law in the copy with this suffix."""
+    it, symbols = copy.copy(edit), [whole.symbol(suffix), whole.symbol(unedited)]
+    law, it.control = (next(one for one in wide.functions if one.symbol == symbol) for symbol in symbols)
+    it.rows = {whole.place(row, suffix): whole.renamed(new, suffix) for row, new in edit.rows.items()}
+    it.functions, it.judged, it.reach = [law] * bool(edit.functions), [law], [law]
+    it.clauses = {(law, goal) for one, goal in edit.clauses if one is whole.law}
+    it.definitions = [(f"{module}{suffix}", name) for module, name in edit.definitions]
+    return it
 
 
 # ---- batches
@@ -753,7 +985,8 @@ def plant(batch, room, controls):
     for it in batch.unsearched(controls):
         line = rows.get((it.file, it.first), batch.source.texts[it.file].split("\n")[it.first])
         rows[it.file, it.first] = re.sub(r"\A *", r"\g<0>#[tactic(none)] ", line)
-    asked = list(dict.fromkeys([first, *(it for edit in batch.edits for it in [*edit.functions, *edit.judged]), *others]))
+    copies = [it.control for it in batch.edits if it.control]
+    asked = list(dict.fromkeys([first, *(it for edit in batch.edits for it in [*edit.functions, *edit.judged]), *copies, *others]))
     left_out = [it for it in batch.source.functions
                 if it.may_be_left_out() and it not in asked and it not in calls and it.symbol not in batch.source.unread]
     # a check goes through all that a function calls, and what has no code calls nothing
@@ -1028,6 +1261,27 @@ def results_of(batch, check, controls, otherwise):
     return [(it, *told[it]) for it in told], [again, left[:half], left[half:]]
 
 
+def unjudged(batch, check, results):
+    """The edits in copies of laws that are to be tried without a copy, since that itself may be at fault: those that are not refused as
+    they should be, those of a law whose copy without an edit is not proved, and all that are left by a check that breaks off for
+    none of its edits."""
+    copies, passed = [it for it in batch.edits if it.control], {it: is_passed for it, is_passed, _ in results}
+    is_left = not check.is_whole and not all(passed.values())
+    return [it for it in copies if not passed.get(it, is_left) or it in passed and check.lines.get(it.control.symbol) != "no holes"]
+
+
+def batches_after(batch, check, left, unjudged):
+    """The batches in which the edits that a check leaves are tried: those in copies of laws that it can't judge as they were read, each
+    alone. If it broke off for them, the others are tried without such copies."""
+    parts = [[it for it in part if it not in unjudged] for part in left]
+    again = [(batch.source, it) for it in parts if it]
+    if unjudged and not check.is_whole:
+        again = [with_copies(batch.source.filed, [it.filed for part in parts for it in part if not it.control])]
+        again += [(batch.source, [it for part in parts for it in part if it.control])]
+    again += [(batch.source.filed, [it.filed]) for it in unjudged]
+    return [Batch(batch.crate, *it, batch.kept) for it in again if it[1]]
+
+
 def ended(check):
     lines = [it for it in check.said.split("\n") if re.search(r"error|no verdict", it)] or check.said.strip().split("\n")[-1:]
     return f"its check ended with status {check.status}: {lines[0][:200]}"
@@ -1063,7 +1317,7 @@ def try_batch(batch, root=ROOT, show=None):
     processor time that all took. Threads may try batches side by side: all that it writes stands in a folder of its own."""
     if any(it.bad for it in batch.edits):
         return [(it, False, f"BAD EDIT: {it.bad or 'it stands beside one'}") for it in batch.edits], 0
-    controls, results, left, seconds = harmless(batch), [], [batch.edits], 0
+    controls, results, seconds, without_copy = harmless(batch), [], 0, set()
     if controls:
         with tempfile.TemporaryDirectory(prefix="edits-") as room:
             said = check(batch, plant(batch, room, controls), room, batch.unsearched(controls))
@@ -1077,14 +1331,19 @@ def try_batch(batch, root=ROOT, show=None):
                 start = f"{said.seconds:.0f} s of processor time, {said.memory / 1_000_000:.0f} MB of {batch.need / 1_000_000:.0f}"
                 it.write("\n".join([start, *(edit.name for edit in batch.edits), said.said]))
         results, left = results_of(batch, said, controls, listed_otherwise(root))
-        seconds = said.seconds
+        again = unjudged(batch, said, results) if not unseen(batch, said, controls) or not said.is_whole else []
+        results = [it for it in results if it[0] not in again]
+        more, seconds = batches_after(batch, said, left, again), said.seconds
+        without_copy = {it.filed for it in again}
     elif len(batch.edits) == 1:
         return [(batch.edits[0], False, "NOT TRIED: the crate has no function for a harmless edit")], 0
     else:
-        left = [batch.edits[: len(batch.edits) // 2], batch.edits[len(batch.edits) // 2 :]]
-    for part in filter(None, left):
-        more, used = try_batch(Batch(batch.crate, batch.source, part, batch.kept), root, show)
-        results, seconds = results + more, seconds + used
+        halves = [batch.edits[: len(batch.edits) // 2], batch.edits[len(batch.edits) // 2 :]]
+        more = [Batch(batch.crate, batch.source, it, batch.kept) for it in halves]
+    for part in more:
+        told, used = try_batch(part, root, show)
+        told = [(it, is_passed, text + WITHOUT_COPY * (it in without_copy)) for it, is_passed, text in told]
+        results, seconds = results + told, seconds + used
     return results, seconds
 
 
