@@ -109,13 +109,14 @@ pub(crate) fn group_facets_by<R: Threads + Sync, A: Allocator + Copy + Send + Sy
             )
         },
     );
-    let (Some(points), Some(edges)) = (ranked?, edges?) else {
+    let Some(points) = ranked? else {
         return Ok(None);
     };
-    let orders = Orders {
-        points,
-        heights: heights?,
+    let Some(edges) = edges? else {
+        return Ok(None);
     };
+    let heights = heights?;
+    let orders = Orders { points, heights };
     Ok(Some(Grouping { edges, orders }))
 }
 
