@@ -109,14 +109,13 @@ pub(crate) fn group_facets_by<R: Threads + Sync, A: Allocator + Copy + Send + Sy
             )
         },
     );
-    let Some(points) = ranked? else {
+    let (Some(points), Some(edges)) = (ranked?, edges?) else {
         return Ok(None);
     };
-    let Some(edges) = edges? else {
-        return Ok(None);
+    let orders = Orders {
+        points,
+        heights: heights?,
     };
-    let heights = heights?;
-    let orders = Orders { points, heights };
     Ok(Some(Grouping { edges, orders }))
 }
 
