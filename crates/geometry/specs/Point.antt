@@ -1,5 +1,6 @@
 -- Points in space by whole coordinates: points of a mesh, in micrometres, and centres of voxels, in half-micrometres.
-use Rattle.std.specs.Prelude.{ℕ, Bool, ◌&&◌, ◌||◌, ℤ, pos, ◌*ℤ◌, int_lt}
+use Rattle.std.specs.Prelude.{ℕ, Bool, ◌&&◌, ◌||◌, ℤ, pos, ◌*ℤ◌, int_lt, List, ◌++◌, codes}
+use Rattle.std.specs.Fmt.{signed_decimal}
 use Rattle.std.specs.Ordering.{int_eq}
 use Rattle.exact_int.specs.Bounds.{IsAtMost}
 use Rattle.geometry.specs.declared.limits.TheConstants.{CENTRE_LIMIT, COORDINATE_LIMIT}
@@ -27,6 +28,10 @@ IsCentre p = IsWithin CENTRE_LIMIT p
 -- a point given in micrometres, in half-micrometres
 abbrev pub half_micrometres_of : Point → Point
 half_micrometres_of p = record { x = pos 2 *ℤ p.x; y = pos 2 *ℤ p.y; z = pos 2 *ℤ p.z }
+
+-- a point as it is written: its coordinates in micrometres
+abbrev pub point_text : Point → List ℕ
+point_text p = signed_decimal p.x ++ (codes " " ++ (signed_decimal p.y ++ (codes " " ++ signed_decimal p.z)))
 
 -- the same coordinates
 abbrev pub same : Point → Point → Bool

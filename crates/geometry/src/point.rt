@@ -1,15 +1,16 @@
 //! Points of a mesh, in whole micrometres. Every `Point` is in range, so products of its coordinates fit their types.
-ghost use Rattle.std.specs.Prelude.{◌≡◌, ◌<◌, ◌↔◌, IfSome, IsSome, IsTrue};
+ghost use Rattle.std.specs.Prelude.{◌≡◌, ◌<◌, ◌↔◌, IfSome, IsSome, IsTrue, Some};
 ghost use Rattle.exact_int.specs.Bounds.{IsAtMost};
-ghost use Rattle.geometry.specs.Point.{Point, IsMeshPoint};
+ghost use Rattle.geometry.specs.Point.{Point, IsMeshPoint, point_text};
 ghost use Rattle.geometry.specs.declared.limits.TheConstants.{COORDINATE_LIMIT};
 
 use crate::limits::COORDINATE_LIMIT;
 use exact_int::is_at_most;
+use std::fmt::{self, Display, Formatter, Write};
 use std::marker::Model;
 
 /// A point of a mesh, in micrometres. Each coordinate is in the range from -[`COORDINATE_LIMIT`] to
-/// [`COORDINATE_LIMIT`]. Points are ordered by x, then y, then z.
+/// [`COORDINATE_LIMIT`]. Points are ordered by x, then y, then z. `Display` writes the coordinates with a space between them.
 #[derive(Clone, Copy, Debug, PartialEq, Eq, PartialOrd, Ord)]
 pub struct Point {
     x: i32,
@@ -73,6 +74,15 @@ impl Point {
         ensures within { IsAtMost COORDINATE_LIMIT result }
     {
         self.z
+    }
+}
+
+impl Display for Point {
+    ghost output = { λ point. Some (point_text point) };
+
+    fn fmt<W: Write>(&self, f: &mut Formatter<W>) -> fmt::Result {
+        let (x, y, z) = (self.x(), self.y(), self.z());
+        write!(f, "{x} {y} {z}")
     }
 }
 

@@ -16,7 +16,7 @@ use crate::half_edge::EdgeNumbering;
 use crate::height_order::HeightOrder;
 use crate::weld_fault::WeldFault;
 use geometry::{Facet, Point};
-use std::alloc::Allocator;
+use std::alloc::{AllocError, Allocator};
 
 /// The result of both ways of numbering: a solid's vertices, the numbers of its facets' corners and edges, and its facets'
 /// order by height with what goes with it.
@@ -30,25 +30,26 @@ pub(crate) struct Numbering<A: Allocator> {
 }
 
 /// The numbering of the kept facets, which are given by ids, if their half-edges balance. It comes from their grouping if there
-/// is one, else from sorts.
+/// is one, else from sorts. It fails if the grouping failed.
 pub(crate) fn named_numbering<A: Allocator + Copy>(
     alloc: A,
     points: Vec<Point, A>,
     ids: Vec<[u32; 3], A>,
     degenerate: &[Facet],
-    found: Option<Grouping<A>>,
+    found: Result<Option<Grouping<A>>, AllocError>,
 ) -> Result<Numbering<A>, WeldFault>
     requires named { AreNamed points.items ids.items }
     requires kept { length ids.items ≤ FACET_LIMIT }
     requires degenerate { length degenerate.now ≤ FACET_LIMIT }
-    requires edges { IfSome found (λ own. AreEdgesOf ids.items own.edges.numbers.items own.edges.count) }
-    requires orders { IfSome found (λ own. AreOrdersOf points.items ids.items own.orders) }
+    requires edges { IfOk found (λ some. IfSome some (λ own. AreEdgesOf ids.items own.edges.numbers.items own.edges.count)) }
+    requires orders { IfOk found (λ some. IfSome some (λ own. AreOrdersOf points.items ids.items own.orders)) }
     ensures numbering { IfOk result (IsNumberingOf (facets_by points.items ids.items)) }
     ensures open { IfErr result (IsKeptFault (facets_by points.items ids.items) degenerate.now) }
 {
     match found {
-        Some(found) => Ok(numbered(points, ids, found)),
-        None => numbering_by_sorts(alloc, points, ids, degenerate),
+        Ok(Some(found)) => Ok(numbered(points, ids, found)),
+        Ok(None) => numbering_by_sorts(alloc, points, ids, degenerate),
+        Err(_) => Err(WeldFault::Memory),
     }
 }
 

@@ -11,7 +11,7 @@ use thiserror::Error;
 pub enum WeldFault {
     /// The least pair of points, `from` before `to`, between which the half-edges there and back differ in number. The points
     /// are in micrometres. Over all facets, `there` half-edges run from `from` to `to`, and `back` half-edges run back.
-    #[error("open edge {} {} {} to {} {} {} there {there} back {back}", .from.x(), .from.y(), .from.z(), .to.x(), .to.y(), .to.z())]
+    #[error("open edge {from} to {to} there {there} back {back}")]
     Open {
         from: Point,
         to: Point,

@@ -1,6 +1,6 @@
 //! Welding as facets come: each is kept by the ids of its corners, and its edges are numbered at once. So the caller need not
 //! keep a list of facets.
-ghost use Rattle.std.specs.Prelude.{◌≡◌, ◌≤◌, ◌<◌, ◌+◌, ◌++◌, [], ◌∷◌, List, IfSome, OnErr, OnOk, length, true};
+ghost use Rattle.std.specs.Prelude.{◌≡◌, ◌≤◌, ◌<◌, ◌+◌, ◌++◌, [], ◌∷◌, List, IfOk, IfSome, OnErr, OnOk, length, true};
 ghost use Rattle.geometry.specs.Facet.{Facet};
 ghost use Rattle.mesh_weld.specs.EdgeChains.{AreInHalfWords};
 ghost use Rattle.mesh_weld.specs.Grouping.{AreEdgesOf, AreOrdersOf};
@@ -146,7 +146,7 @@ impl<A: Allocator + Copy + Send + Sync> Welder<A> {
             named.points.as_slice(),
             named.ids.as_slice(),
             numbering,
-        )?;
+        );
         named.into_solid(found)
     }
 
@@ -156,7 +156,7 @@ impl<A: Allocator + Copy + Send + Sync> Welder<A> {
     {
         let (named, numbering) = self.without_table();
         let (points, ids) = (named.points.as_slice(), named.ids.as_slice());
-        let found = group_facets_by(rt, named.alloc, points, ids, numbering)?;
+        let found = group_facets_by(rt, named.alloc, points, ids, numbering);
         named.into_solid(found)
     }
 
@@ -196,12 +196,15 @@ struct NamedFacets<A: Allocator> {
 }
 
 impl<A: Allocator + Copy> NamedFacets<A> {
-    /// The solid of the facets, from the grouping of the kept ones if there is one.
-    fn into_solid(self, found: Option<Grouping<A>>) -> Result<Solid<A>, WeldFault>
+    /// The solid of the facets, from the grouping of the kept ones if there is one. It fails if the grouping failed.
+    fn into_solid(
+        self,
+        found: Result<Option<Grouping<A>>, AllocError>,
+    ) -> Result<Solid<A>, WeldFault>
         requires named { AreNamed self.points.items self.ids.items }
         requires few { length self.ids.items + length self.degenerate.items ≤ FACET_LIMIT }
-        requires edges { IfSome found (λ own. AreEdgesOf self.ids.items own.edges.numbers.items own.edges.count) }
-        requires orders { IfSome found (λ own. AreOrdersOf self.points.items self.ids.items own.orders) }
+        requires edges { IfOk found (λ some. IfSome some (λ own. AreEdgesOf self.ids.items own.edges.numbers.items own.edges.count)) }
+        requires orders { IfOk found (λ some. IfSome some (λ own. AreOrdersOf self.points.items self.ids.items own.orders)) }
         ensures { IsWeldOf (welder_by self.points.items self.ids.items self.degenerate.items) result }
     {
         let NamedFacets {

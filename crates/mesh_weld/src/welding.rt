@@ -33,7 +33,8 @@ pub fn weld<A: Allocator + Copy + Send + Sync>(
     ensures only { IsBalanced facets.items → IfErr result (λ fault. fault ≡ Memory) }
 {
     let mut welder = Welder::new(alloc);
-    welder.add(facets.as_slice())?;
+    let added = welder.add(facets.as_slice());
     drop(facets);
+    added?;
     welder.finish()
 }

@@ -3,7 +3,7 @@ use Rattle.std.specs.Prelude.{◌≡◌, ℕ, Bool, true, false, List, ◌++◌,
 use Rattle.std.specs.Fmt.{signed_decimal}
 use Rattle.micro_num.specs.declared.unit.Unit.{Unit as LengthUnit}
 use Rattle.stl_text.specs.declared.stl_fault.StlFault.{StlFault}
-use Rattle.geometry.specs.Point.{Point}
+use Rattle.geometry.specs.Point.{Point, point_text}
 use Rattle.geometry.specs.Facet.{Facet}
 use Rattle.geometry.specs.BoundingBox.{extent}
 use Rattle.stl_text.specs.Text.{Reads, IsFaultOf}
@@ -25,9 +25,6 @@ use Rattle.task_words.specs.declared.task.Task.TheVariants as task
 use Rattle.stlslice.specs.declared.run_fault.RunFault.{RunFault}
 use Rattle.stlslice.specs.declared.run_fault.RunFault.TheVariants as fault
 use Rattle.geometry.specs.declared.limits.TheConstants.{FACET_LIMIT}
-
-abbrev pub point_text : Point → List ℕ
-point_text p = signed_decimal p.x ++ codes " " ++ signed_decimal p.y ++ codes " " ++ signed_decimal p.z
 
 -- the line of a count of facets, with the corners of their bounding box
 abbrev pub line_text : ℕ → Option (Point × Point) → List ℕ

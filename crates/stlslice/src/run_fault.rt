@@ -23,7 +23,7 @@ pub enum RunFault {
     Stl(StlFault),
     /// The mesh is not closed: `there` half-edges run from `from` to `to`, and `back` half-edges run back. Both points are in
     /// micrometres. Of all pairs whose two numbers differ, with `from` before `to`, this is the least. Nothing was written.
-    #[error("stlslice: open edge {} {} {} to {} {} {} there {there} back {back}", .from.x(), .from.y(), .from.z(), .to.x(), .to.y(), .to.z())]
+    #[error("stlslice: open edge {from} to {to} there {there} back {back}")]
     Open {
         from: Point,
         to: Point,

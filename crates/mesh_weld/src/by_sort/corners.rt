@@ -71,8 +71,8 @@ fn number_sorted<A: Allocator + Copy>(
     ensures points { IfOk result (λ own. own.points.items ≡ vertices facets.now) }
     ensures numbers { IfOk result (λ own. own.numbers.items ≡ map (number_of (vertices facets.now)) (flat_map corners facets.now)) }
 {
-    let mut points = Vec::new(alloc);
     let mut numbers = vec![in alloc; 0; 3 * facets.len()]?;
+    let mut points = Vec::new(alloc);
     for corner in sorted {
         add_point(&mut points, corner.point)?;
         numbers[corner.slot as usize] = points.len() as u32 - 1;

@@ -1,10 +1,11 @@
-use Rattle.std.proofs.Common.{◌≡◌, ◌<◌, ◌≤◌, ◌^◌, ℕ, length, get_or, sym, ap, ◌∙◌, subst, arith}
+use Rattle.std.proofs.Common.{◌≡◌, ◌<◌, ◌≤◌, ◌^◌, ℕ, length, map, get_or, sym, ap, ◌∙◌, subst, arith}
 use Rattle.std.specs.List.Sorted.{IsPermutation, IsNonDecreasingBy}
-use Rattle.std.proofs.lemmas.List.{get_or_default}
+use Rattle.std.proofs.lemmas.List.{get_or_default, length-map}
 use Rattle.std.proofs.lemmas.List.Sorted.{length_permutation}
+use Rattle.geometry.specs.Facet.{corners}
 use Rattle.geometry.specs.Point.{origin}
 use Rattle.mesh_weld.specs.HalfEdge.{half_edges_from, pair_key, IsEven, IsLeastUneven}
-use Rattle.mesh_weld.specs.Solid.{vertices, triples}
+use Rattle.mesh_weld.specs.Solid.{number_of, vertices, triples}
 use Rattle.mesh_weld.proofs.lemmas.Transfer.{balanced_from_even, low_inside, high_inside, least_open}
 use Rattle.mesh_weld.proofs.lemmas.Welds.{few_vertices, few_half_edges, kept_fault}
 use Rattle.mesh_weld.proofs.by_sort.number_edges.Given.{Over}
@@ -13,6 +14,11 @@ use Rattle.mesh_weld.proofs.by_sort.number_edges.Goals as goal
 
 all_half_edges : (g : Over) (c : In_ok-half_edges g) → IsPermutation (half_edges_from 0 (triples c.args.kept.now)) c.in_ok-half_edges.half_edges.items
 all_half_edges g c = subst (λ l. IsPermutation (half_edges_from 0 l) c.in_ok-half_edges.half_edges.items) c.requires.numbers c.in_ok-half_edges.ensures.permuted
+
+pub sorted_half_edges-requires : goal.sorted_half_edges-requires
+sorted_half_edges-requires g c =
+    let kept = c.args.kept.now in
+    omega (arith, ap length c.requires.numbers, length-map kept (λ t. map (number_of (vertices kept)) (corners t)), c.requires.kept)
 
 pub least_uneven-requires-clause-limit : goal.least_uneven-requires-clause-limit
 least_uneven-requires-clause-limit g c =
@@ -53,9 +59,15 @@ returns-in-Some-clause-open g c =
     kept_fault kept c.args.degenerate.now c.index-points-low.result c.index-points-high.result c.open_edge.result _ _ from to
     (least_open kept c.in_ok-half_edges.half_edges.items all m n h few) c.open_edge.ensures
 
+pub number_sorted-requires-clause-permuted : goal.number_sorted-requires-clause-permuted
+number_sorted-requires-clause-permuted g c = rw c.as_slice-2.ensures.value c.in_ok-half_edges.ensures.permuted
+
 pub number_sorted-requires-clause-ascending : goal.number_sorted-requires-clause-ascending
 number_sorted-requires-clause-ascending g c =
     subst (IsNonDecreasingBy pair_key) (sym c.as_slice-2.ensures.value) c.in_ok-half_edges.ensures.ascending
+
+pub returns-clause-numbering : goal.returns-clause-numbering
+returns-clause-numbering g c = rw c.requires.numbers at c.in_ok-number_sorted.ensures
 
 pub returns-clause-closed : goal.returns-clause-closed
 returns-clause-closed g c =

@@ -1,6 +1,7 @@
-use Rattle.std.proofs.Common.{◌≡◌, ◌∙◌, ap, map}
+use Rattle.std.proofs.Common.{◌≡◌, ◌∙◌, ap, length, map}
+use Rattle.std.proofs.lemmas.List.{length-map}
 use Rattle.mesh_weld.specs.CornerIds.{AreIds, ranks_of}
-use Rattle.mesh_weld.specs.Solid.{facets_by, triples}
+use Rattle.mesh_weld.specs.Solid.{facets_by, in_order, number_of, triples}
 use Rattle.mesh_weld.proofs.lemmas.EdgeNumbering.{edges_by_ids, closed_by_ids}
 use Rattle.mesh_weld.proofs.lemmas.Naming.{found_in_order, ids_are, renumbered}
 use Rattle.mesh_weld.proofs.numbering.numbered.Given.{Over}
@@ -27,3 +28,10 @@ returns g c =
       ranges_are = orders.ranges_are;
       rise_is = orders.rise_is;
     }
+
+pub renumber-requires : goal.renumber-requires
+renumber-requires g c =
+    let points = c.args.points.items in
+    let long : length c.as_slice.result.now ≡ length points =
+    ap length (c.as_slice.ensures.value ∙ c.requires.orders.ranks_are) ∙ length-map points (number_of (in_order points)) in
+    rw long c.requires.named.below

@@ -5,8 +5,8 @@ use Rattle.mesh_weld.proofs.welding.weld.Given.{Over}
 use Rattle.mesh_weld.proofs.welding.weld.Goals.{After-finish}
 use Rattle.mesh_weld.proofs.welding.weld.Goals as goal
 
-added : (g : Over) (c : After-finish g) → c.add.new.self ≡ welder_of c.args.facets.items
-added g c = c.in_ok-add.ensures.whole [] c.new-welder.ensures ∙ ap welder_of c.as_slice.ensures.value
+added : (g : Over) (c : After-finish g) → c.add-added.new.self ≡ welder_of c.args.facets.items
+added g c = c.in_ok-added.ensures.whole [] c.new-welder.ensures ∙ ap welder_of c.as_slice.ensures.value
 
 pub returns-clause-ray : goal.returns-clause-ray
 returns-clause-ray g c = c.finish.ensures.ray c.args.facets.items (added g (goal.at.returns-clause-ray g c).After-finish)
@@ -14,8 +14,8 @@ returns-clause-ray g c = c.finish.ensures.ray c.args.facets.items (added g (goal
 pub returns-clause-only : goal.returns-clause-only
 returns-clause-only g c = c.finish.ensures.only c.args.facets.items (added g (goal.at.returns-clause-only g c).After-finish)
 
-pub add-requires : goal.add-requires
-add-requires g c =
+pub add-added-requires : goal.add-added-requires
+add-added-requires g c =
     let more = length c.as_slice.result.now in
     let few : more ≤ FACET_LIMIT = subst (λ (n : ℕ). n ≤ FACET_LIMIT) (sym c.as_slice.ensures.len) c.requires in
     let of_none : 0 + more ≤ FACET_LIMIT = omega (arith, few) in (

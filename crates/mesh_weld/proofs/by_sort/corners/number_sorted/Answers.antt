@@ -2,7 +2,7 @@ use Rattle.std.proofs.Common.{arith, length, set, sym, subst, ◌∙◌, ◌+◌
 use Rattle.std.specs.List.{flat_map}
 use Rattle.std.proofs.lemmas.List.{get_or_default}
 use Rattle.geometry.specs.Facet.{corners}
-use Rattle.mesh_weld.proofs.lemmas.Points.{IsJoined, IsCornerOf, joined_none, joined_more, own_corner, joined_points, joined_numbers, added_few, sorted_count, length-corners}
+use Rattle.mesh_weld.proofs.lemmas.Points.{IsJoined, IsCornerOf, joined_none, joined_more, own_corner, joined_points, joined_numbers, added_few, added_some, sorted_count, length-corners}
 use Rattle.mesh_weld.proofs.by_sort.corners.number_sorted.Goals as goal
 
 pub loop-corner-init : goal.loop-corner-init
@@ -14,6 +14,11 @@ overflow_cast-len g c =
     let long : length c.args.sorted.now ≡ 3 * length c.args.facets.now = sorted_count c.args.facets.now c.args.sorted.now c.requires.permuted in
     let new : length c.add_point.new.points.items ≤ length c.loop-corner.points.items + 1 = added_few _ _ _ c.in_ok-add_point.ensures in
     omega (arith, long, new, c.loop-corner.invariant.few, c.add_point.new.points.ok.0)
+
+pub overflow_sub-len : goal.overflow_sub-len
+overflow_sub-len g c =
+    let some : 0 < length c.add_point.new.points.items = added_some _ _ _ c.in_ok-add_point.ensures in
+    omega (arith, some, c.add_point.new.points.ok.0)
 
 pub index_mut-requires : goal.index_mut-requires
 index_mut-requires g c =

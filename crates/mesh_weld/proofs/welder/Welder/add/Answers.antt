@@ -60,6 +60,12 @@ loop-at-preserved g c =
     ∙ ap (λ (v : Welder). with_facets v (t ∷ [])) c.loop-at.invariant
     ∙ one_more w facets c.loop-at.at t c.loop-at-test.true c.index-facets-at.is
 
+pub invariant_of-self : goal.invariant_of-self
+invariant_of-self g c = rw c.number-numbered.ensures c.self-2.invariant
+
+pub invariant_of-self-else-is_err-2 : goal.invariant_of-self-else-is_err-2
+invariant_of-self-else-is_err-2 g c = rw c.number-numbered.ensures c.self-2.invariant
+
 pub returns-then-is_err : goal.returns-then-is_err
 returns-then-is_err g c =
     let failed : is_err c.add_facet-added.result ≡ true = sym c.is_err.ensures.value ∙ c.if-is_err.true in

@@ -10,6 +10,7 @@ use Rattle.geometry.specs.Facet.{Facet, corners}
 use Rattle.geometry.specs.declared.limits.TheConstants.{FACET_LIMIT}
 use Rattle.mesh_weld.specs.Solid.{facet_by, facets_by, is_kept, kept_facets}
 use Rattle.mesh_weld.specs.Welder.{AreNamed, Welder, degenerate_facets, welder_by, with_facets}
+use Rattle.mesh_weld.proofs.lemmas.Listing.{longer}
 use Rattle.mesh_weld.proofs.lemmas.Results.{on_ok}
 use Rattle.mesh_weld.proofs.welder.Welder.add_facet.Goals as goal
 
@@ -65,6 +66,16 @@ invariant_of-self-else-is_err g c =
       on_ok (AreNamed new.points.items new.kept) c.name_facet-named.result ok named.named,
       omega (arith, count, room own.points.items own.kept own.degenerate.items c.args.self.now c.self.view_is c.requires),
     )
+
+pub invariant_of-self-then-not-has_distinct_corners : goal.invariant_of-self-then-not-has_distinct_corners
+invariant_of-self-then-not-has_distinct_corners g c =
+    let own = c.self.inside in (
+      c.self.invariant.0,
+      omega (arith, longer own.degenerate.items c.push.new.self.items c.args.facet.now c.in_ok-push.ensures.items, room own.points.items own.kept own.degenerate.items c.args.self.now c.self.view_is c.requires),
+    )
+
+pub invariant_of-self : goal.invariant_of-self
+invariant_of-self g c = (c.self.invariant.0, rw c.in_err-push.ensures.items c.self.invariant.1)
 
 pub invariant_of-self-then-is_err : goal.invariant_of-self-then-is_err
 invariant_of-self-then-is_err g c =

@@ -1,14 +1,31 @@
-use Rattle.std.proofs.Common.{subst}
-use Rattle.std.proofs.lemmas.Result.{err_from_is_err_and}
+use Rattle.std.proofs.Common.{arith, subst}
 use Rattle.mesh_weld.specs.Welder.{Welder}
 use Rattle.mesh_weld.specs.Welding.{IsWeldOf}
-use Rattle.mesh_weld.proofs.lemmas.Welds.{failed_weld}
 use Rattle.mesh_weld.proofs.welder.Welder.finish.Goals as goal
 
-pub returns-in_err-found : goal.returns-in_err-found
-returns-in_err-found g c =
-    let p = err_from_is_err_and c.from_residual.result c.from_residual.ensures.1 in
-    rw (p.1, p.2) (failed_weld c.args.self)
+pub group_facets-found-requires-clause-below : goal.group_facets-found-requires-clause-below
+group_facets-found-requires-clause-below g c = rw (c.as_slice.ensures.value, c.as_slice-2.ensures.value) c.without_table-named.ensures.named.below
+
+pub group_facets-found-requires-clause-few : goal.group_facets-found-requires-clause-few
+group_facets-found-requires-clause-few g c = rw c.as_slice-2.ensures.value (omega (arith, c.without_table-named.ensures.few))
+
+pub group_facets-found-requires-clause-numbering : goal.group_facets-found-requires-clause-numbering
+group_facets-found-requires-clause-numbering g c = rw c.as_slice-2.ensures.value c.without_table-named.ensures.numbering
+
+pub group_facets-found-requires-clause-small : goal.group_facets-found-requires-clause-small
+group_facets-found-requires-clause-small g c = rw c.as_slice-2.ensures.value c.without_table-named.ensures.small
+
+pub into_solid-requires-clause-named : goal.into_solid-requires-clause-named
+into_solid-requires-clause-named g c = c.without_table-named.ensures.named
+
+pub into_solid-requires-clause-few : goal.into_solid-requires-clause-few
+into_solid-requires-clause-few g c = c.without_table-named.ensures.few
+
+pub into_solid-requires-clause-edges : goal.into_solid-requires-clause-edges
+into_solid-requires-clause-edges g c = rw c.as_slice-2.ensures.value at c.group_facets-found.ensures.edges
+
+pub into_solid-requires-clause-orders : goal.into_solid-requires-clause-orders
+into_solid-requires-clause-orders g c = rw (c.as_slice.ensures.value, c.as_slice-2.ensures.value) at c.group_facets-found.ensures.orders
 
 pub returns : goal.returns
 returns g c = subst (λ (w : Welder). IsWeldOf w c.into_solid.result) c.without_table-named.ensures.value c.into_solid.ensures
