@@ -72,9 +72,8 @@ impl<A: Allocator + Copy> CornerTable<A> {
     /// Guesses the ids of the corners of the first facets: those at their hashes, which may be other points' ids.
     pub(crate) fn guess_ids(&self, facets: &[Facet], guesses: &mut [[u32; 3]]) {
         let (ids, shift) = (self.ids.as_slice(), self.shift);
-        for at in 0..facets.len().min(guesses.len()) {
-            let facet = &facets[at];
-            guesses[at] = [
+        for (own, facet) in guesses.iter_mut().zip(facets) {
+            *own = [
                 guess_of(ids, facet.corner(0), shift),
                 guess_of(ids, facet.corner(1), shift),
                 guess_of(ids, facet.corner(2), shift),
