@@ -34,7 +34,7 @@ const KEPT_CAPACITY: usize = 512;
 const IN_PLACE: usize = 4;
 
 /// A crossing of the mesh by a scanline: its column and its sign.
-#[derive(Clone, Copy, Debug, Default, PartialEq, Eq)]
+#[derive(Clone, Copy, Default)]
 pub(crate) struct RowCrossing {
     /// The least column whose centre is not left of the crossing; at most `COLUMN_LIMIT`.
     pub(crate) column: u16,

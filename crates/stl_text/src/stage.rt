@@ -15,7 +15,7 @@ use geometry::{Facet, Point};
 use micro_num::{Unit, read_micro};
 
 /// A coordinate of a point.
-#[derive(Clone, Copy, Debug, PartialEq, Eq)]
+#[derive(Clone, Copy)]
 pub(crate) enum Axis {
     X,
     Y,
@@ -23,7 +23,7 @@ pub(crate) enum Axis {
 }
 
 /// A corner of a facet: the first, the second or the third.
-#[derive(Clone, Copy, Debug, PartialEq, Eq)]
+#[derive(Clone, Copy)]
 pub(crate) enum FacetCorner {
     A,
     B,
@@ -31,7 +31,7 @@ pub(crate) enum FacetCorner {
 }
 
 /// What a word inside a facet has to be.
-#[derive(Clone, Copy, Debug, PartialEq, Eq)]
+#[derive(Clone, Copy)]
 pub(crate) enum InnerWord {
     /// The one keyword of this kind.
     Keyword(Word),
@@ -42,7 +42,7 @@ pub(crate) enum InnerWord {
 }
 
 /// How far the reading of a text has come in the grammar, between two words: what the next word may be.
-#[derive(Clone, Copy, Debug, PartialEq, Eq)]
+#[derive(Clone, Copy)]
 pub(crate) enum Stage {
     /// `solid` is wanted. `some` says whether a whole solid was read.
     Between { some: bool },
@@ -54,7 +54,7 @@ pub(crate) enum Stage {
 }
 
 /// What a word does.
-#[derive(Clone, Copy, Debug, PartialEq, Eq)]
+#[derive(Clone, Copy)]
 pub(crate) enum Step {
     /// The reading is at this stage after the word.
     To(Stage),
@@ -65,7 +65,7 @@ pub(crate) enum Step {
 }
 
 /// The state of a `TextReader`: a stage, the rest of a line, in which no word counts, or the end at a fault.
-#[derive(Clone, Copy, Debug, PartialEq, Eq)]
+#[derive(Clone, Copy)]
 pub(crate) enum ReaderState {
     /// Between two words, or in one.
     Word(Stage),
