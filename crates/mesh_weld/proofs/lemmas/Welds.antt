@@ -93,16 +93,6 @@ only_memory : (fs : List Facet) (f : WeldFault) → IsWeldFault fs f → IsBalan
 only_memory fs (fault.Open from to there back) h balanced = absurd (h.differ (h.there_is ∙ balanced from to ∙ sym h.back_is))
 only_memory fs fault.Memory h balanced = refl
 
--- a failed allocation, whatever the facets
-pub failed_weld : (w : Welder) → IsWeldOf w (Err fault.Memory)
-failed_weld w = record {
-  kept = λ facets e. tt;
-  closed = λ facets e. tt;
-  ray = λ facets e. tt;
-  «open» = λ facets e. tt;
-  only = λ facets e balanced. refl;
-}
-
 -- the fault of kept facets, as that of all of which they are the kept ones
 pub kept_weld_fault : (kept degenerate : List Facet) (f : WeldFault) → IsKeptFault kept degenerate f → IsWeldOf (record { kept = kept; degenerate = degenerate }) (Err f)
 kept_weld_fault kept degenerate f h = record {
