@@ -12,7 +12,16 @@ import tempfile
 from common import ROOT, Room, holds, same
 
 sys.path.insert(0, os.path.join(ROOT, "tools"))
-import edits
+import planting.batches  # noqa: E402
+from planting.batches import WITHOUT_COPY, Batch, batches_of_crate, try_alone, try_or_recall  # noqa: E402
+from planting.copies import with_copies  # noqa: E402
+from planting.crate_files import Source, texts_in  # noqa: E402
+from planting.functions import closures_of, functions_of, owner  # noqa: E402
+from planting.grouping import grouped  # noqa: E402
+from planting.judging import listed_otherwise, shown_by  # noqa: E402
+from planting.law_copy import opened  # noqa: E402
+from planting.one_check import REFUSED_LEMMA, Check, Kept, ask_for_no_offers, harmless, plant, without_code  # noqa: E402
+from planting.one_edit import BY_SEARCH, Edit  # noqa: E402
 
 # what the tool uses of the toolchain's library
 LIBRARY = '''
@@ -346,7 +355,7 @@ def written(room, name, file, *pairs, first=()):
 def planted(room, name, word, is_marked=True):
     """An edit of the function that is named first, in which the stand-in finds the word. If no answer refuses it, it says so."""
     line = PLANTS[name.partition(".")[0]]
-    first = [edits.BY_SEARCH] if is_marked and word not in BY_ANSWERS else []
+    first = [BY_SEARCH] if is_marked and word not in BY_ANSWERS else []
     return written(room, name, "src/parts.rt", (line, f"{line} {word}();"), first=first)
 
 
@@ -389,27 +398,28 @@ def crate_in(room):
     os.mkdir(room.file("tools"))
     for name in ("edits.py", "prove.py"):
         shutil.copy(os.path.join(ROOT, "tools", name), room.file("tools"))
+    shutil.copytree(os.path.join(ROOT, "tools/planting"), room.file("tools/planting"))
 
 
 def functions():
-    found = {it.symbol: it for it in edits.functions_of("src/parts.rt", SOURCE, {"Part": ["home"]})}
+    found = {it.symbol: it for it in functions_of("src/parts.rt", SOURCE, {"Part": ["home"]})}
     same("functions", list(found), ["parts::looped", "home::Part::of", "home::Part::n", "parts::PartFromVecU32::from", "parts::plain",
                                     "parts::law"])
     rows = SOURCE.split("\n")
     same("body", rows[found["home::Part::of"].opens : found["home::Part::of"].last + 1],
          ["    {", "        let part = 2;", "        Part { n: part }", "    }"])
-    same("tests aside", edits.functions_of("src/lib.rt", "#[test]\nfn tried() {\n    it();\n}\n", {}), [])
+    same("tests aside", functions_of("src/lib.rt", "#[test]\nfn tried() {\n    it();\n}\n", {}), [])
     same("body of a law", rows[found["parts::law"].opens], "{}")
-    asking = edits.functions_of("src/a.rt", "fn read() -> Result<u32, Fault> {\n    Ok(number()?)\n}\n", {})[0]
+    asking = functions_of("src/a.rt", "fn read() -> Result<u32, Fault> {\n    Ok(number()?)\n}\n", {})[0]
     same("words of a body; a question mark calls `from`", sorted(asking.words()), ["Ok", "from", "number"])
     trait = "pub trait Sink {\n    fn put(&mut self) -> u32\n        ensures { result ≡ 1 };\n\n    fn end(&self) {\n        1\n    }\n}\n"
-    same("a trait", [(it.symbol, it.may_be_left_out()) for it in edits.functions_of("src/a/b.rt", trait, {})], [("a::b::Sink::put", False), ("a::b::Sink::end", True)])
+    same("a trait", [(it.symbol, it.may_be_left_out()) for it in functions_of("src/a/b.rt", trait, {})], [("a::b::Sink::put", False), ("a::b::Sink::end", True)])
     same("one that calls itself, and one that calls another type's of its name", [it.may_be_left_out() for text in ("new(1)", "Vec::new()") for it in
-         edits.functions_of("src/a.rt", f"fn new() {{\n    {text}\n}}\n", {})], [False, True])
+         functions_of("src/a.rt", f"fn new() {{\n    {text}\n}}\n", {})], [False, True])
     for head, name in (("impl<'a, A: Allocator + Copy> Layout<'a, A>", "Layout"), ("impl<T: Write> Sink for Counted<T>", "CountedSink"),
                        ("impl<T: Drop> From<AllocFailed<T>> for StlFault", "StlFaultFromAllocFailed"), ("impl Debug for Point", "PointDebug"),
                        ("unsafe impl<B: Allocator> Allocator for ShortMemory<B>", "ShortMemoryAllocator"), ("pub trait Gate<A: Allocator>", "Gate")):
-        same(head, edits.owner(head), name)
+        same(head, owner(head), name)
 
 
 def each_kind(room):
@@ -472,12 +482,12 @@ def refused_batches(room):
     same("a batch", tries(room, "--batch", wrong, one)[1][-1], "2 passed, 0 failed")
     same("a constant alone", tries(room, "--batch", constant)[1][-1], "0 passed, 1 failed")
     same("a crate that isn't there", tries(room, "nothing")[0], 2)
-    source = edits.Source(room.file("crates", "thing"))
-    groups = edits.grouped([edits.Edit(path, "thing", source) for path in (one, two, below, wrong)])
+    source = Source(room.file("crates", "thing"))
+    groups = grouped([Edit(path, "thing", source) for path in (one, two, below, wrong)])
     same("edits of a function that may be copied are together", [sorted(it.name for it in group) for group in groups],
          [["thing/looped.a", "thing/of.a", "thing/of.b", "thing/of.c"]])
-    same("two of one import are not", len(edits.grouped([edits.Edit(path, "thing", source) for path in imports])), 2)
-    same("nor are one of an import and one of its function", len(edits.grouped([edits.Edit(path, "thing", source) for path in (imports[0], wrong)])), 2)
+    same("two of one import are not", len(grouped([Edit(path, "thing", source) for path in imports])), 2)
+    same("nor are one of an import and one of its function", len(grouped([Edit(path, "thing", source) for path in (imports[0], wrong)])), 2)
 
 
 def copies(room):
@@ -491,7 +501,7 @@ def copies(room):
     same("in one check", checks_in(room), [["parts::Part::of", "parts::Part::of_copy_2", "parts::looped", "parts::looped_copy_1"]])
 
     crate = StandIn(room)
-    batch, = edits.batches_of_crate(crate, paths)
+    batch, = batches_of_crate(crate, paths)
     source, rows = batch.source, batch.source.texts["src/parts.rt"].split("\n")
     copied = next(it for it in source.functions if it.name == "of_copy_2")
     own = next(it for it in source.functions if it.name == "of")
@@ -504,11 +514,11 @@ def copies(room):
     same("lines of an edit in a copy", sorted((rows[at], new) for (_, at), new in moved["thing/of.b"].rows.items()),
          [("        Part { n: part }", "        Part { n: part + SEARCHED }"), ("        let part = 2;", "        let part = 3;")])
     line = written(room, "n.type", "src/parts.rt", ("pub fn n(&self) -> u32", "pub fn n(&self) -> u64"))
-    again, = edits.batches_of_crate(crate, [line, written(room, "n.twice", "src/parts.rt", ("        self.n", "        self.n + self.n"))])
+    again, = batches_of_crate(crate, [line, written(room, "n.twice", "src/parts.rt", ("        self.n", "        self.n + self.n"))])
     same("the line that has a copy's name has it in the edit too", [list(it.rows.values()) for it in again.edits if it.name == "thing/n.type"],
          [["    pub fn n_copy_1(&self) -> u64"]])
     both = [written(room, f"of.{name}", "src/parts.rt", ("let part = 2;", f"let part = {name};"), ("        self.n", f"        self.n + {name}")) for name in "45"]
-    again, = edits.batches_of_crate(crate, [*both, line])
+    again, = batches_of_crate(crate, [*both, line])
     same("edits of two functions, and one of one of these", sorted((it.name, sorted(f.name for f in it.functions)) for it in again.edits),
          [("thing/n.type", ["n_copy_2"]), ("thing/of.4", ["n", "of"]), ("thing/of.5", ["n_copy_1", "of_copy_1"])])
     same("lines of one in copies of both", [it.rows for it in again.edits if it.name == "thing/of.5"],
@@ -517,16 +527,16 @@ def copies(room):
            if old in line and again.source.at("src/parts.rt", at).name == name}])
     same("the edit as it was read", (moved["thing/of.b"].filed.functions[0].name, moved["thing/of.a"].functions[0].name), ("of", "of"))
     with tempfile.TemporaryDirectory() as folder:
-        edits.plant(batch, folder, edits.harmless(batch))
+        plant(batch, folder, harmless(batch))
         with open(f"{folder}/src/parts.rt") as it:
             text = it.read()
         holds("both bodies are planted", "let part = 2; ANSWERED();" in text and "Part { n: part + SEARCHED }" in text)
         holds("with the copy's proof", os.path.isfile(f"{folder}/proofs/parts/looped_copy_1/Answers.antt"))
     of_closure = "use Rattle.thing.proofs.parts.fn.Part.n.each.Goals as goal\n"
-    texts = {**edits.Source(crate.folder).texts, "proofs/parts/fn/Part/n/each/Answers.antt": of_closure}
-    own = edits.Source(crate.folder, texts)
+    texts = {**Source(crate.folder).texts, "proofs/parts/fn/Part/n/each/Answers.antt": of_closure}
+    own = Source(crate.folder, texts)
     two = [written(room, f"n.plus_{more}", "src/parts.rt", ("        self.n", f"        self.n + {more}")) for more in ("1", "self.n")]
-    source, _ = edits.with_copies(own, [edits.Edit(it, "thing", own) for it in two])
+    source, _ = with_copies(own, [Edit(it, "thing", own) for it in two])
     same("and those of its closures", source.texts.get("proofs/parts/fn/Part/n_copy_1/each/Answers.antt"), of_closure.replace("Part.n.", "Part.n_copy_1."))
 
 
@@ -541,12 +551,12 @@ def left_out(room):
             os.makedirs(os.path.dirname(f"{crate.folder}/{file}"), exist_ok=True)
             with open(f"{crate.folder}/{file}", "w", encoding="utf-8") as it:
                 it.write(text)
-        source = edits.Source(crate.folder)
-        edit = edits.Edit(planted(room, "looped.a", "SEARCHED"), "thing", source)
+        source = Source(crate.folder)
+        edit = Edit(planted(room, "looped.a", "SEARCHED"), "thing", source)
         with tempfile.TemporaryDirectory() as folder:
-            batch = edits.Batch(crate, source, [edit], None)
-            controls = edits.harmless(batch)
-            asked = edits.plant(batch, folder, controls)
+            batch = Batch(crate, source, [edit], None)
+            controls = harmless(batch)
+            asked = plant(batch, folder, controls)
             with open(f"{folder}/src/parts.rt", encoding="utf-8") as it:
                 rows = it.read().split("\n")
             own = next(it for it in source.functions if it.name == "plain")
@@ -555,23 +565,23 @@ def left_out(room):
                  ["{", "    unreachable!()", "", "}"] if is_bare else source.texts["src/parts.rt"].split("\n")[own.opens : own.last + 1])
             same(f"its closures' proofs beside {more}", os.path.isfile(f"{folder}/{each}"), not is_bare)
             with open(f"{folder}/proofs/parts/looped/Answers.antt", encoding="utf-8") as it:
-                same("the answers of an edited function, with a lemma that is refused", it.read(), ANSWERS + edits.REFUSED_LEMMA)
+                same("the answers of an edited function, with a lemma that is refused", it.read(), ANSWERS + REFUSED_LEMMA)
             has_lemma = [os.path.isfile(f"{folder}/proofs/{it.symbol.replace('::', '/')}/Answers.antt") for it, _, _ in controls]
             same("the second harmless edit's function has it, and not the first one's", has_lemma, [False, True])
             holds("the edit stands", rows[9:13] == ["        result ≡ n", "    }", "{", "    let mut sum = 1; SEARCHED();"])
             holds("a law has no code", rows[-5:] == ["/// A law.", "pub fn law()", "    ensures held { IsLaw }", "{}", ""])
             for it in source.functions:
-                edits.ask_for_no_offers(folder, it)
+                ask_for_no_offers(folder, it)
             without = [it.symbol for it in source.functions if not os.path.isfile(f"{folder}/proofs/{it.symbol.replace('::', '/')}/Answers.antt")]
             same("without a lemma that is refused: a law, and what has a proof by hand or none", without,
                  [it.symbol for it in source.functions if it.is_law() or os.path.isfile(f"{folder}/proofs/{it.symbol.replace('::', '/')}/Proof.antt")])
     shutil.rmtree(f"{crate.folder}/proofs/parts/fn")
     os.remove(f"{crate.folder}/proofs/lemmas/More.antt")
     texts = {"src/a/b.rt": "impl Part {\n    fn n() {\n        1\n    }\n\n    const fn m() {\n        1\n    }\n}\n", "src/lib.rt": "fn n() {}\n"}
-    source = edits.Source(crate.folder, texts)
-    same("closures' proofs in a nested module, and at the top", [edits.closures_of(it) for it in source.functions],
+    source = Source(crate.folder, texts)
+    same("closures' proofs in a nested module, and at the top", [closures_of(it) for it in source.functions],
          ["proofs/a/b/fn/Part/n/", "proofs/a/b/fn/Part/m/", "proofs/fn/n/"])
-    same("what keeps its code", [it.symbol for it in source.functions if not edits.without_code(source, it)], ["a::b::Part::m", "n"])
+    same("what keeps its code", [it.symbol for it in source.functions if not without_code(source, it)], ["a::b::Part::m", "n"])
 
 
 def without_search(room):
@@ -583,14 +593,14 @@ def without_search(room):
          ["thing/looped.a: refused by `returns-clause-many`", "thing/looped.b: refused by `returns-clause-value`"])
     same("in one check", checks_in(room), [["parts::looped", "parts::looped_copy_1"]])
     crate = StandIn(room)
-    source = edits.Source(crate.folder)
+    source = Source(crate.folder)
     for path, line in ((by_answer, "#[tactic(none)] pub fn looped(n: u32) -> u32"), (by_search, "pub fn looped(n: u32) -> u32")):
-        batch = edits.Batch(crate, source, [edits.Edit(path, "thing", source)], None)
+        batch = Batch(crate, source, [Edit(path, "thing", source)], None)
         with tempfile.TemporaryDirectory() as folder:
-            edits.plant(batch, folder, edits.harmless(batch))
+            plant(batch, folder, harmless(batch))
             with open(f"{folder}/src/parts.rt") as it:
                 holds(line, line in it.read().split("\n"))
-    source = edits.Source(crate.folder, {**source.texts, "src/parts.rt": SOURCE.replace("pub fn looped", "#[tactic(auto)]\npub fn looped")})
+    source = Source(crate.folder, {**source.texts, "src/parts.rt": SOURCE.replace("pub fn looped", "#[tactic(auto)]\npub fn looped")})
     same("one that says by which tactics", [it.symbol for it in source.functions if source.has_answers(it)], [])
 
     emptied(room)
@@ -607,20 +617,20 @@ def uncopied(room):
     """What may not be copied: it is of a trait, calls itself or others by a cycle, or is a law, or its proof is read elsewhere, or
     is more than answers."""
     folder = room.file("crates", "thing")
-    source = edits.Source(folder)
+    source = Source(folder)
     same("by kind", [it.symbol for it in source.functions if source.may_be_copied(it)], ["parts::looped", "parts::Part::of", "parts::Part::n", "parts::plain"])
     texts = {**source.texts, "proofs/lemmas/Limits.antt": LIMITS + "use Rattle.thing.proofs.parts.looped.Goals as goal\n",
              "proofs/parts/Part/of/Proof.antt": "-- by hand",
              "proofs/lemmas/Each.antt": "use Rattle.thing.proofs.parts.fn.Part.n.each.Goals as goal\n",
              "src/parts.rt": SOURCE.replace("    let plain = n;", "    let plain = crate::parts::plain(n);")}
-    changed = edits.Source(folder, texts, source)
+    changed = Source(folder, texts, source)
     same("by proof", [it.symbol for it in changed.functions if changed.may_be_copied(it)], [])
     texts = {**source.texts, "src/parts.rt": SOURCE.replace("fn plain", "#[cycle(both)]\nfn plain").replace("pub fn looped", 'pub extern "C" fn looped')}
-    changed = edits.Source(folder, texts, source)
+    changed = Source(folder, texts, source)
     same("by attribute and kind of call", [it.symbol for it in changed.functions if changed.may_be_copied(it)], ["parts::Part::of", "parts::Part::n"])
     for body, wanted in (("n(1)", True), ("self.n()", True), ("Self::n()", True), ("a::n::<u8>()", True), ("self.n", False), ("other.n()", False),
                          ("Vec::n()", False), ("open(n)", False)):
-        own = edits.functions_of("src/a.rt", f"fn n() {{\n    {body}\n}}\n", {})[0]
+        own = functions_of("src/a.rt", f"fn n() {{\n    {body}\n}}\n", {})[0]
         same(f"a call of itself: {body}", own.calls_itself(), wanted)
 
 
@@ -628,8 +638,8 @@ def what_rt_ci_says(room):
     """The goal that a line of `rt ci` names counts if it is a clause or an invariant of the edit's own function."""
     emptied(room)
     text = SOURCE.replace("pub fn looped", "#[tactic(auto)]\n#[inline]\npub fn looped")
-    source = edits.Source(room.file("crates", "thing"), {**edits.texts_in(room.file("crates", "thing")), "src/parts.rt": text})
-    edit = edits.Edit(planted(room, "looped.a", "SEARCHED"), "thing", source)
+    source = Source(room.file("crates", "thing"), {**texts_in(room.file("crates", "thing")), "src/parts.rt": text})
+    edit = Edit(planted(room, "looped.a", "SEARCHED"), "thing", source)
     note = "note: src/parts.rt:{}:5: it is not proved that what `f` ensures holds when it returns (`{}`); `search` gave up at one of its limits"
     error = "./proofs/parts/{}/Answers.antt:27:34: error: `{}`: as printed, the two types differ only where one has `mathlib.Core.Option.som"
     for said, wanted in ((note.format(12, "returns-clause-value"), "returns-clause-value"), (note.format(12, "add-preserved"), "add-preserved"),
@@ -639,7 +649,7 @@ def what_rt_ci_says(room):
                          (error.format("looped", "returns-then"), "returns-then"), (error.format("looped", "fetch_add-number-requires"), None),
                          (error.format("looped", "sum_is"), None), (error.format("Part/of", "returns"), None),
                          ("./proofs/parts/looped/Answers.antt:27:34: error: `returns`: record `After` has no field `grown`", None), ("", None)):
-        same(f"said: {said}", edits.shown_by(edit, source, said), wanted)
+        same(f"said: {said}", shown_by(edit, source, said), wanted)
 
 
 def shown(room):
@@ -703,17 +713,17 @@ def clauses_of_one_law(room):
     paths = [written(room, "both.one", "specs/Both.antt", ("Is_one = true", "Is_one = broken")),
              written(room, "both.two", "specs/Both.antt", ("Is_two = true", "Is_two = broken")),
              written(room, "both.both", "specs/Both.antt", ("Is_one = true", "Is_one = broken"), ("Is_two = true", "Is_two = broken"))]
-    source = edits.Source(room.file("crates", "thing"))
-    groups = sorted(sorted(it.name[len("thing/both.") :] for it in group) for group in edits.grouped([edits.Edit(it, "thing", source) for it in paths]))
+    source = Source(room.file("crates", "thing"))
+    groups = sorted(sorted(it.name[len("thing/both.") :] for it in group) for group in grouped([Edit(it, "thing", source) for it in paths]))
     same("what is of a clause of both is tried without them", groups, [["both"], ["one", "two"]])
-    clause = edits.Edit(room.file("crates", "thing", "edits", "both.clause.edit"), "thing", source)
+    clause = Edit(room.file("crates", "thing", "edits", "both.clause.edit"), "thing", source)
     same("a clause that is another", [goal for _, goal in clause.clauses], ["returns-clause-one"])
 
     answers = room.file("crates", "thing", "proofs", "laws", "both", "Answers.antt")
     with open(answers, "w", encoding="utf-8") as it:
         it.write("use Rattle.thing.proofs.laws.both.Goals as goal\n\npub returns : goal.returns\nreturns c = record {\n  one = refl;\n}\n")
-    source = edits.Source(room.file("crates", "thing"))
-    same("one answer for all clauses tells none", len(edits.grouped([edits.Edit(it, "thing", source) for it in paths])), 3)
+    source = Source(room.file("crates", "thing"))
+    same("one answer for all clauses tells none", len(grouped([Edit(it, "thing", source) for it in paths])), 3)
     with open(answers, "w", encoding="utf-8") as it:
         it.write(BOTH_ANSWERS)
 
@@ -728,7 +738,7 @@ def laws_in_copies(room):
                                        "module _ (n : ℕ) where\n  inner : Type\n  inner = left\n\nother : Type\nother = left\n\npub third : Type\nthird = left\n\npub two-is : Is_two\ntwo-is = hidden-is inner\n",
             "proofs/laws/both/Answers.antt": "use Rattle.thing.proofs.lemmas.Both.{two-is}\nuse Rattle.thing.proofs.laws.both.Goals as goal\n\n"
                                              "pub returns : goal.returns\nreturns c = two-is\n"}
-    was = edits.texts_in(folder)
+    was = texts_in(folder)
 
     def fill(texts):
         for file in more:
@@ -748,7 +758,7 @@ def laws_in_copies(room):
     same("each by its own copy", sorted(tries(room)[1][:4]), wanted)
     same("in one check, each beside a copy without an edit", checks_in(room), [[*(f"laws_copy_{at}::both" for at in range(1, 7)), "parts::Part::of"]])
 
-    batch, = edits.batches_of_crate(StandIn(room), paths)
+    batch, = batches_of_crate(StandIn(room), paths)
     texts, moved = batch.source.texts, {it.name: it for it in batch.edits}
     suffix = moved["thing/both.two"].judged[0].symbol[len("laws") : -len("::both")]
     same("the law's file", texts[f"src/laws{suffix}.rt"], BOTH_LAWS.replace("//! Two laws.", "").replace("specs.Both", f"specs.Both{suffix}"))
@@ -764,7 +774,7 @@ def laws_in_copies(room):
          .replace("laws.both", f"laws{suffix}.both"))
     holds("where modules are listed", f"mod laws{suffix};" in texts["src/lib.rt"] and all(f"pub mod Both{suffix}\n" in texts[it] for it in ("specs/Lib.antt", "proofs/lemmas.antt")))
     same("what it stands by is as it was", [texts[it] for it in ("src/laws.rt", "specs/Both.antt")], [BOTH_LAWS, more["specs/Both.antt"]])
-    same("records", edits.opened("record One : Type where\n  first : Two\n\nabbrev Two : Type\nTwo = One", {"One", "Two"}),
+    same("records", opened("record One : Type where\n  first : Two\n\nabbrev Two : Type\nTwo = One", {"One", "Two"}),
          "pub record One : Type where\n  pub first : Two\n\nabbrev pub Two : Type\nTwo = One")
     rows = [(texts[file].split("\n")[at], new) for (file, at), new in moved["thing/both.two"].rows.items()]
     same("the edit's line", rows, [("Is_two = true", "Is_two = broken")])
@@ -776,16 +786,16 @@ def laws_in_copies(room):
             written(room, f"both.{name}", "specs/Both.antt", (old, new))
         planted(room, "of.a", "ANSWERED")
         found = sorted(tries(room)[1][:4])
-        same(what, [it.partition(" as ")[0] for it in found], [f"thing/both.one: refused by `returns-clause-one`{edits.WITHOUT_COPY}",
-             f"thing/both.three: refused by `two-is`{edits.WITHOUT_COPY}", f"thing/both.two: NOT REFUSED: no holes{edits.WITHOUT_COPY}", "thing/of.a: refused by `returns-in-Some`"])
+        same(what, [it.partition(" as ")[0] for it in found], [f"thing/both.one: refused by `returns-clause-one`{WITHOUT_COPY}",
+             f"thing/both.three: refused by `two-is`{WITHOUT_COPY}", f"thing/both.two: NOT REFUSED: no holes{WITHOUT_COPY}", "thing/of.a: refused by `returns-in-Some`"])
         same("each is tried in the law itself", [it for it in checks_in(room) if "laws::both" in it], [["laws::both"]] * 3)
 
-    source = edits.Source(folder)
+    source = Source(folder)
     texts = {"src/laws.rt": BOTH_LAWS + "const MORE: u32 = 1;\n", "src/lib.rt": "mod parts;\n", "specs/Lib.antt": "pub mod Laws\n",
              "proofs/lemmas/More.antt": "use Rattle.thing.proofs.laws.both.Goals as goal\n"}
     for file, text in texts.items():
-        other = edits.Source(folder, {**source.texts, file: text}, source)
-        same(f"not with {file}", edits.Edit(room.file("crates", "thing", "edits", "both.one.edit"), "thing", other).copy, None)
+        other = Source(folder, {**source.texts, file: text}, source)
+        same(f"not with {file}", Edit(room.file("crates", "thing", "edits", "both.one.edit"), "thing", other).copy, None)
     fill(was)
 
 
@@ -886,7 +896,7 @@ def checks_that_begin_with_the_last(room):
 
 def folders_of_checks():
     """Checks side by side share the files of modules, which none changes, and nothing else."""
-    kept = edits.Kept()
+    kept = Kept()
     first = kept.begin()
     for name in ("module.oantt", "list"):
         with open(f"{first.name}/{name}", "w") as it:
@@ -914,8 +924,8 @@ def by_file(room):
 def alone(room):
     """What a batch can't judge has to be refused by a clause alone too."""
     emptied(room)
-    batch, = edits.batches_of_crate(StandIn(room), [planted(room, "of.a", "ANSWERED")])
-    checked, own, no_clause = edits.check, "fn thing::parts::Part::of: no proof: `search` did not prove `{}`\nlogic=not-proved", "which is no clause and no invariant"
+    batch, = batches_of_crate(StandIn(room), [planted(room, "of.a", "ANSWERED")])
+    checked, own, no_clause = planting.batches.check, "fn thing::parts::Part::of: no proof: `search` did not prove `{}`\nlogic=not-proved", "which is no clause and no invariant"
     for status, said, wanted in (
         (0, "logic=proved", (False, "NOT REFUSED, alone either")),
         (1, own.format("returns-2"), (True, "refused by `returns-2` (tried alone)")),
@@ -923,12 +933,12 @@ def alone(room):
         (1, "fn thing::parts::plain: no proof: `search` did not prove `returns`\nlogic=not-proved", (False, f"REFUSED OTHERWISE: by `elsewhere`, {no_clause} (tried alone)")),
         (1, "src/parts.rt:1:1: error", (False, "NOT TRIED: its check ended with status 1: src/parts.rt:1:1: error")),
         (3, "rattle: no verdict", (False, f"REFUSED OTHERWISE: by `limit`, {no_clause} (tried alone)"))):
-        edits.check = lambda *_: edits.Check(status, said, 0, 0)  # noqa: B023
-        same(f"alone: {said}", edits.try_alone(batch.edits[0], batch, room.path), wanted)
+        planting.batches.check = lambda *_: Check(status, said, 0, 0)  # noqa: B023
+        same(f"alone: {said}", try_alone(batch.edits[0], batch, room.path), wanted)
     with open(room.file("tools", "edits_refused_otherwise.txt"), "w", encoding="utf-8") as it:
         it.write("thing/of.a: limit: no check of it ends\n")
-    same("one that is listed", edits.try_alone(batch.edits[0], batch, room.path), (True, "REFUSED OTHERWISE: by `limit`: no check of it ends (tried alone)"))
-    edits.check = checked
+    same("one that is listed", try_alone(batch.edits[0], batch, room.path), (True, "REFUSED OTHERWISE: by `limit`: no check of it ends (tried alone)"))
+    planting.batches.check = checked
     os.remove(room.file("tools", "edits_refused_otherwise.txt"))
 
 
@@ -951,6 +961,11 @@ def kept(room):
     one = planted(room, "of.a", "ANSWERED")
     said = tries(room)[1]
     same("results of a batch that passed are kept", tries(room, control="missing")[1], said)
+    for name in ("tools/edits.py", "tools/planting/batches.py", "tools/planting/judging.py"):
+        with open(room.file(name), "a") as it:
+            it.write("# changed\n")
+        same(f"another {name}", tries(room, control="missing")[1][-1], "0 passed, 1 failed")
+        shutil.copy(os.path.join(ROOT, name), room.file(name))
     planted(room, "of.a", "SEARCHED")
     same("another edit", tries(room, control="missing")[1][-1], "0 passed, 1 failed")
     planted(room, "of.a", "ANSWERED")
@@ -960,13 +975,13 @@ def kept(room):
     same("what failed isn't kept", tries(room)[1][0], "thing/of.a: refused by `returns-in-Some`")
     os.remove(one)
     planted(room, "of.a", "ANSWERED")
-    batch, = edits.batches_of_crate(StandIn(room), [room.file("crates", "thing", "edits", "of.a.edit")])
+    batch, = batches_of_crate(StandIn(room), [room.file("crates", "thing", "edits", "of.a.edit")])
     with open(room.file("crates", "thing", "src", "parts.rt"), "a") as it:
         it.write("// changed after it was read\n")
-    edits.KEPT = room.file("cache", "stlslice", "edits")
-    tried, edits.try_batch = edits.try_batch, lambda *_: ([(it, True, "refused") for it in batch.edits], 0)
-    edits.try_or_recall(batch, room.path)
-    edits.try_batch = tried
+    planting.batches.KEPT = room.file("cache", "stlslice", "edits")
+    tried, planting.batches.try_batch = planting.batches.try_batch, lambda *_: ([(it, True, "refused") for it in batch.edits], 0)
+    try_or_recall(batch, room.path)
+    planting.batches.try_batch = tried
     same("another source", tries(room, control="missing")[1][-1], "0 passed, 1 failed")
     shutil.rmtree(room.file("cache"))
     with open(room.file("cache"), "w"):
@@ -978,17 +993,17 @@ def the_repository_s_own():
     count, bad, misnamed, names = 0, [], [], set()
     for name in sorted(os.listdir(os.path.join(ROOT, "crates"))):
         folder = os.path.join(ROOT, "crates", name)
-        source = edits.Source(folder)
+        source = Source(folder)
         for part in ("edits", "must-fail"):
             for file in sorted(os.listdir(f"{folder}/{part}")) if os.path.isdir(f"{folder}/{part}") else []:
                 count += 1
-                edit = edits.Edit(f"{folder}/{part}/{file}", name, source)
+                edit = Edit(f"{folder}/{part}/{file}", name, source)
                 bad += [f"{edit.name}: {edit.bad}"] * bool(edit.bad)
                 misnamed += [edit.name] * (file.split(".")[-3] not in {it.name for it in edit.judged})
                 names.add(edit.name)
     same("edits that can't be tried", bad, [])
     same("edits that are not named after the function that has to be refused", misnamed, [])
-    same("edits that are listed and aren't there", sorted({*edits.listed_otherwise(ROOT)} - names), [])
+    same("edits that are listed and aren't there", sorted({*listed_otherwise(ROOT)} - names), [])
     holds(f"{count} edits, 978 or more", count >= 978)
 
 

@@ -1,7 +1,7 @@
 #!/usr/bin/env python3
 """The gate's last line is the sum of rt ci's, of the batches of edits and of tests/run's, and it fails if one of them
-fails: tried with an rt and a tools/edits.py that stand in for the real ones, and tests of a few lines each. The repository
-gets all libraries that were proved, or none."""
+fails: tried with an rt and modules of tools/planting that stand in for the real ones, and tests of a few lines each. The
+repository gets all libraries that were proved, or none."""
 
 import os
 import shutil
@@ -20,9 +20,8 @@ exit {status}
 """
 ALONE = "echo 'rt: must-fail low/{}.edit: refused, as it must be{}'; "
 BUILDS = "echo 'rt: low proved'; mkdir -p out; printf '#!/bin/sh\\n' > out/program; chmod 755 out/program"
-EDITS = """
+BATCHES = """
 import collections
-OTHERWISE = "tools/otherwise.txt"
 Edit = collections.namedtuple("Edit", "name")
 
 
@@ -52,11 +51,6 @@ def batches_of(root, folders):
     return [] if "{hole}" == "none" else [Batch("low", None, [Edit("one"), Edit("two")], None), Batch("{other}", None, [Edit("three")], None)]
 
 
-def shown_by(edit, source, said):
-    assert not said.startswith(": ")
-    return said if said.startswith("returns") else None
-
-
 def try_or_recall(batch, root):
     if batch.edits[0].name == "{hole}":
         raise ValueError("broken")
@@ -68,6 +62,14 @@ def try_alone(edit, batch, root):
     if "{breaks}":
         raise ValueError("broken")
     return edit.name == "{alone}", "tried alone"
+"""
+JUDGING = """
+OTHERWISE = "tools/otherwise.txt"
+
+
+def shown_by(edit, source, said):
+    assert not said.startswith(": ")
+    return said if said.startswith("returns") else None
 """
 # It leaves a process behind.
 TEST = """#!/usr/bin/env python3
@@ -128,7 +130,7 @@ def libraries():
     for by_make, is_changed, wanted in ((["low"], False, ["gate", "gate", None]), (["low", "high"], False, ["make", "make", None]),
                                         (["high", "other"], True, ["gate", None, None])):
         with Room() as room:
-            for name in ("crates.txt", "HANDLES", tool.edits.OTHERWISE, *(f"crates/{it}/src/lib.rt" for it in ("low", "high", "other"))):
+            for name in ("crates.txt", "HANDLES", tool.OTHERWISE, *(f"crates/{it}/src/lib.rt" for it in ("low", "high", "other"))):
                 put(room.file(name), name)
             low, high, other = (Crate(room.path, it) for it in ("low", "high", "other"))
             tool.ROOT = room.path
@@ -188,6 +190,7 @@ def main():
             os.makedirs(room.file(os.path.dirname(name)), exist_ok=True)
             shutil.copy(os.path.join(ROOT, name), room.file(name))
         put(room.file("tools", "prove.py"), PROVE)
+        put(room.file("tools/planting/judging.py"), JUDGING)
         for name in ("crates/low/src/lib.rt", "crates.txt", "HANDLES", "tools/otherwise.txt"):
             put(room.file(name), "")
 
@@ -197,7 +200,7 @@ def main():
                     os.remove(room.file("tests", name))
             for k, ends in enumerate(tests):
                 put(room.file("tests", f"test_{k}.py"), TEST.format(k=k, ends=ends))
-            put(room.file("tools", "edits.py"), EDITS.format(other=other, hole=hole, alone=alone, breaks=breaks, seen=seen, said=said))
+            put(room.file("tools/planting/batches.py"), BATCHES.format(other=other, hole=hole, alone=alone, breaks=breaks, seen=seen, said=said))
             put(room.file("Makefile"), f"library:\n\t{library}\nweb:\n")
             put(room.file("bin", "rt"), RT.format(builds=builds, last=last, status=status))
             ran = room.run(room.file("tools", "gate.py"), "out/program", cwd=room.path)

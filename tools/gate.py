@@ -4,11 +4,11 @@
     gate.py PROGRAM
 
 1. `rt ci` proves each crate and its tests, tries the edits in must-fail/, runs the tests, and builds and runs PROGRAM.
-2. Beside it tools/edits.py tries the other edits in batches, at a lower priority: those of a crate once it is proved, while
-   fewer checks run than there are processors. `rt ci` takes any refusal, and this only a clause's. So an edit in must-fail/ for
-   which `rt ci` names no clause is tried here too, and then counts twice. What a batch can't judge is tried alone. What
-   something else than a clause refuses has failed, unless tools/edits_refused_otherwise.txt says why. The results of a batch
-   that passed here, of the same files, are kept, as `rt ci` keeps what it proved.
+2. Beside it the other edits are tried in batches, as tools/edits.py does, at a lower priority: those of a crate once it is
+   proved, while fewer checks run than there are processors. `rt ci` takes any refusal, and this only a clause's. So an edit in
+   must-fail/ for which `rt ci` names no clause is tried here too, and then counts twice. What a batch can't judge is tried
+   alone. What something else than a clause refuses has failed, unless tools/edits_refused_otherwise.txt says why. The results
+   of a batch that passed here, of the same files, are kept, as `rt ci` keeps what it proved.
 3. The library, and the page that has it, are built from what was proved.
 4. tests/run tests what people touch: the program, the library, packages, recipes, documents.
 
@@ -32,9 +32,10 @@ sys.dont_write_bytecode = True
 ROOT = os.path.dirname(os.path.dirname(os.path.abspath(__file__)))
 sys.path.insert(0, os.path.join(ROOT, "tools"))
 
-import edits  # noqa: E402
 import prove  # noqa: E402
 import spent  # noqa: E402
+from planting.batches import Batch, batches_of, try_alone, try_or_recall  # noqa: E402
+from planting.judging import OTHERWISE, shown_by  # noqa: E402
 
 LIBRARY_CRATE = "stlslice_c"
 # The memory that a batch leaves free for what runs beside it.
@@ -94,7 +95,7 @@ class ProvedTree:
         self.path = tempfile.mkdtemp(prefix="stlslice-gate-")
         shutil.copytree(f"{ROOT}/crates", f"{self.path}/crates", ignore=shutil.ignore_patterns("out"))
         os.mkdir(f"{self.path}/tools")
-        for name in ("crates.txt", "HANDLES", edits.OTHERWISE):
+        for name in ("crates.txt", "HANDLES", OTHERWISE):
             shutil.copyfile(f"{ROOT}/{name}", f"{self.path}/{name}")
 
     def take(self, crate):
@@ -134,9 +135,9 @@ def tried(batch, root):
     left of the batch."""
     found = {}
     try:
-        for edit, is_passed, text in edits.try_or_recall(batch, root)[0]:
+        for edit, is_passed, text in try_or_recall(batch, root)[0]:
             if not is_passed and not text.lower().startswith(("refused", "bad edit")):
-                is_passed, text = edits.try_alone(edit, batch, root)
+                is_passed, text = try_alone(edit, batch, root)
             found[edit] = f"{edit.name}: {text}", is_passed
     except Exception as fault:  # noqa: BLE001
         for edit in batch.edits:
@@ -150,9 +151,9 @@ class Batches:
     def __init__(self, root, processors, times):
         self.root, self.change, self.times = root, threading.Condition(), times
         self.waiting, self.ready, self.running = collections.defaultdict(list), [], 0
-        for batch in edits.batches_of(root, folders=("edits",)):
+        for batch in batches_of(root, folders=("edits",)):
             self.waiting[batch.name].append(batch)
-        self.of_must_fail = {edit.name: batch for batch in edits.batches_of(root, folders=("must-fail",)) for edit in batch.edits}
+        self.of_must_fail = {edit.name: batch for batch in batches_of(root, folders=("must-fail",)) for edit in batch.edits}
         self.processors, self.is_last, self.last = processors, False, 0
         self.begun, self.passed, self.failed, self.faults = set(), 0, 0, []
         self.threads = [threading.Thread(target=self.work, daemon=True) for _ in range(processors)]
@@ -168,9 +169,9 @@ class Batches:
         """Takes what `rt ci` says of an edit in must-fail/. If that names no clause, the edit is tried once more, by itself."""
         batch = self.of_must_fail.get(name)
         edit = next((it for it in batch.edits if it.name == name), None) if batch else None
-        if edit and not edits.shown_by(edit, batch.source.filed, said):
+        if edit and not shown_by(edit, batch.source.filed, said):
             with self.change:
-                self.ready.append(edits.Batch(batch.crate, batch.source, [edit], batch.kept))
+                self.ready.append(Batch(batch.crate, batch.source, [edit], batch.kept))
                 self.change.notify_all()
 
     def has_room(self):
