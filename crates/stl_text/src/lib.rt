@@ -7,7 +7,7 @@
 //! - [`StlFault`]: why a text does not read as facets, with the byte offset of the fault; [`Word`]: what is wanted there.
 //! - [`one_outcome`], [`reads_as_written`]: laws. Each text has one outcome, and it reads as facets exactly if it is these
 //!   facets written as STL.
-//! - [`Point`], [`Facet`], [`extent`], [`points_in_order`] and [`FACET_LIMIT`], re-exported from `geometry`.
+//! - [`Point`], [`Facet`], [`extent`], [`points_in_order`], [`equal_points`] and [`FACET_LIMIT`], re-exported from `geometry`.
 //!
 //! ```
 //! let text = b"solid part\nfacet normal 0 0 1 outer loop\n\
@@ -36,7 +36,7 @@ mod text_reader;
 mod word;
 
 pub use chunk_parts::{ChunkParts, FacetRuns};
-pub use geometry::{FACET_LIMIT, Facet, Point, extent, points_in_order};
+pub use geometry::{FACET_LIMIT, Facet, Point, equal_points, extent, points_in_order};
 pub use laws::{one_outcome, reads_as_written};
 pub use reading::{read_stl, read_stl_at_most, read_stl_by};
 pub use stl_fault::StlFault;
