@@ -5,6 +5,7 @@ of the repository can be applied, and is of a function."""
 
 import contextlib
 import os
+import re
 import shutil
 import sys
 import tempfile
@@ -15,7 +16,7 @@ sys.path.insert(0, os.path.join(ROOT, "tools"))
 import planting.batches  # noqa: E402
 from planting.batches import WITHOUT_COPY, Batch, batches_of_crate, try_alone, try_or_recall  # noqa: E402
 from planting.copies import with_copies  # noqa: E402
-from planting.crate_files import Source, texts_in  # noqa: E402
+from planting.crate_files import Source, item_at, texts_in  # noqa: E402
 from planting.functions import closures_of, functions_of, owner  # noqa: E402
 from planting.grouping import grouped  # noqa: E402
 from planting.judging import listed_otherwise, shown_by  # noqa: E402
@@ -164,7 +165,8 @@ for name in asked:
         said = goal.format("add-smaller") + f"fn thing::{name}: no proof: `search` did not prove `add-smaller`"
     elif "LEMMA" in body or "BESIDE" in body:
         lemma = "sum_is" if "LEMMA" in body else "inside"
-        print(f"./proofs/{path}/Answers.antt:8:25: error: `{lemma}`: as printed, the two types differ only where one has `a`")
+        is_mute = is_cut and "MUTE" in body
+        print("" if is_mute else f"./proofs/{path}/Answers.antt:8:25: error: `{lemma}`: as printed, the two types differ only where one has `a`")
         said = own_answer.format(lemma)
     elif "CLOSURE" in body:
         inner = name.replace("::", "::fn::", 1) + "::each"
@@ -422,6 +424,11 @@ def functions():
         same(head, owner(head), name)
 
 
+def items():
+    same("the item of a line", [item_at(SPECS, row) for row in (0, 4, 9)], [None, "IsLaw", "HoldsOf"])
+    same("a line below none", item_at("  a\n  b", 1), None)
+
+
 def each_kind(room):
     emptied(room)
     for name, word in (("looped.a", "SEARCHED"), ("looped.b", "LOOP"), ("looped.c", "OVERFLOW"), ("of.a", "ANSWERED"), ("of.b", "NAMES"),
@@ -488,6 +495,30 @@ def refused_batches(room):
          [["thing/looped.a", "thing/of.a", "thing/of.b", "thing/of.c"]])
     same("two of one import are not", len(grouped([Edit(path, "thing", source) for path in imports])), 2)
     same("nor are one of an import and one of its function", len(grouped([Edit(path, "thing", source) for path in (imports[0], wrong)])), 2)
+    of_law = written(room, "both.one", "specs/Both.antt", ("Is_one = true", "Is_one = broken"))
+    texts = {"src/laws.rt": BOTH_LAWS + "const MORE: u32 = 1;\n", "proofs/laws/both/Answers.antt": "pub returns : goal.returns\nreturns c = refl\n"}
+    source = Source(source.folder, {**source.texts, **texts}, source)
+    groups = grouped([Edit(path, "thing", source) for path in (constant, of_law)])
+    same("nor are one of a constant and one of a law that has no copy", [[it.name for it in group] for group in groups], [["thing/of.limit_of_5"], ["thing/both.one"]])
+
+
+def unfit(room):
+    """An edit has no line that isn't known, and each `old` its `new`. It changes no proof and no contract, but for a law's."""
+    emptied(room)
+    source, path = Source(room.file("crates", "thing")), room.file("crates", "thing", "edits", "looped.a.edit")
+    head = ["file: src/parts.rt", "old: let mut sum = 1;"]
+    no_new = "an 'old:' line has no 'new:' line below it"
+    for lines, wanted in ((["# why", "", *head, "", "# it is less", "new: let mut sum = 0;", "", ""], None), (["refused: by a search", *head, "new:"], None),
+                          ([*head, "New: let mut sum = 0;"], no_new), ([*head, "new: let mut sum = 0;", "old: sum += 1;"], no_new), ([*head, *head, "new: 1"], no_new),
+                          ([*head, "new: let mut sum = 0;", "old: ", "file: src/laws.rt"], no_new),
+                          (["refused by a search", *head, "new: 1"], "no line of an edit begins as this one: refused by a search"),
+                          ([*head, "new: let mut sum = 0;", "    sum"], "no line of an edit begins as this one: sum"),
+                          (["file: proofs/lemmas/Limits.antt", "old: limit-is = refl", "new: limit-is = lit"], "it changes a proof"),
+                          ([head[0], "old: ensures value { result ≡ n }", "new: ensures value { result ≡ 1 }"], "it changes the contract of parts::looped, which is no law"),
+                          ([head[0], "old: ensures held { IsLaw }", "new: ensures held { Is }"], None)):
+        with open(path, "w", encoding="utf-8") as it:
+            it.write("\n".join(lines))
+        same(f"an edit that is {lines}", Edit(path, "thing", source).bad, wanted)
 
 
 def copies(room):
@@ -861,6 +892,11 @@ def a_check_that_breaks_off(room):
         planted(room, "looped.a", f"SEARCHED_{word}")
         same(f"{word}: both are refused", sorted(tries(room)[1][:2]), ["thing/looped.a: refused by `returns-clause-value`", "thing/of.a: refused by `returns-in-Some`"])
         same("what is tried again", checks_in(room)[1:], again)
+    # an answer that it refuses without a word says nothing, since it may lack a name alone
+    emptied(room)
+    planted(room, "looped.a", "LEMMA_MUTE_CUT_LATE")
+    planted(room, "of.a", "SEARCHED")
+    same("one that it doesn't say why is tried again", [tries(room)[1][-1], checks_in(room)[1:]], ["2 passed, 0 failed", [["parts::looped"], ["parts::Part::of"]]])
 
 
 def libraries_below(room):
@@ -958,6 +994,11 @@ class StandIn:
 
 def kept(room):
     emptied(room)
+    planted(room, "looped.a", "SEARCHED", is_marked=False)
+    said = tries(room)[1][0]
+    holds("an edit that lacks a line", said.endswith(f"and its file lacks the line '{BY_SEARCH}'"))
+    same("its results are kept", tries(room, control="missing")[1][0], said)
+    emptied(room)
     one = planted(room, "of.a", "ANSWERED")
     said = tries(room)[1]
     same("results of a batch that passed are kept", tries(room, control="missing")[1], said)
@@ -990,30 +1031,39 @@ def kept(room):
 
 def the_repository_s_own():
     """Each edit can be applied, and its name begins with the function that has to be refused."""
-    count, bad, misnamed, names = 0, [], [], set()
+    counts, bad, misnamed, names, of_definitions = {"edits": 0, "must-fail": 0}, [], [], set(), []
     for name in sorted(os.listdir(os.path.join(ROOT, "crates"))):
         folder = os.path.join(ROOT, "crates", name)
         source = Source(folder)
         for part in ("edits", "must-fail"):
             for file in sorted(os.listdir(f"{folder}/{part}")) if os.path.isdir(f"{folder}/{part}") else []:
-                count += 1
+                counts[part] += 1
                 edit = Edit(f"{folder}/{part}/{file}", name, source)
                 bad += [f"{edit.name}: {edit.bad}"] * bool(edit.bad)
                 misnamed += [edit.name] * (file.split(".")[-3] not in {it.name for it in edit.judged})
+                of_definitions += [edit.name] * bool(edit.definitions and not all(it.is_law() for it in edit.judged))
                 names.add(edit.name)
     same("edits that can't be tried", bad, [])
     same("edits that are not named after the function that has to be refused", misnamed, [])
     same("edits that are listed and aren't there", sorted({*listed_otherwise(ROOT)} - names), [])
-    holds(f"{count} edits, 978 or more", count >= 978)
+    same("edits of definitions that no law fixes", of_definitions, [f"raster/is_inside.definition_of_{it}" for it in ("nonzero_as_odd", "positive_as_nonzero")])
+    count = sum(counts.values())
+    holds(f"{count} edits, 980 or more", count >= 980)
+    holds(f"{counts['must-fail']} of them in must-fail/, 41 or more", counts["must-fail"] >= 41)
+    sources = [text for name in os.listdir(os.path.join(ROOT, "crates")) for file, text in texts_in(os.path.join(ROOT, "crates", name)).items() if file.endswith(".rt")]
+    count = sum(len(re.findall(r"(?m)^ *#\[test\]$", it)) for it in sources)
+    holds(f"{count} tests in crates/, 239 or more", count >= 239)
 
 
 def main():
     functions()
+    items()
     folders_of_checks()
     with Room() as room:
         crate_in(room)
         each_kind(room)
         refused_batches(room)
+        unfit(room)
         copies(room)
         without_search(room)
         uncopied(room)

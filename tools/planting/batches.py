@@ -83,9 +83,10 @@ def texts_of_tool():
 
 
 def kept_at(batch, root):
-    """The file in which the results of the batch are kept. Its name is a hash of all that they depend on."""
+    """The file in which the results of the batch are kept. Its name is a hash of all that they depend on, the same before and after:
+    an edit that turned out to need a search doesn't say so in its file."""
     rests = [texts_of_tool(), batch.crate.stamp(), sorted(listed_otherwise(root).items())]
-    rests += [(it.name, sorted(it.rows.items()), it.is_searched) for it in batch.edits]
+    rests += [(it.name, sorted(it.rows.items()), it.is_searched and not it.is_unmarked) for it in batch.edits]
     return f"{KEPT}/{hashlib.sha256(repr(rests).encode()).hexdigest()}"
 
 

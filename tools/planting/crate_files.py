@@ -164,7 +164,7 @@ def items_of(text):
 def item_at(text, row):
     """The name of the item of specs/ on a line of its text, or None."""
     lines = text.split("\n")
-    while row >= 0 and not IS_ITEM.match(lines[row]) or lines[row].startswith(" "):
+    while row >= 0 and (lines[row].startswith(" ") or not IS_ITEM.match(lines[row])):
         row -= 1
     return IS_ITEM.match(lines[row])[1] if row >= 0 else None
 

@@ -169,6 +169,12 @@ def unseen(batch, check, controls):
     return f"the harmless edit of {opened[0][0].symbol} is refused by `{opened[0][1]}`" if opened else None
 
 
+def is_told(edit, batch, check):
+    """Whether a check that broke off says why of each answer that it refuses. Otherwise one could be refused for a name alone."""
+    symbols = [symbol for it in edit.judged for symbol in lines_of(it, check)]
+    return all(said for symbol in symbols for _, _, said in lemmas_of(symbol, batch, check))
+
+
 def results_of(batch, check, controls, otherwise):
     """The results that a check gives, and the edits of which it says nothing, in the lists in which they are to be tried."""
     why = unseen(batch, check, controls)
@@ -178,7 +184,7 @@ def results_of(batch, check, controls, otherwise):
     if check.is_whole and why:
         told = dict.fromkeys(batch.edits, (False, f"NOT TRIED: {why}"))
     elif not check.is_whole:
-        told = {it: told[it] for it in batch.edits if not why and told[it][0]}
+        told = {it: told[it] for it in batch.edits if not why and told[it][0] and is_told(it, batch, check)}
         told.update({it: (False, said) for it, said in bad.items()})
     else:
         # hidden ones are tried again without the others; if all are hidden and none is of laws, something else hides them
