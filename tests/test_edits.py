@@ -131,7 +131,8 @@ for name in asked:
         said = "" if os.environ["CONTROL"] == "missing" or is_cut and not is_late else said
         # beside an answer that is refused, all are, if it is so told
         said = own_answer.format("no-offers") if has_refused else said
-        said = goal.format("returns-clause-value") + said if has_refused and os.environ["SPOILS"] else said
+        spoils = os.environ["SPOILS"] if has_refused and ("_copy_" in name or os.environ["SPOILS"] == "all") else ""
+        said = {"": said, "mute": "", "calls": f"{said}; it calls `thing::parts::other`, which is not proved"}.get(spoils, goal.format("returns-clause-value") + said)
     elif "HIDDEN" in body and "BREAKS" in text:
         said = f"fn thing::{name}: no proof: the borrow checker's part in its proof is not made yet: a call of `thing::parts::looped`, which has no proof"
     elif "SEARCHED" in body or "HIDDEN" in body:
@@ -372,7 +373,8 @@ def emptied(room):
 
 def tries(room, *words, control="no holes", spoils="", built="yes"):
     """What the tool does: its status, and the lines of its two outputs. `control` is what the check says of the harmless edit,
-    `spoils` whether a lemma that is refused spoils all answers beside it, and `built` whether the library below is built; `fails` if
+    `spoils` whether a lemma that is refused spoils all answers beside it, or those of copies alone, or how their lines lack what they
+    should say, and `built` whether the library below is built; `fails` if
     it can't be."""
     room.environment.update(CONTROL=control, SPOILS=spoils, ASKED=room.file("asked"), BUILT=built, XDG_CACHE_HOME=room.file("cache"))
     ran = room.run(sys.executable, "tools/edits.py", *words, cwd=room.path)
@@ -704,9 +706,51 @@ def control(room):
         status, lines, _ = tries(room, control=how)
         holds(f"a harmless edit that is {how.partition(';')[0]}", sum("NOT TRIED: the harmless edit of" in it for it in lines) == 2)
         same("last line", (status, lines[-1]), (1, "0 passed, 2 failed"))
-    status, lines, _ = tries(room, spoils="yes")
-    holds("a harmless edit that is refused as the others are", sum("is refused by `returns-clause-value`" in it and "NOT TRIED" in it for it in lines) == 2)
-    same("last line", (status, lines[-1]), (1, "0 passed, 2 failed"))
+    for spoils, fault in (("all", "is refused by `returns-clause-value`"), ("copies", "is refused by `returns-clause-value`"), ("mute", "has no line in the check")):
+        status, lines, _ = tries(room, spoils=spoils)
+        holds(f"a harmless edit in a copy that {fault}", sum(f"NOT TRIED: the harmless edit of parts::plain_copy_1 {fault}" in it for it in lines) == 2)
+        same("last line", (status, lines[-1]), (1, "0 passed, 2 failed"))
+
+    crate = StandIn(room)
+    batch, = batches_of_crate(crate, [planted(room, "of.a", "ANSWERED")])
+    controls = harmless(batch)
+    same("harmless edits in copies but for the first", [it.symbol for it, _, _ in controls], ["parts::Part::n", "parts::plain_copy_1"])
+    with tempfile.TemporaryDirectory() as folder:
+        asked = [it.symbol for it in plant(batch, folder, controls)]
+        same("a copy is checked in place of its function", asked, ["parts::Part::n", "parts::Part::of", "parts::plain_copy_1"])
+        with open(f"{folder}/src/parts.rt") as it:
+            rows = it.read().split("\n")
+        own, copied = rows.index("fn plain(n: u32) -> u32"), rows.index("fn plain_copy_1(n: u32) -> u32")
+        same("the function has no code then, and the copy has the statement", [rows[own + 2 : own + 6], rows[copied + 2 : copied + 6]],
+             [["{", "    unreachable!()", "", "}"], ["{ let _same = ();", "    let plain = n;", "    plain", "}"]])
+    source = Source(crate.folder)
+    source.may_be_copied = lambda it: it.name == "looped"
+    batch = Batch(crate, source, [Edit(planted(room, "of.a", "ANSWERED"), "thing", source)], None)
+    same("what may be copied comes before what is plainer", [it.symbol for it, _, _ in harmless(batch)], ["parts::Part::n", "parts::looped"])
+    source.may_be_copied = lambda it: False
+    same("if there is no such function, none is in a copy", [it.symbol for it, _, _ in harmless(batch)], ["parts::Part::n", "parts::plain"])
+
+
+def unedited(room):
+    """A copy of each function of which some edit stands in a copy has to be proved without an edit."""
+    emptied(room)
+    for name, word in (("looped.a", "LEMMA"), ("looped.b", "SEARCHED"), ("of.a", "ANSWERED"), ("of.b", "SEARCHED"), ("from.a", "SEARCHED"), ("from.b", "SEARCHED")):
+        planted(room, name, word)
+    said = [f"thing/parts::{it}: proved in a copy" for it in ("looped", "Part::of")]
+    for words in (["--unedited"], ["--jobs", "2", "--unedited", "thing"]):
+        status, lines, _ = tries(room, *words)
+        same("copies that are proved", (status, lines[:2], lines[-1]), (0, said, "2 passed, 0 failed"))
+    with open(room.file("asked")) as it:
+        same("no edit is in a check of copies", it.read(), "harmless\n" * 2)
+    for how, fault in (({"spoils": "copies"}, "is refused by `returns-clause-value`"), ({"spoils": "mute"}, "has no line in the check"), ({"spoils": "calls"}, "isn't proved: not proved; it stands on"),
+                       ({"control": "missing"}, "NOT TRIED: the harmless edit of parts::Part::n isn't seen as proved")):
+        status, lines, _ = tries(room, "--unedited", **how)
+        holds(f"copies that are not: {fault}", all(line.startswith(f"{it.partition(': ')[0]}: {fault}") for line, it in zip(lines, said)))
+        same("last line", (status, lines[-1]), (1, "0 passed, 2 failed"))
+    same("a crate that isn't there", (tries(room, "--unedited", "nothing")[0], tries(room, "--unedited", "nothing")[2]), (2, ["edits.py: nothing is no crate"]))
+    emptied(room)
+    planted(room, "of.a", "ANSWERED")
+    same("a crate without copies", tries(room, "--unedited")[1], ["0 passed, 0 failed"])
 
 
 def a_law(room):
@@ -1071,6 +1115,7 @@ def main():
         what_rt_ci_says(room)
         shown(room)
         control(room)
+        unedited(room)
         a_law(room)
         clauses_of_one_law(room)
         laws_in_copies(room)
