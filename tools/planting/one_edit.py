@@ -15,9 +15,9 @@ BY_SEARCH = "refused: by a search"
 class Edit:
     """An edit as its file has it: which lines of which files it changes, and the functions whose lines these are. It also has
     the functions of which one has to be refused, and all whose proof it can change. One of laws has the clauses that depend
-    on it. It is `bad` if it can't be applied, or changes what none may. `filed` is the edit as it was read, if it now stands in a copy of its function.
-    If it is of a law that can be copied, `copy` says how, and it `is_beside` the law if it is to stand in a copy. Once it does,
-    `control` is the copy without an edit."""
+    on it. It is `bad` if it can't be applied, or changes what none may. `filed` is the edit as it was read, if it now stands in
+    a copy of its function. If it is of a law that can be copied, `copy` says how, and it `is_beside` the law if it is to stand
+    in a copy. Once it does, `control` is the copy without an edit."""
 
     def __init__(self, path, crate, source):
         self.path, self.name = path, f"{crate}/{os.path.basename(path)[: -len('.edit')]}"
