@@ -14,7 +14,7 @@ from common import ROOT, Room, holds, same
 
 sys.path.insert(0, os.path.join(ROOT, "tools"))
 import planting.batches  # noqa: E402
-from planting.batches import WITHOUT_COPY, Batch, batches_of_crate, try_alone, try_or_recall  # noqa: E402
+from planting.batches import WITHOUT_COPY, Batch, batch_of, batches_of_crate, try_alone, try_or_recall  # noqa: E402
 from planting.copies import with_copies  # noqa: E402
 from planting.crate_files import Source, item_at, texts_in  # noqa: E402
 from planting.functions import closures_of, functions_of, owner  # noqa: E402
@@ -723,6 +723,17 @@ def control(room):
         own, copied = rows.index("fn plain(n: u32) -> u32"), rows.index("fn plain_copy_1(n: u32) -> u32")
         same("the function has no code then, and the copy has the statement", [rows[own + 2 : own + 6], rows[copied + 2 : copied + 6]],
              [["{", "    unreachable!()", "", "}"], ["{ let _same = ();", "    let plain = n;", "    plain", "}"]])
+    source = Source(crate.folder)
+    source = Source(crate.folder, {**source.texts, "proofs/parts/plain/Answers.antt": "use Rattle.thing.proofs.parts.plain.Goals as goal\n"}, source)
+    batch = batch_of(crate, source, [Edit(planted(room, "looped.a", "LEMMA"), "thing", source)], None)
+    controls = harmless(batch)
+    same("a third one too", [it.symbol for it, _, _ in controls], ["parts::Part::n", "parts::Part::of_copy_1", "parts::plain_copy_2"])
+    with tempfile.TemporaryDirectory() as folder:
+        plant(batch, folder, controls)
+        with open(f"{folder}/src/parts.rt") as it:
+            holds("it isn't searched", "#[tactic(none)] fn plain_copy_2(n: u32) -> u32" in it.read().split("\n"))
+        with open(f"{folder}/proofs/parts/plain_copy_2/Answers.antt") as it:
+            same("and has its own answers", it.read(), "use Rattle.thing.proofs.parts.plain_copy_2.Goals as goal\n" + REFUSED_LEMMA)
     source = Source(crate.folder)
     source.may_be_copied = lambda it: it.name == "looped"
     batch = Batch(crate, source, [Edit(planted(room, "of.a", "ANSWERED"), "thing", source)], None)

@@ -12,8 +12,8 @@ The change is all that differs from REV (HEAD), with files that git doesn't know
 - builds the program and runs the tests in tests/, except the demo's, if something changed that other crates can see, or in a
   crate of words that no clause fixes; else it runs those that name a changed file, its module or its folder.
 
-At the end it reports what it didn't try, what could not run here among it, and 'N passed, N failed'. The status is 0 if none failed, 1 if one did, and 2 if REV
-is no revision. Only the gate, make test, tries all.
+At the end it reports what it didn't try, tests that can't run here among it, and 'N passed, N failed'. The status is 0 if none
+failed, 1 if one did, and 2 if REV is no revision. Only the gate, make test, tries all.
 """
 
 import argparse

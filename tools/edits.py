@@ -127,7 +127,8 @@ def chosen(words):
     jobs = int(options["--jobs"]) if options["--jobs"].isdigit() else 0
     flag = words.pop(0) if words and words[0] in ("--changed", "--batch", "--unedited") else ""
     if not jobs or any(it.startswith("-") for it in words) or flag in ("--changed", "--batch") and not words:
-        raise Unfit("use: tools/edits.py [--show FOLDER] [--jobs N] [NAME.. | EDIT.. | --changed FILE.. | --batch EDIT.. | --unedited [NAME..]]")
+        forms = "NAME.. | EDIT.. | --changed FILE.. | --batch EDIT.. | --unedited [NAME..]"
+        raise Unfit(f"use: tools/edits.py [--show FOLDER] [--jobs N] [{forms}]")
     crates, asked, show = toolchain().crates_below(ROOT), {}, options["--show"]
     names = {it.name: it for it in crates}
     if flag == "--unedited":
