@@ -268,6 +268,7 @@ def main():
              ("one: NOT TRIED: ValueError('broken')\n16 passed, 1 failed", 1))
         same("no edit at all", gate(BUILDS, well, 0, [0, 0], hole="none", lines=2),
              ("edits: NOT TRIED, since none was found\n14 passed, 1 failed", 1))
+        same("none but in must-fail/", gate(BY_CLAUSE, well, 0, [0, 0], hole="none", lines=2), ("edits: NOT TRIED, since none was found\n15 passed, 1 failed", 1))
         same("edits of a crate that wasn't proved", gate(BUILDS, well, 0, [0, 0], other="high", lines=2),
              ("edits of high: NOT TRIED, since the crate is not proved\n16 passed, 1 failed", 1))
         same("a library that isn't built", gate(BUILDS, well, 0, [0, 0], library="false", lines=2),
