@@ -201,12 +201,20 @@ def main():
         same("a script", it.check(), ([], ["passed: 1 tests in tests/"], "1 passed, 0 failed", 0))
         put(f"{it.top}/tests/test_other.py", "#!/usr/bin/env python3\n#\n")
         same("a test", it.check()[1:], (["passed: 1 tests in tests/"], "1 passed, 0 failed", 0))
+        put(f"{it.top}/tools/script", "#!/bin/sh\n#\n")
+        put(f"{it.top}/tests/test_other.py", "#!/usr/bin/env python3\nprint('no tool')\nraise SystemExit(77)\n")
+        same("a test that is skipped", it.check()[1:], (["passed: 2 tests in tests/"], "1 passed, 0 failed", 0))
+        same("it is named, and was not tried", it.left[-2:], ["2 of 3 tests in tests/", "test_other.py: skipped: no tool"])
         texts = {"test_script.py": FILES["tests/test_script.py"], "test_other.py": FILES["tests/test_other.py"]}
         for file, names in (("tests/shared.py", {"test_other.py"}), ("tools/parts/one.c", {"test_script.py"}), ("tools/script", {"test_script.py"}), ("NOTES", set())):
             same(f"tests of {file}", check.tests_of(file, texts), names)
         put(f"{it.top}/NOTES", "one\n")
         same("a file without a test", it.check(), ([], [], "0 passed, 0 failed", 0))
         same("it is named", it.left[-1], "NOTES: no test names it")
+        put(f"{it.top}/crates/low/stdin", "one\n")
+        same("a file right in a crate", it.check(), ([], [], "0 passed, 0 failed", 0))
+        same("it is named too", it.left[-1], "crates/low/stdin: no source and no edit of a crate")
+        os.remove(f"{it.top}/crates/low/stdin")
 
         ran = it.run("tools/check.py", "--base", "typo")
         same("a revision that isn't there", (ran.returncode, ran.stdout, ran.stderr), (2, "", "check.py: typo is no revision of this repository\n"))

@@ -5,6 +5,7 @@ of the repository can be applied, and is of a function."""
 
 import contextlib
 import os
+import re
 import shutil
 import sys
 import tempfile
@@ -13,9 +14,9 @@ from common import ROOT, Room, holds, same
 
 sys.path.insert(0, os.path.join(ROOT, "tools"))
 import planting.batches  # noqa: E402
-from planting.batches import WITHOUT_COPY, Batch, batches_of_crate, try_alone, try_or_recall  # noqa: E402
+from planting.batches import WITHOUT_COPY, Batch, batch_of, batches_of_crate, try_alone, try_or_recall  # noqa: E402
 from planting.copies import with_copies  # noqa: E402
-from planting.crate_files import Source, texts_in  # noqa: E402
+from planting.crate_files import Source, item_at, texts_in  # noqa: E402
 from planting.functions import closures_of, functions_of, owner  # noqa: E402
 from planting.grouping import grouped  # noqa: E402
 from planting.judging import listed_otherwise, shown_by  # noqa: E402
@@ -130,7 +131,8 @@ for name in asked:
         said = "" if os.environ["CONTROL"] == "missing" or is_cut and not is_late else said
         # beside an answer that is refused, all are, if it is so told
         said = own_answer.format("no-offers") if has_refused else said
-        said = goal.format("returns-clause-value") + said if has_refused and os.environ["SPOILS"] else said
+        spoils = os.environ["SPOILS"] if has_refused and ("_copy_" in name or os.environ["SPOILS"] == "all") else ""
+        said = {"": said, "mute": "", "calls": f"{said}; it calls `thing::parts::other`, which is not proved"}.get(spoils, goal.format("returns-clause-value") + said)
     elif "HIDDEN" in body and "BREAKS" in text:
         said = f"fn thing::{name}: no proof: the borrow checker's part in its proof is not made yet: a call of `thing::parts::looped`, which has no proof"
     elif "SEARCHED" in body or "HIDDEN" in body:
@@ -164,7 +166,8 @@ for name in asked:
         said = goal.format("add-smaller") + f"fn thing::{name}: no proof: `search` did not prove `add-smaller`"
     elif "LEMMA" in body or "BESIDE" in body:
         lemma = "sum_is" if "LEMMA" in body else "inside"
-        print(f"./proofs/{path}/Answers.antt:8:25: error: `{lemma}`: as printed, the two types differ only where one has `a`")
+        is_mute = is_cut and "MUTE" in body
+        print("" if is_mute else f"./proofs/{path}/Answers.antt:8:25: error: `{lemma}`: as printed, the two types differ only where one has `a`")
         said = own_answer.format(lemma)
     elif "CLOSURE" in body:
         inner = name.replace("::", "::fn::", 1) + "::each"
@@ -370,7 +373,8 @@ def emptied(room):
 
 def tries(room, *words, control="no holes", spoils="", built="yes"):
     """What the tool does: its status, and the lines of its two outputs. `control` is what the check says of the harmless edit,
-    `spoils` whether a lemma that is refused spoils all answers beside it, and `built` whether the library below is built; `fails` if
+    `spoils` whether a lemma that is refused spoils all answers beside it, or those of copies alone, or how their lines lack what they
+    should say, and `built` whether the library below is built; `fails` if
     it can't be."""
     room.environment.update(CONTROL=control, SPOILS=spoils, ASKED=room.file("asked"), BUILT=built, XDG_CACHE_HOME=room.file("cache"))
     ran = room.run(sys.executable, "tools/edits.py", *words, cwd=room.path)
@@ -420,6 +424,11 @@ def functions():
                        ("impl<T: Drop> From<AllocFailed<T>> for StlFault", "StlFaultFromAllocFailed"), ("impl Debug for Point", "PointDebug"),
                        ("unsafe impl<B: Allocator> Allocator for ShortMemory<B>", "ShortMemoryAllocator"), ("pub trait Gate<A: Allocator>", "Gate")):
         same(head, owner(head), name)
+
+
+def items():
+    same("the item of a line", [item_at(SPECS, row) for row in (0, 4, 9)], [None, "IsLaw", "HoldsOf"])
+    same("a line below none", item_at("  a\n  b", 1), None)
 
 
 def each_kind(room):
@@ -488,6 +497,30 @@ def refused_batches(room):
          [["thing/looped.a", "thing/of.a", "thing/of.b", "thing/of.c"]])
     same("two of one import are not", len(grouped([Edit(path, "thing", source) for path in imports])), 2)
     same("nor are one of an import and one of its function", len(grouped([Edit(path, "thing", source) for path in (imports[0], wrong)])), 2)
+    of_law = written(room, "both.one", "specs/Both.antt", ("Is_one = true", "Is_one = broken"))
+    texts = {"src/laws.rt": BOTH_LAWS + "const MORE: u32 = 1;\n", "proofs/laws/both/Answers.antt": "pub returns : goal.returns\nreturns c = refl\n"}
+    source = Source(source.folder, {**source.texts, **texts}, source)
+    groups = grouped([Edit(path, "thing", source) for path in (constant, of_law)])
+    same("nor are one of a constant and one of a law that has no copy", [[it.name for it in group] for group in groups], [["thing/of.limit_of_5"], ["thing/both.one"]])
+
+
+def unfit(room):
+    """An edit has no line that isn't known, and each `old` its `new`. It changes no proof and no contract, but for a law's."""
+    emptied(room)
+    source, path = Source(room.file("crates", "thing")), room.file("crates", "thing", "edits", "looped.a.edit")
+    head = ["file: src/parts.rt", "old: let mut sum = 1;"]
+    no_new = "an 'old:' line has no 'new:' line below it"
+    for lines, wanted in ((["# why", "", *head, "", "# it is less", "new: let mut sum = 0;", "", ""], None), (["refused: by a search", *head, "new:"], None),
+                          ([*head, "New: let mut sum = 0;"], no_new), ([*head, "new: let mut sum = 0;", "old: sum += 1;"], no_new), ([*head, *head, "new: 1"], no_new),
+                          ([*head, "new: let mut sum = 0;", "old: ", "file: src/laws.rt"], no_new),
+                          (["refused by a search", *head, "new: 1"], "no line of an edit begins as this one: refused by a search"),
+                          ([*head, "new: let mut sum = 0;", "    sum"], "no line of an edit begins as this one: sum"),
+                          (["file: proofs/lemmas/Limits.antt", "old: limit-is = refl", "new: limit-is = lit"], "it changes a proof"),
+                          ([head[0], "old: ensures value { result ≡ n }", "new: ensures value { result ≡ 1 }"], "it changes the contract of parts::looped, which is no law"),
+                          ([head[0], "old: ensures held { IsLaw }", "new: ensures held { Is }"], None)):
+        with open(path, "w", encoding="utf-8") as it:
+            it.write("\n".join(lines))
+        same(f"an edit that is {lines}", Edit(path, "thing", source).bad, wanted)
 
 
 def copies(room):
@@ -673,9 +706,62 @@ def control(room):
         status, lines, _ = tries(room, control=how)
         holds(f"a harmless edit that is {how.partition(';')[0]}", sum("NOT TRIED: the harmless edit of" in it for it in lines) == 2)
         same("last line", (status, lines[-1]), (1, "0 passed, 2 failed"))
-    status, lines, _ = tries(room, spoils="yes")
-    holds("a harmless edit that is refused as the others are", sum("is refused by `returns-clause-value`" in it and "NOT TRIED" in it for it in lines) == 2)
-    same("last line", (status, lines[-1]), (1, "0 passed, 2 failed"))
+    for spoils, fault in (("all", "is refused by `returns-clause-value`"), ("copies", "is refused by `returns-clause-value`"), ("mute", "has no line in the check")):
+        status, lines, _ = tries(room, spoils=spoils)
+        holds(f"a harmless edit in a copy that {fault}", sum(f"NOT TRIED: the harmless edit of parts::plain_copy_1 {fault}" in it for it in lines) == 2)
+        same("last line", (status, lines[-1]), (1, "0 passed, 2 failed"))
+
+    crate = StandIn(room)
+    batch, = batches_of_crate(crate, [planted(room, "of.a", "ANSWERED")])
+    controls = harmless(batch)
+    same("harmless edits in copies but for the first", [it.symbol for it, _, _ in controls], ["parts::Part::n", "parts::plain_copy_1"])
+    with tempfile.TemporaryDirectory() as folder:
+        asked = [it.symbol for it in plant(batch, folder, controls)]
+        same("a copy is checked in place of its function", asked, ["parts::Part::n", "parts::Part::of", "parts::plain_copy_1"])
+        with open(f"{folder}/src/parts.rt") as it:
+            rows = it.read().split("\n")
+        own, copied = rows.index("fn plain(n: u32) -> u32"), rows.index("fn plain_copy_1(n: u32) -> u32")
+        same("the function has no code then, and the copy has the statement", [rows[own + 2 : own + 6], rows[copied + 2 : copied + 6]],
+             [["{", "    unreachable!()", "", "}"], ["{ let _same = ();", "    let plain = n;", "    plain", "}"]])
+    source = Source(crate.folder)
+    source = Source(crate.folder, {**source.texts, "proofs/parts/plain/Answers.antt": "use Rattle.thing.proofs.parts.plain.Goals as goal\n"}, source)
+    batch = batch_of(crate, source, [Edit(planted(room, "looped.a", "LEMMA"), "thing", source)], None)
+    controls = harmless(batch)
+    same("a third one too", [it.symbol for it, _, _ in controls], ["parts::Part::n", "parts::Part::of_copy_1", "parts::plain_copy_2"])
+    with tempfile.TemporaryDirectory() as folder:
+        plant(batch, folder, controls)
+        with open(f"{folder}/src/parts.rt") as it:
+            holds("it isn't searched", "#[tactic(none)] fn plain_copy_2(n: u32) -> u32" in it.read().split("\n"))
+        with open(f"{folder}/proofs/parts/plain_copy_2/Answers.antt") as it:
+            same("and has its own answers", it.read(), "use Rattle.thing.proofs.parts.plain_copy_2.Goals as goal\n" + REFUSED_LEMMA)
+    source = Source(crate.folder)
+    source.may_be_copied = lambda it: it.name == "looped"
+    batch = Batch(crate, source, [Edit(planted(room, "of.a", "ANSWERED"), "thing", source)], None)
+    same("what may be copied comes before what is plainer", [it.symbol for it, _, _ in harmless(batch)], ["parts::Part::n", "parts::looped"])
+    source.may_be_copied = lambda it: False
+    same("if there is no such function, none is in a copy", [it.symbol for it, _, _ in harmless(batch)], ["parts::Part::n", "parts::plain"])
+
+
+def unedited(room):
+    """A copy of each function of which some edit stands in a copy has to be proved without an edit."""
+    emptied(room)
+    for name, word in (("looped.a", "LEMMA"), ("looped.b", "SEARCHED"), ("of.a", "ANSWERED"), ("of.b", "SEARCHED"), ("from.a", "SEARCHED"), ("from.b", "SEARCHED")):
+        planted(room, name, word)
+    said = [f"thing/parts::{it}: proved in a copy" for it in ("looped", "Part::of")]
+    for words in (["--unedited"], ["--jobs", "2", "--unedited", "thing"]):
+        status, lines, _ = tries(room, *words)
+        same("copies that are proved", (status, lines[:2], lines[-1]), (0, said, "2 passed, 0 failed"))
+    with open(room.file("asked")) as it:
+        same("no edit is in a check of copies", it.read(), "harmless\n" * 2)
+    for how, fault in (({"spoils": "copies"}, "is refused by `returns-clause-value`"), ({"spoils": "mute"}, "has no line in the check"), ({"spoils": "calls"}, "isn't proved: not proved; it stands on"),
+                       ({"control": "missing"}, "NOT TRIED: the harmless edit of parts::Part::n isn't seen as proved")):
+        status, lines, _ = tries(room, "--unedited", **how)
+        holds(f"copies that are not: {fault}", all(line.startswith(f"{it.partition(': ')[0]}: {fault}") for line, it in zip(lines, said)))
+        same("last line", (status, lines[-1]), (1, "0 passed, 2 failed"))
+    same("a crate that isn't there", (tries(room, "--unedited", "nothing")[0], tries(room, "--unedited", "nothing")[2]), (2, ["edits.py: nothing is no crate"]))
+    emptied(room)
+    planted(room, "of.a", "ANSWERED")
+    same("a crate without copies", tries(room, "--unedited")[1], ["0 passed, 0 failed"])
 
 
 def a_law(room):
@@ -861,6 +947,11 @@ def a_check_that_breaks_off(room):
         planted(room, "looped.a", f"SEARCHED_{word}")
         same(f"{word}: both are refused", sorted(tries(room)[1][:2]), ["thing/looped.a: refused by `returns-clause-value`", "thing/of.a: refused by `returns-in-Some`"])
         same("what is tried again", checks_in(room)[1:], again)
+    # an answer that it refuses without a word says nothing, since it may lack a name alone
+    emptied(room)
+    planted(room, "looped.a", "LEMMA_MUTE_CUT_LATE")
+    planted(room, "of.a", "SEARCHED")
+    same("one that it doesn't say why is tried again", [tries(room)[1][-1], checks_in(room)[1:]], ["2 passed, 0 failed", [["parts::looped"], ["parts::Part::of"]]])
 
 
 def libraries_below(room):
@@ -958,6 +1049,11 @@ class StandIn:
 
 def kept(room):
     emptied(room)
+    planted(room, "looped.a", "SEARCHED", is_marked=False)
+    said = tries(room)[1][0]
+    holds("an edit that lacks a line", said.endswith(f"and its file lacks the line '{BY_SEARCH}'"))
+    same("its results are kept", tries(room, control="missing")[1][0], said)
+    emptied(room)
     one = planted(room, "of.a", "ANSWERED")
     said = tries(room)[1]
     same("results of a batch that passed are kept", tries(room, control="missing")[1], said)
@@ -990,30 +1086,39 @@ def kept(room):
 
 def the_repository_s_own():
     """Each edit can be applied, and its name begins with the function that has to be refused."""
-    count, bad, misnamed, names = 0, [], [], set()
+    counts, bad, misnamed, names, of_definitions = {"edits": 0, "must-fail": 0}, [], [], set(), []
     for name in sorted(os.listdir(os.path.join(ROOT, "crates"))):
         folder = os.path.join(ROOT, "crates", name)
         source = Source(folder)
         for part in ("edits", "must-fail"):
             for file in sorted(os.listdir(f"{folder}/{part}")) if os.path.isdir(f"{folder}/{part}") else []:
-                count += 1
+                counts[part] += 1
                 edit = Edit(f"{folder}/{part}/{file}", name, source)
                 bad += [f"{edit.name}: {edit.bad}"] * bool(edit.bad)
                 misnamed += [edit.name] * (file.split(".")[-3] not in {it.name for it in edit.judged})
+                of_definitions += [edit.name] * bool(edit.definitions and not all(it.is_law() for it in edit.judged))
                 names.add(edit.name)
     same("edits that can't be tried", bad, [])
     same("edits that are not named after the function that has to be refused", misnamed, [])
     same("edits that are listed and aren't there", sorted({*listed_otherwise(ROOT)} - names), [])
-    holds(f"{count} edits, 978 or more", count >= 978)
+    same("edits of definitions that no law fixes", of_definitions, [f"raster/is_inside.definition_of_{it}" for it in ("nonzero_as_odd", "positive_as_nonzero")])
+    count = sum(counts.values())
+    holds(f"{count} edits, 980 or more", count >= 980)
+    holds(f"{counts['must-fail']} of them in must-fail/, 41 or more", counts["must-fail"] >= 41)
+    sources = [text for name in os.listdir(os.path.join(ROOT, "crates")) for file, text in texts_in(os.path.join(ROOT, "crates", name)).items() if file.endswith(".rt")]
+    count = sum(len(re.findall(r"(?m)^ *#\[test\]$", it)) for it in sources)
+    holds(f"{count} tests in crates/, 239 or more", count >= 239)
 
 
 def main():
     functions()
+    items()
     folders_of_checks()
     with Room() as room:
         crate_in(room)
         each_kind(room)
         refused_batches(room)
+        unfit(room)
         copies(room)
         without_search(room)
         uncopied(room)
@@ -1021,6 +1126,7 @@ def main():
         what_rt_ci_says(room)
         shown(room)
         control(room)
+        unedited(room)
         a_law(room)
         clauses_of_one_law(room)
         laws_in_copies(room)

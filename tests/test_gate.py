@@ -18,8 +18,12 @@ echo "what rt ci says on its way, by $RT_JOBS"
 echo "{last}"
 exit {status}
 """
-ALONE = "echo 'rt: must-fail low/{}.edit: refused, as it must be{}'; "
-BUILDS = "echo 'rt: low proved'; mkdir -p out; printf '#!/bin/sh\\n' > out/program; chmod 755 out/program"
+ALONE = "; echo 'rt: must-fail low/{}.edit: refused, as it must be{}'"
+PROVED = "echo 'rt: low proved'" + ALONE.format("by_clause", ": returns-value")
+REFUSED = ALONE.format("by_call", ": returns-value")
+MAKES = "; mkdir -p out; printf '#!/bin/sh\\n' > out/program; chmod 755 out/program"
+BY_CLAUSE = PROVED + MAKES
+BUILDS = BY_CLAUSE + REFUSED
 BATCHES = """
 import collections
 Edit = collections.namedtuple("Edit", "name")
@@ -225,13 +229,19 @@ def main():
         holds("what the library proves has its time in one row", "crates: low" not in gate(BUILDS, well, 0, [0], library=proves, lines=99)[0])
         same("a skipped test is named", gate(BUILDS, well, 0, [0, 77], lines=2),
              ("skipped: test_1.py: this is test 1\n16 passed, 0 failed", 0))
-        same("an edit in must-fail/ for which rt ci names a clause is not tried again",
-             gate(BUILDS + "; " + ALONE.format("by_clause", ": returns-value"), well, 0, [0, 0]), ("17 passed, 0 failed", 0))
+        same("an edit in must-fail/ for which rt ci names a clause is not tried again", gate(BUILDS, well, 0, [0, 0], hole="low/by_call"), ("17 passed, 0 failed", 0))
         for said in ("", ": call-requires"):
-            same(f"another one is{said}", gate(BUILDS + "; " + ALONE.format("by_call", said), well, 0, [0, 0]), ("18 passed, 0 failed", 0))
-        same("and may fail", gate(BUILDS + "; " + ALONE.format("by_call", ""), well, 0, [0, 0], hole="low/by_call", lines=2),
+            same(f"another one is{said}, once", gate(BY_CLAUSE + ALONE.format("by_call", said), well, 0, [0, 0]), ("18 passed, 0 failed", 0))
+        same("and may fail", gate(BY_CLAUSE + ALONE.format("by_call", ""), well, 0, [0, 0], hole="low/by_call", lines=2),
              ("low/by_call: NOT TRIED: ValueError('broken')\n17 passed, 1 failed", 1))
-        same("one that is refused and isn't known", gate(BUILDS + "; " + ALONE.format("other", ""), well, 0, [0, 0]), ("17 passed, 0 failed", 0))
+        bad, said = "; echo 'rt: must-fail low/by_call.edit: BAD EDIT: the prover cannot read it'", "BAD EDIT: error: no field"
+        for what, told in (("one that rt ci can't read", bad), ("one of which it says nothing", "")):
+            same(f"{what} is tried", gate(BY_CLAUSE + told, well, 0, [0, 0]), ("18 passed, 0 failed", 0))
+            same("and may fail", gate(BY_CLAUSE + told, well, 0, [0, 0], seen="low/by_call", said=said, lines=2),
+                 (f"low/by_call: {said}\n17 passed, 1 failed", 1))
+        same("not if the crate is not proved", gate(BY_CLAUSE.replace("low proved", "low"), well, 0, [0, 0], other="high", lines=3),
+             ("edits of low: NOT TRIED, since the crate is not proved\nedits of high: NOT TRIED, since the crate is not proved\n14 passed, 3 failed", 1))
+        same("one that is refused and isn't known", gate(BUILDS + ALONE.format("other", ""), well, 0, [0, 0]), ("17 passed, 0 failed", 0))
         note = "rt: note: Rattle's own compiler did not compile this program, so only the LLVM build is run: error"
         same("a compiler that refused it is named", gate(f'{BUILDS}; echo "{note}"', well, 0, [0, 0], lines=2), (f"{note}\n17 passed, 0 failed", 0))
         same("a failed test", gate(BUILDS, well, 0, [0, 3]), ("16 passed, 1 failed", 1))
@@ -247,6 +257,9 @@ def main():
         said = "REFUSED OTHERWISE: by `names`"
         same("an edit that something else refuses", gate(BUILDS, well, 0, [0, 0], seen="three", said=said, lines=2),
              (f"three: {said}\n16 passed, 1 failed", 1))
+        said = "NOT TRIED: the harmless edit of f isn't seen as proved"
+        same("one whose check doesn't see the harmless edit as proved", gate(BUILDS, well, 0, [0, 0], seen="three", said=said, alone="three", lines=2),
+             (f"three: {said}\n16 passed, 1 failed", 1))
         said = "refused by `returns`, a clause"
         same("one that is listed in vain", gate(BUILDS, well, 0, [0, 0], seen="three", said=said, lines=2), (f"three: {said}\n16 passed, 1 failed", 1))
         same("a tool that breaks off", gate(BUILDS, well, 0, [0, 0], hole="three", lines=2),
@@ -255,12 +268,13 @@ def main():
              ("one: NOT TRIED: ValueError('broken')\n16 passed, 1 failed", 1))
         same("no edit at all", gate(BUILDS, well, 0, [0, 0], hole="none", lines=2),
              ("edits: NOT TRIED, since none was found\n14 passed, 1 failed", 1))
+        same("none but in must-fail/", gate(BY_CLAUSE, well, 0, [0, 0], hole="none", lines=2), ("edits: NOT TRIED, since none was found\n15 passed, 1 failed", 1))
         same("edits of a crate that wasn't proved", gate(BUILDS, well, 0, [0, 0], other="high", lines=2),
              ("edits of high: NOT TRIED, since the crate is not proved\n16 passed, 1 failed", 1))
         same("a library that isn't built", gate(BUILDS, well, 0, [0, 0], library="false", lines=2),
              ("failed: make library web\n17 passed, 1 failed", 1))
         # the program of the run before stands there
-        same("an older program", gate("echo 'rt: low proved'", well, 0, [0, 0], lines=2),
+        same("an older program", gate(PROVED + REFUSED, well, 0, [0, 0], lines=2),
              ("failed: rt ci built no program, so nothing in tests/ was run\n15 passed, 1 failed", 1))
 
 

@@ -12,8 +12,8 @@ The change is all that differs from REV (HEAD), with files that git doesn't know
 - builds the program and runs the tests in tests/, except the demo's, if something changed that other crates can see, or in a
   crate of words that no clause fixes; else it runs those that name a changed file, its module or its folder.
 
-At the end it reports what it didn't try, and 'N passed, N failed'. The status is 0 if none failed, 1 if one did, and 2 if REV
-is no revision. Only the gate, make test, tries all.
+At the end it reports what it didn't try, tests that can't run here among it, and 'N passed, N failed'. The status is 0 if none
+failed, 1 if one did, and 2 if REV is no revision. Only the gate, make test, tries all.
 """
 
 import argparse
@@ -38,6 +38,8 @@ OF_WORDS = {"task_words", "progress_line", "stlslice", "stlslice_program"}
 # line and, unlike a trait's function without a body, no line that ends in a semicolon; and its clauses are no body.
 HEAD = r"(?:pub(?:\([\w:]+\))? )?(?:const |unsafe |extern \"C\" )*fn \w(?:(?!.*;$).+\n)*?(?!\s*(?:ensures|requires)\b).*"
 BODY = re.compile(rf"(?m)^([ \t]*)({HEAD})\{{\n(?:(?!\1\}}).*\n)*\1\}}$")
+# What tests/run says of a test that can't run here.
+SKIPPED = re.compile(r"skipped +(\S+) \([\d.]+ s\)(.*)")
 COMMENT = re.compile(r"(?m)^\s*(//|--).*\n")
 
 
@@ -121,6 +123,9 @@ class Change:
         self.tests = {it: tests_of(it, texts) for it in self.files if not it.startswith("crates/")}
         inside = [re.match(r"crates/(\w+)/(src|specs|proofs)/", it) for it in self.files]
         self.sources = {it[1]: [] for it in inside if it and it[1] in self.deps}
+        # as what the gate gives the program to read
+        tried = [re.match(r"crates/(\w+)/(src|specs|proofs|edits|must-fail)/", it) for it in self.files]
+        self.others = [it for it, told in zip(self.files, tried) if it.startswith("crates/") and not (told and told[1] in self.deps)]
         self.open = set()
         for name, told in zip(self.files, inside):
             if told and told[1] in self.deps:
@@ -157,7 +162,7 @@ class Steps:
     """Runs one command after another, and those in the background beside them."""
 
     def __init__(self):
-        self.passed, self.failed, self.beside, self.begun = 0, [], [], []
+        self.passed, self.failed, self.beside, self.begun, self.skipped = 0, [], [], [], []
 
     def count(self, what, status, seconds):
         self.passed += status == 0
@@ -168,9 +173,14 @@ class Steps:
         began = time.monotonic()
         self.begun.append(what)
         print(f"== {what}", flush=True)
-        status = subprocess.run(words, cwd=os.path.join(ROOT, folder), stdin=subprocess.DEVNULL).returncode
-        self.count(what, status, time.monotonic() - began)
-        return status == 0
+        how = {"cwd": os.path.join(ROOT, folder), "stdin": subprocess.DEVNULL, "stdout": subprocess.PIPE, "errors": "replace"}
+        with subprocess.Popen(words, text=True, **how) as child:
+            for line in child.stdout:
+                print(line, end="", flush=True)
+                told = SKIPPED.match(line)
+                self.skipped += [f"{told[1]}: skipped{told[2]}"] if told else []
+        self.count(what, child.returncode, time.monotonic() - began)
+        return child.returncode == 0
 
     def start(self, what, words):
         how = {"cwd": ROOT, "stdin": subprocess.DEVNULL, "stdout": subprocess.PIPE, "stderr": subprocess.STDOUT}
@@ -242,9 +252,10 @@ def tell(change, steps, chosen):
     print(f"  tests of {', '.join(tested) or 'no crate'}")
     print(f"  edits but those of {', '.join(edits)}" if edits else "  edits")
     program = "the program, and " if change.sources and "the program" not in steps.begun else ""
-    print(f"  {program}{len(tests()) - len(chosen)} of {len(tests())} tests in tests/")
-    for it in (it for it, named in change.tests.items() if not named):
-        print(f"  {it}: no test names it")
+    print(f"  {program}{len(tests()) - len(chosen) + len(steps.skipped)} of {len(tests())} tests in tests/")
+    unnamed = [f"{it}: no test names it" for it, named in change.tests.items() if not named]
+    for line in [*steps.skipped, *unnamed, *(f"{it}: no source and no edit of a crate" for it in change.others)]:
+        print(f"  {line}")
 
 
 if __name__ == "__main__":

@@ -4,6 +4,7 @@
     tools/edits.py [--jobs N] [NAME.. | EDIT..]     those of these crates, or these alone; all if nothing is named
     tools/edits.py [--jobs N] --changed FILE..      those that a change of these files concerns, also of must-fail/
     tools/edits.py [--jobs N] --batch EDIT..        these together, in one check
+    tools/edits.py [--jobs N] --unedited [NAME..]   none: a copy of each function of which an edit stands in a copy
 
 --show FOLDER, before these, tries all anew and leaves what each check said in FOLDER, which it makes. Without it, the results
 of a batch that passed are taken from ~/.cache/stlslice/edits if neither the batch, nor its crate, nor one below, nor the
@@ -32,7 +33,11 @@ failed, unless tools/edits_refused_otherwise.txt names it, with the goal and the
 
 Each check has one edit more, which means the same as before. It has to be reported as proved. So a check that sees nothing
 is noticed. If the crate has more such functions, a second is planted as the edits are, and may have no open goal, and a third,
-which has answers, isn't searched, and no answer may be refused. So a check that refuses everything is noticed too.
+which has answers, isn't searched, and no answer may be refused. So a check that refuses everything is noticed too. These two stand in
+copies of their functions if these may be copied, so a copy whose proof doesn't fit it is noticed.
+
+--unedited plants no edit. It checks, all of a crate's together, a copy of each function of which an edit stands in a copy. Each
+has a statement more that does nothing, and passes if it has no open goal. So what refuses an edit in such a copy is the edit.
 
 Each edit has a line, and the last line is 'N passed, N failed'. The status is 0 if none failed, 1 if one did, and 2 if
 nothing could be begun. The libraries below a crate are built first, if they aren't.
@@ -48,7 +53,7 @@ sys.dont_write_bytecode = True
 ROOT = os.path.dirname(os.path.dirname(os.path.abspath(__file__)))
 sys.path.insert(0, os.path.join(ROOT, "tools"))
 
-from planting.batches import Batch, batches_of_crate, edits_in, try_batch, try_or_recall  # noqa: E402
+from planting.batches import batch_of, batch_of_copies, batches_of_crate, edits_in, try_batch, try_copies, try_or_recall  # noqa: E402
 from planting.crate_files import Source, items_of, module_of, reached  # noqa: E402
 from planting.grouping import Unfit, stop_on_clash  # noqa: E402
 from planting.one_check import Kept  # noqa: E402
@@ -56,14 +61,14 @@ from planting.one_edit import Edit  # noqa: E402
 from prove import toolchain  # noqa: E402
 
 
-def run(batches, jobs, show=None):
+def run(batches, jobs, trying, show=None):
     """Tries batches, some at a time, as many as memory holds. It prints what comes, and returns how many passed and failed."""
     rtlib, left, running, counts, spent = toolchain(), list(batches), {}, [0, 0], {}
     with ThreadPoolExecutor(jobs) as pool:
         while left or running:
             while left and len(running) < jobs and (not running or rtlib.fits(left[0].need)):
                 batch = left.pop(0)
-                running[pool.submit(try_batch if show else try_or_recall, batch, ROOT, show)] = batch
+                running[pool.submit(trying, batch, ROOT, show)] = batch
             for it in wait(running, return_when=FIRST_COMPLETED).done:
                 name, (results, seconds) = running.pop(it).name, it.result()
                 for edit, passed, text in results:
@@ -114,17 +119,23 @@ def build_below(crates):
 
 
 def chosen(words):
-    """The batches that the command's words ask for, how many to try at a time, and where to leave what the checks say."""
+    """The batches that the command's words ask for, how many to try at a time, by what, and where to leave what the checks say."""
     words, options = list(words), {"--jobs": "1", "--show": ""}
     while len(words) > 1 and words[0] in options:
         name = words.pop(0)
         options[name] = words.pop(0)
     jobs = int(options["--jobs"]) if options["--jobs"].isdigit() else 0
-    flag = words.pop(0) if words and words[0] in ("--changed", "--batch") else ""
-    if not jobs or any(it.startswith("-") for it in words) or flag and not words:
-        raise Unfit("use: tools/edits.py [--show FOLDER] [--jobs N] [NAME.. | EDIT.. | --changed FILE.. | --batch EDIT..]")
-    crates, asked = toolchain().crates_below(ROOT), {}
+    flag = words.pop(0) if words and words[0] in ("--changed", "--batch", "--unedited") else ""
+    if not jobs or any(it.startswith("-") for it in words) or flag in ("--changed", "--batch") and not words:
+        forms = "NAME.. | EDIT.. | --changed FILE.. | --batch EDIT.. | --unedited [NAME..]"
+        raise Unfit(f"use: tools/edits.py [--show FOLDER] [--jobs N] [{forms}]")
+    crates, asked, show = toolchain().crates_below(ROOT), {}, options["--show"]
     names = {it.name: it for it in crates}
+    if flag == "--unedited":
+        unknown = [it for it in words if it not in names]
+        if unknown:
+            raise Unfit(f"{unknown[0]} is no crate")
+        return [batch for it in crates if it.name in words or not words for batch in batch_of_copies(it)], jobs, try_copies, show
     for word in words if flag != "--changed" else []:
         paths = edits_in(names[word]) if word in names and not flag else [os.path.abspath(word)]
         asked.setdefault(names.get(word) or crate_above(crates, word), []).extend(paths)
@@ -133,28 +144,30 @@ def chosen(words):
     for it in crates if flag == "--changed" else []:
         files = [os.path.relpath(word, it.folder) for word in map(os.path.abspath, words) if word.startswith(f"{it.folder}/")]
         asked.update({it: concerned(it, files)} if files else {})
+    trying = try_batch if show else try_or_recall
     if flag != "--batch":
-        return [batch for crate, paths in asked.items() for batch in batches_of_crate(crate, paths)], jobs, options["--show"]
+        return [batch for crate, paths in asked.items() for batch in batches_of_crate(crate, paths)], jobs, trying, show
     batches = []
     for crate, paths in asked.items():
         source = Source(crate.folder)
-        batches.append(Batch(crate, source, [Edit(path, crate.name, source) for path in paths], Kept()))
-        stop_on_clash(batches[-1].edits)
-    return batches, jobs, options["--show"]
+        edits = [Edit(path, crate.name, source) for path in paths]
+        stop_on_clash(edits)
+        batches.append(batch_of(crate, source, edits, Kept()))
+    return batches, jobs, trying, show
 
 
 def main():
     # with Python's own handler Ctrl-C would wait for the checks that run
     signal.signal(signal.SIGINT, signal.SIG_DFL)
     try:
-        batches, jobs, show = chosen(sys.argv[1:])
+        batches, jobs, trying, show = chosen(sys.argv[1:])
         if show:
             os.makedirs(show, exist_ok=True)
         build_below(it.crate for it in batches)
     except Unfit as why:
         print(f"edits.py: {why}", file=sys.stderr)
         return 2
-    passed, failed = run(batches, jobs, show)
+    passed, failed = run(batches, jobs, trying, show)
     print(f"{passed} passed, {failed} failed")
     return 1 if failed else 0
 

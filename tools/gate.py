@@ -6,9 +6,10 @@
 1. `rt ci` proves each crate and its tests, tries the edits in must-fail/, runs the tests, and builds and runs PROGRAM.
 2. Beside it the other edits are tried in batches, as tools/edits.py does, at a lower priority: those of a crate once it is
    proved, while fewer checks run than there are processors. `rt ci` takes any refusal, and this only a clause's. So an edit in
-   must-fail/ for which `rt ci` names no clause is tried here too, and then counts twice. What a batch can't judge is tried
-   alone. What something else than a clause refuses has failed, unless tools/edits_refused_otherwise.txt says why. The results
-   of a batch that passed here, of the same files, are kept, as `rt ci` keeps what it proved.
+   must-fail/ for which `rt ci` names no clause, one that doesn't compile say, is tried here too, and then may count twice.
+   What a batch can't judge is tried alone, but not what its harmless edit speaks against. What something else than a clause
+   refuses has failed, unless tools/edits_refused_otherwise.txt says why. The results of a batch that passed here, of the same
+   files, are kept, as `rt ci` keeps what it proved.
 3. The library, and the page that has it, are built from what was proved.
 4. tests/run tests what people touch: the program, the library, packages, recipes, documents.
 
@@ -48,6 +49,8 @@ REFUSED = re.compile(r"rt: must-fail (\S+)\.edit: refused, as it must be(?:: )?(
 LLVM_ALONE = re.compile(r"rt: note: Rattle's own compiler did not ")
 COUNTS = re.compile(r"(?m)^(\d+) passed, (\d+) failed$")
 FAULTS = re.compile(r"rt: FAILED: |.*(NOT PROVED|NOT REFUSED|NOT TRIED)|.*: its tests FAILED$|failed: ")
+# How a result begins that stands: what the edit alone would come to says no more, or nothing of the check that can't see.
+STANDS = ("refused", "bad edit", "not tried: the harmless edit")
 showing = threading.Lock()
 
 Ran = collections.namedtuple("Ran", "status lines clock processor")
@@ -131,12 +134,12 @@ def link_or_copy(one, other):
 
 def tried(batch, root):
     """What came of each edit of a batch: a line, and whether it passed. What the batch can't judge is tried alone. An edit that
-    can't be read has failed, and so has one that is refused otherwise than the list says. A tool that breaks off fails what is
-    left of the batch."""
+    can't be read has failed, and so has one that is refused otherwise than the list says, and one whose check doesn't see its
+    harmless edit as harmless. A tool that breaks off fails what is left of the batch."""
     found = {}
     try:
         for edit, is_passed, text in try_or_recall(batch, root)[0]:
-            if not is_passed and not text.lower().startswith(("refused", "bad edit")):
+            if not is_passed and not text.lower().startswith(STANDS):
                 is_passed, text = try_alone(edit, batch, root)
             found[edit] = f"{edit.name}: {text}", is_passed
     except Exception as fault:  # noqa: BLE001
@@ -153,7 +156,9 @@ class Batches:
         self.waiting, self.ready, self.running = collections.defaultdict(list), [], 0
         for batch in batches_of(root, folders=("edits",)):
             self.waiting[batch.name].append(batch)
-        self.of_must_fail = {edit.name: batch for batch in batches_of(root, folders=("must-fail",)) for edit in batch.edits}
+        self.is_empty, self.crates = not self.waiting, set()
+        # those for which `rt ci` has named no clause yet
+        self.of_must_fail = {edit.name: (batch, edit) for batch in batches_of(root, folders=("must-fail",)) for edit in batch.edits}
         self.processors, self.is_last, self.last = processors, False, 0
         self.begun, self.passed, self.failed, self.faults = set(), 0, 0, []
         self.threads = [threading.Thread(target=self.work, daemon=True) for _ in range(processors)]
@@ -162,17 +167,20 @@ class Batches:
 
     def proved(self, crate):
         with self.change:
+            self.crates.add(crate)
             self.ready += self.waiting.pop(crate, [])
             self.change.notify_all()
 
     def refused(self, name, said):
         """Takes what `rt ci` says of an edit in must-fail/. If that names no clause, the edit is tried once more, by itself."""
-        batch = self.of_must_fail.get(name)
-        edit = next((it for it in batch.edits if it.name == name), None) if batch else None
+        batch, edit = self.of_must_fail.pop(name, (None, None))
         if edit and not shown_by(edit, batch.source.filed, said):
-            with self.change:
-                self.ready.append(Batch(batch.crate, batch.source, [edit], batch.kept))
-                self.change.notify_all()
+            self.try_itself(batch, edit)
+
+    def try_itself(self, batch, edit):
+        with self.change:
+            self.ready.append(Batch(batch.crate, batch.source, [edit], batch.kept))
+            self.change.notify_all()
 
     def has_room(self):
         """Whether a processor is free: by the last look at the checks that run, and once what began since then is in it."""
@@ -210,14 +218,18 @@ class Batches:
             show("\n".join(text for text, _ in told))
 
     def finish(self):
-        """Waits until all are tried; those of crates that were not proved are named."""
+        """Waits until all are tried, also those in must-fail/ that `rt ci` didn't call refused, since it fails for none that it can't
+        read; those of crates that were not proved are named."""
+        for batch, edit in self.of_must_fail.values():
+            if batch.name in self.crates:
+                self.try_itself(batch, edit)
         with self.change:
             self.is_last = True
             self.change.notify_all()
         for it in self.threads:
             it.join()
-        if not self.passed + self.failed and not self.waiting:
-            self.faults, self.failed = ["edits: NOT TRIED, since none was found"], 1
+        if self.is_empty:
+            self.faults, self.failed = [*self.faults, "edits: NOT TRIED, since none was found"], self.failed + 1
         for crate, left in self.waiting.items():
             self.faults.append(f"edits of {crate}: NOT TRIED, since the crate is not proved")
             self.failed += sum(len(it.edits) for it in left)

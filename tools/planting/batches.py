@@ -1,5 +1,6 @@
 """Batches: the edits of a crate that are tried in one check, what came of them, and the results that are kept."""
 
+import collections
 import contextlib
 import hashlib
 import json
@@ -12,8 +13,8 @@ from prove import toolchain
 from .copies import with_copies
 from .crate_files import Source, text_of, texts_in
 from .grouping import grouped
-from .judging import ended, judge, listed_otherwise, results_of, unjudged, unseen
-from .one_check import Kept, check, copy_with, harmless, plant
+from .judging import ended, judge, listed_otherwise, results_of, unjudged, unproved, unseen
+from .one_check import Kept, called, check, copy_with, harmless, plant, same_in
 from .one_edit import Edit
 
 # Where the results of batches that passed are kept.
@@ -22,19 +23,22 @@ KEPT = os.path.join(os.environ.get("XDG_CACHE_HOME") or os.path.expanduser("~/.c
 # What is said of an edit that a copy of its law can't judge.
 WITHOUT_COPY = " (in its law, not in a copy)"
 
+# A function that is checked in a copy.
+Copied = collections.namedtuple("Copied", "name")
+
 
 class Batch:
     """Edits of a crate that are tried in one check. `need` is the memory that the check is likely to take, in bytes."""
 
     def __init__(self, crate, source, edits, kept):
         self.crate, self.source, self.edits, self.kept, self.name = crate, source, edits, kept, crate.name
-        self.need = 1_000_000_000 + 15_000_000 * len(edits) + 150_000 * crate.count(rb"\n")
+        self.need = 1_000_000_000 + 15_000_000 * (len(edits) + len(source.spare)) + 150_000 * crate.count(rb"\n")
 
     def unsearched(self, controls=()):
         """The functions whose goals without an answer no search has to prove: those that are edited and that an answer refuses, and a
         harmless edit's."""
         edited = [f for it in self.edits if not (it.is_searched or it.definitions or it.is_alone) for f in it.functions if f in it.judged]
-        return [it for it in [*edited, *(it for it, _, _ in controls[2:])] if self.source.has_answers(it)]
+        return [it for it in [*edited, *(it for it, _, _ in controls[2:] if edited)] if self.source.has_answers(it)]
 
     def finds_work(self):
         """Whether an earlier check of the crate kept what this one begins with, if it begins with any."""
@@ -54,7 +58,16 @@ def batches_of_crate(crate, paths):
     groups = sorted(grouped([Edit(path, crate.name, source) for path in paths]), key=len)
     # to keep work takes a ninth longer, so the largest does not
     kept = Kept() if len(groups) > 2 else None
-    return [Batch(crate, *with_copies(source, it), None if it is groups[-1] else kept) for it in groups]
+    return [batch_of(crate, source, it, None if it is groups[-1] else kept) for it in groups]
+
+
+def batch_of(crate, source, edits, kept):
+    """A batch of these edits, in copies of functions and of laws if need be. Its harmless edits but the first are in copies too, if
+    their functions may be copied: so one that isn't proved as its function is shows."""
+    if any(it.bad for it in edits):
+        return Batch(crate, source, edits, kept)
+    spare = [it for it, _, _ in harmless(Batch(crate, source, edits, kept))[1:] if source.may_be_copied(it)]
+    return Batch(crate, *with_copies(source, edits, spare), kept)
 
 
 def batches_of(root, folders):
@@ -67,12 +80,13 @@ def batches_after(batch, check, left, unjudged):
     """The batches in which the edits that a check leaves are tried: those in copies of laws that it can't judge as they were read, each
     alone. If it broke off for them, the others are tried without such copies."""
     parts = [[it for it in part if it not in unjudged] for part in left]
-    again = [(batch.source, it) for it in parts if it]
+    again = [Batch(batch.crate, batch.source, it, batch.kept) for it in parts]
     if unjudged and not check.is_whole:
-        again = [with_copies(batch.source.filed, [it.filed for part in parts for it in part if not it.control])]
-        again += [(batch.source, [it for part in parts for it in part if it.control])]
-    again += [(batch.source.filed, [it.filed]) for it in unjudged]
-    return [Batch(batch.crate, *it, batch.kept) for it in again if it[1]]
+        without = [it.filed for part in parts for it in part if not it.control]
+        again = [batch_of(batch.crate, batch.source.filed, without, batch.kept)]
+        again += [Batch(batch.crate, batch.source, [it for part in parts for it in part if it.control], batch.kept)]
+    again += [Batch(batch.crate, batch.source.filed, [it.filed], batch.kept) for it in unjudged]
+    return [it for it in again if it.edits]
 
 
 def texts_of_tool():
@@ -83,9 +97,10 @@ def texts_of_tool():
 
 
 def kept_at(batch, root):
-    """The file in which the results of the batch are kept. Its name is a hash of all that they depend on."""
+    """The file in which the results of the batch are kept. Its name is a hash of all that they depend on, the same before and after:
+    an edit that turned out to need a search doesn't say so in its file."""
     rests = [texts_of_tool(), batch.crate.stamp(), sorted(listed_otherwise(root).items())]
-    rests += [(it.name, sorted(it.rows.items()), it.is_searched) for it in batch.edits]
+    rests += [(it.name, sorted(it.rows.items()), it.is_searched and not it.is_unmarked) for it in batch.edits]
     return f"{KEPT}/{hashlib.sha256(repr(rests).encode()).hexdigest()}"
 
 
@@ -114,17 +129,7 @@ def try_batch(batch, root, show=None):
         return [(it, False, f"BAD EDIT: {it.bad or 'it stands beside one'}") for it in batch.edits], 0
     controls, results, seconds, without_copy = harmless(batch), [], 0, set()
     if controls:
-        with tempfile.TemporaryDirectory(prefix="edits-") as room:
-            said = check(batch, plant(batch, room, controls), room, batch.unsearched(controls))
-        unread = set(re.findall(r"(?m)^(?:\./)?proofs/(\S+)/Proof\.antt: error", said.said))
-        if unread and not said.is_whole and not {it.replace("/", "::") for it in unread} <= batch.source.unread:
-            batch.source.unread |= {it.replace("/", "::") for it in unread}
-            results, seconds = try_batch(batch, root, show)
-            return results, said.seconds + seconds
-        if show:
-            with tempfile.NamedTemporaryFile("w", dir=show, prefix=f"{batch.name}-", suffix=".txt", delete=False) as it:
-                start = f"{said.seconds:.0f} s of processor time, {said.memory / 1_000_000:.0f} MB of {batch.need / 1_000_000:.0f}"
-                it.write("\n".join([start, *(edit.name for edit in batch.edits), said.said]))
+        said = check_planted(batch, controls, show)
         results, left = results_of(batch, said, controls, listed_otherwise(root))
         again = unjudged(batch, said, results) if not unseen(batch, said, controls) or not said.is_whole else []
         results = [it for it in results if it[0] not in again]
@@ -140,6 +145,45 @@ def try_batch(batch, root, show=None):
         told = [(it, is_passed, text + WITHOUT_COPY * (it in without_copy)) for it, is_passed, text in told]
         results, seconds = results + told, seconds + used
     return results, seconds
+
+
+def check_planted(batch, controls, show=None):
+    """What a check of the batch says, beside these harmless edits. It begins again if the toolchain reads no proof of ours for a
+    function that is left out."""
+    with tempfile.TemporaryDirectory(prefix="edits-") as room:
+        said = check(batch, plant(batch, room, controls), room, batch.unsearched(controls))
+    unread = {it.replace("/", "::") for it in re.findall(r"(?m)^(?:\./)?proofs/(\S+)/Proof\.antt: error", said.said)}
+    if not said.is_whole and not unread <= batch.source.unread:
+        batch.source.unread |= unread
+        again = check_planted(batch, controls, show)
+        again.seconds += said.seconds
+        return again
+    if show:
+        with tempfile.NamedTemporaryFile("w", dir=show, prefix=f"{batch.name}-", suffix=".txt", delete=False) as it:
+            start = f"{said.seconds:.0f} s of processor time, {said.memory / 1_000_000:.0f} MB of {batch.need / 1_000_000:.0f}"
+            it.write("\n".join([start, *(edit.name for edit in batch.edits), said.said]))
+    return said
+
+
+def batch_of_copies(crate):
+    """A batch without edits, of a copy of each function of which an edit of the crate stands in a copy; none if there is no such
+    function."""
+    edits = [it for part in ("edits", "must-fail") for batch in batches_of_crate(crate, edits_in(crate, (part,))) for it in batch.edits]
+    moved = {was.symbol for it in edits if not it.control for was, now in zip(it.filed.functions, it.functions) if was.symbol != now.symbol}
+    source = Source(crate.folder)
+    spare = [it for it in source.functions if it.symbol in moved]
+    return [Batch(crate, *with_copies(source, [], spare), None)] if spare else []
+
+
+def try_copies(batch, _, show=None):
+    """Checks the source's spare copies, each with a statement that does nothing. It returns of each its function, whether it has no open
+    goal, and what to say of it; and the seconds of processor time."""
+    copies = batch.source.spare.items()
+    controls = harmless(batch)[:1] + [(it, same_in(it), called(batch.source, it)) for _, it in copies]
+    said = check_planted(batch, controls, show)
+    why = unseen(batch, said, controls[:1]) if said.is_whole else ended(said)
+    found = {symbol: f"NOT TRIED: {why}" if why else unproved(it, batch, said) for symbol, it in copies}
+    return [(Copied(f"{batch.name}/{it}"), not fault, fault or "proved in a copy") for it, fault in found.items()], said.seconds
 
 
 def try_alone(edit, batch, root):

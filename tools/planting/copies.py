@@ -23,30 +23,34 @@ def within_closures(function):
     return ".".join(closures_of(function).split("/")[1:-2])
 
 
-def with_copies(source, edits):
-    """A source with copies of functions, and the edits of a batch, of which no two are of one function or copy."""
+def with_copies(source, edits, spare=()):
+    """A source with copies of functions, also of these without an edit, and the edits of a batch, of which no two are of one function
+    or copy."""
     again = [it for at, it in enumerate(edits) if it.may_move and any({*it.functions} & {*other.functions} for other in edits[:at])]
     beside = [it for it in edits if it.is_beside] if len(edits) > 1 else []
     texts, places, names, own = dict(source.texts), {}, {}, {}
-    for file in {file for edit in edits if edit not in beside for file, _ in edit.rows}:
+    copies = [(it, function) for it in [*again, *spare] for function in (it.functions if it in again else [it])]
+    for file in {*(file for edit in edits if edit not in beside for file, _ in edit.rows), *(it.file for it in spare)}:
         lines = []
         for row, line in enumerate(source.texts[file].split("\n")):
             places[file, row] = file, len(lines)
             lines.append(line)
-            for it, function in ((it, function) for it in again for function in it.functions):
+            for it, function in copies:
                 if (function.file, function.last) == (file, row):
-                    name = f"{function.name}_copy_{again.index(it) + 1}"
+                    name = f"{function.name}_copy_{[*again, *spare].index(it) + 1}"
                     names.setdefault(it, {})[function.symbol] = f"{function.symbol.rpartition('::')[0]}::{name}"
                     lines += ["", *source.attributes(function)]
                     rows = range(function.first, function.last + 1)
                     own.setdefault(it, {}).update({(file, at): (file, len(lines) + at - function.first) for at in rows})
                     lines += copied(source, function, name, texts)
         texts[file] = "\n".join(lines)
-    if not again and not beside:
+    if not again and not beside and not spare:
         return source, edits
-    copies = copies_of_laws(source, beside, texts)
+    of_laws = copies_of_laws(source, beside, texts)
     wide = Source(source.folder, texts, source)
-    moved = [in_law_copy(it, wide, *copies[it]) if it in copies else it.moved(wide, own.get(it, places), names.get(it, {})) for it in edits]
+    known = {it.symbol: it for it in wide.functions}
+    wide.spare = {it.symbol: known[names[it][it.symbol]] for it in spare}
+    moved = [in_law_copy(it, wide, *of_laws[it]) if it in of_laws else it.moved(wide, own.get(it, places), names.get(it, {})) for it in edits]
     for it in (it for it in moved if it.filed in own):
         # the lines that have the names
         for was, now in zip(it.filed.functions, it.functions):

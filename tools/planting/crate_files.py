@@ -26,11 +26,12 @@ def texts_in(folder):
 
 class Source:
     """The files of a crate: the text of each, the functions of src/, and those for which the toolchain reads no proof of ours.
-    With texts of its own it differs from `filed`, the crate as it stands in its folder."""
+    With texts of its own it differs from `filed`, the crate as it stands in its folder. It then may have `spare` copies, in
+    which no edit stands, by the symbols of their functions."""
 
     def __init__(self, folder, texts=None, filed=None):
         self.folder, self.texts, self.functions, self.crate = folder, texts or texts_in(folder), [], os.path.basename(folder)
-        self.filed, self.unread, self.resting = filed or self, filed.unread if filed else set(), {}
+        self.filed, self.unread, self.resting, self.spare = filed or self, filed.unread if filed else set(), {}, {}
         sources = {file: text for file, text in self.texts.items() if file.endswith(".rt")}
         homes = {name: place_of(file) for file, text in sources.items() for name in re.findall(IS_TYPE, text)}
         for file, text in sources.items():
@@ -164,7 +165,7 @@ def items_of(text):
 def item_at(text, row):
     """The name of the item of specs/ on a line of its text, or None."""
     lines = text.split("\n")
-    while row >= 0 and not IS_ITEM.match(lines[row]) or lines[row].startswith(" "):
+    while row >= 0 and (lines[row].startswith(" ") or not IS_ITEM.match(lines[row])):
         row -= 1
     return IS_ITEM.match(lines[row])[1] if row >= 0 else None
 

@@ -56,7 +56,7 @@ def put_beside(edits):
 def may_join(more, edits):
     """Whether edits of definitions can be tried beside these."""
     return (len(more) + len(edits) <= MOST and all(it.is_of_laws for it in more)
-            and not any(it.disturbs(other) for it in more for other in edits))
+            and not any(other.is_alone or it.disturbs(other) for it in more for other in edits))
 
 
 def spread(edits):

@@ -165,8 +165,29 @@ def unseen(batch, check, controls):
     seen = check.lines.get(first.symbol, "the check has no line for it")
     if seen != "no holes":
         return f"the harmless edit of {first.symbol} isn't seen as proved: {seen[:160]}"
-    opened = [(it, goal) for it, _, _ in others for goal in goals_of(it, batch, check)]
-    return f"the harmless edit of {opened[0][0].symbol} is refused by `{opened[0][1]}`" if opened else None
+    opened = [(it, opened_in(it, batch, check)) for it, _, _ in others]
+    return next((f"the harmless edit of {it.symbol} {fault}" for it, fault in opened if fault), None)
+
+
+def opened_in(function, batch, check):
+    """What a check says against a function that is to have no open goal, beside the lemma that is refused."""
+    goals = [*goals_of(function, batch, check)]
+    if check.is_whole and function.symbol not in check.lines:
+        return "has no line in the check"
+    return f"is refused by `{goals[0]}`" if goals else None
+
+
+def unproved(function, batch, check):
+    """The same of one that is searched, whose line then says nothing else."""
+    said = check.lines.get(function.symbol, "")
+    is_well = re.match(rf"no holes$|depends on a hole|not proved; it stands on `[^`]+\.{NO_OFFERS}`, which antt refuses$", said)
+    return opened_in(function, batch, check) or (None if is_well else f"isn't proved: {said[:160]}")
+
+
+def is_told(edit, batch, check):
+    """Whether a check that broke off says why of each answer that it refuses. Otherwise one could be refused for a name alone."""
+    symbols = [symbol for it in edit.judged for symbol in lines_of(it, check)]
+    return all(said for symbol in symbols for _, _, said in lemmas_of(symbol, batch, check))
 
 
 def results_of(batch, check, controls, otherwise):
@@ -178,7 +199,7 @@ def results_of(batch, check, controls, otherwise):
     if check.is_whole and why:
         told = dict.fromkeys(batch.edits, (False, f"NOT TRIED: {why}"))
     elif not check.is_whole:
-        told = {it: told[it] for it in batch.edits if not why and told[it][0]}
+        told = {it: told[it] for it in batch.edits if not why and told[it][0] and is_told(it, batch, check)}
         told.update({it: (False, said) for it, said in bad.items()})
     else:
         # hidden ones are tried again without the others; if all are hidden and none is of laws, something else hides them

@@ -12,7 +12,7 @@ from prove import toolchain
 
 from .functions import OWN_PROOF, closures_of
 
-# The seconds that a check gets, and more for each edit, before it is stopped and its edits are tried by halves; and those of
+# The seconds that a check gets, and more for each function, before it is stopped and its edits are tried by halves; and those of
 # a whole crate.
 SECONDS, SECONDS_EACH, SECONDS_WHOLE = 600, 60, 3600
 
@@ -34,26 +34,43 @@ def called(source, function):
     return found
 
 
+def same_in(function):
+    """The line on which the function's body opens, with a statement more that does nothing."""
+    opens = function.body[0].rstrip()
+    if opens.endswith("{}"):
+        return f"{opens[:-2]}{{ let _same = (); }}"
+    return f"{opens} let _same = ();" if opens.endswith("{") else opens
+
+
 def harmless(batch):
     """The plainest functions, at most two, that no edit of the batch reaches, nor any that they call. With each the line on which its
     body opens, with a statement more that does nothing, and the functions that it may call. The second is no law. If an edit of the
-    batch is to be refused by an answer, there is a third, the plainest that has answers."""
-    reach = {it for edit in batch.edits for it in [*edit.reach, *edit.judged]}
+    batch is to be refused by an answer, there is a third, the plainest that has answers. Functions that may be copied come before
+    plainer ones there, and the source's own copies of them stand for them."""
+    source, reach = batch.source, {it for edit in batch.edits for it in [*edit.reach, *edit.judged]}
     found = []
-    for it in batch.source.functions:
-        opens = it.body[0].rstrip() if it.body else ""
+    for it in source.functions:
         # a proof by hand walks over the code as it stands
-        by_hand = os.path.isfile(f"{batch.source.folder}/proofs/{it.symbol.replace('::', '/')}/Proof.antt")
-        if it in reach or by_hand or not opens.endswith(("{", "{}")) or "unsafe" in " ".join(it.head):
+        by_hand = os.path.isfile(f"{source.folder}/proofs/{it.symbol.replace('::', '/')}/Proof.antt")
+        is_fit = it.body and it.body[0].rstrip().endswith(("{", "{}")) and "unsafe" not in " ".join(it.head)
+        if it in reach or by_hand or not is_fit or it in source.spare.values():
             continue
-        calls = called(batch.source, it)
+        calls = called(source, it)
         if not reach & {*calls}:
-            text = f"{opens} let _same = ();" if opens.endswith("{") else f"{opens[:-2]}{{ let _same = (); }}"
-            found.append((it.is_law(), len(calls), not it.contract(), len(it.body), it.symbol, it, text, calls))
+            found.append((it.is_law(), len(calls), not it.contract(), len(it.body), it.symbol, it, calls))
     found.sort(key=lambda it: it[:5])
-    chosen = found[:1] + [it for it in found[1:2] if not it[0]]
-    answered = [it for it in found[2:] if batch.source.has_answers(it[5])] if len(chosen) == 2 and batch.unsearched() else []
-    return [it[5:] for it in chosen + answered[:1]]
+    chosen, others = [it[5:] for it in found[:1]], [it[5:] for it in found[1:] if not it[0]]
+    second = first_in_copy(source, others)
+    answered = [it for it in others if it not in second and source.has_answers(it[0])] if second and batch.unsearched() else []
+    chosen += [(source.spare.get(it.symbol, it), calls) for it, calls in second + first_in_copy(source, answered)]
+    return [(it, same_in(it), calls) for it, calls in chosen]
+
+
+def first_in_copy(source, found):
+    """The first of these functions of which the source has a spare copy, or of which it may have one if it has none yet. The very
+    first if there is no such function."""
+    fit = (it for it in found if (it[0].symbol in source.spare if source.spare else source.may_be_copied(it[0])))
+    return [next(fit, found[0])] if found else []
 
 
 STUB = "use {0}.Statement.{{statement}}\n\npub {1}_spec : {{M : Type 1}} → statement M\n{1}_spec = ?\n"
@@ -204,7 +221,7 @@ def check(batch, asked, room, unsearched=()):
     with tempfile.TemporaryFile("w+", encoding="utf-8", errors="replace") as said:
         whole = [*rtlib.guarded(), "nice", "-n", str(NICENESS), rtlib.RATTLE, "check", *words]
         ran = subprocess.Popen(whole, cwd=room, stdin=subprocess.DEVNULL, stdout=said, stderr=subprocess.STDOUT)
-        late = threading.Timer(SECONDS + SECONDS_EACH * len(batch.edits) if asked else SECONDS_WHOLE, ran.kill)
+        late = threading.Timer(SECONDS + SECONDS_EACH * len(asked) if asked else SECONDS_WHOLE, ran.kill)
         late.start()
         _, status, used = os.wait4(ran.pid, 0)
         late.cancel()

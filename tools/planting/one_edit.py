@@ -15,9 +15,9 @@ BY_SEARCH = "refused: by a search"
 class Edit:
     """An edit as its file has it: which lines of which files it changes, and the functions whose lines these are. It also has
     the functions of which one has to be refused, and all whose proof it can change. One of laws has the clauses that depend
-    on it. It is `bad` if it can't be applied. `filed` is the edit as it was read, if it now stands in a copy of its function.
-    If it is of a law that can be copied, `copy` says how, and it `is_beside` the law if it is to stand in a copy. Once it does,
-    `control` is the copy without an edit."""
+    on it. It is `bad` if it can't be applied, or changes what none may. `filed` is the edit as it was read, if it now stands in
+    a copy of its function. If it is of a law that can be copied, `copy` says how, and it `is_beside` the law if it is to stand
+    in a copy. Once it does, `control` is the copy without an edit."""
 
     def __init__(self, path, crate, source):
         self.path, self.name = path, f"{crate}/{os.path.basename(path)[: -len('.edit')]}"
@@ -25,7 +25,7 @@ class Edit:
         self.rows, self.functions, self.definitions, self.judged, self.reach, self.clauses = {}, [], [], [], [], set()
         self.is_alone, self.is_of_laws, self.is_unmarked = True, False, False
         self.copy, self.is_beside, self.control = None, False, None
-        self.bad = self.apply(text_of(path), source)
+        self.bad = self.apply(text_of(path), source) or self.touched(source)
         if not self.bad:
             self.place(source)
 
@@ -33,8 +33,12 @@ class Edit:
         """Notes the lines that the edit changes, or says why it can't be applied. Each `old` stands on one line."""
         file, old, texts = "", None, {}
         for line in text.split("\n"):
+            if not line.strip() or line.startswith("#"):
+                continue
+            if old is not None and not line.startswith("new:"):
+                return "an 'old:' line has no 'new:' line below it"
             if line.startswith("file: "):
-                file, old = line[len("file: ") :].strip(), None
+                file = line[len("file: ") :].strip()
                 if file not in source.texts:
                     return f"there is no file {file}"
             elif line == BY_SEARCH:
@@ -48,10 +52,23 @@ class Edit:
                 if now.count(old) != 1:
                     return f"an 'old:' text is in {file} {now.count(old)} times, and not once"
                 texts[file], old = now.replace(old, re.sub(r"\A ", "", line[len("new:") :])), None
+            else:
+                return f"no line of an edit begins as this one: {line.strip()[:60]}"
+        if old is not None:
+            return "an 'old:' line has no 'new:' line below it"
         for file, now in texts.items():
             pairs = zip(source.texts[file].split("\n"), now.split("\n"))
             self.rows.update({(file, at): new for at, (was, new) in enumerate(pairs) if was != new})
         return None if self.rows else "it changes nothing"
+
+    def touched(self, source):
+        """What the edit changes that none may, since any change of it is refused: a proof, or the contract of what is no law."""
+        if any(file.startswith("proofs/") for file, _ in self.rows):
+            return "it changes a proof"
+        for it in {source.at(*row) for row in self.rows} - {None}:
+            if not it.is_law() and it.contract(self.rows) != it.contract():
+                return f"it changes the contract of {it.symbol}, which is no law"
+        return None
 
     def place(self, source):
         """Finds what the edit is of: functions, definitions of specs/, or neither."""
