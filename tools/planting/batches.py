@@ -179,7 +179,7 @@ def try_copies(batch, _, show=None):
     """Checks the source's spare copies, each with a statement that does nothing. It returns of each its function, whether it has no open
     goal, and what to say of it; and the seconds of processor time."""
     copies = batch.source.spare.items()
-    controls = harmless(batch)[:1] + [(it, same_in(it), called(batch.source, it)) for _, it in copies]
+    controls = harmless(batch)[:1] + [(it, same_in(it), []) for _, it in copies]
     said = check_planted(batch, controls, show)
     why = unseen(batch, said, controls[:1]) if said.is_whole else ended(said)
     found = {symbol: f"NOT TRIED: {why}" if why else unproved(it, batch, said) for symbol, it in copies}

@@ -178,9 +178,9 @@ def opened_in(function, batch, check):
 
 
 def unproved(function, batch, check):
-    """The same of one that is searched, whose line then says nothing else."""
+    """The same of one that stands in a check without edits. What it calls may be left out, so it may depend on a hole, but on no other."""
     said = check.lines.get(function.symbol, "")
-    is_well = re.match(rf"no holes$|depends on a hole|not proved; it stands on `[^`]+\.{NO_OFFERS}`, which antt refuses$", said)
+    is_well = said == "no holes" or said.startswith("depends on a hole")
     return opened_in(function, batch, check) or (None if is_well else f"isn't proved: {said[:160]}")
 
 

@@ -155,7 +155,8 @@ def plant(batch, room, controls):
     copy_with(batch, room, rows)
     for it in left_out:
         leave_out(room, batch.name, it, bool(bare[it]))
-    for it in asked[1:]:
+    # with no edit none is needed, and without it a line tells more
+    for it in asked[1:] if batch.edits else []:
         ask_for_no_offers(room, it)
     return asked
 
