@@ -5,7 +5,7 @@
 
 Each is 2 GB long there; PART takes one part in PART of it. A text is written to the program as it takes it, and is held
 nowhere. The answer has to be right, and the memory at most 20 MB, 4 for --box. A line a text: its length, seconds of processor
-time, seconds a gigabyte, the most memory. A text of half the length shows whether the time grows with the length alone.
+time, seconds a gigabyte, the most memory. A text of a quarter of the length shows whether the time grows with the length alone.
 """
 
 import os
@@ -21,8 +21,9 @@ MB = 1_000_000
 LENGTH = 2_000 * MB
 # what the program may take, in bytes: --box holds a window of the text, several workers hold two rounds
 ROOM, BOX_ROOM = 20 * MB, 4 * MB
-# the seconds within which two times aren't told apart, and how often a text is tried that takes longer than it should
-NOISE, TRIES = 0.2, 3
+# the seconds within which two times aren't told apart, and how often a text is tried: what else the machine does can only make a
+# run longer
+NOISE, TRIES = 0.02, 3
 SLICE = ["--pitch", "100", "--layer", "1000"]
 
 CUBE = box((0, 0, 0), (1, 1, 1))
@@ -114,26 +115,35 @@ def run(program, text, length):
     return spent() - before, memory, (child.returncode, said, fault)
 
 
+def is_slow(seconds, quarter):
+    """Whether a text takes too long beside one of a quarter of its length. It may take four times as long; if the time grew as the
+    square of the length, it would take sixteen times as long."""
+    return seconds > 6 * quarter + NOISE
+
+
+def try_text(program, text):
+    """Tries a text; answers what went wrong, a line each."""
+    quarter = min(run(program, text, text.length // 4)[0] for _ in range(TRIES))
+    seconds, memory, answer = run(program, text, text.length)
+    for _ in range(TRIES - 1):
+        if is_slow(seconds, quarter):
+            seconds = min(seconds, run(program, text, text.length)[0])
+    label = f"{text.name}, {' '.join(text.words[-2:])}"
+    print(f"{label:42} {text.length / MB:8.0f} MB {seconds:7.2f} s {seconds / text.length * 1000 * MB:6.2f} s/GB "
+          f"{memory / MB:7.1f} MB", flush=True)
+    wrong = []
+    if answer != text.answer:
+        wrong.append(f"{label}: {answer} in place of {text.answer}")
+    if memory > (BOX_ROOM if text.words == ["--box"] else ROOM):
+        wrong.append(f"{label}: {memory} bytes of memory")
+    if is_slow(seconds, quarter):
+        wrong.append(f"{label}: {seconds:.2f} s, and {quarter:.2f} s for a quarter of the length")
+    return wrong
+
+
 def try_all(program, part):
     """Tries every text; answers what went wrong, a line each."""
-    wrong = []
-    for text in texts(part):
-        half, _, _ = run(program, text, text.length // 2)
-        seconds, memory, answer = run(program, text, text.length)
-        # what else the machine does can only make a run longer
-        for _ in range(TRIES - 1):
-            if seconds > 3 * half + NOISE:
-                seconds = min(seconds, run(program, text, text.length)[0])
-        label = f"{text.name}, {' '.join(text.words[-2:])}"
-        print(f"{label:42} {text.length / MB:8.0f} MB {seconds:7.2f} s {seconds / text.length * 1000 * MB:6.2f} s/GB "
-              f"{memory / MB:7.1f} MB", flush=True)
-        if answer != text.answer:
-            wrong.append(f"{label}: {answer} in place of {text.answer}")
-        if memory > (BOX_ROOM if text.words == ["--box"] else ROOM):
-            wrong.append(f"{label}: {memory} bytes of memory")
-        if seconds > 3 * half + NOISE:
-            wrong.append(f"{label}: {seconds:.2f} s, and {half:.2f} s for half the length")
-    return wrong
+    return [it for text in texts(part) for it in try_text(program, text)]
 
 
 def main():

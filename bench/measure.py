@@ -59,7 +59,7 @@ def run(program, words, path):
         child = subprocess.Popen([program] + words, stdin=source, stdout=sink, stderr=subprocess.DEVNULL)
         _, status, used = os.wait4(child.pid, 0)
         seconds = time.perf_counter() - start
-        child.returncode = os.waitstatus_to_exitcode(status)
+        child.returncode = -(status & 0x7F) or status >> 8
         return seconds, child.returncode, os.fstat(sink.fileno()).st_size, used.ru_maxrss / 1024
 
 

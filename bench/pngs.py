@@ -39,7 +39,7 @@ def run(words):
         while count := child.stdout.readinto(piece):
             size += count
         _, status, used = os.wait4(child.pid, 0)
-    child.returncode = os.waitstatus_to_exitcode(status)
+    child.returncode = -(status & 0x7F) or status >> 8
     if child.returncode:
         raise SystemExit(f"{' '.join(words)}: status {child.returncode}")
     return time.perf_counter() - began, used.ru_utime + used.ru_stime, size

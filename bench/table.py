@@ -154,7 +154,7 @@ def run(program, words, path):
         child = subprocess.Popen([program, *words], stdin=source, stdout=subprocess.DEVNULL)
         _, status, used = os.wait4(child.pid, 0)
         seconds = time.perf_counter() - start
-    child.returncode = os.waitstatus_to_exitcode(status)
+    child.returncode = -(status & 0x7F) or status >> 8
     if child.returncode:
         sys.exit(f"{program} {' '.join(words)}: status {child.returncode}")
     return seconds, used.ru_maxrss / 1024

@@ -1,5 +1,6 @@
 #!/usr/bin/env python3
-"""Each known bad body of tests/known_bad.py can be planted: the text that it changes stands once, and its test is there."""
+"""Each known bad body of tests/known_bad.py can be planted: the text that it changes stands once. The test that has to fail is
+there, and its word selects it."""
 
 import os
 import sys
@@ -16,7 +17,8 @@ def main():
             same(f"{name}: its text in {path}", text_of(path).count(old), 1)
         module, test = bad.test.split("::")
         text = text_of(f"crates/{bad.crate}/src/{module}.rt")
-        holds(f"{name}: {bad.test} of {bad.crate} is there", f"fn {test}(" in text)
+        holds(f"{name}: {bad.test} is a test of {bad.crate}", f"#[test]\nfn {test}(" in text)
+        holds(f"{name}: {bad.word} selects it", bad.word in bad.test)
 
 
 if __name__ == "__main__":

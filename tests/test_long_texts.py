@@ -1,7 +1,7 @@
 #!/usr/bin/env -S python3 -B
 """Texts that are long in one place are answered rightly, in time that grows with their length, in little memory: the
-texts of bench/long_texts.py at a hundredth of their size. Two gigabytes are 20 MB here, which already wouldn't fit in the
-memory that is allowed."""
+texts of bench/long_texts.py at a fiftieth of their size. Two gigabytes are 40 MB here, which already wouldn't fit in the
+memory that is allowed. A stand-in whose time grows as the square of the length is told from the program."""
 
 import os
 import sys
@@ -9,9 +9,21 @@ import sys
 from parts import ROOT, main
 
 sys.path.insert(0, os.path.join(ROOT, "bench"))
-from long_texts import try_all  # noqa: E402
+from long_texts import try_all, try_text, texts  # noqa: E402
 
-PART = 100
+PART = 50
+# A program that takes this many seconds of processor time for the whole text, and a sixteenth of them for a quarter.
+SECONDS = 0.5
+SLOW = """#!{python} -SE
+import sys, time
+length = 0
+while piece := sys.stdin.buffer.read(1 << 20):
+    length += len(piece)
+end = time.process_time() + {seconds} * (length / {whole}) ** 2
+while time.process_time() < end:
+    pass
+sys.stdout.write({answer!r})
+"""
 
 
 def long_texts_take_little_memory(program, folder):
@@ -19,5 +31,14 @@ def long_texts_take_little_memory(program, folder):
     assert not wrong, "\n".join(wrong)
 
 
+def a_program_is_slow_if_its_time_grows_as_the_square(program, folder):
+    text, path = next(texts(PART)), os.path.join(folder, "slow")
+    with open(path, "w", encoding="utf-8") as file:
+        file.write(SLOW.format(python=sys.executable, seconds=SECONDS, whole=text.length, answer=text.answer[1].decode()))
+    os.chmod(path, 0o755)
+    wrong = try_text(path, text)
+    assert any(it.endswith("s for a quarter of the length") for it in wrong), f"the slow program is not told: {wrong}"
+
+
 if __name__ == "__main__":
-    main([long_texts_take_little_memory])
+    main([long_texts_take_little_memory, a_program_is_slow_if_its_time_grows_as_the_square])

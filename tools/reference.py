@@ -163,7 +163,7 @@ def prose(names, crate, text):
         return re.sub(r"`([^`]+)`", r"<code>\1</code>", words)
 
     def linked(shown, meant):
-        entry = names.in_comment(crate, meant.removeprefix("crate::"))
+        entry = names.in_comment(crate, re.sub(r"\Acrate::", "", meant))
         is_there = entry and (entry.is_public or entry.kind != "fn")
         return f'<a href="{names.place(entry)}"><code>{shown}</code></a>' if is_there else f"<code>{shown}</code>"
 

@@ -15,7 +15,7 @@ from .images import head_of, smaller
 from .parts import as_text, opened
 from .program import Program
 from .slicing import in_mm, refuse_unlit
-from .words import canvas, nonempty, processors, workers
+from .words import Parser, canvas, nonempty, processors, workers
 
 LARGEST = 100000  # micrometres
 
@@ -116,8 +116,7 @@ go(Math.floor(last / 2));
 
 
 def words():
-    parser = argparse.ArgumentParser(
-        allow_abbrev=False, description="Slices a part into one page of HTML that shows its layers, for any browser.")
+    parser = Parser(allow_abbrev=False, description="Slices a part into one page of HTML that shows its layers, for any browser.")
     add = parser.add_argument
     add("part", type=nonempty, help="ASCII or binary STL, or - for standard input; another format, zip and gzip are refused "
         "with the command that converts or unpacks them")

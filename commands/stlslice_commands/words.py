@@ -1,6 +1,7 @@
 """The options that `stlslice-sl1` and `stlslice-pngs` take."""
 
 import argparse
+import contextlib
 import os
 import re
 import sys
@@ -11,6 +12,14 @@ from .printers import listed, printers
 RULES = ["evenodd", "nonzero", "positive"]
 UNITS = ["mm", "cm", "m", "inch"]
 MOST_WORKERS = 64
+
+
+class Parser(argparse.ArgumentParser):
+    """A parser whose status stays the same if standard error is full, as that of newer Pythons does by itself."""
+
+    def _print_message(self, message, file=None):
+        with contextlib.suppress(OSError):
+            super()._print_message(message, file)
 
 
 class Listing(argparse.Action):
@@ -29,7 +38,7 @@ class Listing(argparse.Action):
 
 def parser(description, output):
     """A parser of the options that `stlslice-sl1` and `stlslice-pngs` take; `output` is what the second word names."""
-    made = argparse.ArgumentParser(description=description, allow_abbrev=False)
+    made = Parser(description=description, allow_abbrev=False)
     add = made.add_argument
     add("part", type=nonempty, help="an STL, ASCII or binary, or - for standard input; another format, zip and gzip are refused "
         "with the command that converts or unpacks them")
