@@ -131,8 +131,8 @@ for name in asked:
         said = "" if os.environ["CONTROL"] == "missing" or is_cut and not is_late else said
         # beside an answer that is refused, all are, if it is so told
         said = own_answer.format("no-offers") if has_refused else said
-        spoils = os.environ["SPOILS"] if has_refused and ("_copy_" in name or os.environ["SPOILS"] == "all") else ""
-        said = {"": said, "mute": "", "calls": f"{said}; it calls `thing::parts::other`, which is not proved"}.get(spoils, goal.format("returns-clause-value") + said)
+        spoils = os.environ["SPOILS"] if "_copy_" in name or has_refused and os.environ["SPOILS"] == "all" else ""
+        said = {"": said, "mute": "", "calls": f"fn thing::{name}: not proved; it calls `thing::parts::other`, which is not proved"}.get(spoils, goal.format("returns-clause-value") + said)
     elif "HIDDEN" in body and "BREAKS" in text:
         said = f"fn thing::{name}: no proof: the borrow checker's part in its proof is not made yet: a call of `thing::parts::looped`, which has no proof"
     elif "SEARCHED" in body or "HIDDEN" in body:
@@ -753,7 +753,7 @@ def unedited(room):
         same("copies that are proved", (status, lines[:2], lines[-1]), (0, said, "2 passed, 0 failed"))
     with open(room.file("asked")) as it:
         same("no edit is in a check of copies", it.read(), "harmless\n" * 2)
-    for how, fault in (({"spoils": "copies"}, "is refused by `returns-clause-value`"), ({"spoils": "mute"}, "has no line in the check"), ({"spoils": "calls"}, "isn't proved: not proved; it stands on"),
+    for how, fault in (({"spoils": "copies"}, "is refused by `returns-clause-value`"), ({"spoils": "mute"}, "has no line in the check"), ({"spoils": "calls"}, "isn't proved: not proved; it calls"),
                        ({"control": "missing"}, "NOT TRIED: the harmless edit of parts::Part::n isn't seen as proved")):
         status, lines, _ = tries(room, "--unedited", **how)
         holds(f"copies that are not: {fault}", all(line.startswith(f"{it.partition(': ')[0]}: {fault}") for line, it in zip(lines, said)))
