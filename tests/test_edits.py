@@ -510,10 +510,11 @@ def unfit(room):
     source, path = Source(room.file("crates", "thing")), room.file("crates", "thing", "edits", "looped.a.edit")
     head = ["file: src/parts.rt", "old: let mut sum = 1;"]
     no_new = "an 'old:' line has no 'new:' line below it"
-    for lines, wanted in ((["# why", "", *head, "", "# it is less", "new: let mut sum = 0;", "", ""], None), (["refused: by a search", *head, "new:"], None),
+    for lines, wanted in ((["# why", "", *head, "", "# it is less", "new: let mut sum = 0;", "", ""], None), (["# refused: by a search", *head, "new:"], None),
                           ([*head, "New: let mut sum = 0;"], no_new), ([*head, "new: let mut sum = 0;", "old: sum += 1;"], no_new), ([*head, *head, "new: 1"], no_new),
                           ([*head, "new: let mut sum = 0;", "old: ", "file: src/laws.rt"], no_new),
-                          (["refused by a search", *head, "new: 1"], "no line of an edit begins as this one: refused by a search"),
+                          (["refused: by a search", *head, "new: 1"], "no line of an edit begins as this one: refused: by a search"),
+                          *(([it, *head, "new: 1"], f"this line is not '# refused: by a search': {it}") for it in ("# refused by a search", "# refused: by a search ")),
                           ([*head, "new: let mut sum = 0;", "    sum"], "no line of an edit begins as this one: sum"),
                           (["file: proofs/lemmas/Limits.antt", "old: limit-is = refl", "new: limit-is = lit"], "it changes a proof"),
                           ([head[0], "old: ensures value { result ≡ n }", "new: ensures value { result ≡ 1 }"], "it changes the contract of parts::looped, which is no law"),
@@ -641,7 +642,7 @@ def without_search(room):
     planted(room, "looped.b", "HARMLESS", is_marked=False)
     planted(room, "looped.c", "LEMMA")
     status, lines, _ = tries(room)
-    same("what is not marked", (status, sorted(lines[:3])), (1, ["thing/looped.a: refused by `returns-clause-value`, and its file lacks the line 'refused: by a search'",
+    same("what is not marked", (status, sorted(lines[:3])), (1, ["thing/looped.a: refused by `returns-clause-value`, and its file lacks the line '# refused: by a search'",
          "thing/looped.b: NOT REFUSED: no holes", "thing/looped.c: refused by `returns-clause-many`"]))
     same("is tried again", [len(it) for it in checks_in(room)], [3, 2])
 

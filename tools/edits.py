@@ -20,8 +20,8 @@ clause (`returns..`), or the invariant of a loop or of a type (`loop-..`, `invar
 as in `rows-preserved`). A lemma of its answers stands for the goals that depend on it, if all of them are such.
 
 Most edits are refused by an answer that proves its goal no more. So nothing is searched for in an edited function that has
-answers: a goal without one says nothing. An edit that no answer refuses has the line 'refused: by a search' in its file. Without
-it the edit is tried once more, with a search, and its line says so.
+answers: a goal without one says nothing. An edit that no answer refuses has the line '# refused: by a search' in its file.
+Without it the edit is tried once more, with a search, and its line says so.
 
 An edit of a definition, in specs/, has to be refused in a function whose contract cites it, a law if there is one. Edits of a
 law stand in the law itself if no clause depends on two of them and nothing else sees what they change. Each is then refused by a

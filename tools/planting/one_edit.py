@@ -9,7 +9,7 @@ from .functions import clauses_of
 from .law_copy import LawCopy
 
 # The line of an edit whose goal has no answer, so that only a search can find that it isn't proved.
-BY_SEARCH = "refused: by a search"
+BY_SEARCH = "# refused: by a search"
 
 
 class Edit:
@@ -33,6 +33,9 @@ class Edit:
         """Notes the lines that the edit changes, or says why it can't be applied. Each `old` stands on one line."""
         file, old, texts = "", None, {}
         for line in text.split("\n"):
+            self.is_searched |= line == BY_SEARCH
+            if line.startswith("# refused") and line != BY_SEARCH:
+                return f"this line is not '{BY_SEARCH}': {line[:60]}"
             if not line.strip() or line.startswith("#"):
                 continue
             if old is not None and not line.startswith("new:"):
@@ -41,8 +44,6 @@ class Edit:
                 file = line[len("file: ") :].strip()
                 if file not in source.texts:
                     return f"there is no file {file}"
-            elif line == BY_SEARCH:
-                self.is_searched = True
             elif line.startswith("old: "):
                 old = line[len("old: ") :]
             elif line.startswith("new:"):
