@@ -91,7 +91,8 @@ class Repository:
         for name in ("tools/edits.py", "tools/prove.py"):
             put(f"{self.top}/{name}", STAND_IN)
         put(room.file("bin", "rt"), STAND_IN)
-        shutil.copy(os.path.join(ROOT, "tools", "check.py"), f"{self.top}/tools/check.py")
+        for name in ("check.py", "tests_run.py"):
+            shutil.copy(os.path.join(ROOT, "tools", name), f"{self.top}/tools/{name}")
         shutil.copy(os.path.join(ROOT, "tests", "run"), f"{self.top}/tests/run")
         for words in (["init", "-q"], ["add", "-A"], ["-c", "user.name=a", "-c", "user.email=a@b", "commit", "-qm", "first"]):
             self.run("git", *words)

@@ -1,7 +1,8 @@
 #!/usr/bin/env python3
 """The tool that tries wrong bodies together: which functions an edit is of, which edits go together, what it refuses to try, and
 how it reads what a check says. The checks are those of a stand-in for the toolchain, whose lines are rattle's. And each edit
-of the repository can be applied, and is of a function."""
+of the repository can be applied, and is of a function. The repository has no fewer edits, and no fewer tests in Rattle, than
+it once had."""
 
 import contextlib
 import os
@@ -19,7 +20,7 @@ from planting.copies import with_copies  # noqa: E402
 from planting.crate_files import Source, item_at, texts_in  # noqa: E402
 from planting.functions import closures_of, functions_of, owner  # noqa: E402
 from planting.grouping import grouped  # noqa: E402
-from planting.judging import listed_otherwise, shown_by  # noqa: E402
+from planting.judging import HARMLESS, listed_otherwise, shown_by  # noqa: E402
 from planting.law_copy import opened  # noqa: E402
 from planting.one_check import REFUSED_LEMMA, Check, Kept, ask_for_no_offers, harmless, plant, without_code  # noqa: E402
 from planting.one_edit import BY_SEARCH, Edit  # noqa: E402
@@ -257,6 +258,16 @@ pub fn law()
 {}
 """
 
+# a type with an invariant of two lines
+GHOST = """impl Model for Part {
+    ghost use Rattle.thing.specs.Part.{Part};
+
+    ghost invariant = { λ p. (p.n < 9)
+        × (p.n < 7) };
+}
+
+"""
+
 SPECS = """-- Laws.
 use Rattle.std.specs.Prelude.{ℕ}
 
@@ -374,8 +385,7 @@ def emptied(room):
 def tries(room, *words, control="no holes", spoils="", built="yes"):
     """What the tool does: its status, and the lines of its two outputs. `control` is what the check says of the harmless edit,
     `spoils` whether a lemma that is refused spoils all answers beside it, or those of copies alone, or how their lines lack what they
-    should say, and `built` whether the library below is built; `fails` if
-    it can't be."""
+    should say, and `built` whether the library below is built; `fails` if it can't be."""
     room.environment.update(CONTROL=control, SPOILS=spoils, ASKED=room.file("asked"), BUILT=built, XDG_CACHE_HOME=room.file("cache"))
     ran = room.run(sys.executable, "tools/edits.py", *words, cwd=room.path)
     holds("the tool ends well", "Traceback" not in ran.stderr or sys.exit(ran.stderr))
@@ -505,11 +515,12 @@ def refused_batches(room):
 
 
 def unfit(room):
-    """An edit has no line that isn't known, and each `old` its `new`. It changes no proof and no contract, but for a law's."""
+    """An edit has no line that isn't known, and each `old` its `new`. It changes no proof, no ghost item, and no contract but a law's."""
     emptied(room)
     source, path = Source(room.file("crates", "thing")), room.file("crates", "thing", "edits", "looped.a.edit")
+    source = Source(source.folder, {**source.texts, "src/parts.rt": GHOST + SOURCE}, source)
     head = ["file: src/parts.rt", "old: let mut sum = 1;"]
-    no_new = "an 'old:' line has no 'new:' line below it"
+    no_new, no_code = "an 'old:' line has no 'new:' line below it", "it changes `ghost invariant`, which is no code"
     for lines, wanted in ((["# why", "", *head, "", "# it is less", "new: let mut sum = 0;", "", ""], None), (["# refused: by a search", *head, "new:"], None),
                           ([*head, "New: let mut sum = 0;"], no_new), ([*head, "new: let mut sum = 0;", "old: sum += 1;"], no_new), ([*head, *head, "new: 1"], no_new),
                           ([*head, "new: let mut sum = 0;", "old: ", "file: src/laws.rt"], no_new),
@@ -518,6 +529,9 @@ def unfit(room):
                           ([*head, "new: let mut sum = 0;", "    sum"], "no line of an edit begins as this one: sum"),
                           (["file: proofs/lemmas/Limits.antt", "old: limit-is = refl", "new: limit-is = lit"], "it changes a proof"),
                           ([head[0], "old: ensures value { result ≡ n }", "new: ensures value { result ≡ 1 }"], "it changes the contract of parts::looped, which is no law"),
+                          ([head[0], "old: p.n < 9", "new: p.n < 8"], no_code), ([head[0], "old: p.n < 7", "new: p.n < 6"], no_code),
+                          ([head[0], "old: ghost use Rattle.thing.specs.Part.{Part};", "new: ghost invariant = { λ p. p.n < 8 };"], no_code),
+                          ([head[0], "old: specs.Part.{Part}", "new: specs.Part.{Part, IsPart}"], None), ([head[0], "old: LIMIT: u32 = 4", "new: LIMIT: u32 = 5"], None),
                           ([head[0], "old: ensures held { IsLaw }", "new: ensures held { Is }"], None)):
         with open(path, "w", encoding="utf-8") as it:
             it.write("\n".join(lines))
@@ -705,11 +719,11 @@ def control(room):
     planted(room, "looped.a", "SEARCHED")
     for how in ("not proved; it calls `thing::parts::other`, which is not proved", "missing"):
         status, lines, _ = tries(room, control=how)
-        holds(f"a harmless edit that is {how.partition(';')[0]}", sum("NOT TRIED: the harmless edit of" in it for it in lines) == 2)
+        holds(f"a harmless edit that is {how.partition(';')[0]}", sum(f"NOT TRIED: {HARMLESS}" in it for it in lines) == 2)
         same("last line", (status, lines[-1]), (1, "0 passed, 2 failed"))
     for spoils, fault in (("all", "is refused by `returns-clause-value`"), ("copies", "is refused by `returns-clause-value`"), ("mute", "has no line in the check")):
         status, lines, _ = tries(room, spoils=spoils)
-        holds(f"a harmless edit in a copy that {fault}", sum(f"NOT TRIED: the harmless edit of parts::plain_copy_1 {fault}" in it for it in lines) == 2)
+        holds(f"a harmless edit in a copy that {fault}", sum(f"NOT TRIED: {HARMLESS} parts::plain_copy_1 {fault}" in it for it in lines) == 2)
         same("last line", (status, lines[-1]), (1, "0 passed, 2 failed"))
 
     crate = StandIn(room)
@@ -755,7 +769,7 @@ def unedited(room):
     with open(room.file("asked")) as it:
         same("no edit is in a check of copies", it.read(), "harmless\n" * 2)
     for how, fault in (({"spoils": "copies"}, "is refused by `returns-clause-value`"), ({"spoils": "mute"}, "has no line in the check"), ({"spoils": "calls"}, "isn't proved: not proved; it calls"),
-                       ({"control": "missing"}, "NOT TRIED: the harmless edit of parts::Part::n isn't seen as proved")):
+                       ({"control": "missing"}, f"NOT TRIED: {HARMLESS} parts::Part::n isn't seen as proved")):
         status, lines, _ = tries(room, "--unedited", **how)
         holds(f"copies that are not: {fault}", all(line.startswith(f"{it.partition(': ')[0]}: {fault}") for line, it in zip(lines, said)))
         same("last line", (status, lines[-1]), (1, "0 passed, 2 failed"))
@@ -1085,20 +1099,27 @@ def kept(room):
         same("without a place for them", tries(room)[1][-1], "1 passed, 0 failed")
 
 
+def files_of_edits():
+    """The files in edits/ and must-fail/: of each its crate, which of the two, and its name."""
+    for crate in sorted(os.listdir(os.path.join(ROOT, "crates"))):
+        for part in ("edits", "must-fail"):
+            folder = os.path.join(ROOT, "crates", crate, part)
+            yield from ((crate, part, file) for file in (sorted(os.listdir(folder)) if os.path.isdir(folder) else []))
+
+
 def the_repository_s_own():
     """Each edit can be applied, and its name begins with the function that has to be refused."""
-    counts, bad, misnamed, names, of_definitions = {"edits": 0, "must-fail": 0}, [], [], set(), []
-    for name in sorted(os.listdir(os.path.join(ROOT, "crates"))):
+    counts, bad, misnamed, names, of_definitions, sources = {"edits": 0, "must-fail": 0}, [], [], set(), [], {}
+    same("files beside the edits", [it for it in files_of_edits() if not it[2].endswith(".edit")], [])
+    for name, part, file in files_of_edits():
         folder = os.path.join(ROOT, "crates", name)
-        source = Source(folder)
-        for part in ("edits", "must-fail"):
-            for file in sorted(os.listdir(f"{folder}/{part}")) if os.path.isdir(f"{folder}/{part}") else []:
-                counts[part] += 1
-                edit = Edit(f"{folder}/{part}/{file}", name, source)
-                bad += [f"{edit.name}: {edit.bad}"] * bool(edit.bad)
-                misnamed += [edit.name] * (file.split(".")[-3] not in {it.name for it in edit.judged})
-                of_definitions += [edit.name] * bool(edit.definitions and not all(it.is_law() for it in edit.judged))
-                names.add(edit.name)
+        sources[name] = sources.get(name) or Source(folder)
+        counts[part] += 1
+        edit = Edit(f"{folder}/{part}/{file}", name, sources[name])
+        bad += [f"{edit.name}: {edit.bad}"] * bool(edit.bad)
+        misnamed += [edit.name] * (file.split(".")[-3] not in {it.name for it in edit.judged})
+        of_definitions += [edit.name] * bool(edit.definitions and not all(it.is_law() for it in edit.judged))
+        names.add(edit.name)
     same("edits that can't be tried", bad, [])
     same("edits that are not named after the function that has to be refused", misnamed, [])
     same("edits that are listed and aren't there", sorted({*listed_otherwise(ROOT)} - names), [])
@@ -1106,6 +1127,9 @@ def the_repository_s_own():
     count = sum(counts.values())
     holds(f"{count} edits, 980 or more", count >= 980)
     holds(f"{counts['must-fail']} of them in must-fail/, 41 or more", counts["must-fail"] >= 41)
+
+
+def tests_in_rattle():
     sources = [text for name in os.listdir(os.path.join(ROOT, "crates")) for file, text in texts_in(os.path.join(ROOT, "crates", name)).items() if file.endswith(".rt")]
     count = sum(len(re.findall(r"(?m)^ *#\[test\]$", it)) for it in sources)
     holds(f"{count} tests in crates/, 239 or more", count >= 239)
@@ -1143,6 +1167,7 @@ def main():
         kept(room)
         alone(room)
     the_repository_s_own()
+    tests_in_rattle()
 
 
 if __name__ == "__main__":

@@ -11,6 +11,7 @@ from common import ROOT, Room, holds, same, text_of
 
 sys.path.insert(0, os.path.join(ROOT, "tools"))
 import gate as tool  # noqa: E402
+from planting.judging import HARMLESS  # noqa: E402
 
 RT = """#!/bin/sh
 echo "what rt ci says on its way, by $RT_JOBS"
@@ -58,7 +59,8 @@ def batches_of(root, folders):
 def try_or_recall(batch, root):
     if batch.edits[0].name == "{hole}":
         raise ValueError("broken")
-    found = [(it, it.name not in ("{hole}", "{alone}", "{seen}"), "{said}" if it.name == "{seen}" else "tried") for it in batch.edits]
+    found = [(it, it.name not in ("{hole}", "{alone}", "{seen}"), "{said}" if it.name == "{seen}" else "tried")
+             for it in batch.edits if it.name != "{lost}"]
     return found[::-1], 0
 
 
@@ -68,7 +70,12 @@ def try_alone(edit, batch, root):
     return edit.name == "{alone}", "tried alone"
 """
 JUDGING = """
-OTHERWISE = "tools/otherwise.txt"
+HARMLESS, OTHERWISE = "{harmless}", "tools/otherwise.txt"
+
+
+def listed_otherwise(root):
+    with open(f"{{root}}/{{OTHERWISE}}") as it:
+        return it.read().split()
 
 
 def shown_by(edit, source, said):
@@ -177,6 +184,12 @@ def proofs_side_by_side():
         same(f"proofs of {processors} processors and {memory} bytes", tool.lanes(rtlib, processors), wanted)
 
 
+def skipped_tests():
+    """Each is named, also one that doesn't say why."""
+    lines = ["passed  test_a.py (0.1 s)", "skipped test_b.py (0.1 s): no tool", "skipped test_c.py (0.1 s)"]
+    same("skipped tests", tool.skipped(tool.Ran(0, [], 0, 0), tool.Ran(0, lines, 0, 0)), ["skipped: test_b.py: no tool", "skipped: test_c.py"])
+
+
 def runs(pid):
     try:
         with open(f"/proc/{pid}/cmdline") as file:
@@ -189,22 +202,25 @@ def main():
     libraries()
     room_for_batches()
     proofs_side_by_side()
+    skipped_tests()
     with Room() as room:
-        for name in ("tests/run", "tools/gate.py", "tools/spent.py"):
+        for name in ("tests/run", "tools/gate.py", "tools/spent.py", "tools/tests_run.py"):
             os.makedirs(room.file(os.path.dirname(name)), exist_ok=True)
             shutil.copy(os.path.join(ROOT, name), room.file(name))
         put(room.file("tools", "prove.py"), PROVE)
-        put(room.file("tools/planting/judging.py"), JUDGING)
-        for name in ("crates/low/src/lib.rt", "crates.txt", "HANDLES", "tools/otherwise.txt"):
+        for name in ("crates/low/src/lib.rt", "crates.txt", "HANDLES"):
             put(room.file(name), "")
 
-        def gate(builds, last, status, tests, lines=1, other="low", hole="", alone="", breaks="", seen="", said="", library="true"):
+        def gate(builds, last, status, tests, lines=1, other="low", hole="", alone="", breaks="", seen="", said="", lost="", listed="", harmless=HARMLESS, library="true"):
             for name in os.listdir(room.file("tests")):
                 if name.startswith("test_"):
                     os.remove(room.file("tests", name))
             for k, ends in enumerate(tests):
                 put(room.file("tests", f"test_{k}.py"), TEST.format(k=k, ends=ends))
-            put(room.file("tools/planting/batches.py"), BATCHES.format(other=other, hole=hole, alone=alone, breaks=breaks, seen=seen, said=said))
+            batches = BATCHES.format(other=other, hole=hole, alone=alone, breaks=breaks, seen=seen, said=said, lost=lost)
+            put(room.file("tools/planting/batches.py"), batches)
+            put(room.file("tools/planting/judging.py"), JUDGING.format(harmless=harmless))
+            put(room.file("tools/otherwise.txt"), listed)
             put(room.file("Makefile"), f"library:\n\t{library}\nweb:\n")
             put(room.file("bin", "rt"), RT.format(builds=builds, last=last, status=status))
             ran = room.run(room.file("tools", "gate.py"), "out/program", cwd=room.path)
@@ -231,16 +247,19 @@ def main():
              ("skipped: test_1.py: this is test 1\n16 passed, 0 failed", 0))
         same("an edit in must-fail/ for which rt ci names a clause is not tried again", gate(BUILDS, well, 0, [0, 0], hole="low/by_call"), ("17 passed, 0 failed", 0))
         for said in ("", ": call-requires"):
-            same(f"another one is{said}, once", gate(BY_CLAUSE + ALONE.format("by_call", said), well, 0, [0, 0]), ("18 passed, 0 failed", 0))
+            same(f"another one is, once, if rt ci says '{said}'", gate(BY_CLAUSE + ALONE.format("by_call", said), well, 0, [0, 0]), ("18 passed, 0 failed", 0))
         same("and may fail", gate(BY_CLAUSE + ALONE.format("by_call", ""), well, 0, [0, 0], hole="low/by_call", lines=2),
              ("low/by_call: NOT TRIED: ValueError('broken')\n17 passed, 1 failed", 1))
+        said = "refused by `returns`, a clause"
+        same("one that is listed in vain", gate(BUILDS, well, 0, [0, 0], listed="low/by_call", seen="low/by_call", said=said, lines=2),
+             (f"low/by_call: {said}\n17 passed, 1 failed", 1))
         bad, said = "; echo 'rt: must-fail low/by_call.edit: BAD EDIT: the prover cannot read it'", "BAD EDIT: error: no field"
         for what, told in (("one that rt ci can't read", bad), ("one of which it says nothing", "")):
             same(f"{what} is tried", gate(BY_CLAUSE + told, well, 0, [0, 0]), ("18 passed, 0 failed", 0))
             same("and may fail", gate(BY_CLAUSE + told, well, 0, [0, 0], seen="low/by_call", said=said, lines=2),
                  (f"low/by_call: {said}\n17 passed, 1 failed", 1))
         same("not if the crate is not proved", gate(BY_CLAUSE.replace("low proved", "low"), well, 0, [0, 0], other="high", lines=3),
-             ("edits of low: NOT TRIED, since the crate is not proved\nedits of high: NOT TRIED, since the crate is not proved\n14 passed, 3 failed", 1))
+             ("edits of low: NOT TRIED, since the crate is not proved\nedits of high: NOT TRIED, since the crate is not proved\n14 passed, 4 failed", 1))
         same("one that is refused and isn't known", gate(BUILDS + ALONE.format("other", ""), well, 0, [0, 0]), ("17 passed, 0 failed", 0))
         note = "rt: note: Rattle's own compiler did not compile this program, so only the LLVM build is run: error"
         same("a compiler that refused it is named", gate(f'{BUILDS}; echo "{note}"', well, 0, [0, 0], lines=2), (f"{note}\n17 passed, 0 failed", 0))
@@ -257,11 +276,13 @@ def main():
         said = "REFUSED OTHERWISE: by `names`"
         same("an edit that something else refuses", gate(BUILDS, well, 0, [0, 0], seen="three", said=said, lines=2),
              (f"three: {said}\n16 passed, 1 failed", 1))
-        said = "NOT TRIED: the harmless edit of f isn't seen as proved"
-        same("one whose check doesn't see the harmless edit as proved", gate(BUILDS, well, 0, [0, 0], seen="three", said=said, alone="three", lines=2),
-             (f"three: {said}\n16 passed, 1 failed", 1))
+        for harmless in (HARMLESS, "another edit of"):
+            said = f"NOT TRIED: {harmless} f isn't seen as proved"
+            same(f"one whose check says it: {said}", gate(BUILDS, well, 0, [0, 0], seen="three", said=said, alone="three", harmless=harmless, lines=2),
+                 (f"three: {said}\n16 passed, 1 failed", 1))
         said = "refused by `returns`, a clause"
         same("one that is listed in vain", gate(BUILDS, well, 0, [0, 0], seen="three", said=said, lines=2), (f"three: {said}\n16 passed, 1 failed", 1))
+        same("one that the tool loses", gate(BUILDS, well, 0, [0, 0], lost="two", lines=2), ("two: NOT TRIED: nothing came of it\n16 passed, 1 failed", 1))
         same("a tool that breaks off", gate(BUILDS, well, 0, [0, 0], hole="three", lines=2),
              ("three: NOT TRIED: ValueError('broken')\n16 passed, 1 failed", 1))
         same("a tool that breaks off when it tries one alone", gate(BUILDS, well, 0, [0, 0], alone="one", breaks="yes", lines=2),

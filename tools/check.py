@@ -26,6 +26,10 @@ import time
 sys.dont_write_bytecode = True
 
 ROOT = os.path.dirname(os.path.dirname(os.path.abspath(__file__)))
+sys.path.insert(0, os.path.join(ROOT, "tools"))
+
+from tests_run import SKIPPED  # noqa: E402
+
 PROGRAM = "build/stlslice"
 # The crate of the C calls, on which no crate can depend, and what tests it.
 LIBRARY_CRATE, LIBRARY_TEST = "stlslice_c", "test_library.py"
@@ -38,8 +42,6 @@ OF_WORDS = {"task_words", "progress_line", "stlslice", "stlslice_program"}
 # line and, unlike a trait's function without a body, no line that ends in a semicolon; and its clauses are no body.
 HEAD = r"(?:pub(?:\([\w:]+\))? )?(?:const |unsafe |extern \"C\" )*fn \w(?:(?!.*;$).+\n)*?(?!\s*(?:ensures|requires)\b).*"
 BODY = re.compile(rf"(?m)^([ \t]*)({HEAD})\{{\n(?:(?!\1\}}).*\n)*\1\}}$")
-# What tests/run says of a test that can't run here.
-SKIPPED = re.compile(r"skipped +(\S+) \([\d.]+ s\)(.*)")
 COMMENT = re.compile(r"(?m)^\s*(//|--).*\n")
 
 

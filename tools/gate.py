@@ -6,10 +6,10 @@
 1. `rt ci` proves each crate and its tests, tries the edits in must-fail/, runs the tests, and builds and runs PROGRAM.
 2. Beside it the other edits are tried in batches, as tools/edits.py does, at a lower priority: those of a crate once it is
    proved, while fewer checks run than there are processors. `rt ci` takes any refusal, and this only a clause's. So an edit in
-   must-fail/ for which `rt ci` names no clause, one that doesn't compile say, is tried here too, and then may count twice.
-   What a batch can't judge is tried alone, but not what its harmless edit speaks against. What something else than a clause
-   refuses has failed, unless tools/edits_refused_otherwise.txt says why. The results of a batch that passed here, of the same
-   files, are kept, as `rt ci` keeps what it proved.
+   must-fail/ for which `rt ci` names no clause, one that doesn't compile say, is tried here too, and then may count twice. So is
+   one that tools/edits_refused_otherwise.txt names. What a batch can't judge is tried alone, but not what its harmless edit
+   speaks against. What something else than a clause refuses has failed, unless that file says why. The results of a batch that
+   passed here, of the same files, are kept, as `rt ci` keeps what it proved.
 3. The library, and the page that has it, are built from what was proved.
 4. tests/run tests what people touch: the program, the library, packages, recipes, documents.
 
@@ -36,7 +36,8 @@ sys.path.insert(0, os.path.join(ROOT, "tools"))
 import prove  # noqa: E402
 import spent  # noqa: E402
 from planting.batches import Batch, batches_of, try_alone, try_or_recall  # noqa: E402
-from planting.judging import OTHERWISE, shown_by  # noqa: E402
+from planting.judging import HARMLESS, OTHERWISE, listed_otherwise, shown_by  # noqa: E402
+from tests_run import SKIPPED  # noqa: E402
 
 LIBRARY_CRATE = "stlslice_c"
 # The memory that a batch leaves free for what runs beside it.
@@ -49,8 +50,8 @@ REFUSED = re.compile(r"rt: must-fail (\S+)\.edit: refused, as it must be(?:: )?(
 LLVM_ALONE = re.compile(r"rt: note: Rattle's own compiler did not ")
 COUNTS = re.compile(r"(?m)^(\d+) passed, (\d+) failed$")
 FAULTS = re.compile(r"rt: FAILED: |.*(NOT PROVED|NOT REFUSED|NOT TRIED)|.*: its tests FAILED$|failed: ")
-# How a result begins that stands: what the edit alone would come to says no more, or nothing of the check that can't see.
-STANDS = ("refused", "bad edit", "not tried: the harmless edit")
+# How a result begins that stands: to try the edit alone would tell no more, or nothing of a check that can't be believed.
+STANDS = ("refused", "bad edit", f"not tried: {HARMLESS}")
 showing = threading.Lock()
 
 Ran = collections.namedtuple("Ran", "status lines clock processor")
@@ -72,6 +73,7 @@ def run(words, hear=lambda line: None, **settings):
         show(lines[-1])
         hear(lines[-1])
     _, status, usage = os.wait4(child.pid, 0)
+    # os.waitstatus_to_exitcode came with 3.9
     child.returncode = -(status & 0x7F) or status >> 8
     return Ran(child.returncode, lines, time.monotonic() - began, usage.ru_utime + usage.ru_stime)
 
@@ -135,17 +137,23 @@ def link_or_copy(one, other):
 def tried(batch, root):
     """What came of each edit of a batch: a line, and whether it passed. What the batch can't judge is tried alone. An edit that
     can't be read has failed, and so has one that is refused otherwise than the list says, and one whose check doesn't see its
-    harmless edit as harmless. A tool that breaks off fails what is left of the batch."""
-    found = {}
+    harmless edit as harmless. What is left of the batch has failed too: a tool may break off, or lose one."""
+    found, why = {}, "nothing came of it"
     try:
         for edit, is_passed, text in try_or_recall(batch, root)[0]:
             if not is_passed and not text.lower().startswith(STANDS):
                 is_passed, text = try_alone(edit, batch, root)
-            found[edit] = f"{edit.name}: {text}", is_passed
+            found[edit.name] = f"{edit.name}: {text}", is_passed
     except Exception as fault:  # noqa: BLE001
-        for edit in batch.edits:
-            found.setdefault(edit, (f"{edit.name}: NOT TRIED: {fault!r}", False))
+        why = repr(fault)
+    for edit in batch.edits:
+        found.setdefault(edit.name, (f"{edit.name}: NOT TRIED: {why}", False))
     return list(found.values())
+
+
+def by_itself(batch, edit):
+    """A batch of one of the edits of a batch."""
+    return Batch(batch.crate, batch.source, [edit], batch.kept)
 
 
 class Batches:
@@ -156,8 +164,8 @@ class Batches:
         self.waiting, self.ready, self.running = collections.defaultdict(list), [], 0
         for batch in batches_of(root, folders=("edits",)):
             self.waiting[batch.name].append(batch)
-        self.is_empty, self.crates = not self.waiting, set()
-        # those for which `rt ci` has named no clause yet
+        self.has_no_edits, self.proved_crates, self.listed = not self.waiting, set(), listed_otherwise(root)
+        # those that `rt ci` hasn't called refused yet
         self.of_must_fail = {edit.name: (batch, edit) for batch in batches_of(root, folders=("must-fail",)) for edit in batch.edits}
         self.processors, self.is_last, self.last = processors, False, 0
         self.begun, self.passed, self.failed, self.faults = set(), 0, 0, []
@@ -167,19 +175,20 @@ class Batches:
 
     def proved(self, crate):
         with self.change:
-            self.crates.add(crate)
+            self.proved_crates.add(crate)
             self.ready += self.waiting.pop(crate, [])
             self.change.notify_all()
 
     def refused(self, name, said):
-        """Takes what `rt ci` says of an edit in must-fail/. If that names no clause, the edit is tried once more, by itself."""
+        """Takes what `rt ci` says of an edit in must-fail/. If that names no clause, or the edit is listed as refused otherwise, it is
+        tried once more, by itself."""
         batch, edit = self.of_must_fail.pop(name, (None, None))
-        if edit and not shown_by(edit, batch.source.filed, said):
+        if edit and (name in self.listed or not shown_by(edit, batch.source.filed, said)):
             self.try_itself(batch, edit)
 
     def try_itself(self, batch, edit):
         with self.change:
-            self.ready.append(Batch(batch.crate, batch.source, [edit], batch.kept))
+            self.ready.append(by_itself(batch, edit))
             self.change.notify_all()
 
     def has_room(self):
@@ -218,17 +227,19 @@ class Batches:
             show("\n".join(text for text, _ in told))
 
     def finish(self):
-        """Waits until all are tried, also those in must-fail/ that `rt ci` didn't call refused, since it fails for none that it can't
-        read; those of crates that were not proved are named."""
+        """Waits until all are tried, also those in must-fail/ that `rt ci` didn't call refused: it may say nothing of one that it can't
+        read, and doesn't fail. Those of crates that were not proved are named, and have failed."""
         for batch, edit in self.of_must_fail.values():
-            if batch.name in self.crates:
+            if batch.name in self.proved_crates:
                 self.try_itself(batch, edit)
+            else:
+                self.waiting[batch.name].append(by_itself(batch, edit))
         with self.change:
             self.is_last = True
             self.change.notify_all()
         for it in self.threads:
             it.join()
-        if self.is_empty:
+        if self.has_no_edits:
             self.faults, self.failed = [*self.faults, "edits: NOT TRIED, since none was found"], self.failed + 1
         for crate, left in self.waiting.items():
             self.faults.append(f"edits of {crate}: NOT TRIED, since the crate is not proved")
@@ -246,8 +257,8 @@ def failures(*parts):
 
 def skipped(proofs, tests):
     """The build of the program that `rt ci` went without, and the tests that could not run here, each with what is missing."""
-    told = [re.match(r"skipped +(\S+) \([\d.]+ s\): (.*)", line) for line in tests.lines]
-    return [line for line in proofs.lines if LLVM_ALONE.match(line)] + [f"skipped: {it[1]}: {it[2]}" for it in told if it]
+    told = [SKIPPED.match(line) for line in tests.lines]
+    return [line for line in proofs.lines if LLVM_ALONE.match(line)] + [f"skipped: {it[1]}{it[2]}" for it in told if it]
 
 
 def slowest(times, tests):

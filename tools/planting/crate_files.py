@@ -170,6 +170,15 @@ def item_at(text, row):
     return IS_ITEM.match(lines[row])[1] if row >= 0 else None
 
 
+def ghost_item_at(text, row):
+    """The name of the ghost item of src/ on a line of its text, the invariant of a type say, or None. An import is none."""
+    lines = text.split("\n")
+    while row > 0 and not re.match(r"(?: {4})?[^\s}]", lines[row]):
+        row -= 1
+    it = re.match(r" *(?:pub(?:\([a-z]+\))? )?ghost (?!use )(\w+)", lines[row])
+    return it[1] if it else None
+
+
 def reached(source, definitions):
     """The functions that a change of these definitions reaches, as two lists. The first has those whose contracts cite one with
     as few definitions between as can be, or with more if only those are laws. The second has all, also those whose proofs

@@ -10,6 +10,9 @@ from .one_edit import BY_SEARCH
 
 OTHERWISE = "tools/edits_refused_otherwise.txt"
 
+# How what is said against a check begins that doesn't see a harmless edit as it should.
+HARMLESS = "the harmless edit of"
+
 # What antt says of an answer that names what the edit took away, or that cites such an answer. It shows nothing.
 ONLY_NAMES = re.compile(r"has no field|is not in scope|has no `|was not admitted|is no name")
 
@@ -164,9 +167,9 @@ def unseen(batch, check, controls):
     (first, _, _), *others = controls
     seen = check.lines.get(first.symbol, "the check has no line for it")
     if seen != "no holes":
-        return f"the harmless edit of {first.symbol} isn't seen as proved: {seen[:160]}"
+        return f"{HARMLESS} {first.symbol} isn't seen as proved: {seen[:160]}"
     opened = [(it, opened_in(it, batch, check)) for it, _, _ in others]
-    return next((f"the harmless edit of {it.symbol} {fault}" for it, fault in opened if fault), None)
+    return next((f"{HARMLESS} {it.symbol} {fault}" for it, fault in opened if fault), None)
 
 
 def opened_in(function, batch, check):

@@ -4,7 +4,7 @@ import copy
 import os
 import re
 
-from .crate_files import item_at, module_of, reached, seen_from, text_of, words_of
+from .crate_files import ghost_item_at, item_at, module_of, reached, seen_from, text_of, words_of
 from .functions import clauses_of
 from .law_copy import LawCopy
 
@@ -63,9 +63,14 @@ class Edit:
         return None if self.rows else "it changes nothing"
 
     def touched(self, source):
-        """What the edit changes that none may, since any change of it is refused: a proof, or the contract of what is no law."""
+        """What the edit changes that none may, since any change of it is refused: a proof, a ghost item, or the contract of what is
+        no law."""
         if any(file.startswith("proofs/") for file, _ in self.rows):
             return "it changes a proof"
+        for file, at in (row for row in self.rows if not source.at(*row)):
+            name = ghost_item_at(source.texts[file], at) or ghost_item_at(self.rows[file, at], 0)
+            if name:
+                return f"it changes `ghost {name}`, which is no code"
         for it in {source.at(*row) for row in self.rows} - {None}:
             if not it.is_law() and it.contract(self.rows) != it.contract():
                 return f"it changes the contract of {it.symbol}, which is no law"
