@@ -52,6 +52,12 @@ def facet(a, b, c):
             f"      vertex {b}\n      vertex {c}\n    endloop\n  endfacet\n")
 
 
+def exit_status(status):
+    """The status of a program from that of os.wait4, negative if a signal ended it."""
+    # os.waitstatus_to_exitcode came with 3.9
+    return -(status & 0x7F) or status >> 8
+
+
 def run(program, words, path):
     """Seconds, status, bytes written and the most memory in MiB of one run."""
     with open(path) as source, tempfile.TemporaryFile() as sink:
@@ -59,7 +65,7 @@ def run(program, words, path):
         child = subprocess.Popen([program] + words, stdin=source, stdout=sink, stderr=subprocess.DEVNULL)
         _, status, used = os.wait4(child.pid, 0)
         seconds = time.perf_counter() - start
-        child.returncode = -(status & 0x7F) or status >> 8
+        child.returncode = exit_status(status)
         return seconds, child.returncode, os.fstat(sink.fileno()).st_size, used.ru_maxrss / 1024
 
 

@@ -15,6 +15,8 @@ import shlex
 import subprocess
 import time
 
+from measure import exit_status
+
 ROOT = os.path.dirname(os.path.dirname(os.path.abspath(__file__)))
 PART = os.path.join(ROOT, "examples", "supported.stl")
 COLUMNS, ROWS, LAYERS, PITCH, HEIGHT = 11520, 5120, 640, 19, 50
@@ -39,7 +41,7 @@ def run(words):
         while count := child.stdout.readinto(piece):
             size += count
         _, status, used = os.wait4(child.pid, 0)
-    child.returncode = -(status & 0x7F) or status >> 8
+    child.returncode = exit_status(status)
     if child.returncode:
         raise SystemExit(f"{' '.join(words)}: status {child.returncode}")
     return time.perf_counter() - began, used.ru_utime + used.ru_stime, size

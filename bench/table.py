@@ -24,6 +24,7 @@ import tempfile
 import time
 
 import pngs
+from measure import exit_status
 
 WORKERS = (1, 4)
 
@@ -154,7 +155,7 @@ def run(program, words, path):
         child = subprocess.Popen([program, *words], stdin=source, stdout=subprocess.DEVNULL)
         _, status, used = os.wait4(child.pid, 0)
         seconds = time.perf_counter() - start
-    child.returncode = -(status & 0x7F) or status >> 8
+    child.returncode = exit_status(status)
     if child.returncode:
         sys.exit(f"{program} {' '.join(words)}: status {child.returncode}")
     return seconds, used.ru_maxrss / 1024

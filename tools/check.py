@@ -125,9 +125,9 @@ class Change:
         self.tests = {it: tests_of(it, texts) for it in self.files if not it.startswith("crates/")}
         inside = [re.match(r"crates/(\w+)/(src|specs|proofs)/", it) for it in self.files]
         self.sources = {it[1]: [] for it in inside if it and it[1] in self.deps}
-        # as what the gate gives the program to read
+        # such as stdin, which the gate gives the program
         tried = [re.match(r"crates/(\w+)/(src|specs|proofs|edits|must-fail)/", it) for it in self.files]
-        self.others = [it for it, told in zip(self.files, tried) if it.startswith("crates/") and not (told and told[1] in self.deps)]
+        self.untried = [it for it, told in zip(self.files, tried) if it.startswith("crates/") and not (told and told[1] in self.deps)]
         self.open = set()
         for name, told in zip(self.files, inside):
             if told and told[1] in self.deps:
@@ -256,7 +256,7 @@ def tell(change, steps, chosen):
     program = "the program, and " if change.sources and "the program" not in steps.begun else ""
     print(f"  {program}{len(tests()) - len(chosen) + len(steps.skipped)} of {len(tests())} tests in tests/")
     unnamed = [f"{it}: no test names it" for it, named in change.tests.items() if not named]
-    for line in [*steps.skipped, *unnamed, *(f"{it}: no source and no edit of a crate" for it in change.others)]:
+    for line in [*steps.skipped, *unnamed, *(f"{it}: no source and no edit of a crate" for it in change.untried)]:
         print(f"  {line}")
 
 

@@ -7,8 +7,8 @@
     tools/edits.py [--jobs N] --unedited [NAME..]   none: a copy of each function of which an edit stands in a copy
 
 --show FOLDER, before these, tries all anew and leaves what each check said in FOLDER, which it makes. Without it, the results
-of a batch that passed are taken from ~/.cache/stlslice/edits if neither the batch, nor its crate, nor one below, nor the
-toolchain has changed. So a second gate on the same machine takes them from there, in any checkout.
+of a batch of edits that passed are taken from ~/.cache/stlslice/edits if neither the batch, nor its crate, nor one below, nor
+the toolchain has changed. So a second gate on the same machine takes them from there, in any checkout.
 
 An edit is a file crates/NAME/edits/FUNCTION.FAULT.edit, in the form that `rt must-fail` reads (CONTRIBUTING.md). It is planted
 in a copy of the crate, together with others. The functions that none of them edits keep their statements; their proofs and
@@ -23,26 +23,25 @@ Most edits are refused by an answer that proves its goal no more. So nothing is 
 answers: a goal without one says nothing. An edit that no answer refuses has the line '# refused: by a search' in its file.
 Without it the edit is tried once more, with a search, and its line says so.
 
-An edit of a definition, in specs/, has to be refused in a function whose contract cites it, a law if there is one. Edits of a
-law stand in the law itself if no clause depends on two of them and nothing else sees what they change. Each is then refused by a
-clause that depends on it. Otherwise they stand in copies of the law, of its proof, and of the definitions and lemmas that rest
-on what they change. The same copy without an edit has to be proved. If it isn't, or if the edit's isn't refused, the edit is
-tried alone in the law itself, and its line says so. An edit of a constant or a type is tried alone, since it changes all that read
-it, and so is one of a definition that only functions see, or that can't be copied. An edit that is refused otherwise has
-failed, unless tools/edits_refused_otherwise.txt names it, with the goal and the reason.
+An edit of a definition, in specs/, has to be refused in a function whose contract cites it, a law if there is one. For edits of
+laws see planting/grouping.py. An edit that is refused otherwise has failed, unless tools/edits_refused_otherwise.txt names it,
+with the goal and the reason.
 
 Each check has one edit more, which means the same as before. It has to be reported as proved. So a check that sees nothing
-is noticed. If the crate has more such functions, a second is planted as the edits are, and may have no open goal, and a third,
-which has answers, isn't searched, and no answer may be refused. So a check that refuses everything is noticed too. These two stand in
-copies of their functions if these may be copied, so a copy whose proof doesn't fit it is noticed.
+is noticed. If the crate has more such functions, a second is planted as the edits are, and may have no open goal. If an answer
+is to refuse an edit of the batch, there is a third, which has answers: it isn't searched, and no answer may be refused. So a
+check that refuses everything is noticed too. These two stand in copies of their functions if these may be copied, so a copy
+whose proof doesn't fit it is noticed.
 
 --unedited plants no edit. It checks, all of a crate's together, a copy of each function of which an edit stands in a copy. Each
-has a statement more that does nothing, and passes if it has no open goal. So what refuses an edit in such a copy is the edit.
+has a statement more that does nothing, and passes if it is proved, whatever it calls. So what refuses an edit in such a copy is
+the edit.
 
 Each edit has a line, and the last line is 'N passed, N failed'. The status is 0 if none failed, 1 if one did, and 2 if
 nothing could be begun. The libraries below a crate are built first, if they aren't.
 """
 
+import collections
 import os
 import signal
 import sys
@@ -55,10 +54,17 @@ sys.path.insert(0, os.path.join(ROOT, "tools"))
 
 from planting.batches import batch_of, batch_of_copies, batches_of_crate, edits_in, try_batch, try_copies, try_or_recall  # noqa: E402
 from planting.crate_files import Source, items_of, module_of, reached  # noqa: E402
-from planting.grouping import Unfit, stop_on_clash  # noqa: E402
 from planting.one_check import Kept  # noqa: E402
 from planting.one_edit import Edit  # noqa: E402
 from prove import toolchain  # noqa: E402
+
+
+# How many batches to try at a time, by what, and where to leave what the checks say.
+Asked = collections.namedtuple("Asked", "batches jobs trying show")
+
+
+class Unfit(Exception):
+    """Why nothing can be begun, in one line."""
 
 
 def run(batches, jobs, trying, show=None):
@@ -118,8 +124,54 @@ def build_below(crates):
         os.close(it)
 
 
+def stop_on_clash(edits):
+    """Refuses edits that can't be tried in one check."""
+    for at, it in enumerate(edits):
+        if it.bad:
+            raise Unfit(f"{it.name}: {it.bad}")
+        if len(edits) > 1 and (it.is_alone or it.definitions and not all(other.clauses for other in edits)):
+            raise Unfit(f"{it.name} is of a constant, a type or a definition, so it is tried alone")
+        for other in edits[:at]:
+            function = it.clash(other)
+            if function or it.differs(other):
+                of = function.symbol if function else "one line"
+                raise Unfit(f"{other.name} and {it.name} are both of {of}, so they can't be tried together")
+
+
+def together(crate, paths):
+    """The one batch of these edits of a crate."""
+    source = Source(crate.folder)
+    edits = [Edit(path, crate.name, source) for path in paths]
+    stop_on_clash(edits)
+    return [batch_of(crate, source, edits, Kept())]
+
+
+def without_edits(crates, names):
+    """The batches of copies without edits of these crates, all if none is named."""
+    unknown = [it for it in names if it not in {it.name for it in crates}]
+    if unknown:
+        raise Unfit(f"{unknown[0]} is no crate")
+    return [batch for it in crates if it.name in names or not names for batch in batch_of_copies(it)]
+
+
+def paths_of(crates, flag, words):
+    """The edits that the words after a flag ask for, by their crates."""
+    asked, names = {}, {it.name: it for it in crates}
+    if not words:
+        return {it: edits_in(it) for it in crates}
+    if flag == "--changed":
+        for it in crates:
+            files = [os.path.relpath(word, it.folder) for word in map(os.path.abspath, words) if word.startswith(f"{it.folder}/")]
+            asked.update({it: concerned(it, files)} if files else {})
+        return asked
+    for word in words:
+        paths = edits_in(names[word]) if word in names and not flag else [os.path.abspath(word)]
+        asked.setdefault(names.get(word) or crate_above(crates, word), []).extend(paths)
+    return asked
+
+
 def chosen(words):
-    """The batches that the command's words ask for, how many to try at a time, by what, and where to leave what the checks say."""
+    """What the command's words ask for."""
     words, options = list(words), {"--jobs": "1", "--show": ""}
     while len(words) > 1 and words[0] in options:
         name = words.pop(0)
@@ -129,45 +181,26 @@ def chosen(words):
     if not jobs or any(it.startswith("-") for it in words) or flag in ("--changed", "--batch") and not words:
         forms = "NAME.. | EDIT.. | --changed FILE.. | --batch EDIT.. | --unedited [NAME..]"
         raise Unfit(f"use: tools/edits.py [--show FOLDER] [--jobs N] [{forms}]")
-    crates, asked, show = toolchain().crates_below(ROOT), {}, options["--show"]
-    names = {it.name: it for it in crates}
+    crates, show = toolchain().crates_below(ROOT), options["--show"]
     if flag == "--unedited":
-        unknown = [it for it in words if it not in names]
-        if unknown:
-            raise Unfit(f"{unknown[0]} is no crate")
-        return [batch for it in crates if it.name in words or not words for batch in batch_of_copies(it)], jobs, try_copies, show
-    for word in words if flag != "--changed" else []:
-        paths = edits_in(names[word]) if word in names and not flag else [os.path.abspath(word)]
-        asked.setdefault(names.get(word) or crate_above(crates, word), []).extend(paths)
-    if not words:
-        asked = {it: edits_in(it) for it in crates}
-    for it in crates if flag == "--changed" else []:
-        files = [os.path.relpath(word, it.folder) for word in map(os.path.abspath, words) if word.startswith(f"{it.folder}/")]
-        asked.update({it: concerned(it, files)} if files else {})
-    trying = try_batch if show else try_or_recall
-    if flag != "--batch":
-        return [batch for crate, paths in asked.items() for batch in batches_of_crate(crate, paths)], jobs, trying, show
-    batches = []
-    for crate, paths in asked.items():
-        source = Source(crate.folder)
-        edits = [Edit(path, crate.name, source) for path in paths]
-        stop_on_clash(edits)
-        batches.append(batch_of(crate, source, edits, Kept()))
-    return batches, jobs, trying, show
+        return Asked(without_edits(crates, words), jobs, try_copies, show)
+    batches = together if flag == "--batch" else batches_of_crate
+    found = [batch for crate, paths in paths_of(crates, flag, words).items() for batch in batches(crate, paths)]
+    return Asked(found, jobs, try_batch if show else try_or_recall, show)
 
 
 def main():
     # with Python's own handler Ctrl-C would wait for the checks that run
     signal.signal(signal.SIGINT, signal.SIG_DFL)
     try:
-        batches, jobs, trying, show = chosen(sys.argv[1:])
-        if show:
-            os.makedirs(show, exist_ok=True)
-        build_below(it.crate for it in batches)
+        asked = chosen(sys.argv[1:])
+        if asked.show:
+            os.makedirs(asked.show, exist_ok=True)
+        build_below(it.crate for it in asked.batches)
     except Unfit as why:
         print(f"edits.py: {why}", file=sys.stderr)
         return 2
-    passed, failed = run(batches, jobs, trying, show)
+    passed, failed = run(*asked)
     print(f"{passed} passed, {failed} failed")
     return 1 if failed else 0
 

@@ -14,7 +14,7 @@ from .copies import with_copies
 from .crate_files import Source, text_of, texts_in
 from .grouping import grouped
 from .judging import ended, judge, listed_otherwise, results_of, unjudged, unproved, unseen
-from .one_check import Kept, called, check, copy_with, harmless, plant, same_in
+from .one_check import Kept, check, copy_with, harmless, plant, same_in
 from .one_edit import Edit
 
 # Where the results of batches that passed are kept.
@@ -32,7 +32,7 @@ class Batch:
 
     def __init__(self, crate, source, edits, kept):
         self.crate, self.source, self.edits, self.kept, self.name = crate, source, edits, kept, crate.name
-        self.need = 1_000_000_000 + 15_000_000 * (len(edits) + len(source.spare)) + 150_000 * crate.count(rb"\n")
+        self.need = 1_000_000_000 + 15_000_000 * (len(edits) + len(source.unedited)) + 150_000 * crate.count(rb"\n")
 
     def unsearched(self, controls=()):
         """The functions whose goals without an answer no search has to prove: those that are edited and that an answer refuses, and a
@@ -63,11 +63,11 @@ def batches_of_crate(crate, paths):
 
 def batch_of(crate, source, edits, kept):
     """A batch of these edits, in copies of functions and of laws if need be. Its harmless edits but the first are in copies too, if
-    their functions may be copied: so one that isn't proved as its function is shows."""
+    their functions may be copied. So it shows if a copy isn't proved as its function is."""
     if any(it.bad for it in edits):
         return Batch(crate, source, edits, kept)
-    spare = [it for it, _, _ in harmless(Batch(crate, source, edits, kept))[1:] if source.may_be_copied(it)]
-    return Batch(crate, *with_copies(source, edits, spare), kept)
+    unedited = [it for it, _, _ in harmless(Batch(crate, source, edits, kept))[1:] if source.may_be_copied(it)]
+    return Batch(crate, *with_copies(source, edits, unedited), kept)
 
 
 def batches_of(root, folders):
@@ -76,16 +76,16 @@ def batches_of(root, folders):
     return [it for crate in toolchain().crates_below(root) for it in batches_of_crate(crate, edits_in(crate, folders))]
 
 
-def batches_after(batch, check, left, unjudged):
+def batches_after(batch, said, left, alone):
     """The batches in which the edits that a check leaves are tried: those in copies of laws that it can't judge as they were read, each
     alone. If it broke off for them, the others are tried without such copies."""
-    parts = [[it for it in part if it not in unjudged] for part in left]
+    parts = [[it for it in part if it not in alone] for part in left]
     again = [Batch(batch.crate, batch.source, it, batch.kept) for it in parts]
-    if unjudged and not check.is_whole:
-        without = [it.filed for part in parts for it in part if not it.control]
+    if alone and not said.is_whole:
+        without = [it.filed for part in parts for it in part if not it.unedited]
         again = [batch_of(batch.crate, batch.source.filed, without, batch.kept)]
-        again += [Batch(batch.crate, batch.source, [it for part in parts for it in part if it.control], batch.kept)]
-    again += [Batch(batch.crate, batch.source.filed, [it.filed], batch.kept) for it in unjudged]
+        again += [Batch(batch.crate, batch.source, [it for part in parts for it in part if it.unedited], batch.kept)]
+    again += [Batch(batch.crate, batch.source.filed, [it.filed], batch.kept) for it in alone]
     return [it for it in again if it.edits]
 
 
@@ -169,16 +169,17 @@ def batch_of_copies(crate):
     """A batch without edits, of a copy of each function of which an edit of the crate stands in a copy; none if there is no such
     function."""
     edits = [it for part in ("edits", "must-fail") for batch in batches_of_crate(crate, edits_in(crate, (part,))) for it in batch.edits]
-    moved = {was.symbol for it in edits if not it.control for was, now in zip(it.filed.functions, it.functions) if was.symbol != now.symbol}
+    pairs = [pair for it in edits if not it.unedited for pair in zip(it.filed.functions, it.functions)]
+    moved = {was.symbol for was, now in pairs if was.symbol != now.symbol}
     source = Source(crate.folder)
-    spare = [it for it in source.functions if it.symbol in moved]
-    return [Batch(crate, *with_copies(source, [], spare), None)] if spare else []
+    unedited = [it for it in source.functions if it.symbol in moved]
+    return [Batch(crate, *with_copies(source, [], unedited), None)] if unedited else []
 
 
 def try_copies(batch, _, show=None):
-    """Checks the source's spare copies, each with a statement that does nothing. It returns of each its function, whether it has no open
-    goal, and what to say of it; and the seconds of processor time."""
-    copies = batch.source.spare.items()
+    """Checks the source's unedited copies, each with a statement that does nothing. It returns of each its function, whether it is
+    proved, whatever it calls, and what to say of it; and the seconds of processor time."""
+    copies = batch.source.unedited.items()
     controls = harmless(batch)[:1] + [(it, same_in(it), []) for _, it in copies]
     said = check_planted(batch, controls, show)
     why = unseen(batch, said, controls[:1]) if said.is_whole else ended(said)

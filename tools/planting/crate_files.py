@@ -26,12 +26,12 @@ def texts_in(folder):
 
 class Source:
     """The files of a crate: the text of each, the functions of src/, and those for which the toolchain reads no proof of ours.
-    With texts of its own it differs from `filed`, the crate as it stands in its folder. It then may have `spare` copies, in
+    With texts of its own it differs from `filed`, the crate as it stands in its folder. It then may have `unedited` copies, in
     which no edit stands, by the symbols of their functions."""
 
     def __init__(self, folder, texts=None, filed=None):
         self.folder, self.texts, self.functions, self.crate = folder, texts or texts_in(folder), [], os.path.basename(folder)
-        self.filed, self.unread, self.resting, self.spare = filed or self, filed.unread if filed else set(), {}, {}
+        self.filed, self.unread, self.resting, self.unedited = filed or self, filed.unread if filed else set(), {}, {}
         sources = {file: text for file, text in self.texts.items() if file.endswith(".rt")}
         homes = {name: place_of(file) for file, text in sources.items() for name in re.findall(IS_TYPE, text)}
         for file, text in sources.items():

@@ -1,27 +1,18 @@
-"""Which edits go together in one check."""
+"""Which edits go together in one check.
+
+Edits of a law stand in the law itself if no clause depends on two of them and nothing else sees what they change. Each is then
+refused by a clause that depends on it. Otherwise they stand in copies of the law, of its proof, and of the definitions and
+lemmas that rest on what they change. The same copy without an edit has to be proved. If it isn't, or if the edit's isn't
+refused, the edit is tried alone in the law itself, and its line says so.
+
+An edit of a constant or a type is tried alone, since it changes all that read it, and so is one of a definition that only
+functions see, or that can't be copied.
+"""
 
 from .one_edit import Edit
 
 # The most edits of one check. Few checks are quickest: each reads the crate and all libraries below. A large one takes more memory.
 MOST = 120
-
-
-class Unfit(Exception):
-    """What cannot be tried, in one line."""
-
-
-def stop_on_clash(edits):
-    """Refuses edits that can't be tried in one check."""
-    for at, it in enumerate(edits):
-        if it.bad:
-            raise Unfit(f"{it.name}: {it.bad}")
-        if len(edits) > 1 and (it.is_alone or it.definitions and not all(other.clauses for other in edits)):
-            raise Unfit(f"{it.name} is of a constant, a type or a definition, so it is tried alone")
-        for other in edits[:at]:
-            function = it.clash(other)
-            if function or it.differs(other):
-                of = function.symbol if function else "one line"
-                raise Unfit(f"{other.name} and {it.name} are both of {of}, so they can't be tried together")
 
 
 def grouped(edits):

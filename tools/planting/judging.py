@@ -181,7 +181,7 @@ def opened_in(function, batch, check):
 
 
 def unproved(function, batch, check):
-    """The same of one that stands in a check without edits. What it calls may be left out, so it may depend on a hole, but on no other."""
+    """The same of one that stands in a check without edits. What it calls may be a hole, and nothing else."""
     said = check.lines.get(function.symbol, "")
     is_well = said == "no holes" or said.startswith("depends on a hole")
     return opened_in(function, batch, check) or (None if is_well else f"isn't proved: {said[:160]}")
@@ -227,9 +227,9 @@ def unjudged(batch, check, results):
     """The edits in copies of laws that are to be tried without a copy, since that itself may be at fault: those that are not refused as
     they should be, those of a law whose copy without an edit is not proved, and all that are left by a check that breaks off for
     none of its edits."""
-    copies, passed = [it for it in batch.edits if it.control], {it: is_passed for it, is_passed, _ in results}
+    copies, passed = [it for it in batch.edits if it.unedited], {it: is_passed for it, is_passed, _ in results}
     is_left = not check.is_whole and not all(passed.values())
-    return [it for it in copies if not passed.get(it, is_left) or it in passed and check.lines.get(it.control.symbol) != "no holes"]
+    return [it for it in copies if not passed.get(it, is_left) or it in passed and check.lines.get(it.unedited.symbol) != "no holes"]
 
 
 def ended(check):

@@ -53,7 +53,7 @@ def harmless(batch):
         # a proof by hand walks over the code as it stands
         by_hand = os.path.isfile(f"{source.folder}/proofs/{it.symbol.replace('::', '/')}/Proof.antt")
         is_fit = it.body and it.body[0].rstrip().endswith(("{", "{}")) and "unsafe" not in " ".join(it.head)
-        if it in reach or by_hand or not is_fit or it in source.spare.values():
+        if it in reach or by_hand or not is_fit or it in source.unedited.values():
             continue
         calls = called(source, it)
         if not reach & {*calls}:
@@ -62,14 +62,14 @@ def harmless(batch):
     chosen, others = [it[5:] for it in found[:1]], [it[5:] for it in found[1:] if not it[0]]
     second = first_in_copy(source, others)
     answered = [it for it in others if it not in second and source.has_answers(it[0])] if second and batch.unsearched() else []
-    chosen += [(source.spare.get(it.symbol, it), calls) for it, calls in second + first_in_copy(source, answered)]
+    chosen += [(source.unedited.get(it.symbol, it), calls) for it, calls in second + first_in_copy(source, answered)]
     return [(it, same_in(it), calls) for it, calls in chosen]
 
 
 def first_in_copy(source, found):
-    """The first of these functions of which the source has a spare copy, or of which it may have one if it has none yet. The very
+    """The first of these functions of which the source has an unedited copy, or of which it may have one if it has none yet. The very
     first if there is no such function."""
-    fit = (it for it in found if (it[0].symbol in source.spare if source.spare else source.may_be_copied(it[0])))
+    fit = (it for it in found if (it[0].symbol in source.unedited if source.unedited else source.may_be_copied(it[0])))
     return [next(fit, found[0])] if found else []
 
 
@@ -144,7 +144,7 @@ def plant(batch, room, controls):
     for it in batch.unsearched(controls):
         line = rows.get((it.file, it.first), batch.source.texts[it.file].split("\n")[it.first])
         rows[it.file, it.first] = re.sub(r"\A *", r"\g<0>#[tactic(none)] ", line)
-    copies = [it.control for it in batch.edits if it.control]
+    copies = [it.unedited for it in batch.edits if it.unedited]
     asked = list(dict.fromkeys([first, *(it for edit in batch.edits for it in [*edit.functions, *edit.judged]), *copies, *others]))
     left_out = [it for it in batch.source.functions
                 if it.may_be_left_out() and it not in asked and it not in calls and it.symbol not in batch.source.unread]

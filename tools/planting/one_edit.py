@@ -17,14 +17,14 @@ class Edit:
     the functions of which one has to be refused, and all whose proof it can change. One of laws has the clauses that depend
     on it. It is `bad` if it can't be applied, or changes what none may. `filed` is the edit as it was read, if it now stands in
     a copy of its function. If it is of a law that can be copied, `copy` says how, and it `is_beside` the law if it is to stand
-    in a copy. Once it does, `control` is the copy without an edit."""
+    in a copy. Once it does, `unedited` is the copy without an edit."""
 
     def __init__(self, path, crate, source):
         self.path, self.name = path, f"{crate}/{os.path.basename(path)[: -len('.edit')]}"
         self.filed, self.is_inside, self.may_move, self.is_searched = self, False, False, False
         self.rows, self.functions, self.definitions, self.judged, self.reach, self.clauses = {}, [], [], [], [], set()
         self.is_alone, self.is_of_laws, self.is_unmarked = True, False, False
-        self.copy, self.is_beside, self.control = None, False, None
+        self.copy, self.is_beside, self.unedited = None, False, None
         self.bad = self.apply(text_of(path), source) or self.touched(source)
         if not self.bad:
             self.place(source)
