@@ -175,7 +175,7 @@ for name in asked:
         lines.append(goal.format("returns-2") + f"fn thing::{inner}: no proof: `search` did not prove `returns-2`")
         said = f"fn thing::{name}: no proof: it calls `thing::{inner}+Fn::call`, which is not proved"
     elif "INVARIANT" in body:
-        said = f"fn thing::{name}: no proof: expected answers in ./proofs/{path}/Answers.antt; `search` did not prove `invariant_of-shared`; it calls `thing::parts::other`, which is not proved"
+        said = "note: src/parts.rt:1:1: `search` found no proof (`invariant_of-shared`)\n" + f"fn thing::{name}: not proved; it calls `thing::parts::other`, which is not proved"
     elif "MEASURE" in body:
         said = goal.format("loop-facet-smaller") + f"fn thing::{name}: no proof: `search` did not prove `loop-facet-smaller`"
     elif "OVERFLOW" in body:

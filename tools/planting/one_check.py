@@ -161,7 +161,7 @@ def plant(batch, room, controls):
     return asked
 
 
-IS_GOAL = re.compile(r"note: src/\S+: it is not proved that .* \(`([^`]+)`\)")
+IS_GOAL = re.compile(r"note: src/\S+: (?:it is not proved that .*|`search` found no proof) \(`([^`]+)`\)")
 
 
 class Check:
