@@ -130,7 +130,7 @@ def main():
              ([], [], "nothing has changed: name an older revision (make check BASE=REV)", 0))
 
         put(f"{it.top}/crates/low/src/lib.rt", LOW.replace("return 1;", "return 2 - 1;"))
-        body = ["edits.py --changed crates/low/src/lib.rt in repository", "prove.py crates/low_tests in repository",
+        body = ["edits.py --changed crates/low/src/lib.rt in repository", "prove.py --keep crates/low_tests in repository",
                 "rt check in low", "rt test in low_tests"]
         steps = ["proof of low", "libraries below low_tests", "tests of low_tests"]
         tried = "edits --changed crates/low/src/lib.rt"

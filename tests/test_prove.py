@@ -100,10 +100,10 @@ def main():
             os.chmod(room.file("bin", name), 0o755)
         room.environment["LOG"] = room.file("log")
 
-        def prove(quick=0, fails="", built=""):
+        def prove(*words, quick=0, fails="", built=""):
             open(room.file("log"), "w").close()
             room.environment.update(QUICK=str(quick), FAILS=fails, BUILT=built)
-            ran = room.run(sys.executable, "tools/prove.py", room.file("program"))
+            ran = room.run(sys.executable, "tools/prove.py", *words, room.file("program"))
             with open(room.file("log")) as file:
                 return ran.returncode, file.read().splitlines(), ran.stderr
 
@@ -130,6 +130,10 @@ def main():
         for line in log:
             running.append(running[-1] + (1 if " begins" in line else -1))
         same("most at once", max(running), 3)
+
+        status, log, _ = prove("--keep")
+        begun = {line.split()[0]: line.split(" begins ")[1].split()[0] for line in log if " begins" in line}
+        same("work of all is kept if asked for", (status, begun), (0, dict.fromkeys(names, "kept")))
 
         status, log, _ = prove(built="low")
         holds("what is built is left to the toolchain", status == 0 and any(it.startswith("low begins built nice") for it in log))

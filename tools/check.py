@@ -209,7 +209,8 @@ def try_crates(change, steps):
             return set()
     try_edits(change, steps)
     for crate in change.nearest_tests():
-        steps.run(f"libraries below {crate}", ["tools/prove.py", f"crates/{crate}"])
+        # the next change of one below finds what is kept here
+        steps.run(f"libraries below {crate}", ["tools/prove.py", "--keep", f"crates/{crate}"])
         steps.run(f"tests of {crate}", ["rt", "test"], f"crates/{crate}")
     is_library = LIBRARY_CRATE in change.sources and steps.run("the library", ["make", "library"])
     is_seen = bool(change.open - {LIBRARY_CRATE} or OF_WORDS & {*change.sources})

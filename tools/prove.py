@@ -1,7 +1,7 @@
 #!/usr/bin/env python3
 """Proves and builds the libraries below a program, several at the same time if none of them depends on another.
 
-    prove.py FOLDER
+    prove.py [--keep] FOLDER
 
 FOLDER is the program's crate. `rt run` there proves the libraries one after another; `rt all check --jobs N` proves
 N at a time, but gives each one job, and most of these crates depend on one another. This calls the toolchain's own
@@ -11,7 +11,8 @@ half of the processors each, and run at a lower priority, in the time that it le
 
 A library of which no check has kept any work is proved by one process that shares its work among many, and no work is kept.
 To keep work takes longer (docs/decisions/libraries-side-by-side.md). The toolchain then proves the functions in batches,
-each by a process that reads all libraries below, and then reads what these found.
+each by a process that reads all libraries below, and then reads what these found. With --keep all work is kept, for a library
+that will be proved again once one below has changed.
 
 The quick pass over all sources, with which `rt run` begins, goes on beside the first proofs. `rt run` takes what is built
 here as built, by its own stamps, and builds the rest itself. So if the toolchain's library is not the expected one, this
@@ -54,9 +55,9 @@ def heights(crates):
     return found
 
 
-def proved(rtlib, crate, flags):
+def proved(rtlib, crate, flags, keeps):
     """The status of the toolchain's build of a library."""
-    if crate.is_built() or crate.has_kept():
+    if crate.is_built() or crate.has_kept() or keeps:
         return crate.build_rlib(flags, anew=False)
     stamp, folder = crate.stamp(), os.path.dirname(crate.rlib)
     shutil.rmtree(folder, ignore_errors=True)
@@ -68,13 +69,13 @@ def proved(rtlib, crate, flags):
     return status
 
 
-def built(rtlib, crate, flags):
+def built(rtlib, crate, flags, keeps):
     """Whether the library was proved and built. What is said of it comes when it has ended."""
     print(f"== {crate.name}", flush=True)
     os.makedirs(f"{crate.folder}/out", exist_ok=True)
     with tempfile.TemporaryFile("w+", errors="replace") as crate.out:
         try:
-            status = proved(rtlib, crate, flags)
+            status = proved(rtlib, crate, flags, keeps)
         except SystemExit:
             status = 2
         crate.out.seek(0)
@@ -93,7 +94,7 @@ def read(program):
     return status == 0
 
 
-def prove(rtlib, folder):
+def prove(rtlib, folder, keeps):
     # its first call sets a signal's handler, which only the main thread may
     rtlib.guarded()
     program = rtlib.Crate(folder, rtlib.root_above(folder), {})
@@ -114,7 +115,7 @@ def prove(rtlib, folder):
                 if running and (len(running) > beside or not rtlib.fits(crate.need())):
                     break
                 is_longest = all(chain[crate] >= NEARLY * chain[it] for it in running.values())
-                run = pool.submit(built, rtlib, crate, []) if is_longest else spare.submit(built, rtlib, crate, few)
+                run = pool.submit(built, rtlib, crate, [], keeps) if is_longest else spare.submit(built, rtlib, crate, few, keeps)
                 left.remove(crate)
                 running[run] = crate
             for it in wait(running, return_when=FIRST_COMPLETED).done:
@@ -133,7 +134,7 @@ def main():
     # with Python's own handler Ctrl-C would wait for the checks that run
     signal.signal(signal.SIGINT, signal.SIG_DFL)
     try:
-        return 0 if prove(toolchain(), os.path.abspath(sys.argv[1])) else 1
+        return 0 if prove(toolchain(), os.path.abspath(sys.argv[-1]), "--keep" in sys.argv[1:-1]) else 1
     except (AttributeError, ImportError, TypeError, OSError) as fault:
         print(f"prove.py: not side by side, since the toolchain is another than expected: {fault}", file=sys.stderr)
         return 0
