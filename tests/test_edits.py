@@ -461,7 +461,7 @@ def each_kind(room):
     for start in ("thing/looped.c: REFUSED OTHERWISE: by `overflow_add-gap`", "thing/of.b: REFUSED OTHERWISE: by `names`",
                   "thing/looped.f: REFUSED OTHERWISE: by `add-smaller`", "thing/looped.h: REFUSED OTHERWISE: by `inside`",
                   "thing/looped.j: REFUSED OTHERWISE: by `measure`",
-                  "thing/of.c: NOT REFUSED: not proved; it calls", "thing/from.c: REFUSED OTHERWISE: by `loop-facet-smaller`", "thing/from.b: NOT REFUSED: no holes",
+                  "thing/of.c: NOT REFUSED: no goal of its own is open; the check says: not proved; it calls", "thing/from.c: REFUSED OTHERWISE: by `loop-facet-smaller`", "thing/from.b: NOT REFUSED: no goal of its own is open; the check says: no holes",
                   "thing/looped.old_twice: BAD EDIT: ", "thing/limit_of_5: BAD EDIT: "):
         holds(start, any(line.startswith(start) for line in lines))
     same("last line", (status, lines[-1]), (1, "9 passed, 10 failed"))
@@ -544,7 +544,7 @@ def copies(room):
     paths = [planted(room, "looped.a", "LEMMA"), planted(room, "looped.b", "HARMLESS"), planted(room, "of.a", "ANSWERED"),
              written(room, "of.b", "src/parts.rt", ("let part = 2;", "let part = 3;"), ("Part { n: part }", "Part { n: part + SEARCHED }"))]
     same("each is judged by itself", sorted(tries(room)[1][:4]),
-         ["thing/looped.a: refused by `returns-clause-many`", "thing/looped.b: NOT REFUSED: no holes", "thing/of.a: refused by `returns-in-Some`",
+         ["thing/looped.a: refused by `returns-clause-many`", "thing/looped.b: NOT REFUSED: no goal of its own is open; the check says: no holes", "thing/of.a: refused by `returns-in-Some`",
           "thing/of.b: refused by `returns-clause-value`"])
     same("in one check", checks_in(room), [["parts::Part::of", "parts::Part::of_copy_2", "parts::looped", "parts::looped_copy_1"]])
 
@@ -657,7 +657,7 @@ def without_search(room):
     planted(room, "looped.c", "LEMMA")
     status, lines, _ = tries(room)
     same("what is not marked", (status, sorted(lines[:3])), (1, ["thing/looped.a: refused by `returns-clause-value`, and its file lacks the line '# refused: by a search'",
-         "thing/looped.b: NOT REFUSED: no holes", "thing/looped.c: refused by `returns-clause-many`"]))
+         "thing/looped.b: NOT REFUSED: no goal of its own is open; the check says: no holes", "thing/looped.c: refused by `returns-clause-many`"]))
     same("is tried again", [len(it) for it in checks_in(room)], [3, 2])
 
 
@@ -888,7 +888,7 @@ def laws_in_copies(room):
         planted(room, "of.a", "ANSWERED")
         found = sorted(tries(room)[1][:4])
         same(what, [it.partition(" as ")[0] for it in found], [f"thing/both.one: refused by `returns-clause-one`{WITHOUT_COPY}",
-             f"thing/both.three: refused by `two-is`{WITHOUT_COPY}", f"thing/both.two: NOT REFUSED: no holes{WITHOUT_COPY}", "thing/of.a: refused by `returns-in-Some`"])
+             f"thing/both.three: refused by `two-is`{WITHOUT_COPY}", f"thing/both.two: NOT REFUSED: no goal of its own is open; the check says: no holes{WITHOUT_COPY}", "thing/of.a: refused by `returns-in-Some`"])
         same("each is tried in the law itself", [it for it in checks_in(room) if "laws::both" in it], [["laws::both"]] * 3)
 
     source = Source(folder)

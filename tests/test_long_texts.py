@@ -13,7 +13,7 @@ from long_texts import try_all, try_text, texts  # noqa: E402
 
 PART = 50
 # A program that takes this many seconds of processor time for the whole text, and a sixteenth of them for a quarter.
-SECONDS = 0.5
+SECONDS = 1
 SLOW = """#!{python} -SE
 import sys, time
 length = 0

@@ -142,6 +142,7 @@ def main():
         holds("a library that isn't proved is named", status == 1 and "middle is not proved" in said)
         holds("nothing above it is built", not any(line.startswith("high") for line in log))
         same("status where there is something to mend", prove(quick=1)[0], 1)
+        same("a second folder", prove("other")[::2], (2, "use: prove.py [--keep] FOLDER\n"))
 
         with open(room.file("bin", "rtlib.py"), "w") as file:
             file.write("# another toolchain's\n")

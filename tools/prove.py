@@ -133,8 +133,12 @@ def prove(rtlib, folder, keeps):
 def main():
     # with Python's own handler Ctrl-C would wait for the checks that run
     signal.signal(signal.SIGINT, signal.SIG_DFL)
+    folders = [it for it in sys.argv[1:] if it != "--keep"]
+    if len(folders) != 1:
+        print("use: prove.py [--keep] FOLDER", file=sys.stderr)
+        return 2
     try:
-        return 0 if prove(toolchain(), os.path.abspath(sys.argv[-1]), "--keep" in sys.argv[1:-1]) else 1
+        return 0 if prove(toolchain(), os.path.abspath(folders[0]), "--keep" in sys.argv) else 1
     except (AttributeError, ImportError, TypeError, OSError) as fault:
         print(f"prove.py: not side by side, since the toolchain is another than expected: {fault}", file=sys.stderr)
         return 0

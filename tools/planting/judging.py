@@ -131,7 +131,8 @@ def judge(edit, batch, check, otherwise, other=None):
     if goal:
         why = "only since its answers name what the edit took away" if goal == "names" else "which is no clause and no invariant"
         return False, f"REFUSED OTHERWISE: by `{goal}`, {why}"
-    return False, f"NOT REFUSED: {check.lines.get(edit.judged[0].symbol, 'the check has no line for its function')[:160]}"
+    said = check.lines.get(edit.judged[0].symbol, "no line for its function")
+    return False, f"NOT REFUSED: no goal of its own is open; the check says: {said[:160]}"
 
 
 def blamed(batch, check):
