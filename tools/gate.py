@@ -6,10 +6,10 @@
 1. `rt ci` proves each crate and its tests, tries the edits in must-fail/, runs the tests, and builds and runs PROGRAM.
 2. Beside it the other edits are tried in batches, as tools/edits.py does, at a lower priority: those of a crate once it is
    proved, while fewer checks run than there are processors. `rt ci` takes any refusal, and this only a clause's. So an edit in
-   must-fail/ for which `rt ci` names no clause, one that doesn't compile say, is tried here too, and then may count twice. So is
-   one that tools/edits_refused_otherwise.txt names. What a batch can't judge is tried alone, but not what its harmless edit
-   speaks against. What something else than a clause refuses has failed, unless that file says why. The results of a batch that
-   passed here, of the same files, are kept, as `rt ci` keeps what it proved.
+   must-fail/ for which `rt ci` names no clause, for example one that doesn't compile, is tried here too, and then may count
+   twice. So is one that tools/edits_refused_otherwise.txt names. What a batch can't judge is tried alone. If a batch's harmless
+   edit isn't seen as proved, all of the batch has failed. What something else than a clause refuses has failed, unless that
+   file says why. The results of a batch that passed here, of the same files, are kept, as `rt ci` keeps what it proved.
 3. The library, and the page that has it, are built from what was proved.
 4. tests/run tests what people touch: the program, the library, packages, recipes, documents.
 
